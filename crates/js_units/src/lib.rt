@@ -1,0 +1,15 @@
+//! Lists of UTF-16 code units, which are ECMAScript's strings (ECMA-262, "The String Type"):
+//! the growing list [`Units`], what a single unit is, the UTF-8 that a list is printed as, and
+//! how units lie in the 64-bit words of a heap.
+//!
+//! All but [`Units::push`], [`Units::push_code_point`], [`Units::extend_from_slice`] and
+//! [`append_utf8`] take no memory.
+#![tactic(auto)]
+
+mod text;
+mod units;
+mod words;
+
+pub use text::{append_utf8, code_point, is_lead, is_trail, is_trimmed};
+pub use units::{NoMemory, Units};
+pub use words::{hash_step, lane, lanes, set_lane, words_for};

@@ -1,0 +1,86 @@
+// What a single unit is, and the UTF-8 of a list of units.
+ghost use Rattle.std.specs.Prelude.{◌≡◌, ◌++◌, ◌∷◌, ◌<◌, ◌≤◌, length, IsTrue, OnOk, OnErr, MatchOption};
+ghost use Rattle.js_units.specs.Text.{pair_value, points, utf8, well};
+ghost use Rattle.js_units.specs.Text;
+
+use crate::units::NoMemory;
+
+/// Whether the unit is a leading surrogate, D800 to DBFF.
+pub fn is_lead(unit: u16) -> bool
+    ensures { result ≡ Text.is_lead unit }
+{
+    (0xD800..0xDC00).contains(&unit)
+}
+
+/// Whether the unit is a trailing surrogate, DC00 to DFFF.
+pub fn is_trail(unit: u16) -> bool
+    ensures { result ≡ Text.is_trail unit }
+{
+    (0xDC00..0xE000).contains(&unit)
+}
+
+/// The code point of a surrogate pair, 10000 to 10FFFF (ECMA-262, "UTF16SurrogatePairToCodePoint").
+pub fn code_point(lead: u16, trail: u16) -> u32
+    requires lead { IsTrue (Text.is_lead lead) }
+    requires trail { IsTrue (Text.is_trail trail) }
+    ensures { result ≡ pair_value lead trail }
+{
+    (u32::from(lead) - 0xD800) * 0x400 + (u32::from(trail) - 0xDC00) + 0x10000
+}
+
+/// Whether the unit is WhiteSpace or a LineTerminator, which is what trimming removes
+/// (ECMA-262, "TrimString").
+pub fn is_trimmed(unit: u16) -> bool
+    ensures { result ≡ Text.is_blank unit }
+{
+    match unit {
+        0x0009..=0x000D | 0x0020 | 0x00A0 | 0x1680 => true,
+        0x2000..=0x200A | 0x2028 | 0x2029 | 0x202F | 0x205F | 0x3000 | 0xFEFF => true,
+        _ => false,
+    }
+}
+
+//// The first character
+fn split_point(units: &[u16]) -> Option<(char, &[u16])>
+    ensures { MatchOption result (length units.now ≡ 0) (λ p. (points (well units.now) ≡ p.0 ∷ points (well p.1.now)) × (length p.1.now < length units.now)) }
+{
+    let first = *units.first()?;
+    let rest = &units[1..];
+    if !is_lead(first) {
+        return Some((alone(first), rest));
+    }
+    match rest.first() {
+        Some(second) if is_trail(*second) => {
+            let c = char::from_u32(code_point(first, *second)).unwrap_or('\u{FFFD}');
+            Some((c, &rest[1..]))
+        }
+        _ => Some(('\u{FFFD}', rest)),
+    }
+}
+
+// A unit that is in no pair as a character, U+FFFD where it is a surrogate.
+fn alone(unit: u16) -> char
+    ensures { result ≡ Text.alone unit }
+{
+    char::from_u32(u32::from(unit)).unwrap_or('\u{FFFD}')
+}
+
+/// Adds the UTF-8 of the units at the end, each unpaired surrogate as U+FFFD. A refusal leaves
+/// `out` as it was.
+pub fn append_utf8(units: &[u16], out: &mut Vec<u8>) -> Result<(), NoMemory>
+    ensures added { OnOk result (out.new.items ≡ out.old.items ++ utf8 units.now) }
+    ensures unchanged { OnErr result (out.new.items ≡ out.old.items) }
+{
+    let before = out.len();
+    let mut rest = units;
+    while let Some((c, after)) = split_point(rest) {
+        let mut room = [0; 4];
+        let bytes = c.encode_utf8(&mut room).as_bytes();
+        if out.extend_from_slice(bytes).is_err() {
+            out.truncate(before);
+            return Err(NoMemory);
+        }
+        rest = after;
+    }
+    Ok(())
+}
