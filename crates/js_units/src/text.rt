@@ -40,7 +40,7 @@ pub fn is_trimmed(unit: u16) -> bool
     }
 }
 
-//// The first character
+/// The first character of the well-formed list, and the units behind it.
 fn split_point(units: &[u16]) -> Option<(char, &[u16])>
     ensures { MatchOption result (length units.now ≡ 0) (λ p. (points (well units.now) ≡ p.0 ∷ points (well p.1.now)) × (length p.1.now < length units.now)) }
 {
@@ -58,7 +58,7 @@ fn split_point(units: &[u16]) -> Option<(char, &[u16])>
     }
 }
 
-// A unit that is in no pair as a character, U+FFFD where it is a surrogate.
+/// A unit that is in no pair as a character, U+FFFD where it is a surrogate.
 fn alone(unit: u16) -> char
     ensures { result ≡ Text.alone unit }
 {
