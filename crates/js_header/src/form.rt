@@ -1,0 +1,180 @@
+// Which form a string has, and its one word.
+ghost use Rattle.std.specs.Prelude.{◌≡◌, ◌≢◌, ◌<◌, ◌^◌, ◌↔◌, Some, IfSome, IsNone};
+ghost use Rattle.js_header.specs.declared.form.Form as form;
+ghost use Rattle.js_header.specs.Form.{IsInRange, word_of, form_of, packed, fields_of};
+
+/// The representation of a string. Each number in it is below 2^29: a content word, an id of a
+/// string, or a number of code units.
+///
+/// | Bits | Meaning |
+/// |---|---|
+/// | 0 to 2 | tag: 0 Unborn, 1 Flat, 2 Cons, 3 Sliced, 4 Thin |
+/// | 3 | wide |
+/// | 4 | fixed |
+/// | 5 to 33 | start, left, parent or target |
+/// | 34 to 62 | right or offset |
+/// | 63 | 0 |
+///
+/// Bits that a form does not use are 0.
+#[derive(Clone, Copy, Debug, PartialEq, Eq)]
+pub enum Form {
+    /// No string yet: the word 0.
+    Unborn,
+    /// The code units lie in content words from `start` on, two-byte where wide, else one-byte.
+    /// A fixed one never becomes a Thin.
+    Flat {
+        wide: bool,
+        start: u32,
+        fixed: bool,
+    },
+    /// The code units of `left` and then those of `right` (V8's ConsString).
+    Cons {
+        wide: bool,
+        left: u32,
+        right: u32,
+    },
+    /// A part of the code units of `parent`, from `offset` on (V8's SlicedString).
+    Sliced {
+        wide: bool,
+        parent: u32,
+        offset: u32,
+    },
+    /// The code units of `target`, which is internalized (V8's ThinString).
+    Thin {
+        target: u32,
+    },
+}
+
+/// The word of a form.
+pub fn encode(form: Form) -> u64
+    requires { IsInRange form }
+    ensures word { result ≡ word_of form }
+    ensures decodes { form_of result ≡ Some form }
+{
+    match form {
+        Form::Unborn => 0,
+        Form::Flat { wide, start, fixed } => pack(1, wide, fixed, start, 0),
+        Form::Cons { wide, left, right } => pack(2, wide, false, left, right),
+        Form::Sliced {
+            wide,
+            parent,
+            offset,
+        } => pack(3, wide, false, parent, offset),
+        Form::Thin { target } => pack(4, false, false, target, 0),
+    }
+}
+
+/// The form whose word this is; None exactly where it is the word of no form.
+pub fn decode(word: u64) -> Option<Form>
+    ensures form { result ≡ form_of word }
+    ensures some { IfSome result (λ f. IsInRange f × (word_of f ≡ word)) }
+    ensures none { IsNone result ↔ ((f : form.Form) → IsInRange f → word_of f ≢ word) }
+{
+    let form = fields(word);
+    if encode(form) == word {
+        Some(form)
+    } else {
+        None
+    }
+}
+
+fn pack(tag: u64, wide: bool, fixed: bool, first: u32, second: u32) -> u64
+    requires tag { tag < 8 }
+    requires first { first < 2 ^ 29 }
+    requires second { second < 2 ^ 29 }
+    ensures { result ≡ packed tag wide fixed first second }
+{
+    tag + 8 * u64::from(wide)
+        + 16 * u64::from(fixed)
+        + 32 * u64::from(first)
+        + 17179869184 * u64::from(second)
+}
+
+// The form that a tag names, with what the word has in that form's fields.
+fn fields(word: u64) -> Form
+    ensures same { result ≡ fields_of word }
+    ensures range { IsInRange result }
+{
+    let wide = word / 8 % 2 == 1;
+    let fixed = word / 16 % 2 == 1;
+    let first = (word / 32 % 536870912) as u32;
+    let second = (word / 17179869184 % 536870912) as u32;
+    match word % 8 {
+        1 => Form::Flat {
+            wide,
+            start: first,
+            fixed,
+        },
+        2 => Form::Cons {
+            wide,
+            left: first,
+            right: second,
+        },
+        3 => Form::Sliced {
+            wide,
+            parent: first,
+            offset: second,
+        },
+        4 => Form::Thin { target: first },
+        _ => Form::Unborn,
+    }
+}
+
+#[cfg(test)]
+mod tests {
+    use super::*;
+
+    // Words that were packed by hand.
+    #[test]
+    fn words_of_forms(rt: HostRuntime) {
+        let flat = Form::Flat {
+            wide: false,
+            start: 3,
+            fixed: true,
+        };
+        let cons = Form::Cons {
+            wide: true,
+            left: 1,
+            right: 2,
+        };
+        let sliced = Form::Sliced {
+            wide: false,
+            parent: 536870911,
+            offset: 536870911,
+        };
+        let thin = Form::Thin { target: 5 };
+        let rows = [
+            (Form::Unborn, 0),
+            (flat, 113),
+            (cons, 34359738410),
+            (sliced, 9223372036854775779),
+            (thin, 164),
+        ];
+        for (form, word) in rows {
+            assert_eq!(rt; encode(form), word);
+            assert!(rt; decode(word) == Some(form));
+        }
+    }
+
+    // A tag above 4, bit 63, and each bit that a form does not use.
+    #[test]
+    fn words_of_no_form(rt: HostRuntime) {
+        let words = [
+            5,
+            6,
+            7,
+            8,
+            9223372036854775808,
+            9223372036854775921,
+            17179869185,
+            18,
+            19,
+            12,
+            20,
+            17179869188,
+        ];
+        for word in words {
+            assert!(rt; decode(word) == None);
+        }
+    }
+}

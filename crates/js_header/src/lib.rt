@@ -1,0 +1,11 @@
+//! The form word of a string header: which of V8's representations a string has, and the one
+//! 64-bit word that stands for it in the heap.
+//!
+//! [`encode`] gives each [`Form`] its word, and [`decode`] gives a word its form back. No two
+//! forms have one word and no two words one form; a word that stands for no form is refused.
+//! No call takes memory.
+#![tactic(auto)]
+
+mod form;
+
+pub use form::{Form, decode, encode};
