@@ -1,0 +1,26 @@
+-- What a source of files holds, and what its reads left behind.
+use Rattle.std.specs.Prelude.{◌≡◌, ℕ, ◌<◌, List, length, None, Some, ⊤}
+use Rattle.std.specs.declared.option.Option.{Option}
+use Rattle.js_io.specs.Counts.{next_count}
+use Rattle.js_io.specs.declared.files.TheConstants.{FILE_MAX}
+
+-- these bytes are the file's, where its bytes are told
+abbrev pub Tells : Option (List ℕ) → List ℕ → Type 0
+Tells None bytes = ⊤
+Tells (Some held) bytes = bytes ≡ held
+
+-- the file is too large: by its bytes where they are told, or else one more such file was counted
+abbrev pub IsTooLarge : Option (List ℕ) → ℕ → ℕ → Type 0
+IsTooLarge None before after = after ≡ next_count before
+IsTooLarge (Some held) before after = FILE_MAX < length held
+
+-- a source of files at one moment: the bytes of each name where they are told, how many reads failed,
+-- how many files of untold bytes were too large, and the name of the last read that failed or found too large a file
+pub record FilesState : Type 0 where
+  pub held : List ℕ → Option (List ℕ)
+  pub faults : ℕ
+  pub oversize : ℕ
+  pub blamed : List ℕ
+
+abbrev pub files_state : {F : Type 0} → (F → List ℕ → Option (List ℕ)) → (F → ℕ) → (F → ℕ) → (F → List ℕ) → F → FilesState
+files_state held faults oversize blamed files = record { held = held files; faults = faults files; oversize = oversize files; blamed = blamed files }

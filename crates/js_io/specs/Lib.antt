@@ -1,0 +1,6 @@
+pub mod Counts
+pub mod FilesState
+pub mod SinkState
+pub mod MemFiles
+pub mod MemSink
+pub mod Content

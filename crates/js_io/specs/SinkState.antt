@@ -1,0 +1,33 @@
+-- What a sink has taken, and how often a write to it failed.
+use Rattle.std.specs.Prelude.{◌≡◌, ℕ, List, ◌∷◌, ◌++◌, Result, OnOk, OnErr}
+use Rattle.std.specs.declared.option.Option.{Option}
+use Rattle.std.specs.Io.KnownBytes.{Appends}
+use Rattle.js_io.specs.Counts.{next_count}
+
+-- a sink at one moment: all bytes that it took where they are told, and how many writes failed
+pub record SinkState : Type 0 where
+  pub taken : Option (List ℕ)
+  pub faults : ℕ
+
+abbrev pub sink_state : {S : Type 0} → (S → Option (List ℕ)) → (S → ℕ) → S → SinkState
+sink_state taken faults sink = record { taken = taken sink; faults = faults sink }
+
+-- the whole is the prefix and at least one byte more
+abbrev pub IsProperPrefix : List ℕ → List ℕ → Type 0
+IsProperPrefix prefix whole = (byte : ℕ) × (rest : List ℕ) × (whole ≡ prefix ++ byte ∷ rest)
+
+-- the sink took these bytes
+abbrev pub Takes : SinkState → SinkState → List ℕ → Type 0
+Takes old new bytes = Appends old.taken new.taken bytes
+
+-- the sink took a prefix of these bytes, and not all of them
+abbrev pub TakesPrefix : SinkState → SinkState → List ℕ → Type 0
+TakesPrefix old new bytes = (prefix : List ℕ) × IsProperPrefix prefix bytes × Takes old new prefix
+
+-- at Ok the sink took all of the bytes and no write failed; at Err it took a prefix of them, and the one write of what
+-- was left failed
+pub record WritesAll {E : Type 0} (result : Result Unit E) (old new : SinkState) (bytes : List ℕ) : Type 0 where
+  pub all : OnOk result (Takes old new bytes)
+  pub calm : OnOk result (new.faults ≡ old.faults)
+  pub prefix : OnErr result (TakesPrefix old new bytes)
+  pub once : OnErr result (new.faults ≡ next_count old.faults)
