@@ -1,0 +1,42 @@
+// Characters off the front of a text.
+ghost use Rattle.std.specs.Prelude.{◌≡◌, [], ◌∷◌, ◌<◌, ◌+◌, length, MatchOption, encode_utf8_all};
+ghost use Rattle.std.specs.Str.{chars};
+ghost use Rattle.js_literal.specs.Literal;
+
+/// The first character, and the text behind it.
+pub fn split_char(text: &str) -> Option<(char, &str)>
+    ensures { MatchOption result (chars text.now ≡ []) (λ p. chars text.now ≡ p.0 ∷ chars p.1.now) }
+{
+    let mut rest = text.chars();
+    let c = rest.next()?;
+    Some((c, rest.as_str()))
+}
+
+/// Whether the first character is a digit `0` to `9`.
+pub fn begins_digit(text: &str) -> bool
+    ensures { result ≡ Literal.begins_digit (chars text.now) }
+{
+    match split_char(text) {
+        Some((c, _)) => c.is_ascii_digit(),
+        None => false,
+    }
+}
+
+/// The value of a hexadecimal digit.
+pub fn hex_value(c: char) -> Option<u32>
+    ensures { result ≡ Literal.hex_value c }
+{
+    match c {
+        '0'..='9' => Some(c as u32 - 48),
+        'A'..='F' => Some(c as u32 - 55),
+        'a'..='f' => Some(c as u32 - 87),
+        _ => None,
+    }
+}
+
+/// How many bytes the characters of the text take.
+pub fn byte_len(text: &str) -> usize
+    ensures { result ≡ length (encode_utf8_all (chars text.now)) }
+{
+    text.len()
+}
