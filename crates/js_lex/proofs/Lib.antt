@@ -1,0 +1,11 @@
+pub mod SpelledMark
+pub mod LongestMark
+pub mod MarkLaws
+pub mod Lookaheads
+pub mod OneList
+pub mod Moves
+pub mod Steps
+pub mod Runs
+pub mod Spans
+pub mod Texts
+pub mod SomeAnswer

@@ -1,0 +1,96 @@
+// Tokens, and the faults of a text that has none.
+use js_literal::{LiteralFault, NumberFault};
+use js_units::Units;
+
+/// A punctuator of the language.
+#[derive(Clone, Copy, Debug, PartialEq, Eq)]
+pub enum Mark {
+    /// `===`
+    StrictEqual,
+    /// `!==`
+    StrictUnequal,
+    /// `<=`
+    AtMost,
+    /// `>=`
+    AtLeast,
+    /// `&&`
+    And,
+    /// `||`
+    Or,
+    /// `+=`
+    AddAssign,
+    /// `++`
+    Increment,
+    /// `--`
+    Decrement,
+    /// `{`
+    OpenBrace,
+    /// `}`
+    CloseBrace,
+    /// `(`
+    OpenParen,
+    /// `)`
+    CloseParen,
+    /// `[`
+    OpenBracket,
+    /// `]`
+    CloseBracket,
+    /// `.`
+    Point,
+    /// `;`
+    Semicolon,
+    /// `,`
+    Comma,
+    /// `<`
+    Less,
+    /// `>`
+    Greater,
+    /// `+`
+    Plus,
+    /// `-`
+    Minus,
+    /// `!`
+    Not,
+    /// `?`
+    Question,
+    /// `:`
+    Colon,
+    /// `=`
+    Assign,
+}
+
+/// What a token is.
+#[derive(Drop)]
+pub enum TokenKind {
+    /// A letter, `_` or `$`, and the letters, digits, `_` and `$` behind it.
+    Word,
+    /// A string literal, by its units.
+    Text(Units),
+    /// A number literal, by its value.
+    Number(u64),
+    Mark(Mark),
+}
+
+/// A token, and the bytes of the text that it takes: from `from` up to `to`.
+#[derive(Drop)]
+pub struct Token {
+    pub kind: TokenKind,
+    pub from: u32,
+    pub to: u32,
+}
+
+/// Why bytes have no tokens.
+#[derive(Clone, Copy, Debug, PartialEq, Eq)]
+pub enum LexFault {
+    /// At the first byte of the first sequence that isn't well-formed UTF-8.
+    NotUtf8 { at: u32 },
+    /// A character that begins no token; at its first byte.
+    BadCharacter { at: u32 },
+    /// A comment `/*` without its end; at the slash.
+    OpenComment { at: u32 },
+    /// Any fault of a string literal but want of memory.
+    Literal(LiteralFault),
+    Number(NumberFault),
+    /// Want of memory.
+    Memory,
+}
