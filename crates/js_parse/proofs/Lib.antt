@@ -1,0 +1,8 @@
+pub mod Lawful
+pub mod Loops
+pub mod Lexemes
+pub mod TokenLists
+pub mod Stops
+pub mod Statements
+pub mod Turns
+pub mod Scripts

@@ -1,0 +1,25 @@
+use Rattle.std.proofs.Common.{◌≡◌, ap, ◌∙◌, sym}
+use Rattle.std.proofs.lemmas.Result.{err_from_is_err_and}
+use Rattle.js_parse.specs.Reader.{Bad}
+use Rattle.js_parse.specs.Reading.{read_statements}
+use Rattle.js_parse.specs.declared.tree.Script.{Script}
+use Rattle.js_parse.specs.Tree.{tree_of}
+use Rattle.js_parse.proofs.Scripts.{none_found, is_refused, is_found, no_statements}
+use Rattle.js_parse.proofs.parser.parse.Goals as goal
+
+pub returns-in_err-body-clause-found : goal.returns-in_err-body-clause-found
+returns-in_err-body-clause-found c tree spells =
+    let p = err_from_is_err_and c.from_residual-in_err-body.result c.from_residual-in_err-body.ensures.1 in
+    rw (p.1, p.2) (none_found tree_of c.in_err-body.field-0.0 (read_statements c.args.role c.deref.result.now ≡ Bad) tree c.in_err-body.ensures
+    (λ bad. no_statements c.args.role c.args.outer.now c.args.bytes.now c.in_ok-tokens.tokens.items c.in_ok-tokens.literals.items c.in_ok-tokens.ensures.spelled (ap (read_statements c.args.role) (sym c.deref.ensures.value) ∙ bad) tree spells))
+
+pub returns-in_err-body-clause-refused : goal.returns-in_err-body-clause-refused
+returns-in_err-body-clause-refused c =
+    let p = err_from_is_err_and c.from_residual-in_err-body.result c.from_residual-in_err-body.ensures.1 in
+    rw (p.1, p.2) (is_refused Script c.args.role c.args.outer.now c.args.bytes.now c.in_err-body.field-0.0 (read_statements c.args.role c.deref.result.now ≡ Bad) c.in_err-body.ensures
+    (λ bad. no_statements c.args.role c.args.outer.now c.args.bytes.now c.in_ok-tokens.tokens.items c.in_ok-tokens.literals.items c.in_ok-tokens.ensures.spelled (ap (read_statements c.args.role) (sym c.deref.ensures.value) ∙ bad)))
+
+pub returns-clause-found : goal.returns-clause-found
+returns-clause-found c =
+    is_found c.args.role c.args.outer.now c.args.bytes.now c.in_ok-tokens.tokens.items c.in_ok-tokens.literals.items _ c.new.result c.in_ok-tokens.ensures.spelled
+    (ap (read_statements c.args.role) (sym c.deref.ensures.value) ∙ c.in_ok-body.ensures) c.new.ensures

@@ -1,0 +1,29 @@
+-- Grammars: a language is the lists of tokens that spell a value.
+use Rattle.std.specs.Prelude.{◌≡◌, List, [], ◌∷◌, ◌++◌, Option, Some, Bool, true, false}
+use Rattle.js_parse.specs.declared.token.Token.{Token}
+
+-- the tokens spell the value
+abbrev pub Lang : Type 0 → Type 1
+Lang A = List Token → A → Type 0
+
+-- one token that has a value
+pub data One {A : Type 0} (value : Token → Option A) : List Token → A → Type 0 where
+  one : (t : Token) (x : A) → value t ≡ Some x → One value (t ∷ []) x
+
+-- one after the other
+pub data Then {A B C : Type 0} (f : A → B → C) (L : Lang A) (M : Lang B) : List Token → C → Type 0 where
+  both : (a b : List Token) (x : A) (y : B) → L a x → M b y → Then f L M (a ++ b) (f x y)
+
+-- any number of times
+pub data Many {A : Type 0} (L : Lang A) : List Token → List A → Type 0 where
+  end : Many L [] []
+  more : (a b : List Token) (x : A) (xs : List A) → L a x → Many L b xs → Many L (a ++ b) (x ∷ xs)
+
+-- no list of tokens
+abbrev pub Never : {A : Type 0} → Lang A
+Never ts x = ⊥
+
+-- only where it is allowed
+abbrev pub if_allowed : {A : Type 0} → Bool → Lang A → Lang A
+if_allowed true L = L
+if_allowed false L = Never

@@ -1,0 +1,8 @@
+pub mod Tree
+pub mod Tokens
+pub mod Lang
+pub mod Grammar
+pub mod Spells
+pub mod Reader
+pub mod Reading
+pub mod Gives

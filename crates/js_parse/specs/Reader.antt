@@ -1,0 +1,59 @@
+-- Readers: what reading tokens from the front gives. The public contracts don't speak of them.
+use Rattle.std.specs.Prelude.{ℕ, zero, suc, List, [], ◌∷◌, length, Bool, true, false, cond, Option, Some, None}
+use Rattle.js_parse.specs.declared.token.Token.{Token}
+
+-- a value and the tokens after it, or none
+pub data Answer (A : Type 0) : Type 0 where
+  Got : A → List Token → Answer A
+  Bad : Answer A
+
+abbrev pub Reader : Type 0 → Type 0
+Reader A = List Token → Answer A
+
+infixl 10 ◌>>=◌
+abbrev pub ◌>>=◌ : {A B : Type 0} → Answer A → (A → List Token → Answer B) → Answer B
+(Got x rest) >>= f = f x rest
+Bad >>= f = Bad
+
+abbrev pub wrong : {A : Type 0} → Reader A
+wrong s = Bad
+
+-- one after the other
+abbrev pub and_then : {A B C : Type 0} → (A → B → C) → Reader A → Reader B → Reader C
+and_then f r q s = r s >>= λ x rest. q rest >>= λ y rest'. Got (f x y) rest'
+
+-- the value of a token
+abbrev pub take_or : {A : Type 0} → Option A → List Token → Answer A
+take_or None rest = Bad
+take_or (Some x) rest = Got x rest
+
+abbrev pub one_of : {A : Type 0} → (Token → Option A) → Reader A
+one_of value [] = Bad
+one_of value (t ∷ rest) = take_or (value t) rest
+
+abbrev pub is_some : {A : Type 0} → Option A → Bool
+is_some None = false
+is_some (Some x) = true
+
+-- the first token has such a value
+abbrev pub heads : {A : Type 0} → (Token → Option A) → List Token → Bool
+heads v [] = false
+heads v (t ∷ s) = is_some (v t)
+
+-- as long as one starts, at most so many
+abbrev pub loop : {A : Type 0} → (List Token → Bool) → Reader A → ℕ → Reader (List A)
+loop starts r zero s = Got [] s
+loop starts r (suc n) s = cond (starts s) (r s >>= λ x rest. loop starts r n rest >>= λ xs rest'. Got (x ∷ xs) rest') (Got [] s)
+
+abbrev pub all_of : {A : Type 0} → (List Token → Bool) → Reader A → Reader (List A)
+all_of starts r s = loop starts r (length s) s
+
+-- where it is allowed
+abbrev pub opens : {A : Type 0} → Bool → Reader A → Reader A
+opens true r = r
+opens false r = wrong
+
+-- nothing is left
+abbrev pub at_end : Reader (Unit {0})
+at_end [] = Got tt []
+at_end (t ∷ s) = Bad

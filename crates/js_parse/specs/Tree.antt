@@ -1,0 +1,84 @@
+-- The tree of a script, with lists in the place of vectors and without boxes. Each kind of list in the tree is a type
+-- of its own, since a data type can't hold a list of itself.
+use Rattle.std.specs.Prelude.{ℕ, List, [], ◌∷◌, map}
+use Rattle.js_parse.specs.declared.tree.Op.{Op}
+use Rattle.js_parse.specs.declared.tree.Expr.{Expr, fold-Expr}
+use Rattle.js_parse.specs.declared.tree.Link.{Link}
+use Rattle.js_parse.specs.declared.tree.Expr.TheOpen.{Expr-F, Link-F}
+use Rattle.js_parse.specs.declared.tree.Stmt.{Stmt}
+use Rattle.js_parse.specs.declared.tree.Stmt.TheVariants.{Print}
+use Rattle.js_parse.specs.declared.tree.Script.{Script}
+
+mutual
+  pub data ExprTree : Type 0 where
+    literal : (number : ℕ) → ExprTree
+    chain : (first : ExprTree) (rest : Links) → ExprTree
+
+  pub data Links : Type 0 where
+    no_links : Links
+    link : (at : ℕ) (op : Op) (right : ExprTree) (rest : Links) → Links
+
+  pub data Exprs : Type 0 where
+    no_exprs : Exprs
+    expr : (first : ExprTree) (rest : Exprs) → Exprs
+
+-- a link as a plain value
+pub record LinkTree : Type 0 where
+  pub at : ℕ
+  pub op : Op
+  pub right : ExprTree
+
+abbrev pub links : List LinkTree → Links
+links [] = no_links
+links (l ∷ ls) = link l.at l.op l.right (links ls)
+
+abbrev pub exprs : List ExprTree → Exprs
+exprs [] = no_exprs
+exprs (t ∷ ts) = expr t (exprs ts)
+
+-- the tree of an expression, layer by layer
+abbrev pub expr_layer : Expr-F ExprTree LinkTree → ExprTree
+expr_layer (Expr-F.Literal n) = literal n
+expr_layer (Expr-F.Chain first rest) = chain first.value (links rest.items)
+
+abbrev pub link_layer : Link-F ExprTree LinkTree → LinkTree
+link_layer l = record { at = l.at; op = l.op; right = l.right }
+
+abbrev pub expr_tree : Expr → ExprTree
+expr_tree = fold-Expr ExprTree LinkTree expr_layer link_layer
+
+abbrev pub link_tree : Link → LinkTree
+link_tree l = record { at = l.at; op = l.op; right = expr_tree l.right }
+
+abbrev pub links_tree : List Link → Links
+links_tree ls = links (map link_tree ls)
+
+abbrev pub exprs_tree : List Expr → Exprs
+exprs_tree es = exprs (map expr_tree es)
+
+-- a statement, and statements in order
+pub data StmtTree : Type 0 where
+  print : (args : Exprs) → StmtTree
+
+pub data Stmts : Type 0 where
+  no_stmts : Stmts
+  stmt : (first : StmtTree) (rest : Stmts) → Stmts
+
+abbrev pub stmts : List StmtTree → Stmts
+stmts [] = no_stmts
+stmts (s ∷ ss) = stmt s (stmts ss)
+
+abbrev pub stmt_tree : Stmt → StmtTree
+stmt_tree (Print args) = print (exprs_tree args.items)
+
+abbrev pub stmts_tree : List Stmt → Stmts
+stmts_tree ss = stmts (map stmt_tree ss)
+
+-- a script: its literals in the order of the text, its statements, and the names that it declares at its top
+pub record Tree : Type 0 where
+  pub literals : List (List ℕ)
+  pub body : Stmts
+  pub top : List (List ℕ)
+
+abbrev pub tree_of : Script → Tree
+tree_of s = record { literals = s.literals.items; body = stmts_tree s.body.items; top = s.top }

@@ -1,0 +1,94 @@
+// The tree of a script.
+ghost use Rattle.std.specs.Prelude.{◌≡◌, []};
+
+use js_units::Units;
+use std::alloc::Global;
+use std::marker::Model;
+
+/// A script: its literals, its statements, and the names that it declares at its top.
+///
+/// `literals` has one entry for each text, in the order in which they stand. In the whole tree an
+/// `at` is a byte offset in the file: that of the operator.
+#[derive(Drop)]
+pub struct Script {
+    pub literals: Vec<Units>,
+    pub body: Vec<Stmt>,
+    pub top: Names,
+}
+
+/// A statement.
+#[derive(Drop)]
+pub enum Stmt {
+    Print { args: Vec<Expr> },
+}
+
+/// An expression. A `Literal` names its entry of the script's `literals`.
+#[cycle(tree)]
+#[derive(Drop)]
+pub enum Expr {
+    Literal { number: u32 },
+    Chain { first: Box<Expr>, rest: Vec<Link> },
+}
+
+/// An operator of a chain with its right side. The links of one level group from the left.
+#[cycle(tree)]
+#[derive(Drop)]
+pub struct Link {
+    pub at: u32,
+    pub op: Op,
+    pub right: Expr,
+}
+
+/// An operator of a chain.
+#[derive(Clone, Copy, Debug, PartialEq, Eq)]
+pub enum Op {
+    Plus,
+}
+
+/// A name. Contracts see it as the list of its bytes.
+#[derive(Drop)]
+pub struct Name {
+    bytes: Vec<u8>,
+}
+
+impl Model for Name {
+    ghost use Rattle.std.specs.Prelude.{List, ℕ};
+
+    ghost Value = { List ℕ };
+
+    ghost view = { λ n. n.bytes.items };
+}
+
+/// Names that a script declares at its top. Contracts see them as a list of names.
+#[derive(Drop)]
+pub struct Names {
+    items: Vec<Name>,
+}
+
+impl Model for Names {
+    ghost use Rattle.std.specs.Prelude.{List, ℕ};
+
+    ghost Value = { List (List ℕ) };
+
+    ghost view = { λ n. n.items.items };
+}
+
+impl Names {
+    /// No name. It takes no memory.
+    pub fn new(alloc: Global) -> Names
+        ensures { result ≡ [] }
+    {
+        Names {
+            items: Vec::new(alloc),
+        }
+    }
+}
+
+impl Script {
+    /// The names that the script declares at its top.
+    pub fn names(&self) -> &Names
+        ensures { result.now ≡ self.now.top }
+    {
+        &self.top
+    }
+}
