@@ -18,3 +18,6 @@ mod token;
 
 pub use lex::{one_answer, span_text, spans_in_order, token_text, tokens};
 pub use token::{LexFault, Mark, Token, TokenKind};
+
+#[cfg(test)]
+mod tests;

@@ -1,0 +1,195 @@
+// Tokens and faults of short scripts, by the tables of the lexical grammar.
+use crate::{LexFault, Token, TokenKind, tokens};
+use js_literal::{LiteralFault, NumberFault};
+use std::alloc::Global;
+use std::fmt;
+use std::test::Fail;
+
+impl fmt::Display for Token {
+    fn fmt<W: fmt::Write>(&self, f: &mut fmt::Formatter<W>) -> fmt::Result {
+        match &self.kind {
+            TokenKind::Word => write!(f, "word"),
+            TokenKind::Text(units) => write!(f, "{:?}", units.as_slice()),
+            TokenKind::Number(value) => write!(f, "{value}"),
+            TokenKind::Mark(mark) => write!(f, "{mark:?}"),
+        }?;
+        write!(f, " {} {}; ", self.from, self.to)
+    }
+}
+
+/// The tokens of a short text, each with its span.
+fn listed(alloc: Global, bytes: &[u8]) -> Result<String, LexFault> {
+    if bytes.len() > 200 {
+        return Err(LexFault::Memory);
+    }
+    let mut list = String::new(alloc);
+    for token in &tokens(alloc, bytes)? {
+        if write!(list, "{token}").is_err() {
+            return Err(LexFault::Memory);
+        }
+    }
+    Ok(list)
+}
+
+#[test]
+fn tokens_and_spans(rt: HostRuntime) -> Result<(), Fail> {
+    for (bytes, want) in [
+        (b"".as_slice(), ""),
+        (
+            b"print('a');",
+            "word 0 5; OpenParen 5 6; [97] 6 9; CloseParen 9 10; Semicolon 10 11; ",
+        ),
+        // words are as long as possible
+        (
+            b"$_aZ09 _ a-b",
+            "word 0 6; word 7 8; word 9 10; Minus 10 11; word 11 12; ",
+        ),
+        (b"a'b'c", "word 0 1; [98] 1 4; word 4 5; "),
+        // the longest mark is taken
+        (b"===!==", "StrictEqual 0 3; StrictUnequal 3 6; "),
+        (
+            b"====!=",
+            "StrictEqual 0 3; Assign 3 4; Not 4 5; Assign 5 6; ",
+        ),
+        (b"<=>=&&||", "AtMost 0 2; AtLeast 2 4; And 4 6; Or 6 8; "),
+        (
+            b"+=+++--",
+            "AddAssign 0 2; Increment 2 4; Plus 4 5; Decrement 5 7; ",
+        ),
+        (b"a --b", "word 0 1; Decrement 2 4; word 4 5; "),
+        (
+            b"- -<<==",
+            "Minus 0 1; Minus 2 3; Less 3 4; AtMost 4 6; Assign 6 7; ",
+        ),
+        (
+            b"{}()[]",
+            "OpenBrace 0 1; CloseBrace 1 2; OpenParen 2 3; CloseParen 3 4; OpenBracket 4 5; CloseBracket 5 6; ",
+        ),
+        (
+            b".;,<>+",
+            "Point 0 1; Semicolon 1 2; Comma 2 3; Less 3 4; Greater 4 5; Plus 5 6; ",
+        ),
+        (
+            b"-!?:=",
+            "Minus 0 1; Not 1 2; Question 2 3; Colon 3 4; Assign 4 5; ",
+        ),
+        // numbers
+        (
+            b"0,9007199254740991",
+            "0 0 1; Comma 1 2; 9007199254740991 2 18; ",
+        ),
+        (
+            b"x[1].at",
+            "word 0 1; OpenBracket 1 2; 1 2 3; CloseBracket 3 4; Point 4 5; word 5 7; ",
+        ),
+        // each blank; a byte order mark is one
+        (
+            b"\xEF\xBB\xBFa\t\x0B\x0C\n\r \xC2\xA0b",
+            "word 3 4; word 12 13; ",
+        ),
+        (
+            b"\xE1\x9A\x80\xE2\x80\x80\xE2\x80\x81\xE2\x80\x82\xE2\x80\x83\xE2\x80\x84\xE2\x80\x85a",
+            "word 21 22; ",
+        ),
+        (
+            b"\xE2\x80\x86\xE2\x80\x87\xE2\x80\x88\xE2\x80\x89\xE2\x80\x8A\xE2\x80\xA8\xE2\x80\xA9b",
+            "word 21 22; ",
+        ),
+        (b"\xE2\x80\xAF\xE2\x81\x9F\xE3\x80\x80c", "word 9 10; "),
+        // comments: each line end, both forms at the end of the file
+        (
+            b"//a\nb//a\rc//a\xE2\x80\xA8d//a\xE2\x80\xA9e//f",
+            "word 4 5; word 9 10; word 16 17; word 23 24; ",
+        ),
+        (b"/**/a/*\n* / //*/b/***/", "word 4 5; word 16 17; "),
+        (b"/* ' */'/*'//'", "[47, 42] 7 11; "),
+        // 2028 in a string, and the end of a line behind a backslash
+        (
+            b"'\xE2\x80\xA8a\\\r\nb' 'c'",
+            "[8232, 97, 98] 0 10; [99] 11 14; ",
+        ),
+    ] {
+        assert_eq!(rt; listed(rt.alloc(), bytes)?.as_str(), want, "in {bytes:?}");
+    }
+    Ok(())
+}
+
+#[test]
+fn faults(rt: HostRuntime) {
+    for (bytes, want) in [
+        // no UTF-8, at the first sequence that isn't well formed, before every other fault
+        (b"\xFF".as_slice(), LexFault::NotUtf8 { at: 0 }),
+        (b"A\xE3\x81", LexFault::NotUtf8 { at: 1 }),
+        (b"a\xE3\x81b", LexFault::NotUtf8 { at: 1 }),
+        (b"\xED\xA0\x80", LexFault::NotUtf8 { at: 0 }),
+        (b"\xC0\x80", LexFault::NotUtf8 { at: 0 }),
+        (b"\xE0\x9F\xBF", LexFault::NotUtf8 { at: 0 }),
+        (b"\xF4\x90\x80\x80", LexFault::NotUtf8 { at: 0 }),
+        (b"# 'a\xC3", LexFault::NotUtf8 { at: 4 }),
+        // characters that begin no token
+        (b"a # b", LexFault::BadCharacter { at: 2 }),
+        (b"x = a & b", LexFault::BadCharacter { at: 6 }),
+        (b"a | b", LexFault::BadCharacter { at: 2 }),
+        (b"a / b", LexFault::BadCharacter { at: 2 }),
+        (b"a/=b", LexFault::BadCharacter { at: 1 }),
+        (b"a*b", LexFault::BadCharacter { at: 1 }),
+        (b"`a`", LexFault::BadCharacter { at: 0 }),
+        (b"a\\u0062", LexFault::BadCharacter { at: 1 }),
+        (b"a\xC3\xA9", LexFault::BadCharacter { at: 1 }),
+        (b"1\xC3\xA9", LexFault::BadCharacter { at: 1 }),
+        (b"\xC2\x85", LexFault::BadCharacter { at: 0 }),
+        (b" \xE1\xA0\x8E", LexFault::BadCharacter { at: 1 }),
+        (b"\xE2\x80\x8B", LexFault::BadCharacter { at: 0 }),
+        (b"\xF0\x9F\x98\x80", LexFault::BadCharacter { at: 0 }),
+        // comments without an end
+        (b"/*", LexFault::OpenComment { at: 0 }),
+        (b"/*/", LexFault::OpenComment { at: 0 }),
+        (b"\xC2\xA0/* * / \xC3\xA9", LexFault::OpenComment { at: 2 }),
+        // literals, by the place in the file
+        (
+            b"print('\\08');",
+            LexFault::Literal(LiteralFault::LegacyOctal { at: 7 }),
+        ),
+        (
+            b"print('\\u{110000}');",
+            LexFault::Literal(LiteralFault::CodePointTooLarge { at: 7 }),
+        ),
+        (
+            b"print('a",
+            LexFault::Literal(LiteralFault::Unclosed { at: 6 }),
+        ),
+        (
+            b"print('\xC3\xA9\\x4');",
+            LexFault::Literal(LiteralFault::BadEscape { at: 9 }),
+        ),
+        (
+            b"x = 'a\nb';",
+            LexFault::Literal(LiteralFault::RawLineEnd { at: 6 }),
+        ),
+        (
+            b"x = 1.5;",
+            LexFault::Number(NumberFault::Fraction { at: 4 }),
+        ),
+        (b"a.5", LexFault::Number(NumberFault::Fraction { at: 1 })),
+        (
+            b"x = 0x1;",
+            LexFault::Number(NumberFault::OtherForm { at: 4 }),
+        ),
+        (
+            b"-9007199254740992",
+            LexFault::Number(NumberFault::TooLarge { at: 1 }),
+        ),
+        // the first fault from the left
+        (b"1. # '", LexFault::Number(NumberFault::Fraction { at: 0 })),
+        (b"# 1. '", LexFault::BadCharacter { at: 0 }),
+        (
+            b"'\\x # /*",
+            LexFault::Literal(LiteralFault::BadEscape { at: 1 }),
+        ),
+    ] {
+        match listed(rt.alloc(), bytes) {
+            Ok(_) => assert!(rt; false, "in {bytes:?}"),
+            Err(fault) => assert_eq!(rt; fault, want, "in {bytes:?}"),
+        }
+    }
+}
