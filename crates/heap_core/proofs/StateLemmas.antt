@@ -1,0 +1,176 @@
+-- What the executable steps do to the machine, as plain data.
+use Rattle.std.proofs.Common.{◌≡◌, ◌≢◌, ℕ, zero, suc, ◌+◌, ◌^◌, ◌<◌, ◌≤◌, ⊎_elim, Bool, true, false, cond, List, [], ◌∷◌, length, get_or, set, sym, refl, ap, ◌∙◌, subst, arith, IsTrue, Option, Some, None, Ok, eqb, eq-eqb, ne_eqb}
+use Rattle.std.specs.Prelude.{unwrap_or}
+use Rattle.std.proofs.lemmas.List.{set-get_or}
+use Rattle.std.specs.FinMap.{get}
+use mathlib.Core.Option.{some, some-injective}
+use Rattle.js_header.specs.Form.{word_of}
+use Rattle.js_header.specs.declared.form.Form.{Form}
+use Rattle.js_header.specs.declared.form.Form.TheVariants.{Flat}
+use Rattle.heap_core.specs.declared.view.View.{View}
+use Rattle.heap_core.specs.declared.size.HeapSize.{HeapSize}
+use Rattle.heap_core.specs.declared.size.Counter.{Counter}
+use Rattle.heap_core.specs.declared.size.Counter.TheVariants.{Ids, Words}
+use Rattle.heap_core.specs.declared.event.Event.{Event}
+use Rattle.heap_core.specs.declared.event.Event.TheVariants.{LoadCounter, Claim, StoreWord, StoreLength, Birth}
+use Rattle.heap_core.specs.Layout.{counter_at, content_at, length_at, form_at, form, end_of, MAX, count_in, IsLawful}
+use Rattle.heap_core.specs.Maps.{Has, HasKey}
+use Rattle.heap_core.specs.Sound.{At, EachLive, total}
+use Rattle.heap_core.specs.Core.{Core, core}
+use Rattle.heap_core.specs.Events.{IsCore, IsSoundCore, LiveIn, view_at, Enabled, Applied}
+use Rattle.heap_core.specs.Claims.{loaded_counter, MayClaim, won_claim}
+use Rattle.heap_core.specs.Births.{stored_word, MayStoreLength, stored_length, MayBear, born_with, born}
+use Rattle.heap_core.specs.Agents.{nothing_used, spent}
+use Rattle.heap_core.proofs.MapLemmas.{has_key}
+use Rattle.heap_core.proofs.ListLemmas.{at_within, at_index, total_set}
+
+pub at_here : {A : Type 0} (l : List A) (i : ℕ) (a : A) → i < length l → a ≡ get_or l i a → At l i a
+at_here [] i a h e = absurd (omega arith)
+at_here (x ∷ xs) zero a h e = ap some (sym e)
+at_here (x ∷ xs) (suc i) a h e = at_here xs i a (omega arith) e
+
+pub any_default : {A : Type 0} (l : List A) (i : ℕ) (d e : A) → i < length l → get_or l i d ≡ get_or l i e
+any_default [] i d e h = absurd (omega arith)
+any_default (x ∷ xs) zero d e h = refl
+any_default (x ∷ xs) (suc i) d e h = any_default xs i d e (omega arith)
+
+pub live_here : (vs : List View) (j : ℕ) (v : View) → j < length vs → v ≡ get_or vs j v → (IsTrue v.live → LiveIn vs j (λ v. Unit {0})) × (LiveIn vs j (λ v. Unit {0}) → IsTrue v.live)
+live_here vs j v h e = (
+  (λ l. (v, at_here vs j v h e, l, tt)),
+  (λ t. ap (λ (x : View). x.live) (e ∙ at_index vs j t.0 v t.1) ∙ t.2),
+)
+
+pub no_view : (vs : List View) (j : ℕ) → length vs ≤ j → (IsTrue false → LiveIn vs j (λ v. Unit {0})) × (LiveIn vs j (λ v. Unit {0}) → IsTrue false)
+no_view vs j h = ((λ (e : false ≡ true). absurd (cc)), (λ t. let l = at_within vs j t.0 t.1 in absurd (omega arith)))
+
+pub view_inside : (vs : List View) (j : ℕ) (P : View → Type 0) → LiveIn vs j P → j < length vs
+view_inside vs j P t = at_within vs j t.0 t.1
+
+-- what is asked of the live view, by a test of the view
+pub live_if : (vs : List View) (j : ℕ) (P : View → Type 0) (v : View) (b : Bool) → LiveIn vs j (λ v. Unit {0}) → v ≡ get_or vs j v → (IsTrue b → P v) × (P v → IsTrue b)
+    → (IsTrue b → LiveIn vs j P) × (LiveIn vs j P → IsTrue b)
+live_if vs j P v b live here test = let same : v ≡ live.0 = here ∙ at_index vs j live.0 v live.1 in (
+  (λ h. (live.0, live.1, live.2, subst P same (test.0 h))),
+  (λ t. let is : live.0 ≡ t.0 = some-injective live.0 t.0 (sym live.1 ∙ t.1) in test.1 (subst P (sym (same ∙ is)) t.3)),
+)
+
+pub none_live : (vs : List View) (j : ℕ) (P : View → Type 0) → (LiveIn vs j (λ v. Unit {0}) → IsTrue false) → (IsTrue false → LiveIn vs j P) × (LiveIn vs j P → IsTrue false)
+none_live vs j P not = ((λ (e : false ≡ true). absurd (cc)), (λ t. not (t.0, t.1, t.2, tt)))
+
+-- what the live view has, the one that is read there has
+pub live_has : (vs : List View) (j : ℕ) (P : View → Type 0) (d : View) → LiveIn vs j P → P (get_or vs j d)
+live_has vs j P d t = subst P (sym (at_index vs j t.0 d t.1)) t.3
+
+-- a machine with a live view is sound
+pub sound_of : (s : Core) (j : ℕ) (P : View → Type 0) → IsCore s → LiveIn s.views j P → IsSoundCore s
+sound_of s j P h t = ⊎_elim (λ (n : (s.words ≡ []) × (s.views ≡ [])). let l = at_within s.views j t.0 t.1 in let e : length s.views ≡ 0 = ap length n.1 in absurd (omega arith)) (λ g. g) h
+
+module _ (s : Core) (j : ℕ) (d : View) where
+  abbrev here : View
+  here = get_or s.views j d
+
+  same_view : (P : View → Type 0) → LiveIn s.views j P → here ≡ view_at s j
+  same_view P t = any_default s.views j d spent (view_inside s.views j P t)
+
+  pub load_done : (k : Counter) (p x : ℕ) (w : View) → LiveIn s.views j (λ v. Unit {0}) → p ≡ counter_at k → x ≡ get_or s.words p 0 → w ≡ loaded_counter here k x
+      → Applied s (LoadCounter j k) (core s.size s.agents s.words (set s.views j w)) (Ok (get_or s.words p 0))
+  load_done k p x w live place found is = (
+    live,
+    (λ i. core s.size s.agents s.words (set s.views j (is i))) ∙ (λ i. core s.size s.agents s.words (set s.views j (loaded_counter (same_view (λ v. Unit {0}) live i) k ((found ∙ ap (λ (q : ℕ). get_or s.words q 0) place) i)))),
+    ap (λ (q : ℕ). get_or s.words q 0) place,
+  )
+
+  pub claim_won : (k : Counter) (a want p q x n : ℕ) (w : View) → LiveIn s.views j (λ v. MayClaim v k a want) → p ≡ counter_at k → q ≡ counter_at k → x ≡ get_or s.words p 0 → x ≡ a → n ≡ want → w ≡ won_claim here k a want
+      → Applied s (Claim j k a want) (core s.size s.agents (set s.words q (x + n)) (set s.views j w)) (Ok x)
+  claim_won k a want p q x n w live pe qe found won ne is = let y : ℕ = get_or s.words (counter_at k) 0 in let there : x ≡ y = found ∙ ap (λ (r : ℕ). get_or s.words r 0) pe in let b : eqb y a ≡ true = eq-eqb y a (sym there ∙ won) in let v : View = view_at s j in (
+    live,
+    (λ i. core s.size s.agents (set s.words (qe i) (won i + ne i)) (set s.views j ((is ∙ ap (λ (u : View). won_claim u k a want) (same_view (λ v. MayClaim v k a want) live)) i)))
+        ∙ (λ i. core s.size s.agents (set s.words (counter_at k) (cond (sym b i) (a + want) y)) (set s.views j (cond (sym b i) (won_claim v k a want) (loaded_counter v k y)))),
+    there,
+  )
+
+  pub claim_lost : (k : Counter) (a want p x : ℕ) (w : View) → LiveIn s.views j (λ v. MayClaim v k a want) → p ≡ counter_at k → x ≡ get_or s.words p 0 → x ≢ a → w ≡ loaded_counter here k x
+      → Applied s (Claim j k a want) (core s.size s.agents s.words (set s.views j w)) (Ok x)
+  claim_lost k a want p x w live pe found lost is = let y : ℕ = get_or s.words (counter_at k) 0 in let there : x ≡ y = found ∙ ap (λ (r : ℕ). get_or s.words r 0) pe in let b : eqb y a ≡ false = ne_eqb y a (λ e. lost (there ∙ e)) in let v : View = view_at s j in (
+    live,
+    (λ i. core s.size s.agents (sym (set-get_or s.words (counter_at k) 0) i) (set s.views j ((is ∙ (λ m. loaded_counter (same_view (λ v. MayClaim v k a want) live m) k (there m))) i)))
+        ∙ (λ i. core s.size s.agents (set s.words (counter_at k) (cond (sym b i) (a + want) y)) (set s.views j (cond (sym b i) (won_claim v k a want) (loaded_counter v k y)))),
+    there,
+  )
+
+  pub store_done : (c n p x : ℕ) (w : View) → LiveIn s.views j (λ v. HasKey v.own_words c) → p ≡ content_at s.size c → x ≡ get_or s.words p 0 → w ≡ stored_word here c n
+      → Applied s (StoreWord j c n) (core s.size s.agents (set s.words p n) (set s.views j w)) (Ok x)
+  store_done c n p x w live pe found is = (
+    live,
+    (λ i. core s.size s.agents (set s.words (pe i) n) (set s.views j ((is ∙ ap (λ (u : View). stored_word u c n) (same_view (λ v. HasKey v.own_words c) live)) i))),
+    found ∙ ap (λ (r : ℕ). get_or s.words r 0) pe,
+  )
+
+  pub length_done : (i n p x m : ℕ) (w : View) → LiveIn s.views j (λ v. MayStoreLength v i n) → p ≡ length_at s.size i → x ≡ get_or s.words p 0 → m ≡ n → w ≡ stored_length here i n
+      → Applied s (StoreLength j i n) (core s.size s.agents (set s.words p m) (set s.views j w)) (Ok x)
+  length_done i n p x m w live pe found me is = (
+    live,
+    (λ k. core s.size s.agents (set s.words (pe k) (me k)) (set s.views j ((is ∙ ap (λ (u : View). stored_length u i n) (same_view (λ v. MayStoreLength v i n) live)) k))),
+    found ∙ ap (λ (r : ℕ). get_or s.words r 0) pe,
+  )
+
+  pub birth_done : (i n p x m : ℕ) (wide : Bool) (start : ℕ) (fixed : Bool) (w : View) → LiveIn s.views j (λ v. MayBear v i (Flat wide start fixed)) → p ≡ form_at s.size i → x ≡ get_or s.words p 0
+      → m ≡ word_of (Flat wide start fixed) → n ≡ unwrap_or (get here.own_ids i) 0 → w ≡ born_with here i n (Flat wide start fixed)
+      → Applied s (Birth j i (Flat wide start fixed)) (core s.size s.agents (set s.words p m) (set s.views j w)) (Ok x)
+  birth_done i n p x m wide start fixed w live pe found me ne is = let f : Form = Flat wide start fixed in (
+    (tt, live),
+    (λ k. core s.size s.agents (set s.words (pe k) (me k)) (set s.views j ((is ∙ ((λ r. born_with here i (ne r) f) ∙ ap (λ (u : View). born u i f) (same_view (λ v. MayBear v i f) live))) k))),
+    found ∙ ap (λ (r : ℕ). get_or s.words r 0) pe,
+  )
+
+-- what one view used, all used
+part_of : (f : View → ℕ) (vs : List View) (j : ℕ) (v w : View) → At vs j v → v.live ≡ true → w.live ≡ true → f w ≡ 0 → f v ≤ total f vs
+part_of f vs j v w at live l e = let h = total_set f vs j v w at live l in omega arith
+
+pub used_within : (s : Core) (j : ℕ) (v : View) (k : Counter) → IsSoundCore s → At s.views j v → v.live ≡ true → count_in v.used k ≤ get_or s.words (counter_at k) 0
+used_within s j v Ids h at live = let w : View = record v { used = nothing_used } in let e = h.added in let f = e.ids in let p = part_of (λ u. u.used.ids) s.views j v w at live live refl in omega arith
+used_within s j v Words h at live = let w : View = record v { used = nothing_used } in let e = h.added in let f = e.words in let p = part_of (λ u. u.used.words) s.views j v w at live live refl in omega arith
+
+-- where a counter ends
+pub end_small : (s : Core) (j : ℕ) (v : View) (k : Counter) → IsSoundCore s → At s.views j v → v.live ≡ true → end_of v.sizes k < 536870912
+end_small s j v Ids h at live = let l = h.lawful in let i = l.1 in let e = (h.members j v at live).1 in subst (λ (z : HeapSize). z.ids < 536870912) (sym e) i
+end_small s j v Words h at live = let l = h.lawful in let i = l.3 in let e = (h.members j v at live).1 in subst (λ (z : HeapSize). z.words < 536870912) (sym e) i
+
+-- where an own word lies
+pub own_word : (s : Core) (j c : ℕ) → IsCore s → LiveIn s.views j (λ v. HasKey v.own_words c) → IsLawful s.size × (c < s.size.words) × (content_at s.size c < length s.words)
+own_word s j c h live = let g : IsSoundCore s = sound_of s j (λ v. HasKey v.own_words c) h live in let p = has_key live.0.own_words c live.3 in let o = ((g.own_words j live.0 live.1 live.2).each c p.0 p.1).0 in
+    let n = g.counted in let e = n.words_end in let l = n.long in (g.lawful, omega arith, omega arith)
+
+-- where the words of an own id lie
+pub own_id : (s : Core) (j i : ℕ) → IsCore s → LiveIn s.views j (λ v. HasKey v.own_ids i) → IsLawful s.size × (i < s.size.ids) × (form_at s.size i < length s.words) × (length_at s.size i < length s.words)
+own_id s j i h live = let g : IsSoundCore s = sound_of s j (λ v. HasKey v.own_ids i) h live in let p = has_key live.0.own_ids i live.3 in let o = ((g.own_ids j live.0 live.1 live.2).each i p.0 p.1).0 in
+    let n = g.counted in let e = n.ids_end in let l = n.long in (g.lawful, omega arith, omega arith, omega arith)
+
+pub own_lengths : (s : Core) (i : ℕ) → IsCore s → EachLive s.views (λ _ v. (n : ℕ) → Has v.own_ids i n → n ≤ MAX)
+own_lengths s i h j v at live n has = let g : IsSoundCore s = sound_of s j (λ v. Unit {0}) h (v, at, live, tt) in ((g.own_ids j v at live).each i n has).3
+
+-- what a birth may rest on
+pub bears_small : (s : Core) (j i : ℕ) (wide : Bool) (start : ℕ) (fixed : Bool) (d : View) → IsCore s → LiveIn s.views j (λ v. MayBear v i (Flat wide start fixed)) → (unwrap_or (get (get_or s.views j d).own_ids i) 0 ≤ MAX) × (start < 2 ^ 29)
+bears_small s j i wide start fixed d h live = let v : View = live.0 in let is : get_or s.views j d ≡ v = at_index s.views j v d live.1 in let n : ℕ = live.3.0 in
+    let own : unwrap_or (get (get_or s.views j d).own_ids i) 0 ≡ n = (λ k. unwrap_or (get (is k).own_ids i) 0) ∙ ap (λ (o : Option ℕ). unwrap_or o 0) live.3.1 in
+    (subst (λ (m : ℕ). m ≤ MAX) (sym own) (own_lengths s i h j v live.1 live.2 n live.3.1), live.3.2.0)
+
+none_or : {X : Type 0} (o : Option X) → ((x : X) → o ≡ Some x → ⊥) → o ≡ None
+none_or None f = refl
+none_or (Some x) f = absurd (f x refl)
+
+pub bears_fresh : (s : Core) (j i : ℕ) (wide : Bool) (start : ℕ) (fixed : Bool) (d : View) → IsCore s → LiveIn s.views j (λ v. MayBear v i (Flat wide start fixed)) → (get (get_or s.views j d).units i ≡ None) × (get (get_or s.views j d).forms i ≡ None)
+bears_fresh s j i wide start fixed d h live = let v : View = live.0 in let P : View → Type 0 = (λ v. MayBear v i (Flat wide start fixed)) in let g : IsSoundCore s = sound_of s j P h live in
+    let unborn : form s.size s.words i ≡ 0 = ((g.own_ids j v live.1 live.2).each i live.3.0 live.3.1).1 in let k = g.knows j v live.1 live.2 in
+    subst (λ (u : View). (get u.units i ≡ None) × (get u.forms i ≡ None)) (sym (at_index s.views j v d live.1))
+    (none_or (get v.units i) (λ us e. (k.of_units i us e).0.1 unborn), none_or (get v.forms i) (λ f e. (k.of_forms i f e).born.1 unborn))
+
+abbrev pub Tells : Bool → Type 0 → Type 0
+Tells b P = (IsTrue b → P) × (P → IsTrue b)
+
+-- what a test of the views tells of the event
+pub enabled_by : (s t : Core) (e f : Event) (b : Bool) → s ≡ t → e ≡ f → Tells b (Enabled s f) → Tells b (Enabled t e)
+enabled_by s t e f b p q h = subst (λ (x : Core × Event). Tells b (Enabled x.0 x.1)) (λ i. (p i, sym q i)) h
+
+pub views_by : (vs us : List View) (j : ℕ) (P : View → Type 0) (b : Bool) → vs ≡ us → Tells b (LiveIn vs j P) → Tells b (LiveIn us j P)
+views_by vs us j P b e h = subst (λ (l : List View). Tells b (LiveIn l j P)) e h

@@ -1,0 +1,39 @@
+use Rattle.std.proofs.Common.{◌∙◌, ◌≤◌, ℕ, List, ap, sym, subst}
+use Rattle.js_header.specs.declared.form.Form.{Form}
+use Rattle.js_header.specs.declared.form.Form.TheVariants.{Flat}
+use Rattle.heap_core.specs.declared.view.View.{View}
+use Rattle.heap_core.specs.declared.event.Event.TheVariants.{LoadCounter, Claim, StoreWord, StoreLength, Birth}
+use Rattle.heap_core.specs.Layout.{MAX}
+use Rattle.heap_core.specs.Maps.{Has, HasKey}
+use Rattle.heap_core.specs.Sound.{EachLive}
+use Rattle.heap_core.specs.Core.{core}
+use Rattle.heap_core.specs.Claims.{MayClaim}
+use Rattle.heap_core.specs.Births.{MayStoreLength, MayBear}
+use Rattle.heap_core.proofs.StateLemmas.{own_lengths, enabled_by, views_by}
+use Rattle.heap_core.proofs.state.enabled.Goals as goal
+
+pub may_bear-requires : goal.may_bear-requires
+may_bear-requires c = subst (λ (vs : List View). EachLive vs (λ _ v. (n : ℕ) → Has v.own_ids c.in-Birth.id n → n ≤ MAX)) (sym c.as_slice-views.ensures.value)
+    (own_lengths (core c.state.inside.size c.state.inside.agents c.state.inside.words.items c.state.inside.views.items) c.in-Birth.id c.state.invariant)
+
+pub returns-in-LoadCounter : goal.returns-in-LoadCounter
+returns-in-LoadCounter c = enabled_by (core c.state.inside.size c.state.inside.agents c.state.inside.words.items c.state.inside.views.items) c.args.state.now c.args.event.now (LoadCounter c.in-LoadCounter.view c.in-LoadCounter.counter) c.is_live.result c.state.view_is c.in-LoadCounter.is
+    (views_by c.as_slice-views.result.now c.state.inside.views.items c.in-LoadCounter.view (λ v. Unit {0}) c.is_live.result c.as_slice-views.ensures.value c.is_live.ensures)
+
+pub returns-in-Claim : goal.returns-in-Claim
+returns-in-Claim c = enabled_by (core c.state.inside.size c.state.inside.agents c.state.inside.words.items c.state.inside.views.items) c.args.state.now c.args.event.now (Claim c.in-Claim.view c.in-Claim.counter c.in-Claim.at c.in-Claim.want) c.may_claim.result c.state.view_is c.in-Claim.is
+    (views_by c.as_slice-views.result.now c.state.inside.views.items c.in-Claim.view (λ v. MayClaim v c.in-Claim.counter c.in-Claim.at c.in-Claim.want) c.may_claim.result c.as_slice-views.ensures.value c.may_claim.ensures)
+
+pub returns-in-StoreWord : goal.returns-in-StoreWord
+returns-in-StoreWord c = enabled_by (core c.state.inside.size c.state.inside.agents c.state.inside.words.items c.state.inside.views.items) c.args.state.now c.args.event.now (StoreWord c.in-StoreWord.view c.in-StoreWord.at c.in-StoreWord.word) c.may_store_word.result c.state.view_is c.in-StoreWord.is
+    (views_by c.as_slice-views.result.now c.state.inside.views.items c.in-StoreWord.view (λ v. HasKey v.own_words c.in-StoreWord.at) c.may_store_word.result c.as_slice-views.ensures.value c.may_store_word.ensures)
+
+pub returns-in-StoreLength : goal.returns-in-StoreLength
+returns-in-StoreLength c = enabled_by (core c.state.inside.size c.state.inside.agents c.state.inside.words.items c.state.inside.views.items) c.args.state.now c.args.event.now (StoreLength c.in-StoreLength.view c.in-StoreLength.id c.in-StoreLength.length) c.may_store_length.result c.state.view_is c.in-StoreLength.is
+    (views_by c.as_slice-views.result.now c.state.inside.views.items c.in-StoreLength.view (λ v. MayStoreLength v c.in-StoreLength.id c.in-StoreLength.length) c.may_store_length.result c.as_slice-views.ensures.value c.may_store_length.ensures)
+
+pub returns-in-Flat : goal.returns-in-Flat
+returns-in-Flat c = let t = views_by c.as_slice-views.result.now c.state.inside.views.items c.in-Birth.view (λ v. MayBear v c.in-Birth.id (Flat c.in-Flat.wide c.in-Flat.start c.in-Flat.fixed)) c.may_bear.result c.as_slice-views.ensures.value c.may_bear.ensures in
+    enabled_by (core c.state.inside.size c.state.inside.agents c.state.inside.words.items c.state.inside.views.items) c.args.state.now c.args.event.now (Birth c.in-Birth.view c.in-Birth.id (Flat c.in-Flat.wide c.in-Flat.start c.in-Flat.fixed)) c.may_bear.result c.state.view_is
+    (c.in-Birth.is ∙ ap (λ (f : Form). Birth c.in-Birth.view c.in-Birth.id f) c.in-Flat.is)
+    ((λ h. (tt, t.0 h)), (λ h. t.1 h.1))

@@ -1,0 +1,13 @@
+-- The machine as plain data: one heap's sizes, its number of agents, its words, and the view of each agent that there ever was.
+use Rattle.std.specs.Prelude.{ℕ, List}
+use Rattle.heap_core.specs.declared.view.View.{View}
+use Rattle.heap_core.specs.declared.size.HeapSize.{HeapSize}
+
+pub record Core : Type 0 where
+  pub size : HeapSize
+  pub agents : ℕ
+  pub words : List ℕ
+  pub views : List View
+
+abbrev pub core : HeapSize → ℕ → List ℕ → List View → Core
+core z agents W vs = record { size = z; agents = agents; words = W; views = vs }

@@ -1,0 +1,130 @@
+-- The machine: where each event may come, and what it does. An event is one atomic step of one agent on one word, but for the making of the heap.
+use Rattle.std.specs.Prelude.{◌≡◌, ℕ, ◌+◌, ◌≤◌, ◌⊎◌, ◌==◌, true, if◌then◌else◌, List, [], ◌∷◌, slice_index, slice_index_or, slice_set, replicate, Result, Ok, Err}
+use Rattle.js_header.specs.Form.{word_of}
+use Rattle.js_header.specs.declared.form.Form.{Form}
+use Rattle.js_header.specs.declared.form.Form.TheVariants.{Flat}
+use Rattle.heap_core.specs.declared.view.View.{View}
+use Rattle.heap_core.specs.declared.size.HeapSize.{HeapSize}
+use Rattle.heap_core.specs.declared.event.Refusal.{Refusal}
+use Rattle.heap_core.specs.declared.event.Refusal.TheVariants.{NotEnabled, Memory}
+use Rattle.heap_core.specs.declared.event.Event.{Event}
+use Rattle.heap_core.specs.declared.event.Event.TheVariants.{Make, LoadCounter, Claim, StoreWord, StoreLength, Birth}
+use Rattle.heap_core.specs.Layout.{IsLawful, counter_at, form_at, length_at, content_at, word_count, IsBorn}
+use Rattle.heap_core.specs.Contents.{units_of}
+use Rattle.heap_core.specs.Maps.{Has, HasKey}
+use Rattle.heap_core.specs.Sound.{At, IsSound, AreLegal}
+use Rattle.heap_core.specs.Core.{Core}
+use Rattle.heap_core.specs.Claims.{loaded_counter, MayClaim, claimed}
+use Rattle.heap_core.specs.Births.{stored_word, MayStoreLength, stored_length, MayBear, born}
+use Rattle.heap_core.specs.Agents.{first_view, spent}
+
+abbrev pub IsSoundCore : Core → Type 0
+IsSoundCore s = IsSound s.size s.agents s.words s.views
+
+abbrev pub HasNoHeap : Core → Type 0
+HasNoHeap s = (s.words ≡ []) × (s.views ≡ [])
+
+-- what every machine meets: it has no heap yet, or the rule holds
+abbrev pub IsCore : Core → Type 0
+IsCore s = HasNoHeap s ⊎ IsSoundCore s
+
+-- the view with this number is there, is live and has the property
+abbrev pub LiveIn : List View → ℕ → (View → Type 0) → Type 0
+LiveIn vs j P = (v : View) × At vs j v × (v.live ≡ true) × P v
+
+abbrev pub LiveAt : Core → ℕ → (View → Type 0) → Type 0
+LiveAt s j P = LiveIn s.views j P
+
+abbrev pub view_at : Core → ℕ → View
+view_at s j = slice_index_or s.views j spent
+
+-- the word p becomes n, and the view j becomes w
+abbrev pub moved : Core → ℕ → ℕ → ℕ → View → Core
+moved s p n j w = record s { words = slice_set s.words p n; views = slice_set s.views j w }
+
+-- what a compare-exchange of the word p from `old` to `new` leaves there
+abbrev pub exchanged : Core → ℕ → ℕ → ℕ → ℕ
+exchanged s p old new = if slice_index s.words p == old then new else slice_index s.words p
+
+-- a load, which changes no word
+abbrev pub looked : Core → ℕ → View → Core
+looked s j w = record s { views = slice_set s.views j w }
+
+-- the forms whose births are built: a Flat alone, until there are ropes
+abbrev pub IsBuilt : Form → Type 0
+IsBuilt (Flat wide start fixed) = Unit {0}
+IsBuilt _ = ⊥
+
+-- where an event may come: a making where there is no view yet, every other where its view is live and its kind's condition holds
+abbrev pub Enabled : Core → Event → Type 0
+Enabled s (Make z agents) = (s.views ≡ []) × IsLawful z × (1 ≤ agents) × (agents ≤ 64)
+Enabled s (LoadCounter j k) = LiveAt s j (λ v. Unit {0})
+Enabled s (Claim j k at want) = LiveAt s j (λ v. MayClaim v k at want)
+Enabled s (StoreWord j c n) = LiveAt s j (λ v. HasKey v.own_words c)
+Enabled s (StoreLength j i n) = LiveAt s j (λ v. MayStoreLength v i n)
+Enabled s (Birth j i f) = IsBuilt f × LiveAt s j (λ v. MayBear v i f)
+
+-- the machine after an event
+abbrev pub after : Core → Event → Core
+after s (Make z agents) = record { size = z; agents = agents; words = replicate (word_count z) 0; views = first_view z agents ∷ [] }
+after s (LoadCounter j k) = looked s j (loaded_counter (view_at s j) k (slice_index s.words (counter_at k)))
+after s (Claim j k at want) = moved s (counter_at k) (exchanged s (counter_at k) at (at + want)) j (claimed (view_at s j) k at want (slice_index s.words (counter_at k)))
+after s (StoreWord j c n) = moved s (content_at s.size c) n j (stored_word (view_at s j) c n)
+after s (StoreLength j i n) = moved s (length_at s.size i) n j (stored_length (view_at s j) i n)
+after s (Birth j i f) = moved s (form_at s.size i) (word_of f) j (born (view_at s j) i f)
+
+-- the word that an event finds, which is the one that stood there before it; a making finds none, and its answer is 0
+abbrev pub place_of : HeapSize → Event → ℕ
+place_of z (LoadCounter j k) = counter_at k
+place_of z (Claim j k at want) = counter_at k
+place_of z (StoreWord j c n) = content_at z c
+place_of z (StoreLength j i n) = length_at z i
+place_of z (Birth j i f) = form_at z i
+place_of z _ = 0
+
+abbrev pub found : Core → Event → ℕ
+found s (Make z agents) = 0
+found s e = slice_index s.words (place_of s.size e)
+
+-- an event was applied: on success it was enabled, the machine is the one after it, and the answer is the word found; on a refusal nothing changed
+abbrev pub Applied : Core → Event → Core → Result ℕ Refusal → Type 0
+Applied s e t (Ok x) = Enabled s e × (t ≡ after s e) × (x ≡ found s e)
+Applied s e t (Err NotEnabled) = (Enabled s e → ⊥) × (t ≡ s)
+Applied s e t (Err Memory) = t ≡ s
+
+-- every born id stays born and keeps its units
+abbrev pub KeepsUnits : Core → Core → Type 0
+KeepsUnits s t = (i : ℕ) → IsBorn s.size s.words i → IsBorn t.size t.words i × (units_of t.size t.words i ≡ units_of s.size s.words i)
+
+-- the id of a birth is born afterwards
+abbrev pub BornBy : Event → Core → Type 0
+BornBy (Birth j i f) t = IsBorn t.size t.words i
+BornBy e t = Unit {0}
+
+-- the units that a view has of the string that it saw in a slot
+abbrev pub HasEntry : Core → ℕ → ℕ → List ℕ → Type 0
+HasEntry s j k us = (v : View) × (i : ℕ) × At s.views j v × Has v.slots k i × Has v.units i us
+
+-- a list of events, one after the other, each enabled in its turn
+abbrev pub run : List Event → Core → Core
+run [] s = s
+run (e ∷ es) s = run es (after s e)
+
+abbrev pub AreEnabled : List Event → Core → Type 0
+AreEnabled [] s = Unit {0}
+AreEnabled (e ∷ es) s = Enabled s e × AreEnabled es (after s e)
+
+-- From a machine that meets the rule, every such list leads to one that does, and every born id keeps its units.
+-- From a machine without a heap every such list but the empty one does, since it begins with a making.
+abbrev pub RunsAreSound : Type 0
+RunsAreSound = (s : Core) (es : List Event) → IsSoundCore s → AreEnabled es s → IsSoundCore (run es s)
+
+abbrev pub MadeRunsAreSound : Type 0
+MadeRunsAreSound = (s : Core) (e : Event) (es : List Event) → HasNoHeap s → AreEnabled (e ∷ es) s → IsSoundCore (run (e ∷ es) s)
+
+abbrev pub RunsKeepUnits : Type 0
+RunsKeepUnits = (s : Core) (es : List Event) → IsCore s → AreEnabled es s → KeepsUnits s (run es s)
+
+-- whatever was played, all histories together give each list of units one id and each id one list
+abbrev pub RunsAreLegal : Type 0
+RunsAreLegal = (s : Core) (es : List Event) → IsCore s → AreEnabled es s → AreLegal (run es s).views
