@@ -1,0 +1,39 @@
+-- What a store of plain lists means, and what its parts owe one another.
+use Rattle.std.specs.Prelude.{◌≡◌, ℕ, ◌<◌, ◌≤◌, true, false, List, [], length, map, Some, slice_get, slice_index, unwrap_or}
+use Rattle.std.specs.Ordering.{nat_cmp}
+use Rattle.std.specs.Cmp.Lexicographic.{slice_cmp}
+use Rattle.std.specs.FinMap.{FinMap, get}
+use Rattle.js_store.specs.State.{State}
+
+-- the units of a number
+abbrev pub units_at : List (List ℕ) → ℕ → List ℕ
+units_at strings n = unwrap_or (slice_get strings n) []
+
+-- the units of each number that was answered, in order
+abbrev pub history_of : List (List ℕ) → List ℕ → List (List ℕ × ℕ)
+history_of strings answers = map (λ n. (units_at strings n, n)) answers
+
+-- the meaning of the strings and of the numbers that `intern` answered
+abbrev pub plain_state : List (List ℕ) → List ℕ → State (Unit {0})
+plain_state strings answers = record {
+  known = λ n. slice_get strings n;
+  settled = λ n. true;
+  shut = λ u. false;
+  history = history_of strings answers;
+  used_ids = 0;
+  used_words = 0;
+  low_ids = 0;
+  low_words = 0;
+  sizes = record { ids = 0; words = 0; slots = 0 };
+  limit = 536870888;
+  bounded = false;
+  sure = false;
+  frame = tt;
+}
+
+-- each list is short enough for a string, and a number is 32 bits wide; the table names strings by their units, and each number answered is the one that the table has for its units
+pub record IsConsistent (strings : List (List ℕ)) (answers : List ℕ) (table : FinMap (slice_cmp nat_cmp) ℕ) : Type 0 where
+  pub lengths : (n : ℕ) → length (units_at strings n) ≤ 536870888
+  pub count : length strings ≤ 4294967295
+  pub found : (u : List ℕ) (n : ℕ) → get table u ≡ Some n → slice_get strings n ≡ Some u
+  pub answered : (k : ℕ) → k < length answers → get table (units_at strings (slice_index answers k)) ≡ Some (slice_index answers k)
