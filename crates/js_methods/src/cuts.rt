@@ -1,0 +1,84 @@
+// Methods that give a part of a string, or several put together.
+ghost use Rattle.std.specs.Prelude.{◌≡◌, ◌+◌, ◌*◌, ◌≤◌, ◌++◌, length, IfOk, IfSome};
+ghost use Rattle.js_store.specs.State.{Has, IsKnown, IsSettled, text};
+ghost use Rattle.js_store.specs.Rows.{wide_words, join_ids, join_words};
+ghost use Rattle.js_store.specs.Faults.{Step, method_fault_of, NeverSlots};
+ghost use Rattle.js_store.specs.Answers.{ThrowsLong};
+ghost use Rattle.js_number.specs.Places.{IsLawful};
+ghost use Rattle.js_methods.specs.Cuts.{slice_of, end_of};
+
+use js_number::Num;
+use js_store::{Cause, MethodFault, Strings};
+use js_units::{NoMemory, Units};
+use std::alloc::Global;
+
+/// The part from `start` to before `end`, which is the string's end where it is none; both count
+/// from the end where they are negative, and the part is empty where `start` isn't before `end`
+/// ("String.prototype.slice").
+pub fn slice<S: Strings>(
+    store: &mut S,
+    s: S::Ref,
+    start: Num,
+    end: Option<Num>,
+) -> Result<S::Ref, MethodFault>
+    requires known { IsKnown (S.state store.old) (S.number s) }
+    requires first { IsLawful start }
+    requires last { IfSome end IsLawful }
+    ensures value { IfOk result (λ r. Has (S.state store.new) (S.number r) (slice_of (text (S.state store.old) (S.number s)) start end)) }
+    ensures throws { ThrowsLong result (S.state store.old).limit (length (slice_of (text (S.state store.old) (S.number s)) start end)) }
+    ensures step { Step (S.state store.old) (S.state store.new) (method_fault_of result)
+        1 (2 * wide_words (length (text (S.state store.old) (S.number s))) + 3) }
+    ensures slots { NeverSlots (method_fault_of result) }
+    ensures history { (S.state store.new).history ≡ (S.state store.old).history }
+{
+    let len = store.len(s);
+    let from = start.relative_to(len);
+    let to = end_place(end, len).max(from);
+    if to - from > store.limit() {
+        let length = u128::from(to - from);
+        return Err(MethodFault::RangeError(Cause::TooLong { length }));
+    }
+    store.settle(s)?;
+    Ok(store.slice(s, from, to)?)
+}
+
+// The place of an end, which counts from the end where it is negative.
+fn end_place(end: Option<Num>, len: u32) -> u32
+    requires { IfSome end IsLawful }
+    ensures value { result ≡ end_of end len }
+    ensures within { result ≤ len }
+{
+    end.map_or(len, |end| end.relative_to(len))
+}
+
+/// The units of `s` followed by those of `t` ("String.prototype.concat" with one argument).
+pub fn concat<S: Strings>(store: &mut S, s: S::Ref, t: S::Ref) -> Result<S::Ref, MethodFault>
+    requires left { IsKnown (S.state store.old) (S.number s) }
+    requires right { IsKnown (S.state store.old) (S.number t) }
+    ensures value { IfOk result (λ r. Has (S.state store.new) (S.number r) (text (S.state store.old) (S.number s) ++ text (S.state store.old) (S.number t))) }
+    ensures throws { ThrowsLong result (S.state store.old).limit (length (text (S.state store.old) (S.number s)) + length (text (S.state store.old) (S.number t))) }
+    ensures step { Step (S.state store.old) (S.state store.new) (method_fault_of result)
+        (join_ids (length (text (S.state store.old) (S.number s))) (length (text (S.state store.old) (S.number t))))
+        (join_words (length (text (S.state store.old) (S.number s))) (length (text (S.state store.old) (S.number t)))) }
+    ensures slots { NeverSlots (method_fault_of result) }
+    ensures history { (S.state store.new).history ≡ (S.state store.old).history }
+{
+    Ok(store.concat(s, t)?)
+}
+
+/// A copy of the units of a settled string.
+pub fn copied<S: Strings>(alloc: Global, store: &mut S, s: S::Ref) -> Result<Units, NoMemory>
+    requires known { IsKnown (S.state store.old) (S.number s) }
+    requires settled { IsSettled (S.state store.old) (S.number s) }
+    ensures value { IfOk result (λ u. u ≡ text (S.state store.old) (S.number s)) }
+    ensures step { Step (S.state store.old) (S.state store.new) None 0 0 }
+    ensures history { (S.state store.new).history ≡ (S.state store.old).history }
+{
+    let len = store.len(s);
+    let mut units = Units::new(alloc);
+    for i in 0..len {
+        let unit = store.unit_at(s, i);
+        units.push(unit)?;
+    }
+    Ok(units)
+}
