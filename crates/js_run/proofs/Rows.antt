@@ -1,0 +1,280 @@
+-- Each status and why it comes, from the outcome.
+use Rattle.std.proofs.Common.{◌≡◌, ◌⊎◌, inl, inr, ℕ, ◌<◌, List, [], ◌∷◌, ◌++◌, None, Some, refl, sym, ap, ◌∙◌, subst, arith}
+use Rattle.std.specs.declared.option.Option.{Option}
+use Rattle.js_io.specs.Counts.{next_count}
+use Rattle.js_io.specs.FilesState.{IsTooLarge, FilesState}
+use Rattle.js_io.specs.SinkState.{IsProperPrefix}
+use Rattle.js_run.specs.Words.{Name, Plan, files_of, plan_of}
+use Rattle.js_run.specs.Meaning.{End, Done, Run, runs_of}
+use Rattle.js_run.specs.Verdict.{Verdict, BadWords, NotRead, TooLarge, Refused, NoMemory, Ran, Report, Refusal, Printed, report_of, status_of, out_of, err_of, status_or, end_line, unread_line, large_line}
+use Rattle.js_run.specs.Moment.{Moment, Sinks, Ended}
+use Rattle.js_run.specs.Cause.{AllSpell, FirstRefused, ReadUpTo, HasCauseBy, HasCauseIn, IsRun}
+use Rattle.js_run.specs.Ending.{TakesAll, TakesUntil, IsEnd}
+use Rattle.js_run.specs.Outcome.{Outcome}
+use Rattle.js_run.specs.Rows as row
+use Rattle.js_run.specs.Rows.{NoFault, IsWant, OrWant, Exactly, IsFileFault, IsToldLarge, IsNoScript, IsToldRefused, IsRefusal, IsRefusalTold, AreRun, Prints, IsCut, IsHonest, IsDone}
+use Rattle.js_run.proofs.Contents.{not_large, read_same, read_small, none_refused, same_trees}
+
+-- every script ends Done, so the status is 0 and err takes nothing
+
+done_or : (end : End) (later : ℕ) → status_or end later ≡ later
+done_or Done later = refl
+
+all_done : (runs : List Run) → status_of runs ≡ 0
+all_done [] = refl
+all_done (run ∷ runs) = done_or run.end (status_of runs) ∙ all_done runs
+
+no_line : (name : Name) (end : End) → end_line name end ≡ []
+no_line name Done = refl
+
+no_lines : (runs : List Run) → err_of runs ≡ []
+no_lines [] = refl
+no_lines (run ∷ runs) = ap (λ l. l ++ err_of runs) (no_line run.name run.end) ∙ no_lines runs
+
+no_prefix : (prefix : List ℕ) → IsProperPrefix prefix [] → ⊥
+no_prefix [] (byte, rest, split) = cc split
+no_prefix (first ∷ prefix) (byte, rest, split) = cc split
+
+-- nothing fails halfway through nothing
+no_cut : (runs : List Run) (old new : Sinks) → TakesUntil old.err new.err (err_of runs) → ⊥
+no_cut runs old new cut =
+    let (prefix, split, took) = cut.took in
+    no_prefix prefix (subst (λ (l : List ℕ). IsProperPrefix prefix l) (no_lines runs) split)
+
+abbrev status_in : Report → ℕ
+status_in (Refusal status line) = status
+status_in (Printed status written told) = status
+
+-- the status is that of the report, or 7
+code_of : (r : Report) (code : ℕ) (old new : Sinks) → IsEnd r code old new → (code ≡ status_in r) ⊎ (code ≡ 7)
+code_of (Refusal status line) code old new end = inl end.status
+code_of (Printed status written told) code old new (inl whole) = inl whole.status
+code_of (Printed status written told) code old new (inr (inl cut)) = inr cut.status
+code_of (Printed status written told) code old new (inr (inr cut)) = inr cut.status
+
+decided : (code status wanted : ℕ) → (code ≡ status) ⊎ (code ≡ 7) → code ≡ wanted → wanted < 7 → status ≡ wanted
+decided code status wanted (inl is) w lt = sym is ∙ w
+decided code status wanted (inr is) w lt = absurd (omega (arith, is, w, lt))
+
+-- 2
+
+bad_words : (plan : Option Plan) (old new : FilesState) (v : Verdict) → HasCauseBy plan old new v → status_in (report_of v) ≡ 2 → plan ≡ None
+bad_words None old new v why is = refl
+bad_words (Some plan) old new BadWords why is = absurd why
+bad_words (Some plan) old new (NotRead name) why is = absurd (omega (arith, is))
+bad_words (Some plan) old new (TooLarge name) why is = absurd (omega (arith, is))
+bad_words (Some plan) old new (Refused name fault) why is = absurd (omega (arith, is))
+bad_words (Some plan) old new NoMemory why is = absurd (omega (arith, is))
+bad_words (Some plan) old new (Ran runs) why is = absurd (omega (arith, is, all_done runs))
+
+refused_words : (ended : Ended) (old new : Moment) (v : Verdict) → HasCauseBy None old.files new.files v → IsEnd (report_of v) ended.code old.sinks new.sinks → OrWant 2 ended old new
+refused_words ended old new BadWords why end = inl end.status
+refused_words ended old new NoMemory why end = inr end
+refused_words ended old new (NotRead name) why end = absurd why
+refused_words ended old new (TooLarge name) why end = absurd why
+refused_words ended old new (Refused name fault) why end = absurd why
+refused_words ended old new (Ran runs) why end = absurd why
+
+-- 3
+
+file_fault : (words : List (List ℕ)) (plan : Option Plan) (old new : FilesState) (v : Verdict) → plan_of words ≡ plan → HasCauseBy plan old new v → status_in (report_of v) ≡ 3 → IsFileFault words old new
+file_fault words (Some plan) old new (NotRead name) planned why is = record {
+  plan = plan;
+  planned = planned;
+  up_to = subst (λ (n : Name). ReadUpTo old.held (files_of plan) n) (sym why.blames) why.up_to;
+  why = inl why.once;
+}
+file_fault words (Some plan) old new (TooLarge name) planned why is = record {
+  plan = plan;
+  planned = planned;
+  up_to = subst (λ (n : Name). ReadUpTo old.held (files_of plan) n) (sym why.blames) why.up_to;
+  why = inr (subst (λ (n : Name). IsTooLarge (old.held n) old.oversize new.oversize) (sym why.blames) why.larger);
+}
+file_fault words plan old new BadWords planned why is = absurd (omega (arith, is))
+file_fault words plan old new (Refused name fault) planned why is = absurd (omega (arith, is))
+file_fault words plan old new NoMemory planned why is = absurd (omega (arith, is))
+file_fault words plan old new (Ran runs) planned why is = absurd (omega (arith, is, all_done runs))
+file_fault words None old new (NotRead name) planned why is = absurd why
+file_fault words None old new (TooLarge name) planned why is = absurd why
+
+-- a read that failed was counted
+counted : (before after : ℕ) → after ≡ next_count before → NoFault before after → ⊥
+counted before after once calm = omega (arith, once, calm.0, calm.1)
+
+large_end : (words : List (List ℕ)) (ended : Ended) (old new : Moment) (large : IsToldLarge words old.files new.files) (v : Verdict) → HasCauseIn old.files new.files (files_of large.plan) v
+    → IsEnd (report_of v) ended.code old.sinks new.sinks → OrWant 3 ended old new
+large_end words ended old new large BadWords why end = absurd why
+large_end words ended old new large (NotRead name) why end = inl end.status
+large_end words ended old new large (TooLarge name) why end = inl end.status
+large_end words ended old new large (Refused name fault) why end =
+    absurd (omega (arith, large.larger, read_small old.files.held large.before large.after large.name large.bytes (files_of large.plan) why.contents large.is why.read large.split))
+large_end words ended old new large NoMemory why end = inr end
+large_end words ended old new large (Ran runs) why end =
+    absurd (omega (arith, large.larger, read_small old.files.held large.before large.after large.name large.bytes (files_of large.plan) why.contents large.is why.read large.split))
+
+-- 4
+
+no_script : (words : List (List ℕ)) (plan : Option Plan) (old new : FilesState) (v : Verdict) → plan_of words ≡ plan → HasCauseBy plan old new v → status_in (report_of v) ≡ 4 → IsNoScript words old new
+no_script words (Some plan) old new (Refused name fault) planned why is = record { plan = plan; planned = planned; name = name; fault = fault; refused = why }
+no_script words None old new (Refused name fault) planned why is = absurd why
+no_script words plan old new BadWords planned why is = absurd (omega (arith, is))
+no_script words plan old new (NotRead name) planned why is = absurd (omega (arith, is))
+no_script words plan old new (TooLarge name) planned why is = absurd (omega (arith, is))
+no_script words plan old new NoMemory planned why is = absurd (omega (arith, is))
+no_script words plan old new (Ran runs) planned why is = absurd (omega (arith, is, all_done runs))
+
+refused_end : (words : List (List ℕ)) (ended : Ended) (old new : Moment) (told : IsToldRefused words old.files new.files) (v : Verdict) → HasCauseIn old.files new.files (files_of told.plan) v
+    → IsEnd (report_of v) ended.code old.sinks new.sinks → OrWant 4 ended old new
+refused_end words ended old new told BadWords why end = absurd why
+refused_end words ended old new told (NotRead name) why end = absurd (counted old.files.faults new.files.faults why.once told.calm)
+refused_end words ended old new told (TooLarge name) why end =
+    absurd (not_large old.files.held why.up_to.before why.up_to.after name (files_of told.plan) told.contents old.files.oversize new.files.oversize told.told why.up_to.split why.larger)
+refused_end words ended old new told (Refused name fault) why end = inl end.status
+refused_end words ended old new told NoMemory why end = inr end
+refused_end words ended old new told (Ran runs) why end =
+    let same = read_same old.files.held (files_of told.plan) told.contents why.contents told.told why.read in
+    absurd (none_refused told.contents why.trees (files_of told.plan) told.name told.fault (subst (λ (c : List (List ℕ)). AllSpell c why.trees) same why.spell) told.first)
+
+-- what a refusal tells
+
+not_refusal : (ended : Ended) (runs : List Run) → (ended.code ≡ status_of runs) ⊎ (ended.code ≡ 7) → IsRefusal ended → ⊥
+not_refusal ended runs (inl is) (inl two) = omega (arith, is, two, all_done runs)
+not_refusal ended runs (inl is) (inr (inl three)) = omega (arith, is, three, all_done runs)
+not_refusal ended runs (inl is) (inr (inr (inl four))) = omega (arith, is, four, all_done runs)
+not_refusal ended runs (inl is) (inr (inr (inr six))) = omega (arith, is, six, all_done runs)
+not_refusal ended runs (inr is) (inl two) = omega (arith, is, two)
+not_refusal ended runs (inr is) (inr (inl three)) = omega (arith, is, three)
+not_refusal ended runs (inr is) (inr (inr (inl four))) = omega (arith, is, four)
+not_refusal ended runs (inr is) (inr (inr (inr six))) = omega (arith, is, six)
+
+refusal_told : (words : List (List ℕ)) (plan : Option Plan) (ended : Ended) (old new : Moment) (v : Verdict) → plan_of words ≡ plan → HasCauseBy plan old.files new.files v
+    → IsEnd (report_of v) ended.code old.sinks new.sinks → IsRefusal ended → IsRefusalTold words ended old new
+refusal_told words plan ended old new BadWords planned why end is = record {
+  line = _;
+  is = row.IsLine.bad_words end.status;
+  told = record { status = refl; silent = end.silent; told = end.told };
+}
+refusal_told words None ended old new (NotRead name) planned why end is = absurd why
+refusal_told words (Some plan) ended old new (NotRead name) planned why end is = record {
+  line = _;
+  is = subst (λ (n : Name). row.IsLine words ended.code old.files new.files (unread_line n)) why.blames (row.IsLine.unread end.status why.once);
+  told = record { status = refl; silent = end.silent; told = end.told };
+}
+refusal_told words None ended old new (TooLarge name) planned why end is = absurd why
+refusal_told words (Some plan) ended old new (TooLarge name) planned why end is = record {
+  line = _;
+  is = subst (λ (n : Name). row.IsLine words ended.code old.files new.files (large_line n)) why.blames
+      (row.IsLine.large end.status (subst (λ (n : Name). IsTooLarge (old.files.held n) old.files.oversize new.files.oversize) (sym why.blames) why.larger));
+  told = record { status = refl; silent = end.silent; told = end.told };
+}
+refusal_told words None ended old new (Refused name fault) planned why end is = absurd why
+refusal_told words (Some plan) ended old new (Refused name fault) planned why end is = record {
+  line = _;
+  is = row.IsLine.refused end.status plan planned name fault why;
+  told = record { status = refl; silent = end.silent; told = end.told };
+}
+refusal_told words plan ended old new NoMemory planned why end is = record {
+  line = _;
+  is = row.IsLine.no_memory end.status;
+  told = record { status = refl; silent = end.silent; told = end.told };
+}
+refusal_told words plan ended old new (Ran runs) planned why end is = absurd (not_refusal ended runs (code_of (report_of (Ran runs)) ended.code old.sinks new.sinks end) is)
+
+-- 0 and 7
+
+module _ (words : List (List ℕ)) (plan : Plan) (old new : FilesState) (planned : plan_of words ≡ Some plan) (runs : List Run) (why : IsRun old new (files_of plan) runs) where
+  abbrev are_run : AreRun words old new
+  are_run = record {
+    plan = plan;
+    planned = planned;
+    contents = why.contents;
+    trees = why.trees;
+    read = why.read;
+    calm = why.calm;
+    spell = why.spell;
+  }
+
+prints : (words : List (List ℕ)) (plan : Option Plan) (ended : Ended) (old new : Moment) (v : Verdict) → plan_of words ≡ plan → HasCauseBy plan old.files new.files v
+    → IsEnd (report_of v) ended.code old.sinks new.sinks → ended.code ≡ 0 → Prints words old new
+prints words plan ended old new BadWords planned why end is = absurd (omega (arith, end.status, is))
+prints words plan ended old new (NotRead name) planned why end is = absurd (omega (arith, end.status, is))
+prints words plan ended old new (TooLarge name) planned why end is = absurd (omega (arith, end.status, is))
+prints words plan ended old new (Refused name fault) planned why end is = absurd (omega (arith, end.status, is))
+prints words plan ended old new NoMemory planned why end is = absurd (omega (arith, end.status, is))
+prints words None ended old new (Ran runs) planned why end is = absurd why
+prints words (Some plan) ended old new (Ran runs) planned why (inr (inl cut)) is = absurd (omega (arith, cut.status, is))
+prints words (Some plan) ended old new (Ran runs) planned why (inr (inr cut)) is = absurd (omega (arith, cut.status, is))
+prints words (Some plan) ended old new (Ran runs) planned why (inl whole) is = record {
+  run = are_run words plan old.files new.files planned runs why;
+  out = subst (λ (r : List Run). TakesAll old.sinks.out new.sinks.out (out_of r)) why.ran whole.out;
+  err = subst (λ (l : List ℕ). TakesAll old.sinks.err new.sinks.err l) (no_lines runs) whole.err;
+}
+
+cut_short : (words : List (List ℕ)) (plan : Option Plan) (ended : Ended) (old new : Moment) (v : Verdict) → plan_of words ≡ plan → HasCauseBy plan old.files new.files v
+    → IsEnd (report_of v) ended.code old.sinks new.sinks → ended.code ≡ 7 → IsCut words old new
+cut_short words plan ended old new BadWords planned why end is = absurd (omega (arith, end.status, is))
+cut_short words plan ended old new (NotRead name) planned why end is = absurd (omega (arith, end.status, is))
+cut_short words plan ended old new (TooLarge name) planned why end is = absurd (omega (arith, end.status, is))
+cut_short words plan ended old new (Refused name fault) planned why end is = absurd (omega (arith, end.status, is))
+cut_short words plan ended old new NoMemory planned why end is = absurd (omega (arith, end.status, is))
+cut_short words None ended old new (Ran runs) planned why end is = absurd why
+cut_short words (Some plan) ended old new (Ran runs) planned why (inl whole) is = absurd (omega (arith, whole.status, all_done runs, is))
+cut_short words (Some plan) ended old new (Ran runs) planned why (inr (inr cut)) is = absurd (no_cut runs old.sinks new.sinks cut.err)
+cut_short words (Some plan) ended old new (Ran runs) planned why (inr (inl cut)) is = record {
+  run = are_run words plan old.files new.files planned runs why;
+  out = subst (λ (r : List Run). TakesUntil old.sinks.out new.sinks.out (out_of r)) why.ran cut.out;
+  err = cut.err;
+}
+
+honest_end : (words : List (List ℕ)) (ended : Ended) (old new : Moment) (honest : IsHonest words old.files new.files) (v : Verdict) → HasCauseIn old.files new.files (files_of honest.plan) v
+    → IsEnd (report_of v) ended.code old.sinks new.sinks → IsDone words ended old new honest
+honest_end words ended old new honest BadWords why end = absurd why
+honest_end words ended old new honest (NotRead name) why end = absurd (counted old.files.faults new.files.faults why.once honest.calm)
+honest_end words ended old new honest (TooLarge name) why end =
+    absurd (not_large old.files.held why.up_to.before why.up_to.after name (files_of honest.plan) honest.contents old.files.oversize new.files.oversize honest.told why.up_to.split why.larger)
+honest_end words ended old new honest (Refused name fault) why end =
+    let same = read_same old.files.held (files_of honest.plan) honest.contents why.contents honest.told why.read in
+    absurd (none_refused honest.contents honest.trees (files_of honest.plan) name fault honest.spell (subst (λ (c : List (List ℕ)). FirstRefused (files_of honest.plan) c name fault) same why.first))
+honest_end words ended old new honest NoMemory why end = inr end
+honest_end words ended old new honest (Ran runs) why end =
+    let same = read_same old.files.held (files_of honest.plan) honest.contents why.contents honest.told why.read in
+    let trees = same_trees honest.contents why.trees honest.trees (subst (λ (c : List (List ℕ)). AllSpell c why.trees) same why.spell) honest.spell in
+    let ran : runs ≡ runs_of (files_of honest.plan) honest.trees = why.ran ∙ ap (runs_of (files_of honest.plan)) trees in
+    inl (subst (λ (r : List Run). IsEnd (report_of (Ran r)) ended.code old.sinks new.sinks) ran end)
+
+module _ (words : List (List ℕ)) (ended : Ended) (old new : Moment) (o : Outcome words ended old new) where
+  ends : (ended.code ≡ status_in (report_of o.verdict)) ⊎ (ended.code ≡ 7)
+  ends = code_of (report_of o.verdict) ended.code old.sinks new.sinks o.ending
+
+  because : (plan : Option Plan) → plan_of words ≡ plan → HasCauseBy plan old.files new.files o.verdict
+  because plan planned = subst (λ (p : Option Plan). HasCauseBy p old.files new.files o.verdict) planned o.cause
+
+  pub words_row : Exactly 2 ended old new (plan_of words ≡ None)
+  words_row = (
+    λ is. bad_words (plan_of words) old.files new.files o.verdict o.cause (decided _ _ 2 ends is (omega arith)),
+    λ none. refused_words ended old new o.verdict (because None none) o.ending,
+  )
+
+  pub read_row : ended.code ≡ 3 → IsFileFault words old.files new.files
+  read_row is = file_fault words (plan_of words) old.files new.files o.verdict refl o.cause (decided _ _ 3 ends is (omega arith))
+
+  pub large_row : IsToldLarge words old.files new.files → OrWant 3 ended old new
+  large_row large = large_end words ended old new large o.verdict (because (Some large.plan) large.planned) o.ending
+
+  pub script_row : ended.code ≡ 4 → IsNoScript words old.files new.files
+  script_row is = no_script words (plan_of words) old.files new.files o.verdict refl o.cause (decided _ _ 4 ends is (omega arith))
+
+  pub refused_row : IsToldRefused words old.files new.files → OrWant 4 ended old new
+  refused_row told = refused_end words ended old new told o.verdict (because (Some told.plan) told.planned) o.ending
+
+  pub told_row : IsRefusal ended → IsRefusalTold words ended old new
+  told_row is = refusal_told words (plan_of words) ended old new o.verdict refl o.cause o.ending is
+
+  pub print_row : ended.code ≡ 0 → Prints words old new
+  print_row is = prints words (plan_of words) ended old new o.verdict refl o.cause o.ending is
+
+  pub write_row : ended.code ≡ 7 → IsCut words old new
+  write_row is = cut_short words (plan_of words) ended old new o.verdict refl o.cause o.ending is
+
+  pub honest_row : (honest : IsHonest words old.files new.files) → IsDone words ended old new honest
+  honest_row honest = honest_end words ended old new honest o.verdict (because (Some honest.plan) honest.planned) o.ending

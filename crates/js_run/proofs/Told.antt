@@ -1,0 +1,29 @@
+-- What was written of a report.
+use Rattle.std.proofs.Common.{◌≤◌, inl, inr, ⊎_elim, ℕ, List, [], Result, Ok, Err, refl, arith}
+use Rattle.js_io.specs.SinkState.{SinkState, WritesAll}
+use Rattle.js_io.proofs.Prefixes.{Appends-nil}
+use Rattle.js_run.specs.Moment.{Sinks}
+use Rattle.js_run.specs.Verdict.{Report, Refusal, Printed}
+use Rattle.js_run.specs.Ending.{TakesAll, TakesUntil, IsTold, IsEnd}
+
+pub takes_nothing : (a : SinkState) → TakesAll a a []
+takes_nothing a = record { took = Appends-nil a.taken; calm = refl }
+
+-- a line was told, or a write of it failed
+pub told : {E : Type 0} (status : ℕ) (line : List ℕ) (r : Result Unit E) (out a b : SinkState) → WritesAll r a b line
+    → IsTold status line status (record { out = out; err = a }) (record { out = out; err = b })
+told status line (Ok done) out a b w = record { status = refl; silent = takes_nothing out; told = inl (record { took = w.all; calm = w.calm }) }
+told status line (Err e) out a b w = record { status = refl; silent = takes_nothing out; told = inr (record { took = w.prefix; once = w.once }) }
+
+calm_counts : (a b : SinkState) (bytes : List ℕ) → TakesAll a b bytes → a.faults ≤ b.faults
+calm_counts a b bytes took = omega (arith, took.calm)
+
+until_counts : (a b : SinkState) (bytes : List ℕ) → TakesUntil a b bytes → a.faults ≤ b.faults
+until_counts a b bytes took = omega (arith, took.once)
+
+-- no count of a sink falls
+pub counts_kept : (r : Report) (code : ℕ) (old new : Sinks) → IsEnd r code old new → (old.out.faults ≤ new.out.faults) × (old.err.faults ≤ new.err.faults)
+counts_kept (Refusal status line) code old new end = (calm_counts _ _ _ end.silent, ⊎_elim (calm_counts old.err new.err line) (until_counts old.err new.err line) end.told)
+counts_kept (Printed status written told) code old new (inl whole) = (calm_counts _ _ _ whole.out, calm_counts _ _ _ whole.err)
+counts_kept (Printed status written told) code old new (inr (inl cut)) = (until_counts _ _ _ cut.out, calm_counts _ _ _ cut.err)
+counts_kept (Printed status written told) code old new (inr (inr cut)) = (calm_counts _ _ _ cut.out, until_counts _ _ _ cut.err)

@@ -1,0 +1,44 @@
+-- The status, and what the sinks took.
+use Rattle.std.specs.Prelude.{◌≡◌, ◌⊎◌, ℕ, List, []}
+use Rattle.js_io.specs.Counts.{next_count}
+use Rattle.js_io.specs.SinkState.{SinkState, Takes, TakesPrefix}
+use Rattle.js_run.specs.Moment.{Sinks}
+use Rattle.js_run.specs.Verdict.{Report, Refusal, Printed}
+
+-- the sink took all of these bytes, and no write failed
+pub record TakesAll (old new : SinkState) (bytes : List ℕ) : Type 0 where
+  pub took : Takes old new bytes
+  pub calm : new.faults ≡ old.faults
+
+-- the sink took a prefix of these bytes, and then a write failed, the last one
+pub record TakesUntil (old new : SinkState) (bytes : List ℕ) : Type 0 where
+  pub took : TakesPrefix old new bytes
+  pub once : new.faults ≡ next_count old.faults
+
+-- nothing was run: out takes nothing, a line is told, and a write that fails there changes no status
+pub record IsTold (wanted : ℕ) (line : List ℕ) (code : ℕ) (old new : Sinks) : Type 0 where
+  pub status : code ≡ wanted
+  pub silent : TakesAll old.out new.out []
+  pub told : TakesAll old.err new.err line ⊎ TakesUntil old.err new.err line
+
+-- everything was written
+pub record IsWhole (wanted : ℕ) (written told : List ℕ) (code : ℕ) (old new : Sinks) : Type 0 where
+  pub status : code ≡ wanted
+  pub out : TakesAll old.out new.out written
+  pub err : TakesAll old.err new.err told
+
+-- a write to out failed, and nothing more was written
+pub record IsCutAtOut (written : List ℕ) (code : ℕ) (old new : Sinks) : Type 0 where
+  pub status : code ≡ 7
+  pub out : TakesUntil old.out new.out written
+  pub err : TakesAll old.err new.err []
+
+-- out took everything, a write to err failed, and nothing more was written
+pub record IsCutAtErr (written told : List ℕ) (code : ℕ) (old new : Sinks) : Type 0 where
+  pub status : code ≡ 7
+  pub out : TakesAll old.out new.out written
+  pub err : TakesUntil old.err new.err told
+
+abbrev pub IsEnd : Report → ℕ → Sinks → Sinks → Type 0
+IsEnd (Refusal status line) code old new = IsTold status line code old new
+IsEnd (Printed status written told) code old new = IsWhole status written told code old new ⊎ (IsCutAtOut written code old new ⊎ IsCutAtErr written told code old new)

@@ -1,0 +1,9 @@
+pub mod Words
+pub mod Meaning
+pub mod Verdict
+pub mod Moment
+pub mod Cause
+pub mod Ending
+pub mod Outcome
+pub mod Rows
+pub mod Answer

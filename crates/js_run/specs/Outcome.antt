@@ -1,0 +1,18 @@
+-- The outcome of a call: a verdict that has its cause, and what was written of it.
+use Rattle.std.specs.Prelude.{ℕ, ◌≤◌, List}
+use Rattle.js_run.specs.Verdict.{Verdict, report_of}
+use Rattle.js_run.specs.Moment.{Moment, Ended}
+use Rattle.js_run.specs.Cause.{KeepsFiles, HasCause}
+use Rattle.js_run.specs.Ending.{IsEnd}
+
+-- what every call keeps: the files as they are told, and no count falls
+pub record Keeps (old new : Moment) : Type 0 where
+  pub files : KeepsFiles old.files new.files
+  pub out : old.sinks.out.faults ≤ new.sinks.out.faults
+  pub err : old.sinks.err.faults ≤ new.sinks.err.faults
+
+pub record Outcome (words : List (List ℕ)) (ended : Ended) (old new : Moment) : Type 0 where
+  pub verdict : Verdict
+  pub cause : HasCause words old.files new.files verdict
+  pub ending : IsEnd (report_of verdict) ended.code old.sinks new.sinks
+  pub keeps : Keeps old new

@@ -1,0 +1,138 @@
+-- Each status by itself: when it comes, and what was written then. All of it follows from the outcome.
+use Rattle.std.specs.Prelude.{◌≡◌, ◌⊎◌, ℕ, ◌-◌, ◌^◌, ◌≤◌, ◌<◌, List, [], ◌∷◌, ◌++◌, length, Some}
+use Rattle.std.specs.declared.option.Option.{Option}
+use Rattle.js_io.specs.Counts.{next_count}
+use Rattle.js_io.specs.FilesState.{FilesState, IsTooLarge}
+use Rattle.js_io.specs.declared.files.TheConstants.{FILE_MAX}
+use Rattle.js_parse.specs.declared.parser.ParseFault.{ParseFault}
+use Rattle.js_parse.specs.Tree.{Tree}
+use Rattle.js_run.specs.Words.{Name, Plan, files_of, plan_of}
+use Rattle.js_run.specs.Meaning.{runs_of}
+use Rattle.js_run.specs.Verdict.{Printed, status_of, out_of, err_of, words_line, unread_line, large_line, refused_line, memory_line}
+use Rattle.js_run.specs.Moment.{Moment, Ended}
+use Rattle.js_run.specs.Cause.{Read, AllSpell, FirstRefused, ReadUpTo, IsRefused}
+use Rattle.js_run.specs.Ending.{TakesAll, TakesUntil, IsTold, IsEnd}
+
+-- no fault was counted, and the count isn't at the end of its 64 bits
+abbrev pub NoFault : ℕ → ℕ → Type 0
+NoFault before after = (after ≤ before) × (after < 2 ^ 64 - 1)
+
+-- want of memory before anything was run: out took nothing, and err its line
+abbrev pub IsWant : Ended → Moment → Moment → Type 0
+IsWant ended old new = IsTold 6 memory_line ended.code old.sinks new.sinks
+
+-- this status, or want of memory in its place
+abbrev pub OrWant : ℕ → Ended → Moment → Moment → Type 0
+OrWant status ended old new = (ended.code ≡ status) ⊎ IsWant ended old new
+
+-- the status comes exactly there, but for want of memory
+abbrev pub Exactly : ℕ → Ended → Moment → Moment → Type 0 → Type 0
+Exactly status ended old new P = (ended.code ≡ status → P) × (P → OrWant status ended old new)
+
+-- files of these names are told to have these contents, and none is too large
+pub data Told (held : Name → Option (List ℕ)) : List Name → List (List ℕ) → Type 0 where
+  none : Told held [] []
+  next : (name : Name) (names : List Name) (bytes : List ℕ) (contents : List (List ℕ))
+      → held name ≡ Some bytes → length bytes ≤ FILE_MAX → Told held names contents → Told held (name ∷ names) (bytes ∷ contents)
+
+-- a file wasn't read, the one that is blamed: its read failed, or it is too large. All before it were read.
+pub record IsFileFault (words : List (List ℕ)) (old new : FilesState) : Type 0 where
+  pub plan : Plan
+  pub planned : plan_of words ≡ Some plan
+  pub up_to : ReadUpTo old.held (files_of plan) new.blamed
+  pub why : (new.faults ≡ next_count old.faults) ⊎ IsTooLarge (old.held new.blamed) old.oversize new.oversize
+
+-- no read failed, and the first file that isn't told to have at most so many bytes is told to have more
+pub record IsToldLarge (words : List (List ℕ)) (old new : FilesState) : Type 0 where
+  pub plan : Plan
+  pub planned : plan_of words ≡ Some plan
+  pub before : List Name
+  pub name : Name
+  pub after : List Name
+  pub split : files_of plan ≡ before ++ name ∷ after
+  pub contents : List (List ℕ)
+  pub told : Told old.held before contents
+  pub bytes : List ℕ
+  pub is : old.held name ≡ Some bytes
+  pub larger : FILE_MAX < length bytes
+  pub calm : NoFault old.faults new.faults
+
+-- all files were read, and one of them is the first that spells no script
+pub record IsNoScript (words : List (List ℕ)) (old new : FilesState) : Type 0 where
+  pub plan : Plan
+  pub planned : plan_of words ≡ Some plan
+  pub name : Name
+  pub fault : ParseFault
+  pub refused : IsRefused old new (files_of plan) name fault
+
+-- no read failed, all files are told and not too large, and one of them is the first that spells no script
+pub record IsToldRefused (words : List (List ℕ)) (old new : FilesState) : Type 0 where
+  pub plan : Plan
+  pub planned : plan_of words ≡ Some plan
+  pub contents : List (List ℕ)
+  pub told : Told old.held (files_of plan) contents
+  pub name : Name
+  pub fault : ParseFault
+  pub first : FirstRefused (files_of plan) contents name fault
+  pub calm : NoFault old.faults new.faults
+
+-- the line of a refusal, by its status
+pub data IsLine (words : List (List ℕ)) (code : ℕ) (old new : FilesState) : List ℕ → Type 0 where
+  bad_words : code ≡ 2 → IsLine words code old new words_line
+  unread : code ≡ 3 → new.faults ≡ next_count old.faults → IsLine words code old new (unread_line new.blamed)
+  large : code ≡ 3 → IsTooLarge (old.held new.blamed) old.oversize new.oversize → IsLine words code old new (large_line new.blamed)
+  refused : code ≡ 4 → (plan : Plan) → plan_of words ≡ Some plan → (name : Name) (fault : ParseFault) → IsRefused old new (files_of plan) name fault
+      → IsLine words code old new (refused_line name fault)
+  no_memory : code ≡ 6 → IsLine words code old new memory_line
+
+-- the statuses of what isn't run
+abbrev pub IsRefusal : Ended → Type 0
+IsRefusal ended = (ended.code ≡ 2) ⊎ ((ended.code ≡ 3) ⊎ ((ended.code ≡ 4) ⊎ (ended.code ≡ 6)))
+
+-- out took nothing, and err the line; or, where a write to err failed, a prefix of it
+pub record IsRefusalTold (words : List (List ℕ)) (ended : Ended) (old new : Moment) : Type 0 where
+  pub line : List ℕ
+  pub is : IsLine words ended.code old.files new.files line
+  pub told : IsTold ended.code line ended.code old.sinks new.sinks
+
+-- scripts were run: all files were read, and spell them
+pub record AreRun (words : List (List ℕ)) (old new : FilesState) : Type 0 where
+  pub plan : Plan
+  pub planned : plan_of words ≡ Some plan
+  pub contents : List (List ℕ)
+  pub trees : List Tree
+  pub read : Read old.held (files_of plan) contents
+  pub calm : new.faults ≡ old.faults
+  pub spell : AllSpell contents trees
+
+-- what the scripts print
+abbrev pub printed_by : (words : List (List ℕ)) (old new : FilesState) → AreRun words old new → List ℕ
+printed_by words old new run = out_of (runs_of (files_of run.plan) run.trees)
+
+-- scripts were run, and out took exactly what they print, and err nothing
+pub record Prints (words : List (List ℕ)) (old new : Moment) : Type 0 where
+  pub run : AreRun words old.files new.files
+  pub out : TakesAll old.sinks.out new.sinks.out (printed_by words old.files new.files run)
+  pub err : TakesAll old.sinks.err new.sinks.err []
+
+-- scripts were run, a write to out failed after a prefix of what they print, and err took nothing
+pub record IsCut (words : List (List ℕ)) (old new : Moment) : Type 0 where
+  pub run : AreRun words old.files new.files
+  pub out : TakesUntil old.sinks.out new.sinks.out (printed_by words old.files new.files run)
+  pub err : TakesAll old.sinks.err new.sinks.err []
+
+-- the words are lawful, all files are told, not too large and spell scripts, and no read failed
+pub record IsHonest (words : List (List ℕ)) (old new : FilesState) : Type 0 where
+  pub plan : Plan
+  pub planned : plan_of words ≡ Some plan
+  pub contents : List (List ℕ)
+  pub told : Told old.held (files_of plan) contents
+  pub trees : List Tree
+  pub spell : AllSpell contents trees
+  pub calm : NoFault old.faults new.faults
+
+-- these scripts were run to their end and all was written, or a write failed; or want of memory
+abbrev pub IsDone : (words : List (List ℕ)) (ended : Ended) (old new : Moment) → IsHonest words old.files new.files → Type 0
+IsDone words ended old new honest =
+    let runs = runs_of (files_of honest.plan) honest.trees in
+    IsEnd (Printed (status_of runs) (out_of runs) (err_of runs)) ended.code old.sinks new.sinks ⊎ IsWant ended old new
