@@ -114,7 +114,7 @@ module _ (z : HeapSize) (W : List ℕ) (vs : List View) (stand : (i : ℕ) → I
     solid_stays_by i (Cons wide left right) b h e st keep = absurd h
     solid_stays_by i (Sliced wide parent offset) b h e st keep = absurd h
 
-    solid_stays : (i : ℕ) → IsBorn z W i → IsSolidForm (form_of (form z W i)) → solid z W i ≡ solid z W' i
+    pub solid_stays : (i : ℕ) → IsBorn z W i → IsSolidForm (form_of (form z W i)) → solid z W i ≡ solid z W' i
     solid_stays i b h = let s = stand i b in let solid_now : IsSolid s.now = subst IsSolidForm s.decodes h in ⊎_elim
         (λ keep. solid_stays_by i s.now b solid_now s.decodes s.stands keep)
         (λ (t : Turned z W W' vs' i). solid_units_by i s.now solid_now s.decodes ∙ sym t.solid_now)

@@ -171,8 +171,8 @@ module _ (z : HeapSize) (agents : ℕ) (W : List ℕ) (vs : List View) (s : IsSo
     stands = standing;
   }
 
-  agrees : Agrees z W vs W' vs'
-  agrees = let a = ids_same in let b = words_same in record {
+  pub agrees_flattening : Agrees z W vs W' vs'
+  agrees_flattening = let a = ids_same in let b = words_same in record {
     ids = omega arith;
     words = omega arith;
     forms = λ k b. dite (ℕ_discrete k i) (λ e. inr (subst (Turned z W W' vs') (sym e) turned)) (λ ne. inl (forms k ne));
@@ -192,9 +192,9 @@ module _ (z : HeapSize) (agents : ℕ) (W : List ℕ) (vs : List View) (s : IsSo
   moved_words m o = record { each = λ c y h. let t = o.each c y h in let a = words_same in let b = t.0 in (omega arith, contents c ∙ t.1) }
 
   pub keeps_flattening : IsSound z agents W' vs'
-  keeps_flattening = let k = knew z agents W vs s j v at live W' w agrees in let counted = s.counted in let a = ids_same in let b = words_same in one_view z agents W vs j v W' w s at live record {
+  keeps_flattening = let k = knew z agents W vs s j v at live W' w agrees_flattening in let counted = s.counted in let a = ids_same in let b = words_same in one_view z agents W vs j v W' w s at live record {
     live = live;
-    agrees = agrees;
+    agrees = agrees_flattening;
     counted = record {
       long = length-set W (form_at z i) (word_of f) ∙ counted.long;
       ids_end = (let h = counted.ids_end in omega arith);
@@ -217,7 +217,7 @@ module _ (z : HeapSize) (agents : ℕ) (W : List ℕ) (vs : List View) (s : IsSo
       of_frozen = λ c x h. ⊎_elim (λ (t : (start ≤ c) × (c < start + words_over wide n) × Has v.own_words c x). (kept c t.0 t.1, contents c ∙ ((s.own_words j v at live).each c x t.2).1)) (λ t. k.of_frozen c x t) (has_frozen v.own_words v.frozen start (words_over wide n) c x h);
       of_slots = k.of_slots;
     };
-    recalls = recalled z agents W vs s j v at live W' w agrees;
+    recalls = recalled z agents W vs s j v at live W' w agrees_flattening;
     mine = λ u q h. h;
     added = added_keep z agents W vs s j v at live w live refl refl W' a b;
     low = (let q = s.lows j v at live in let q0 = q.0 in let q1 = q.1 in (omega arith, omega arith));

@@ -1,5 +1,5 @@
 -- Joining keeps the rule: of two maps laid over one another each key has what one of them has, and v then has what both agents had.
-use Rattle.std.proofs.Common.{◌≡◌, ◌≢◌, ℕ, zero, suc, ◌+◌, ◌<◌, ◌≤◌, ◌⊎◌, inl, inr, ⊎_elim, Bool, true, false, cond, List, [], ◌∷◌, ◌++◌, append_assoc, set, sym, refl, ap, ◌∙◌, subst, arith, ne_eqb, Option, Some, None, IsTrue}
+use Rattle.std.proofs.Common.{◌≡◌, ◌≢◌, ℕ, zero, suc, ◌+◌, ◌<◌, ◌⊎◌, inl, inr, ⊎_elim, Bool, true, false, cond, List, [], ◌∷◌, append_assoc, set, sym, refl, ap, ◌∙◌, subst, arith, ne_eqb, Option, Some, None, IsTrue}
 use Rattle.std.specs.Prelude.{◌||◌, Contains, is_some}
 use Rattle.std.specs.List.{list_any}
 use Rattle.std.proofs.lemmas.List.Elements.{Contains-append_left, Contains-append_right, Contains-append_cases}
@@ -149,9 +149,9 @@ module _ (z : HeapSize) (agents : ℕ) (W : List ℕ) (vs : List View) (s : IsSo
   recalled_joined : Recalls z W vs' w
   recalled_joined u i c = ⊎_elim
       (λ (h : Contains (history v) (u, i)). let r = s.recalls j v at live u i h in let t = (s.knows j v at live).of_slots r.0.0 i r.0.1 in
-          ((r.0.0, seen_slot r.0.0 i t.1 (laid_keeps upper_one v.slots b.slots r.0.0 (key_of v.slots r.0.0 i r.0.1))), r.1))
+      ((r.0.0, seen_slot r.0.0 i t.1 (laid_keeps upper_one v.slots b.slots r.0.0 (key_of v.slots r.0.0 i r.0.1))), r.1))
       (λ (h : Contains b.mine (u, i)). let r = s.recalls o b at_other live_other u i (Contains-append_right b.seen b.mine (u, i) h) in let t = (s.knows o b at_other live_other).of_slots r.0.0 i r.0.1 in
-          ((r.0.0, seen_slot r.0.0 i t.1 (laid_takes upper_one v.slots b.slots r.0.0 (key_of b.slots r.0.0 i r.0.1))), r.1))
+      ((r.0.0, seen_slot r.0.0 i t.1 (laid_takes upper_one v.slots b.slots r.0.0 (key_of b.slots r.0.0 i r.0.1))), r.1))
       (Contains-append_cases (history v) b.mine (u, i) (subst (λ (l : Calls). Contains l (u, i)) (sym (append_assoc v.seen v.mine b.mine)) c))
 
   here : At vs' j w

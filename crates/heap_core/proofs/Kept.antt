@@ -15,7 +15,7 @@ use Rattle.heap_core.specs.Layout.{counter_at, content_at, length_at, form_at, f
 use Rattle.heap_core.specs.Maps.{HasKey}
 use Rattle.heap_core.specs.Sound.{At, total}
 use Rattle.heap_core.specs.Core.{Core, core}
-use Rattle.heap_core.specs.Events.{IsCore, IsSoundCore, view_at, Enabled, after, found, Applied, KeepsUnits, BornBy}
+use Rattle.heap_core.specs.Events.{IsCore, IsSoundCore, view_at, Enabled, after, found, Applied, KeepsUnits, Kept, BornBy}
 use Rattle.heap_core.specs.Claims.{loaded_counter, MayClaim, won_claim}
 use Rattle.heap_core.specs.Births.{stored_word, MayStoreLength, stored_length, MayBear, born_with, born}
 use Rattle.heap_core.specs.Agents.{spent}
@@ -26,14 +26,10 @@ use Rattle.heap_core.proofs.Steps.{keeps_loaded_counter, keeps_won_claim, agrees
 use Rattle.heap_core.proofs.Birth.{keeps_birth, agrees, born_now}
 use Rattle.heap_core.proofs.StateLemmas.{sound_of}
 
--- a sound state, whose born ids keep their units
-abbrev pub Kept : Core → Core → Type 0
-Kept s t = IsSoundCore t × KeepsUnits s t
-
 same_kept : (s : Core) → KeepsUnits s s
 same_kept s i b = (b, refl)
 
-units_by_agrees : (s : Core) (W' : List ℕ) (vs' : List View) → IsSoundCore s → Agrees s.size s.words s.views W' vs' → KeepsUnits s (core s.size s.agents W' vs')
+pub units_by_agrees : (s : Core) (W' : List ℕ) (vs' : List View) → IsSoundCore s → Agrees s.size s.words s.views W' vs' → KeepsUnits s (core s.size s.agents W' vs')
 units_by_agrees s W' vs' h a i b = (born_then s.size s.words s.views h.standing W' vs' a i b, units_stay s.size s.words s.views h.standing W' vs' a i b)
 
 -- nothing is born where there is no view

@@ -14,10 +14,13 @@ pub mod Birth
 pub mod Flattening
 pub mod Loading
 pub mod Slots
+pub mod Thinning
+pub mod RopeBirth
 pub mod Splitting
 pub mod Joining
 pub mod Kept
 pub mod Legal
+pub mod LaterKept
 pub mod EveryRun
 pub mod Entries
 pub mod Paths

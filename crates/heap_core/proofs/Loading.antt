@@ -24,7 +24,7 @@ use Rattle.heap_core.proofs.Carried.{standing_then}
 use Rattle.heap_core.proofs.Steps.{unmoved, same_words, knew, recalled}
 use Rattle.heap_core.proofs.Learning.{knows_learned}
 
-if_both : (l r : List ℕ) (f : ℕ → List ℕ) (a b : ℕ) (p q : Bool) → p ≡ true → q ≡ true → units_by f (cond (p && q) (joins a b) blank) ≡ f a ++ f b
+pub if_both : (l r : List ℕ) (f : ℕ → List ℕ) (a b : ℕ) (p q : Bool) → p ≡ true → q ≡ true → units_by f (cond (p && q) (joins a b) blank) ≡ f a ++ f b
 if_both l r f a b true true e h = refl
 if_both l r f a b false q e h = absurd (cc)
 if_both l r f a b true false e h = absurd (cc)
@@ -38,7 +38,7 @@ module _ (z : HeapSize) (W : List ℕ) (vs : List View) (stand : (i : ℕ) → I
   unfolding shape
   step_at i f e = units_step (shape z W) (low z W) i ∙ ap (λ (o : Option Form). units_by (units_in (shape z W)) (shape_by z W i o)) e
 
-  solid_is : (i : ℕ) → IsBorn z W i → IsSolidForm (form_of (form z W i)) → solid z W i ≡ units_of z W i
+  pub solid_is : (i : ℕ) → IsBorn z W i → IsSolidForm (form_of (form z W i)) → solid z W i ≡ units_of z W i
   solid_is i b h = let s = stand i b in solid_units_by z W vs stand W vs (itself z W vs) i s.now (subst IsSolidForm s.decodes h) s.decodes
 
   -- the form that stands shows the units

@@ -106,8 +106,8 @@ module _ (z : HeapSize) (agents : ℕ) (W : List ℕ) (vs : List View) (s : IsSo
   contents : (c : ℕ) → content z W' c ≡ content z W c
   contents c = moved (content_at z c) (λ e. omega arith)
 
-  agrees : Agrees z W vs W' vs'
-  agrees = let a = ids_same in let b = words_same in record {
+  pub agrees_took_slot : Agrees z W vs W' vs'
+  agrees_took_slot = let a = ids_same in let b = words_same in record {
     ids = omega arith;
     words = omega arith;
     forms = λ q b. inl (forms q);
@@ -121,7 +121,7 @@ module _ (z : HeapSize) (agents : ℕ) (W : List ℕ) (vs : List View) (s : IsSo
   units_were = known.of_units i us units
 
   units_now : units_of z W' i ≡ us
-  units_now = sym (units_then z W vs s.standing W' vs' agrees i units_were.0) ∙ units_were.1
+  units_now = sym (units_then z W vs s.standing W' vs' agrees_took_slot i units_were.0) ∙ units_were.1
 
   -- a slot that the view has isn't k
   not_here : (l q : ℕ) → Has v.slots l q → l ≢ k
@@ -169,15 +169,15 @@ module _ (z : HeapSize) (agents : ℕ) (W : List ℕ) (vs : List View) (s : IsSo
 
   recalls : Recalls z W' vs' w
   recalls u q c = ⊎_elim
-      (λ (h : Contains (history v) (u, q)). let r = recalled z agents W vs s j v at live W' w agrees u q h in (keeps_slot q r.0, r.1))
+      (λ (h : Contains (history v) (u, q)). let r = recalled z agents W vs s j v at live W' w agrees_took_slot u q h in (keeps_slot q r.0, r.1))
       (λ (e : ◌≡◌ {A = List ℕ × ℕ} (us, i) (u, q)). let first = ap (λ (y : List ℕ × ℕ). y.0) e in let second = ap (λ (y : List ℕ × ℕ). y.1) e in
       ((k, insert_same v.slots k i ∙ ap Some second), sym first ∙ (sym units_now ∙ ap (units_of z W') second)))
       (last_or (history v) (us, i) (u, q) (subst (λ (l : Calls). Contains l (u, q)) (sym (append_assoc v.seen v.mine ((us, i) ∷ []))) c))
 
   pub keeps_took_slot : IsSound z agents W' vs'
-  keeps_took_slot = let kn = knew z agents W vs s j v at live W' w agrees in let counted = s.counted in let a = ids_same in let b = words_same in one_view z agents W vs j v W' w s at live record {
+  keeps_took_slot = let kn = knew z agents W vs s j v at live W' w agrees_took_slot in let counted = s.counted in let a = ids_same in let b = words_same in one_view z agents W vs j v W' w s at live record {
     live = live;
-    agrees = agrees;
+    agrees = agrees_took_slot;
     counted = record {
       long = length-set W (slot_at z k) (i + 1) ∙ counted.long;
       ids_end = (let h = counted.ids_end in omega arith);

@@ -1,5 +1,5 @@
 -- The views of agents that begin, split and join.
-use Rattle.std.specs.Prelude.{◌≡◌, ℕ, ◌+◌, ◌-◌, Bool, true, false, max, List, [], ◌∷◌, ◌++◌, unwrap_or, Option}
+use Rattle.std.specs.Prelude.{◌≡◌, ℕ, ◌+◌, ◌-◌, Bool, true, false, max, [], ◌++◌, unwrap_or, Option}
 use Rattle.std.specs.FinMap.{empty}
 use Rattle.heap_core.specs.declared.view.View.{View}
 use Rattle.heap_core.specs.declared.size.HeapSize.{HeapSize}

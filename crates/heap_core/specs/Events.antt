@@ -96,6 +96,10 @@ Applied s e t (Err Memory) = t ≡ s
 abbrev pub KeepsUnits : Core → Core → Type 0
 KeepsUnits s t = (i : ℕ) → IsBorn s.size s.words i → IsBorn t.size t.words i × (units_of t.size t.words i ≡ units_of s.size s.words i)
 
+-- the rule holds afterwards, and every born id has kept its units
+abbrev pub Kept : Core → Core → Type 0
+Kept s t = IsSoundCore t × KeepsUnits s t
+
 -- the id of a birth is born afterwards
 abbrev pub BornBy : Event → Core → Type 0
 BornBy (Birth j i f) t = IsBorn t.size t.words i

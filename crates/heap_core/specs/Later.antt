@@ -8,7 +8,8 @@ use Rattle.heap_core.specs.declared.view.View.{View}
 use Rattle.heap_core.specs.Layout.{slot_at, form_at, length_at, content_at}
 use Rattle.heap_core.specs.Views.{IsKnown}
 use Rattle.heap_core.specs.Core.{Core}
-use Rattle.heap_core.specs.Events.{LiveAt, view_at, moved, looked, exchanged}
+use Rattle.heap_core.specs.Births.{MayBear, born}
+use Rattle.heap_core.specs.Events.{IsSoundCore, LiveAt, view_at, moved, looked, exchanged, Kept}
 use Rattle.heap_core.specs.Learning.{learned, MayLearn}
 use Rattle.heap_core.specs.Loads.{loaded_form, loaded_length, MayLoadWord, loaded_word}
 use Rattle.heap_core.specs.Moves.{MayFlatten, flattened, MayThin, thinned}
@@ -83,3 +84,38 @@ module _ (s : Core) where
   abbrev pub after_take_slot : ℕ → ℕ → ℕ → List ℕ → Core
   after_take_slot j k i names = moved s (slot_at s.size k) (exchanged s (slot_at s.size k) 0 (i + 1)) j
       (learned (took_slot (view_at s j) k i (slice_index s.words (slot_at s.size k))) names)
+
+  -- birth, of any form
+  abbrev pub CanBear : ℕ → ℕ → Form → Type 0
+  CanBear j i f = LiveAt s j (λ v. MayBear v i f)
+
+  abbrev pub after_birth : ℕ → ℕ → Form → Core
+  after_birth j i f = moved s (form_at s.size i) (word_of f) j (born (view_at s j) i f)
+
+-- each of these kinds keeps the rule, and the units of every born id
+abbrev pub SplittingKeeps : Type 0
+SplittingKeeps = (s : Core) (j give : ℕ) → IsSoundCore s → CanSplit s j give → Kept s (after_split s j give)
+
+abbrev pub JoiningKeeps : Type 0
+JoiningKeeps = (s : Core) (j other : ℕ) → IsSoundCore s → CanJoin s j other → Kept s (after_join s j other)
+
+abbrev pub LoadingHeadersKeeps : Type 0
+LoadingHeadersKeeps = (s : Core) (j i : ℕ) (len : Bool) (names : List ℕ) → IsSoundCore s → CanLoadHeader s j i len names → Kept s (after_load_header s j i len names)
+
+abbrev pub LoadingWordsKeeps : Type 0
+LoadingWordsKeeps = (s : Core) (j c : ℕ) (names : List ℕ) → IsSoundCore s → CanLoadWord s j c names → Kept s (after_load_word s j c names)
+
+abbrev pub FlatteningKeeps : Type 0
+FlatteningKeeps = (s : Core) (j i : ℕ) (old new : Form) (names : List ℕ) → IsSoundCore s → CanFlatten s j i old new names → Kept s (after_flatten s j i old new names)
+
+abbrev pub ThinningKeeps : Type 0
+ThinningKeeps = (s : Core) (j i : ℕ) (old : Form) (t : ℕ) (names : List ℕ) → IsSoundCore s → CanThinTo s j i old t names → Kept s (after_thin s j i old t names)
+
+abbrev pub LoadingSlotsKeeps : Type 0
+LoadingSlotsKeeps = (s : Core) (j k : ℕ) (entry : Option (List ℕ)) (names : List ℕ) → IsSoundCore s → CanLoadSlot s j k entry names → Kept s (after_load_slot s j k entry names)
+
+abbrev pub TakingSlotsKeeps : Type 0
+TakingSlotsKeeps = (s : Core) (j k i : ℕ) (names : List ℕ) → IsSoundCore s → CanTakeSlot s j k i names → Kept s (after_take_slot s j k i names)
+
+abbrev pub BirthsKeep : Type 0
+BirthsKeep = (s : Core) (j i : ℕ) (f : Form) → IsSoundCore s → CanBear s j i f → Kept s (after_birth s j i f)

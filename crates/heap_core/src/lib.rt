@@ -22,5 +22,5 @@ mod view;
 pub use event::{Event, Refusal};
 pub use maps::{History, IdMap};
 pub use size::{Counter, Counters, HeapSize};
-pub use state::{CoreState, apply, enabled, every_run};
+pub use state::{CoreState, apply, enabled, every_later_kind, every_run};
 pub use view::View;

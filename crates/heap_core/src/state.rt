@@ -3,6 +3,7 @@ ghost use Rattle.std.specs.Prelude.{◌≡◌, ◌↔◌, List, ℕ, IsTrue, IfO
 ghost use Rattle.heap_core.specs.Layout.{IsBorn};
 ghost use Rattle.heap_core.specs.Contents.{units_of};
 ghost use Rattle.heap_core.specs.Events.{HasNoHeap, IsSoundCore, Enabled, after, found, KeepsUnits, BornBy, HasEntry, RunsAreSound, MadeRunsAreSound, RunsKeepUnits, RunsAreLegal};
+ghost use Rattle.heap_core.specs.Later.{SplittingKeeps, JoiningKeeps, LoadingHeadersKeeps, LoadingWordsKeeps, FlatteningKeeps, ThinningKeeps, LoadingSlotsKeeps, TakingSlotsKeeps, BirthsKeep};
 ghost use Rattle.heap_core.specs.declared.event.Refusal.TheVariants as refusal;
 
 use crate::event::{Event, Refusal};
@@ -147,4 +148,19 @@ pub fn every_run()
     ensures made { MadeRunsAreSound }
     ensures units { RunsKeepUnits }
     ensures legal { RunsAreLegal }
+{}
+
+/// Each kind of event that the machine does not play yet keeps the rule and the units of every
+/// born id, wherever its condition holds, and so does the birth of any form. The call does
+/// nothing.
+pub fn every_later_kind()
+    ensures splitting { SplittingKeeps }
+    ensures joining { JoiningKeeps }
+    ensures loading_headers { LoadingHeadersKeeps }
+    ensures loading_words { LoadingWordsKeeps }
+    ensures flattening { FlatteningKeeps }
+    ensures thinning { ThinningKeeps }
+    ensures loading_slots { LoadingSlotsKeeps }
+    ensures claiming_slots { TakingSlotsKeeps }
+    ensures births { BirthsKeep }
 {}

@@ -1,0 +1,29 @@
+use Rattle.heap_core.proofs.LaterKept.{split_kept, join_kept, load_header_kept, load_word_kept, flatten_kept, thin_kept, load_slot_kept, take_slot_kept, birth_kept}
+use Rattle.heap_core.proofs.state.every_later_kind.Goals as goal
+
+pub returns-clause-splitting : goal.returns-clause-splitting
+returns-clause-splitting c = split_kept
+
+pub returns-clause-joining : goal.returns-clause-joining
+returns-clause-joining c = join_kept
+
+pub returns-clause-loading_headers : goal.returns-clause-loading_headers
+returns-clause-loading_headers c = load_header_kept
+
+pub returns-clause-loading_words : goal.returns-clause-loading_words
+returns-clause-loading_words c = load_word_kept
+
+pub returns-clause-flattening : goal.returns-clause-flattening
+returns-clause-flattening c = flatten_kept
+
+pub returns-clause-thinning : goal.returns-clause-thinning
+returns-clause-thinning c = thin_kept
+
+pub returns-clause-loading_slots : goal.returns-clause-loading_slots
+returns-clause-loading_slots c = load_slot_kept
+
+pub returns-clause-claiming_slots : goal.returns-clause-claiming_slots
+returns-clause-claiming_slots c = take_slot_kept
+
+pub returns-clause-births : goal.returns-clause-births
+returns-clause-births c = birth_kept
