@@ -1,8 +1,7 @@
 -- Each token's text is its slice of the bytes.
-use Rattle.std.proofs.Common.{◌≡◌, ℕ, ◌<◌, List, [], ◌∷◌, ◌++◌, length, zero, suc, Bool, true, false, cond, refl, sym, ap, ◌∙◌, subst, arith}
+use Rattle.std.proofs.Common.{add-one, length, ◌≤◌, ◌+◌, ◌≡◌, ℕ, ◌<◌, List, [], ◌∷◌, ◌++◌, zero, suc, Bool, true, false, refl, sym, ap, ◌∙◌, subst, arith}
 use Rattle.std.proofs.lemmas.Bool.Decides.{nat_tests}
-use Rattle.std.specs.Prelude.{IsUtf8, encode_utf8_all, nat_lt, Result, IfOk, Ok, Err}
-use Rattle.std.specs.Char.{encode_utf8}
+use Rattle.std.specs.Prelude.{slice_index_or, IsUtf8, encode_utf8_all, nat_lt, Result, IfOk, Ok, Err}
 use Rattle.std.specs.List.{list_all, All}
 use Rattle.std.proofs.lemmas.Str.{encode_ascii}
 use Rattle.js_literal.specs.Place.{StandsAt}
@@ -10,7 +9,7 @@ use Rattle.js_literal.specs.Number.{is_word_start}
 use Rattle.js_lex.specs.Elements.{is_word_part, after_word}
 use Rattle.js_lex.specs.Marks.{spelling, IsLongest}
 use Rattle.js_lex.specs.Tokens.{Element, End, Skip, TokenOf, Fault, ElementAt, ended, blank, line, block, open_block, word, string, string_fault, number, number_fault, mark, bad, Lexes, done, skip, token, token_at, TokensOf}
-use Rattle.js_lex.specs.Spans.{InOrder, slice, is_word, begins_word_part, IsWordAt, IsMarkAt, IsSpelledAt, IsSpelled}
+use Rattle.js_lex.specs.Spans.{InOrder, is_word, begins_word_part, IsWordAt, IsMarkAt, IsSpelledAt, IsSpelled, IsWithin}
 use Rattle.js_lex.specs.declared.token.Mark.{Mark}
 use Rattle.js_lex.specs.declared.token.Mark.TheVariants.{StrictEqual, StrictUnequal, AtMost, AtLeast, And, Or, AddAssign, Increment, Decrement, OpenBrace, CloseBrace, OpenParen, CloseParen, OpenBracket, CloseBracket, Point, Semicolon, Comma, Less, Greater, Plus, Minus, Not, Question, Colon, Assign}
 use Rattle.js_lex.specs.declared.token.Token.{Token}
@@ -147,10 +146,28 @@ all_spelled text _ _ u (done at h) = λ i d lt. absurd (omega (arith, lt))
 all_spelled text _ _ u (skip at mid ts h t) = all_spelled text mid ts u t
 all_spelled text _ _ u (token at mid k ts h t) = all_more (IsSpelled text) (token_at k at mid) ts (spells text at (TokenOf k mid) u h) (all_spelled text mid ts u t)
 
+-- what lies in order is within the text, and each span ends where the next begins or earlier
+pub all_within : (text : List ℕ) (at : ℕ) (ts : List Token) → InOrder text at ts → All (IsWithin text) ts
+all_within text at [] h = λ i d lt. absurd (omega (arith, lt))
+all_within text at (t ∷ ts) h = all_more (IsWithin text) t ts (h.1, h.2) (all_within text t.to ts (h.3))
+
+next_suc : (text : List ℕ) (at : ℕ) (ts : List Token) (i : ℕ) (d : Token) → InOrder text at ts → suc i < length ts → (slice_index_or ts i d).to ≤ (slice_index_or ts (suc i) d).from
+next_suc text at [] i d h lt = absurd (omega (arith, lt))
+next_suc text at (t ∷ []) i d h lt = absurd (omega (arith, lt))
+next_suc text at (t ∷ u ∷ ts) zero d h lt = h.3.0
+next_suc text at (t ∷ u ∷ ts) (suc i) d h lt = next_suc text t.to (u ∷ ts) i d (h.3) (omega (arith, lt))
+
+pub next_later : (text : List ℕ) (at : ℕ) (ts : List Token) (i : ℕ) (d : Token) → InOrder text at ts → i + 1 < length ts → (slice_index_or ts i d).to ≤ (slice_index_or ts (i + 1) d).from
+next_later text at ts i d h lt = subst (λ k. (slice_index_or ts i d).to ≤ (slice_index_or ts k d).from) (sym (add-one i)) (next_suc text at ts i d h (omega (arith, lt)))
+
 -- the same of an answer; view gives its tokens
 pub tokens_order : {A : Type 0} (view : A → List Token) (bytes : List ℕ) (r : Result A LexFault) → IfOk r (λ v. TokensOf bytes (view v)) → IfOk r (λ v. InOrder bytes 0 (view v))
 tokens_order view bytes (Ok v) h = in_order bytes 0 (view v) h.utf8 h.lexes
 tokens_order view bytes (Err e) h = tt
+
+pub tokens_within : {A : Type 0} (view : A → List Token) (bytes : List ℕ) (r : Result A LexFault) → IfOk r (λ v. TokensOf bytes (view v)) → IfOk r (λ v. All (IsWithin bytes) (view v))
+tokens_within view bytes (Ok v) h = all_within bytes 0 (view v) (in_order bytes 0 (view v) h.utf8 h.lexes)
+tokens_within view bytes (Err e) h = tt
 
 pub tokens_texts : {A : Type 0} (view : A → List Token) (bytes : List ℕ) (r : Result A LexFault) → IfOk r (λ v. TokensOf bytes (view v)) → IfOk r (λ v. All (IsSpelled bytes) (view v))
 tokens_texts view bytes (Ok v) h = all_spelled bytes 0 (view v) h.utf8 h.lexes

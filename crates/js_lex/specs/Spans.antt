@@ -16,6 +16,10 @@ abbrev pub InOrder : List ℕ → ℕ → List Token → Type 0
 InOrder text at [] = Unit {0}
 InOrder text at (t ∷ ts) = (at ≤ t.from) × (t.from < t.to) × (t.to ≤ length text) × InOrder text t.to ts
 
+-- the span has a byte at least, and ends within the text
+abbrev pub IsWithin : List ℕ → Token → Type 0
+IsWithin text t = (t.from < t.to) × (t.to ≤ length text)
+
 -- the bytes from one place up to another
 abbrev pub slice : List ℕ → ℕ → ℕ → List ℕ
 slice bytes from to = take (to - from) (drop from bytes)

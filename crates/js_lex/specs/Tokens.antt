@@ -1,6 +1,6 @@
 -- The tokens of a text and its first lexical fault (ECMA-262, "Lexical Grammar": from the left, each element as long as
 -- possible).
-use Rattle.std.specs.Prelude.{◌≡◌, ℕ, List, [], ◌∷◌, Bool, true, false, Some, None, ◌==◌, ◌&&◌, IsUtf8}
+use Rattle.std.specs.Prelude.{◌≡◌, ℕ, List, [], ◌∷◌, true, false, Some, None, ◌==◌, ◌&&◌, IsUtf8}
 use Rattle.std.specs.Str.Lossy.{utf8_valid_len}
 use Rattle.js_literal.specs.Place.{StandsAt}
 use Rattle.js_literal.specs.Literal.{is_quote, LiteralOf, LiteralFaultOf}

@@ -1,8 +1,8 @@
 // The tokens of a script.
-ghost use Rattle.std.specs.Prelude.{◌≡◌, ◌≤◌, ◌⊎◌, List, length, IfOk, IfErr, OnOk, ◌++◌, ◌∷◌, [], ℕ, encode_utf8_all, IsUtf8};
+ghost use Rattle.std.specs.Prelude.{◌≡◌, ◌≤◌, ◌⊎◌, List, length, IfOk, IfErr, OnOk, ◌++◌, ◌∷◌, [], ℕ, ◌+◌, ◌<◌, slice_index_or, encode_utf8_all, IsUtf8};
 ghost use Rattle.std.specs.List.{All};
 ghost use Rattle.js_literal.specs.Place.{StandsAt};
-ghost use Rattle.js_lex.specs.Spans.{InOrder, IsSpelled, slice};
+ghost use Rattle.js_lex.specs.Spans.{InOrder, IsSpelled, IsWithin, slice};
 ghost use Rattle.js_lex.specs.Tokens.{TokensOf, LexFaultOf, Lexes, Fails, token_at};
 ghost use Rattle.js_lex.specs.declared.token.LexFault.{LexFault};
 ghost use Rattle.js_lex.specs.declared.token.LexFault.TheVariants.{Memory};
@@ -67,6 +67,7 @@ pub fn tokens(alloc: Global, bytes: &[u8]) -> Result<Vec<Token>, LexFault>
     ensures found { (ts : List Token) → TokensOf bytes.now ts → IfOk result (λ v. v.items ≡ ts) × IfErr result (λ e. e ≡ Memory) }
     ensures faults { (f : LexFault) → LexFaultOf bytes.now f → IfOk result (λ v. ⊥) × IfErr result (λ e. (e ≡ f) ⊎ (e ≡ Memory)) }
     ensures spans { IfOk result (λ v. InOrder bytes.now 0 v.items) }
+    ensures within { IfOk result (λ v. All (IsWithin bytes.now) v.items) }
     ensures texts { IfOk result (λ v. All (IsSpelled bytes.now) v.items) }
 {
     read(alloc, bytes)
@@ -82,7 +83,9 @@ pub fn one_answer()
 
 /// The spans of a text's tokens lie in order, each with a byte at least, within the text.
 pub fn spans_in_order()
-    ensures { (bytes : List ℕ) (ts : List Token) → TokensOf bytes ts → InOrder bytes 0 ts }
+    ensures order { (bytes : List ℕ) (ts : List Token) → TokensOf bytes ts → InOrder bytes 0 ts }
+    ensures within { (bytes : List ℕ) (ts : List Token) → TokensOf bytes ts → All (IsWithin bytes) ts }
+    ensures next { (bytes : List ℕ) (ts : List Token) (i : ℕ) (d : Token) → TokensOf bytes ts → i + 1 < length ts → (slice_index_or ts i d).to ≤ (slice_index_or ts (i + 1) d).from }
 {}
 
 /// Each token's text is its slice of the bytes: a word's letters, a mark's spelling where no longer

@@ -1,5 +1,5 @@
 use Rattle.js_lex.proofs.OneList.{only_tokens, only_fault}
-use Rattle.js_lex.proofs.Texts.{tokens_order, tokens_texts}
+use Rattle.js_lex.proofs.Texts.{tokens_order, tokens_within, tokens_texts}
 use Rattle.js_lex.proofs.lex.tokens.Goals as goal
 
 pub returns-clause-found : goal.returns-clause-found
@@ -13,3 +13,6 @@ returns-clause-spans c = tokens_order (λ v. v.items) c.args.bytes.now c.read.re
 
 pub returns-clause-texts : goal.returns-clause-texts
 returns-clause-texts c = tokens_texts (λ v. v.items) c.args.bytes.now c.read.result c.read.ensures.ok
+
+pub returns-clause-within : goal.returns-clause-within
+returns-clause-within c = tokens_within (λ v. v.items) c.args.bytes.now c.read.result c.read.ensures.ok
