@@ -20,6 +20,7 @@ fn word_at(words: &[u64], place: usize) -> u64
     }
 }
 
+/// A content word.
 fn content(size: HeapSize, words: &[u64], at: u32) -> u64
     ensures { result ≡ content size words.now at }
 {
@@ -29,6 +30,7 @@ fn content(size: HeapSize, words: &[u64], at: u32) -> u64
     )
 }
 
+/// Lane `o` of a span.
 #[tactic(auto, unfolding(crate::specs::Contents::lane_in))]
 fn lane_at(size: HeapSize, words: &[u64], wide: bool, start: u32, o: u32) -> u16
     requires { start + o < 2 ^ 32 }

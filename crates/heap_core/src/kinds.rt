@@ -12,7 +12,7 @@ ghost use Rattle.heap_core.specs.Births.{stored_word, MayStoreLength, stored_len
 ghost use Rattle.heap_core.specs.Agents.{first_view};
 
 use crate::maps::{History, IdMap};
-use crate::size::{Counter, Counters, HeapSize};
+use crate::size::{Counter, Counters, HeapSize, MAX};
 use crate::view::View;
 use js_header::Form;
 use js_units::{NoMemory, Units, lane, lanes, words_for};
@@ -46,12 +46,14 @@ impl View {
         }
     }
 
+    /// A load of a counter.
     pub(crate) fn load_counter(&mut self, counter: Counter, found: u32)
         ensures { self.new ≡ loaded_counter self.old counter found }
     {
         self.low.set(counter, found);
     }
 
+    /// Whether the agent may claim on a counter.
     pub(crate) fn may_claim(&self, counter: Counter, at: u32, want: u32) -> bool
         ensures { IsTrue result ↔ MayClaim self.now counter at want }
     {
@@ -70,6 +72,7 @@ impl View {
         }
     }
 
+    /// A claim that is won: the pieces are own, with the word 0.
     pub(crate) fn claim(&mut self, counter: Counter, at: u32, want: u32) -> Result<(), NoMemory>
         requires may { MayClaim self.old counter at want }
         requires used { count_in self.old.used counter + want < 2 ^ 32 }
@@ -91,12 +94,14 @@ impl View {
         Ok(())
     }
 
+    /// Whether the content word is own.
     pub(crate) fn may_store_word(&self, at: u32) -> bool
         ensures { IsTrue result ↔ HasKey self.now.own_words at }
     {
         self.own_words.contains_key(at)
     }
 
+    /// A store of an own content word.
     pub(crate) fn store_word(&mut self, at: u32, word: u64) -> Result<(), NoMemory>
         ensures ok { OnOk result (self.new ≡ stored_word self.old at word) }
         ensures err { OnErr result (self.new ≡ self.old) }
@@ -104,12 +109,14 @@ impl View {
         self.own_words.insert(at, word)
     }
 
+    /// Whether the id is own and the length is not too great.
     pub(crate) fn may_store_length(&self, id: u32, length: u32) -> bool
         ensures { IsTrue result ↔ MayStoreLength self.now id length }
     {
-        self.own_ids.contains_key(id) && length <= 536870888
+        self.own_ids.contains_key(id) && length <= MAX
     }
 
+    /// A store of an own length.
     pub(crate) fn store_length(&mut self, id: u32, length: u32) -> Result<(), NoMemory>
         ensures ok { OnOk result (self.new ≡ stored_length self.old id length) }
         ensures err { OnErr result (self.new ≡ self.old) }
@@ -132,6 +139,7 @@ impl View {
         }
     }
 
+    /// Whether the content word is own or in `frozen`.
     fn has_word(&self, at: u32) -> bool
         ensures { IsTrue result ↔ (HasKey self.now.own_words at ⊎ HasKey self.now.frozen at) }
     {
@@ -141,6 +149,7 @@ impl View {
         self.frozen.contains_key(at)
     }
 
+    /// Whether each of n content words is.
     fn has_words(&self, from: u32, n: u32) -> bool
         requires { from + n < 2 ^ 32 }
         ensures { IsTrue result ↔ ((c : ℕ) → from ≤ c → c < from + n → HasKey self.now.own_words c ⊎ HasKey self.now.frozen c) }
@@ -157,6 +166,7 @@ impl View {
         true
     }
 
+    /// Lane `o` of a span.
     #[tactic(auto, unfolding(crate::specs::Contents::lane_in))]
     fn lane(&self, wide: bool, start: u32, o: u32) -> u16
         requires { start + o < 2 ^ 32 }
@@ -166,6 +176,7 @@ impl View {
         lane(self.shown(start + o / n), wide, o % n)
     }
 
+    /// Whether the lanes from `from` to `end` are 0.
     fn has_zeros(&self, wide: bool, start: u32, from: u32, end: u32) -> bool
         requires { start + end < 2 ^ 32 }
         ensures { IsTrue result ↔ ((o : ℕ) → from ≤ o → o < end → lane_in (shown self.now) wide start o ≡ 0) }
@@ -180,6 +191,7 @@ impl View {
         true
     }
 
+    /// The first n lanes of a span.
     pub(crate) fn span(
         &self,
         alloc: Global,

@@ -21,6 +21,6 @@ mod view;
 
 pub use event::{Event, Refusal};
 pub use maps::{History, IdMap};
-pub use size::{Counter, Counters, HeapSize};
+pub use size::{Counter, Counters, HeapSize, MAX};
 pub use state::{CoreState, apply, enabled, every_later_kind, every_run};
 pub use view::View;

@@ -1,4 +1,6 @@
-// The kinds of step over the parts of a machine.
+// The kinds of event over the parts of a machine: whether one may come, and what it does. The
+// parts stand apart, and not in one value, so that only `apply` closes the value again. What can
+// be refused for want of memory comes before the first change.
 ghost use Rattle.std.specs.Prelude.{◌≡◌, ℕ, ◌<◌, ◌≤◌, ◌↔◌, [], ◌∷◌, replicate, IsTrue, OnOk, OnErr};
 ghost use Rattle.js_header.specs.declared.form.Form.TheVariants as form;
 ghost use Rattle.heap_core.specs.Layout.{IsLawful, word_count, MAX};
@@ -28,6 +30,7 @@ pub(crate) fn is_live(views: &[View], view: u32) -> bool
     }
 }
 
+/// Whether the live view may claim on a counter.
 pub(crate) fn may_claim(views: &[View], view: u32, counter: Counter, at: u32, want: u32) -> bool
     ensures { IsTrue result ↔ LiveIn views.now view (λ v. MayClaim v counter at want) }
 {
@@ -37,6 +40,7 @@ pub(crate) fn may_claim(views: &[View], view: u32, counter: Counter, at: u32, wa
     views[view as usize].may_claim(counter, at, want)
 }
 
+/// Whether the content word is the live view's own.
 pub(crate) fn may_store_word(views: &[View], view: u32, at: u32) -> bool
     ensures { IsTrue result ↔ LiveIn views.now view (λ v. HasKey v.own_words at) }
 {
@@ -46,6 +50,7 @@ pub(crate) fn may_store_word(views: &[View], view: u32, at: u32) -> bool
     views[view as usize].may_store_word(at)
 }
 
+/// Whether the id is the live view's own and the length is not too great.
 pub(crate) fn may_store_length(views: &[View], view: u32, id: u32, length: u32) -> bool
     ensures { IsTrue result ↔ LiveIn views.now view (λ v. MayStoreLength v id length) }
 {
@@ -55,6 +60,7 @@ pub(crate) fn may_store_length(views: &[View], view: u32, id: u32, length: u32) 
     views[view as usize].may_store_length(id, length)
 }
 
+/// Whether the live view's own id may be born as a Flat.
 pub(crate) fn may_bear(
     views: &[View],
     view: u32,
@@ -72,6 +78,7 @@ pub(crate) fn may_bear(
     views[view as usize].may_bear(id, wide, start, fixed)
 }
 
+/// Whether a heap may be made.
 pub(crate) fn may_make(views: &[View], size: HeapSize, agents: u32) -> bool
     ensures { IsTrue result ↔ ((views.now ≡ []) × IsLawful size × (1 ≤ agents) × (agents ≤ 64)) }
 {
@@ -107,6 +114,7 @@ pub(crate) fn make(
     Ok(())
 }
 
+/// A load of a counter.
 pub(crate) fn load_counter(
     size: HeapSize,
     agents: u32,
@@ -126,6 +134,7 @@ pub(crate) fn load_counter(
     Ok(found)
 }
 
+/// A compare-exchange of a counter.
 pub(crate) fn claim(
     size: HeapSize,
     agents: u32,
@@ -154,6 +163,7 @@ pub(crate) fn claim(
     Ok(found)
 }
 
+/// A store of an own content word.
 pub(crate) fn store_word(
     size: HeapSize,
     agents: u32,
@@ -178,6 +188,7 @@ pub(crate) fn store_word(
     Ok(found)
 }
 
+/// A store of an own length.
 pub(crate) fn store_length(
     size: HeapSize,
     agents: u32,

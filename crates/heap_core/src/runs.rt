@@ -1,4 +1,4 @@
-// Maps changed over a run of keys.
+// Maps from content words changed over a run of words.
 ghost use Rattle.std.specs.Prelude.{◌≡◌, ◌+◌, ◌<◌, ◌^◌, IfOk, OnOk};
 ghost use Rattle.heap_core.specs.Maps.{with_run, without_run, with_run_of};
 

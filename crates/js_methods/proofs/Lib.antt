@@ -1,0 +1,4 @@
+pub mod Blanks
+pub mod Pairs
+pub mod Points
+pub mod WellFormed

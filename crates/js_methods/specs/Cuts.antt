@@ -1,7 +1,7 @@
 -- The parts that the methods cut out.
-use Rattle.std.specs.Prelude.{ℕ, List, length, Option, Some, None, slice_range}
+use Rattle.std.specs.Prelude.{ℕ, ◌+◌, min, max, List, length, Option, Some, None, slice_range}
 use Rattle.js_number.specs.declared.Num.{Num}
-use Rattle.js_number.specs.Places.{relative}
+use Rattle.js_number.specs.Places.{clamped, relative}
 
 -- an end that isn't given is that of the string
 abbrev pub end_of : Option Num → ℕ → ℕ
@@ -11,3 +11,15 @@ end_of (Some e) n = relative e n
 -- "String.prototype.slice": the part from start to before end, empty where start isn't before end
 abbrev pub slice_of : List ℕ → Num → Option Num → List ℕ
 slice_of u start end = slice_range u (relative start (length u)) (end_of end (length u))
+
+-- "String.prototype.substring": both places clamped, the part from the smaller to the larger
+abbrev pub clamped_end : Option Num → ℕ → ℕ
+clamped_end None n = n
+clamped_end (Some e) n = clamped e n
+
+abbrev pub substring_of : List ℕ → Num → Option Num → List ℕ
+substring_of u start end = slice_range u (min (clamped start (length u)) (clamped_end end (length u))) (max (clamped start (length u)) (clamped_end end (length u)))
+
+-- "String.prototype.substr": so many units from start on, all where it isn't told, at most those that are there
+abbrev pub substr_of : List ℕ → Num → Option Num → List ℕ
+substr_of u start count = slice_range u (relative start (length u)) (min (relative start (length u) + clamped_end count (length u)) (length u))

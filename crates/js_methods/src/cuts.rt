@@ -1,11 +1,11 @@
 // Methods that give a part of a string, or several put together.
-ghost use Rattle.std.specs.Prelude.{◌≡◌, ◌+◌, ◌*◌, ◌≤◌, ◌++◌, length, IfOk, IfSome};
+ghost use Rattle.std.specs.Prelude.{◌≡◌, ◌+◌, ◌*◌, ◌≤◌, ◌++◌, length, slice_range, IfOk, IfSome};
 ghost use Rattle.js_store.specs.State.{Has, IsKnown, IsSettled, text};
 ghost use Rattle.js_store.specs.Rows.{wide_words, join_ids, join_words};
 ghost use Rattle.js_store.specs.Faults.{Step, method_fault_of, NeverSlots};
 ghost use Rattle.js_store.specs.Answers.{ThrowsLong};
 ghost use Rattle.js_number.specs.Places.{IsLawful};
-ghost use Rattle.js_methods.specs.Cuts.{slice_of, end_of};
+ghost use Rattle.js_methods.specs.Cuts.{slice_of, substring_of, substr_of};
 
 use js_number::Num;
 use js_store::{Cause, MethodFault, Strings};
@@ -33,22 +33,77 @@ pub fn slice<S: Strings>(
 {
     let len = store.len(s);
     let from = start.relative_to(len);
-    let to = end_place(end, len).max(from);
-    if to - from > store.limit() {
-        let length = u128::from(to - from);
+    let to = end.map_or(len, |end| end.relative_to(len)).max(from);
+    cut(store, s, from, to)
+}
+
+/// The part between `start` and `end`, which is the string's end where it is none; the smaller
+/// of the two is the first place, and a negative one is 0 ("String.prototype.substring").
+pub fn substring<S: Strings>(
+    store: &mut S,
+    s: S::Ref,
+    start: Num,
+    end: Option<Num>,
+) -> Result<S::Ref, MethodFault>
+    requires known { IsKnown (S.state store.old) (S.number s) }
+    requires first { IsLawful start }
+    requires last { IfSome end IsLawful }
+    ensures value { IfOk result (λ r. Has (S.state store.new) (S.number r) (substring_of (text (S.state store.old) (S.number s)) start end)) }
+    ensures throws { ThrowsLong result (S.state store.old).limit (length (substring_of (text (S.state store.old) (S.number s)) start end)) }
+    ensures step { Step (S.state store.old) (S.state store.new) (method_fault_of result)
+        1 (2 * wide_words (length (text (S.state store.old) (S.number s))) + 3) }
+    ensures slots { NeverSlots (method_fault_of result) }
+    ensures history { (S.state store.new).history ≡ (S.state store.old).history }
+{
+    let len = store.len(s);
+    let first = start.clamp_to(len);
+    let last = end.map_or(len, |end| end.clamp_to(len));
+    cut(store, s, first.min(last), first.max(last))
+}
+
+/// `count` units from `start` on, or as many as there are; `start` counts from the end where it
+/// is negative, and no `count` gives all that follow ("String.prototype.substr").
+pub fn substr<S: Strings>(
+    store: &mut S,
+    s: S::Ref,
+    start: Num,
+    count: Option<Num>,
+) -> Result<S::Ref, MethodFault>
+    requires known { IsKnown (S.state store.old) (S.number s) }
+    requires first { IsLawful start }
+    requires units { IfSome count IsLawful }
+    ensures value { IfOk result (λ r. Has (S.state store.new) (S.number r) (substr_of (text (S.state store.old) (S.number s)) start count)) }
+    ensures throws { ThrowsLong result (S.state store.old).limit (length (substr_of (text (S.state store.old) (S.number s)) start count)) }
+    ensures step { Step (S.state store.old) (S.state store.new) (method_fault_of result)
+        1 (2 * wide_words (length (text (S.state store.old) (S.number s))) + 3) }
+    ensures slots { NeverSlots (method_fault_of result) }
+    ensures history { (S.state store.new).history ≡ (S.state store.old).history }
+{
+    let len = store.len(s);
+    let first = start.relative_to(len);
+    let count = count.map_or(len, |count| count.clamp_to(len));
+    cut(store, s, first, first + count.min(len - first))
+}
+
+// The part between two places, which are in order.
+fn cut<S: Strings>(store: &mut S, s: S::Ref, from: u32, to: u32) -> Result<S::Ref, MethodFault>
+    requires known { IsKnown (S.state store.old) (S.number s) }
+    requires order { from ≤ to }
+    requires within { to ≤ length (text (S.state store.old) (S.number s)) }
+    ensures value { IfOk result (λ r. Has (S.state store.new) (S.number r) (slice_range (text (S.state store.old) (S.number s)) from to)) }
+    ensures throws { ThrowsLong result (S.state store.old).limit (length (slice_range (text (S.state store.old) (S.number s)) from to)) }
+    ensures step { Step (S.state store.old) (S.state store.new) (method_fault_of result)
+        1 (2 * wide_words (length (text (S.state store.old) (S.number s))) + 3) }
+    ensures slots { NeverSlots (method_fault_of result) }
+    ensures history { (S.state store.new).history ≡ (S.state store.old).history }
+{
+    let length = to - from;
+    if length > store.limit() {
+        let length = u128::from(length);
         return Err(MethodFault::RangeError(Cause::TooLong { length }));
     }
     store.settle(s)?;
     Ok(store.slice(s, from, to)?)
-}
-
-// The place of an end, which counts from the end where it is negative.
-fn end_place(end: Option<Num>, len: u32) -> u32
-    requires { IfSome end IsLawful }
-    ensures value { result ≡ end_of end len }
-    ensures within { result ≤ len }
-{
-    end.map_or(len, |end| end.relative_to(len))
 }
 
 /// The units of `s` followed by those of `t` ("String.prototype.concat" with one argument).

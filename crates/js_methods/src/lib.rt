@@ -1,5 +1,5 @@
-//! The methods of strings that need no search of one string in another (ECMA-262, "Properties of
-//! the String Prototype Object"), over any store of strings.
+//! The methods of strings (ECMA-262, "Properties of the String Prototype Object"), over any store
+//! of strings.
 //!
 //! Each method equals its definition over lists of code units, which stands in `specs/` in the
 //! standard's terms. It settles what it reads, keeps what the store knows and the history of
@@ -8,8 +8,16 @@
 //! store is at most its row, on a full store with what was wanted besides.
 #![tactic(auto)]
 
+mod building;
 mod cuts;
 mod places;
+mod searching;
+mod trimming;
+mod well_formed;
 
-pub use cuts::{concat, copied, slice};
-pub use places::at;
+pub use building::{from_char_code, from_code_point, to_well_formed};
+pub use cuts::{concat, copied, slice, substr, substring};
+pub use places::{at, char_at, char_code_at, code_point_at};
+pub use searching::{ends_with, includes, index_of, last_index_of, starts_with};
+pub use trimming::{trim, trim_end, trim_start};
+pub use well_formed::is_well_formed;

@@ -1,14 +1,15 @@
 // Methods that read at one place.
 ghost use Rattle.std.specs.Prelude.{◌≡◌, ◌+◌, length, IfOk};
-ghost use Rattle.js_store.specs.State.{IsKnown, text};
+ghost use Rattle.js_store.specs.State.{Has, IsKnown, text};
 ghost use Rattle.js_store.specs.Rows.{wide_words};
 ghost use Rattle.js_store.specs.Faults.{Step, method_fault_of, NeverSlots};
 ghost use Rattle.js_store.specs.Answers.{MaybeHas, NeverThrows};
 ghost use Rattle.js_number.specs.Places.{IsLawful};
-ghost use Rattle.js_methods.specs.Places.{relative_place, at_of};
+ghost use Rattle.js_methods.specs.Places.{relative_place, exact_place, at_of, char_at_of, char_code_of, code_point_of};
 
 use js_number::Num;
 use js_store::{MethodFault, Strings};
+use js_units::{code_point, is_lead, is_trail};
 
 /// The string of the one unit at a place, which counts from the end where it is negative, and
 /// none where there is no such place ("String.prototype.at").
@@ -29,6 +30,103 @@ pub fn at<S: Strings>(store: &mut S, s: S::Ref, i: Num) -> Result<Option<S::Ref>
             store.settle(s)?;
             Ok(Some(store.slice(s, k, k + 1)?))
         }
+    }
+}
+
+/// The string of the one unit at a place, empty where there is no such place
+/// ("String.prototype.charAt").
+pub fn char_at<S: Strings>(store: &mut S, s: S::Ref, i: Num) -> Result<S::Ref, MethodFault>
+    requires known { IsKnown (S.state store.old) (S.number s) }
+    requires lawful { IsLawful i }
+    ensures value { IfOk result (λ r. Has (S.state store.new) (S.number r) (char_at_of (text (S.state store.old) (S.number s)) i)) }
+    ensures throws { NeverThrows result }
+    ensures step { Step (S.state store.old) (S.state store.new) (method_fault_of result)
+        1 (wide_words (length (text (S.state store.old) (S.number s))) + 3) }
+    ensures slots { NeverSlots (method_fault_of result) }
+    ensures history { (S.state store.new).history ≡ (S.state store.old).history }
+{
+    let len = store.len(s);
+    match place_in(i, len) {
+        None => Ok(store.from_units(&[])?),
+        Some(k) => {
+            store.settle(s)?;
+            Ok(store.slice(s, k, k + 1)?)
+        }
+    }
+}
+
+/// The unit at a place as a number, NaN where there is no such place
+/// ("String.prototype.charCodeAt").
+pub fn char_code_at<S: Strings>(store: &mut S, s: S::Ref, i: Num) -> Result<Num, MethodFault>
+    requires known { IsKnown (S.state store.old) (S.number s) }
+    requires lawful { IsLawful i }
+    ensures value { IfOk result (λ r. r ≡ char_code_of (text (S.state store.old) (S.number s)) i) }
+    ensures lawful { IfOk result IsLawful }
+    ensures throws { NeverThrows result }
+    ensures step { Step (S.state store.old) (S.state store.new) (method_fault_of result)
+        0 (wide_words (length (text (S.state store.old) (S.number s)))) }
+    ensures slots { NeverSlots (method_fault_of result) }
+    ensures history { (S.state store.new).history ≡ (S.state store.old).history }
+{
+    let len = store.len(s);
+    match place_in(i, len) {
+        None => Ok(Num::NaN),
+        Some(k) => {
+            store.settle(s)?;
+            Ok(Num::Int(i64::from(store.unit_at(s, k))))
+        }
+    }
+}
+
+/// The code point at a place: that of a lead and the trail after it, and else the unit; none
+/// where there is no such place ("String.prototype.codePointAt").
+pub fn code_point_at<S: Strings>(
+    store: &mut S,
+    s: S::Ref,
+    i: Num,
+) -> Result<Option<u32>, MethodFault>
+    requires known { IsKnown (S.state store.old) (S.number s) }
+    requires lawful { IsLawful i }
+    ensures value { IfOk result (λ r. r ≡ code_point_of (text (S.state store.old) (S.number s)) i) }
+    ensures throws { NeverThrows result }
+    ensures step { Step (S.state store.old) (S.state store.new) (method_fault_of result)
+        0 (wide_words (length (text (S.state store.old) (S.number s)))) }
+    ensures slots { NeverSlots (method_fault_of result) }
+    ensures history { (S.state store.new).history ≡ (S.state store.old).history }
+{
+    let len = store.len(s);
+    match place_in(i, len) {
+        None => Ok(None),
+        Some(k) => {
+            store.settle(s)?;
+            let first = store.unit_at(s, k);
+            if !is_lead(first) || k + 1 == len {
+                return Ok(Some(u32::from(first)));
+            }
+            let second = store.unit_at(s, k + 1);
+            if is_trail(second) {
+                Ok(Some(code_point(first, second)))
+            } else {
+                Ok(Some(u32::from(first)))
+            }
+        }
+    }
+}
+
+// The place below `len` that the number names.
+fn place_in(i: Num, len: u32) -> Option<u32>
+    requires { IsLawful i }
+    ensures { result ≡ exact_place i len }
+{
+    let place = match i {
+        Num::PosInf | Num::NegInf => return None,
+        Num::NaN => 0,
+        Num::Int(n) => n,
+    };
+    if 0 <= place && place < i64::from(len) {
+        Some(place as u32)
+    } else {
+        None
     }
 }
 

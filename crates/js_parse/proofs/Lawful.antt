@@ -1,8 +1,8 @@
 -- What holds of a reader for a language, and of readers put together.
 use Rattle.std.proofs.Common.{◌≡◌, ℕ, zero, suc, ◌<◌, ◌≤◌, List, [], ◌∷◌, ◌++◌, length, Bool, true, false, cond, Option, Some, None, refl, sym, ap, ◌∙◌, subst, arith, append_assoc, length-append}
 use Rattle.js_parse.specs.declared.token.Token.{Token}
-use Rattle.js_parse.specs.Lang.{Lang, One, one, Then, both, Many, end, more, if_allowed}
-use Rattle.js_parse.specs.Reader.{Answer, Got, Bad, Reader, ◌>>=◌, and_then, take_or, one_of, opens, loop, all_of}
+use Rattle.js_parse.specs.Lang.{Lang, One, one, Then, both, Mapped, mapped, Either, left, right, Many, end, more, only_if}
+use Rattle.js_parse.specs.Reader.{Answer, Got, Bad, Reader, ◌>>=◌, map_by, and_then, take_or, one_of, choose, read_if, loop, all_of}
 
 -- the front of the tokens spells the value
 pub record Front {A : Type 0} (L : Lang A) (s : List Token) (x : A) (rest : List Token) : Type 0 where
@@ -79,11 +79,54 @@ module _ {A : Type 0} (value : Token → Option A) where
     complete = λ ts x rest h _. one_complete ts x rest h;
   }
 
--- only where it is allowed
+-- another value
 
-pub allowed_lawful : {A : Type 0} (allowed : Bool) (L : Lang A) (stops : List Token → Bool) (r : Reader A) → IsLawful L stops r → IsLawful (if_allowed allowed L) stops (opens allowed r)
-allowed_lawful true L stops r l = l
-allowed_lawful false L stops r l = record {
+module _ {A B : Type 0} (f : A → B) (L : Lang A) (stops : List Token → Bool) (r : Reader A) (l : IsLawful L stops r) where
+  map_got : (s : List Token) (y : B) (rest : List Token) → map_by f r s ≡ Got y rest → (x : A) × (r s ≡ Got x rest) × (f x ≡ y)
+  map_got s y rest e = go (r s) refl e
+    where
+      go : (a : Answer A) → r s ≡ a → (a >>= λ x rest. Got (f x) rest) ≡ Got y rest → (x : A) × (r s ≡ Got x rest) × (f x ≡ y)
+      go (Got x t) ea h = (x, ea ∙ cc, cc)
+      go Bad ea h = cc
+
+  map_complete : (ts : List Token) (y : B) (rest : List Token) → Mapped f L ts y → stops rest ≡ true → map_by f r (ts ++ rest) ≡ Got y rest
+  map_complete _ _ rest (mapped a x h) e = rw (l.complete a x rest h e) refl
+
+  pub map_lawful : IsLawful (Mapped f L) stops (map_by f r)
+  map_lawful = record {
+    sound = λ s y rest e.
+        let m = map_got s y rest e in
+        let a = l.sound s m.0 rest m.1 in
+        record { front = a.front; whole = a.whole; spells = subst (λ v. Mapped f L a.front v) m.2 (mapped a.front m.0 a.spells) };
+    complete = map_complete;
+  }
+
+-- either
+
+module _ {A : Type 0} (starts : List Token → Bool) (L M : Lang A) (stops : List Token → Bool) (r q : Reader A) where
+  choose_complete : IsLawful L stops r → IsLawful M stops q → ((ts : List Token) (x : A) (rest : List Token) → L ts x → starts (ts ++ rest) ≡ true) → ((ts : List Token) (x : A) (rest : List Token) → M ts x → starts (ts ++ rest) ≡ false) → (ts : List Token) (x : A) (rest : List Token) → Either L M ts x → stops rest ≡ true → choose starts r q (ts ++ rest) ≡ Got x rest
+  choose_complete lr lq hit miss _ _ rest (left a x h) e = rw (hit a x rest h, lr.complete a x rest h e) refl
+  choose_complete lr lq hit miss _ _ rest (right a x h) e = rw (miss a x rest h, lq.complete a x rest h e) refl
+
+  choose_sound : IsLawful L stops r → IsLawful M stops q → (s : List Token) (x : A) (rest : List Token) → choose starts r q s ≡ Got x rest → Front (Either L M) s x rest
+  choose_sound lr lq s x rest e = go (starts s) e
+    where
+      go : (b : Bool) → cond b (r s) (q s) ≡ Got x rest → Front (Either L M) s x rest
+      go true e = let a = lr.sound s x rest e in record { front = a.front; whole = a.whole; spells = left a.front x a.spells }
+      go false e = let a = lq.sound s x rest e in record { front = a.front; whole = a.whole; spells = right a.front x a.spells }
+
+  -- the first begins with what is tested, and the second doesn't
+  pub choose_lawful : IsLawful L stops r → IsLawful M stops q → ((ts : List Token) (x : A) (rest : List Token) → L ts x → starts (ts ++ rest) ≡ true) → ((ts : List Token) (x : A) (rest : List Token) → M ts x → starts (ts ++ rest) ≡ false) → IsLawful (Either L M) stops (choose starts r q)
+  choose_lawful lr lq hit miss = record {
+    sound = choose_sound lr lq;
+    complete = choose_complete lr lq hit miss;
+  }
+
+-- only where there is leave to
+
+pub only_lawful : {A : Type 0} (leave : Bool) (L : Lang A) (stops : List Token → Bool) (r : Reader A) → (leave ≡ true → IsLawful L stops r) → IsLawful (only_if leave L) stops (read_if leave r)
+only_lawful true L stops r l = l refl
+only_lawful false L stops r l = record {
   sound = λ s x rest e. cc;
   complete = λ ts x rest h _. absurd h;
 }

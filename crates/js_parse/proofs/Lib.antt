@@ -1,8 +1,10 @@
+pub mod Trees
 pub mod Lawful
 pub mod Loops
-pub mod Lexemes
-pub mod TokenLists
 pub mod Stops
-pub mod Statements
+pub mod Expressions
+pub mod Rooms
 pub mod Turns
+pub mod Classes
+pub mod Statements
 pub mod Scripts

@@ -1,41 +1,74 @@
 -- The grammar of scripts, one line a production.
-use Rattle.std.specs.Prelude.{ℕ, Bool, true, false, List, [], ◌∷◌, Option, Some, None}
-use Rattle.js_parse.specs.declared.token.Mark.TheVariants as mark
+use Rattle.std.specs.Prelude.{ℕ, zero, suc, Bool, true, false, List, [], ◌∷◌, Option, Some, None}
+use Rattle.js_lex.specs.declared.token.Mark.TheVariants as mark
 use Rattle.js_parse.specs.declared.token.Token.{Token}
 use Rattle.js_parse.specs.declared.token.Token.TheVariants as token
+use Rattle.js_parse.specs.declared.token.Word.TheVariants as word
 use Rattle.js_parse.specs.declared.parser.Role.{Role}
 use Rattle.js_parse.specs.declared.parser.Role.TheVariants.{Prelude, Main}
 use Rattle.js_parse.specs.declared.tree.Op.{Op}
 use Rattle.js_parse.specs.declared.tree.Op.TheVariants as op
-use Rattle.js_parse.specs.Lang.{Lang, One, Then, Many, if_allowed}
+use Rattle.js_parse.specs.declared.tree.Method.{Method}
+use Rattle.js_parse.specs.Lang.{Lang, One, Then, Mapped, Either, Many, Never, only_if}
 use Rattle.js_parse.specs.Tree as tree
-use Rattle.js_parse.specs.Tree.{ExprTree, LinkTree, StmtTree, links, exprs}
+use Rattle.js_parse.specs.Tree.{ExprTree, LinkTree, StepTree, StmtTree, links, steps, exprs}
 
 -- the tokens
 
-abbrev pub text : Token → Option ExprTree
-text (token.Text n) = Some (tree.literal n)
-text _ = None
-
-abbrev pub print_word : Token → Option (Unit {0})
-print_word (token.Mark mark.Print at) = Some tt
-print_word _ = None
+-- a token that is an expression alone
+abbrev pub simple : Token → Option ExprTree
+simple (token.Text number) = Some (tree.literal number)
+simple (token.Number value) = Some (tree.number value)
+simple (token.Word word.Undefined at) = Some tree.undefined
+simple (token.Word word.Null at) = Some tree.null
+simple (token.Word word.True at) = Some (tree.bool true)
+simple (token.Word word.False at) = Some (tree.bool false)
+simple (token.Word word.NaN at) = Some tree.nan
+simple (token.Word word.Infinity at) = Some tree.infinity
+simple _ = None
 
 abbrev pub opening : Token → Option (Unit {0})
-opening (token.Mark mark.Open at) = Some tt
+opening (token.Mark mark.OpenParen at) = Some tt
 opening _ = None
 
 abbrev pub closing : Token → Option (Unit {0})
-closing (token.Mark mark.Close at) = Some tt
+closing (token.Mark mark.CloseParen at) = Some tt
 closing _ = None
 
+abbrev pub comma : Token → Option (Unit {0})
+comma (token.Mark mark.Comma at) = Some tt
+comma _ = None
+
+abbrev pub point : Token → Option (Unit {0})
+point (token.Mark mark.Point at) = Some tt
+point _ = None
+
 abbrev pub semi : Token → Option (Unit {0})
-semi (token.Mark mark.Semi at) = Some tt
+semi (token.Mark mark.Semicolon at) = Some tt
 semi _ = None
+
+abbrev pub print_word : Token → Option (Unit {0})
+print_word (token.Word word.Print at) = Some tt
+print_word _ = None
+
+abbrev pub length_word : Token → Option StepTree
+length_word (token.Word word.Length at) = Some tree.of_length
+length_word _ = None
+
+-- a method and its offset
+abbrev pub method : Token → Option (ℕ × Method)
+method (token.Word (word.Method m) at) = Some (at, m)
+method _ = None
+
+-- a sign: its offset, and whether it is a minus
+abbrev pub sign : Token → Option (ℕ × Bool)
+sign (token.Mark mark.Minus at) = Some (at, true)
+sign _ = None
 
 -- an operator and its offset
 abbrev pub sum_op : Token → Option (ℕ × Op)
 sum_op (token.Mark mark.Plus at) = Some (at, op.Plus)
+sum_op (token.Mark mark.Minus at) = Some (at, op.Minus)
 sum_op _ = None
 
 -- the trees
@@ -46,39 +79,130 @@ first_of x y = x
 abbrev pub second_of : {A B : Type 0} → A → B → B
 second_of x y = y
 
+abbrev pub list_of : {A : Type 0} → A → List A → List A
+list_of x xs = x ∷ xs
+
+abbrev pub none_of : {A B : Type 0} → A → List B
+none_of x = []
+
+abbrev pub call_of : ℕ × Method → List ExprTree → StepTree
+call_of m ts = tree.of_call m.0 m.1 (exprs ts)
+
+-- without a step it is what it is of
+abbrev pub post_of : ExprTree → List StepTree → ExprTree
+post_of t [] = t
+post_of t (s ∷ ss) = tree.post t (steps (s ∷ ss))
+
+abbrev pub unary_of : ℕ × Bool → ExprTree → ExprTree
+unary_of s t = tree.unary s.0 s.1 t
+
 abbrev pub link_of : ℕ × Op → ExprTree → LinkTree
 link_of o t = record { at = o.0; op = o.1; right = t }
 
+-- without an operator it is the operand
 abbrev pub chain_of : ExprTree → List LinkTree → ExprTree
 chain_of t [] = t
 chain_of t (l ∷ ls) = tree.chain t (links (l ∷ ls))
 
-abbrev pub print_of : ExprTree → Unit {0} → StmtTree
-print_of t _ = tree.print (exprs (t ∷ []))
+abbrev pub print_of : List ExprTree → Unit {0} → StmtTree
+print_of ts _ = tree.print (exprs ts)
 
--- the productions
+-- the productions, over what an expression and an operand are where one more is open
 
--- L { o L }
-abbrev pub chain : (Token → Option (ℕ × Op)) → Lang ExprTree → Lang ExprTree
-chain o L = Then chain_of L (Many (Then link_of (One o) L))
-
--- Text { + Text }
-abbrev pub sum : Lang ExprTree
-sum = chain sum_op (One text)
-
--- ( Sum )
+-- ( E )
 abbrev pub parens : Lang ExprTree → Lang ExprTree
 parens E = Then second_of (One opening) (Then first_of E (One closing))
 
--- print ( Sum ) ;
-abbrev pub print_line : Lang StmtTree
-print_line = Then second_of (One print_word) (Then print_of (parens sum) (One semi))
+-- , E
+abbrev pub next_item : Lang ExprTree → Lang ExprTree
+next_item E = Then second_of (One comma) E
+
+-- E { , E }
+abbrev pub items : Lang ExprTree → Lang (List ExprTree)
+items E = Then list_of E (Many (next_item E))
+
+-- [ E { , E } ] )
+abbrev pub args_rest : Lang ExprTree → Lang (List ExprTree)
+args_rest E = Either (Mapped none_of (One closing)) (Then first_of (items E) (One closing))
+
+-- ( [ E { , E } ] )
+abbrev pub args : Lang ExprTree → Lang (List ExprTree)
+args E = Then second_of (One opening) (args_rest E)
+
+-- Text | Number | undefined | null | true | false | NaN | Infinity | ( E )
+abbrev pub primary : Bool → Lang ExprTree → Lang ExprTree
+primary room E = Either (One simple) (only_if room (parens E))
+
+-- Method Args
+abbrev pub call : Lang ExprTree → Lang StepTree
+call E = Then call_of (One method) (args E)
+
+-- . length | . Method Args
+abbrev pub step : Bool → Lang ExprTree → Lang StepTree
+step room E = Then second_of (One point) (Either (One length_word) (only_if room (call E)))
+
+-- Primary { Step }
+abbrev pub post : Bool → Lang ExprTree → Lang ExprTree
+post room E = Then post_of (primary room E) (Many (step room E))
+
+-- - U
+abbrev pub signed : Lang ExprTree → Lang ExprTree
+signed U = Then unary_of (One sign) U
+
+-- - U | Post
+abbrev pub unary : Bool → Lang ExprTree → Lang ExprTree → Lang ExprTree
+unary room E U = Either (only_if room (signed U)) (post room E)
+
+-- o L
+abbrev pub next_link : (Token → Option (ℕ × Op)) → Lang ExprTree → Lang LinkTree
+next_link o L = Then link_of (One o) L
+
+-- L { o L }
+abbrev pub chain : (Token → Option (ℕ × Op)) → Lang ExprTree → Lang ExprTree
+chain o L = Then chain_of L (Many (next_link o L))
+
+-- Unary { (+|-) Unary }
+abbrev pub sum : Bool → Lang ExprTree → Lang ExprTree → Lang ExprTree
+sum room E U = chain sum_op (unary room E U)
+
+-- an expression, and the operand of a sign
+pub data Which : Type 0 where
+  Whole Operand : Which
+
+abbrev pub level : Bool → (Which → Lang ExprTree) → Which → Lang ExprTree
+level room I Whole = sum room (I Whole) (I Operand)
+level room I Operand = unary room (I Whole) (I Operand)
+
+-- with room for so many that are open
+abbrev pub within_room : ℕ → Which → Lang ExprTree
+within_room zero = level false (λ w. Never)
+within_room (suc n) = level true (within_room n)
+
+abbrev pub has_room : ℕ → Bool
+has_room zero = false
+has_room (suc n) = true
+
+-- what stands inside of what is opened there
+abbrev pub inside : ℕ → Which → Lang ExprTree
+inside zero w = Never
+inside (suc n) w = within_room n w
+
+-- print Args ;
+abbrev pub print_line : Lang ExprTree → Lang StmtTree
+print_line E = Then second_of (One print_word) (Then print_of (args E) (One semi))
 
 -- a prelude prints nothing
 abbrev pub prints : Role → Bool
 prints Prelude = false
 prints Main = true
 
+abbrev pub statement : ℕ → Role → Lang StmtTree
+statement n role = only_if (prints role) (only_if (has_room n) (print_line (inside n Whole)))
+
 -- { Statement }
-abbrev pub Statements : Role → Lang (List StmtTree)
-Statements role = Many (if_allowed (prints role) print_line)
+abbrev pub Statements : ℕ → Role → Lang (List StmtTree)
+Statements n role = Many (statement n role)
+
+-- so many may be open
+unfoldable pub most : ℕ
+most = 200

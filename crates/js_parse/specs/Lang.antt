@@ -14,6 +14,15 @@ pub data One {A : Type 0} (value : Token → Option A) : List Token → A → Ty
 pub data Then {A B C : Type 0} (f : A → B → C) (L : Lang A) (M : Lang B) : List Token → C → Type 0 where
   both : (a b : List Token) (x : A) (y : B) → L a x → M b y → Then f L M (a ++ b) (f x y)
 
+-- another value for the same tokens
+pub data Mapped {A B : Type 0} (f : A → B) (L : Lang A) : List Token → B → Type 0 where
+  mapped : (a : List Token) (x : A) → L a x → Mapped f L a (f x)
+
+-- either
+pub data Either {A : Type 0} (L M : Lang A) : List Token → A → Type 0 where
+  left : (a : List Token) (x : A) → L a x → Either L M a x
+  right : (a : List Token) (x : A) → M a x → Either L M a x
+
 -- any number of times
 pub data Many {A : Type 0} (L : Lang A) : List Token → List A → Type 0 where
   end : Many L [] []
@@ -23,7 +32,7 @@ pub data Many {A : Type 0} (L : Lang A) : List Token → List A → Type 0 where
 abbrev pub Never : {A : Type 0} → Lang A
 Never ts x = ⊥
 
--- only where it is allowed
-abbrev pub if_allowed : {A : Type 0} → Bool → Lang A → Lang A
-if_allowed true L = L
-if_allowed false L = Never
+-- only where there is leave to
+abbrev pub only_if : {A : Type 0} → Bool → Lang A → Lang A
+only_if true L = L
+only_if false L = Never

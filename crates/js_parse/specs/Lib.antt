@@ -1,5 +1,5 @@
 pub mod Tree
-pub mod Tokens
+pub mod Token
 pub mod Lang
 pub mod Grammar
 pub mod Spells

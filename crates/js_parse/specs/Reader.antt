@@ -18,6 +18,9 @@ Bad >>= f = Bad
 abbrev pub wrong : {A : Type 0} → Reader A
 wrong s = Bad
 
+abbrev pub map_by : {A B : Type 0} → (A → B) → Reader A → Reader B
+map_by f r s = r s >>= λ x rest. Got (f x) rest
+
 -- one after the other
 abbrev pub and_then : {A B C : Type 0} → (A → B → C) → Reader A → Reader B → Reader C
 and_then f r q s = r s >>= λ x rest. q rest >>= λ y rest'. Got (f x y) rest'
@@ -40,6 +43,10 @@ abbrev pub heads : {A : Type 0} → (Token → Option A) → List Token → Bool
 heads v [] = false
 heads v (t ∷ s) = is_some (v t)
 
+-- the one or the other, by the front
+abbrev pub choose : {A : Type 0} → (List Token → Bool) → Reader A → Reader A → Reader A
+choose starts r q s = cond (starts s) (r s) (q s)
+
 -- as long as one starts, at most so many
 abbrev pub loop : {A : Type 0} → (List Token → Bool) → Reader A → ℕ → Reader (List A)
 loop starts r zero s = Got [] s
@@ -48,10 +55,10 @@ loop starts r (suc n) s = cond (starts s) (r s >>= λ x rest. loop starts r n re
 abbrev pub all_of : {A : Type 0} → (List Token → Bool) → Reader A → Reader (List A)
 all_of starts r s = loop starts r (length s) s
 
--- where it is allowed
-abbrev pub opens : {A : Type 0} → Bool → Reader A → Reader A
-opens true r = r
-opens false r = wrong
+-- where there is leave to
+abbrev pub read_if : {A : Type 0} → Bool → Reader A → Reader A
+read_if true r = r
+read_if false r = wrong
 
 -- nothing is left
 abbrev pub at_end : Reader (Unit {0})

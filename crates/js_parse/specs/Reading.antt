@@ -1,11 +1,44 @@
 -- Reading each production from the front. The public contracts don't speak of it.
-use Rattle.std.specs.Prelude.{ℕ, List, Option}
+use Rattle.std.specs.Prelude.{ℕ, zero, suc, Bool, true, false, List, Option}
 use Rattle.js_parse.specs.declared.token.Token.{Token}
 use Rattle.js_parse.specs.declared.parser.Role.{Role}
 use Rattle.js_parse.specs.declared.tree.Op.{Op}
-use Rattle.js_parse.specs.Tree.{ExprTree, LinkTree, StmtTree}
-use Rattle.js_parse.specs.Reader.{Reader, and_then, one_of, heads, all_of, opens, at_end}
-use Rattle.js_parse.specs.Grammar.{text, print_word, opening, closing, semi, sum_op, first_of, second_of, link_of, chain_of, print_of, prints}
+use Rattle.js_parse.specs.Tree.{ExprTree, LinkTree, StepTree, StmtTree}
+use Rattle.js_parse.specs.Reader.{Reader, wrong, map_by, and_then, one_of, heads, choose, all_of, read_if, at_end}
+use Rattle.js_parse.specs.Grammar.{simple, opening, closing, comma, point, semi, print_word, length_word, method, sign, sum_op, first_of, second_of, list_of, none_of, call_of, post_of, unary_of, link_of, chain_of, print_of, Which, Whole, Operand, has_room, prints}
+
+abbrev pub read_parens : Reader ExprTree → Reader ExprTree
+read_parens e = and_then second_of (one_of opening) (and_then first_of e (one_of closing))
+
+abbrev pub read_item : Reader ExprTree → Reader ExprTree
+read_item e = and_then second_of (one_of comma) e
+
+abbrev pub read_items : Reader ExprTree → Reader (List ExprTree)
+read_items e = and_then list_of e (all_of (heads comma) (read_item e))
+
+abbrev pub read_args_rest : Reader ExprTree → Reader (List ExprTree)
+read_args_rest e = choose (heads closing) (map_by none_of (one_of closing)) (and_then first_of (read_items e) (one_of closing))
+
+abbrev pub read_args : Reader ExprTree → Reader (List ExprTree)
+read_args e = and_then second_of (one_of opening) (read_args_rest e)
+
+abbrev pub read_primary : Bool → Reader ExprTree → Reader ExprTree
+read_primary room e = choose (heads simple) (one_of simple) (read_if room (read_parens e))
+
+abbrev pub read_call : Reader ExprTree → Reader StepTree
+read_call e = and_then call_of (one_of method) (read_args e)
+
+abbrev pub read_step : Bool → Reader ExprTree → Reader StepTree
+read_step room e = and_then second_of (one_of point) (choose (heads length_word) (one_of length_word) (read_if room (read_call e)))
+
+abbrev pub read_post : Bool → Reader ExprTree → Reader ExprTree
+read_post room e = and_then post_of (read_primary room e) (all_of (heads point) (read_step room e))
+
+abbrev pub read_signed : Reader ExprTree → Reader ExprTree
+read_signed u = and_then unary_of (one_of sign) u
+
+abbrev pub read_unary : Bool → Reader ExprTree → Reader ExprTree → Reader ExprTree
+read_unary room e u = choose (heads sign) (read_if room (read_signed u)) (read_post room e)
 
 abbrev pub read_link : (Token → Option (ℕ × Op)) → Reader ExprTree → Reader LinkTree
 read_link o r = and_then link_of (one_of o) r
@@ -13,17 +46,48 @@ read_link o r = and_then link_of (one_of o) r
 abbrev pub read_chain : (Token → Option (ℕ × Op)) → Reader ExprTree → Reader ExprTree
 read_chain o r = and_then chain_of r (all_of (heads o) (read_link o r))
 
-unfoldable pub read_sum : Reader ExprTree
-read_sum = read_chain sum_op (one_of text)
+abbrev pub read_sum : Bool → Reader ExprTree → Reader ExprTree → Reader ExprTree
+read_sum room e u = read_chain sum_op (read_unary room e u)
 
-abbrev pub read_parens : Reader ExprTree → Reader ExprTree
-read_parens e = and_then second_of (one_of opening) (and_then first_of e (one_of closing))
+abbrev pub read_level : Bool → (Which → Reader ExprTree) → Which → Reader ExprTree
+read_level room i Whole = read_sum room (i Whole) (i Operand)
+read_level room i Operand = read_unary room (i Whole) (i Operand)
 
-unfoldable pub read_print : Reader StmtTree
-read_print = and_then second_of (one_of print_word) (and_then print_of (read_parens read_sum) (one_of semi))
+abbrev pub read_at : ℕ → Which → Reader ExprTree
+read_at zero = read_level false (λ w. wrong)
+read_at (suc n) = read_level true (read_at n)
 
-unfoldable pub read_statement : Role → Reader StmtTree
-read_statement role = opens (prints role) read_print
+-- the readers with room for so many that are open
 
-unfoldable pub read_statements : Role → Reader (List StmtTree)
-read_statements role = and_then first_of (all_of (heads print_word) (read_statement role)) at_end
+abbrev pub inner : ℕ → Which → Reader ExprTree
+inner zero w = wrong
+inner (suc n) w = read_at n w
+
+unfoldable pub primary_at : ℕ → Reader ExprTree
+primary_at n = read_primary (has_room n) (inner n Whole)
+
+unfoldable pub args_at : ℕ → Reader (List ExprTree)
+args_at n = read_args (inner n Whole)
+
+unfoldable pub step_at : ℕ → Reader StepTree
+step_at n = read_step (has_room n) (inner n Whole)
+
+unfoldable pub post_at : ℕ → Reader ExprTree
+post_at n = read_post (has_room n) (inner n Whole)
+
+unfoldable pub unary_at : ℕ → Reader ExprTree
+unary_at n = read_unary (has_room n) (inner n Whole) (inner n Operand)
+
+unfoldable pub expression_at : ℕ → Reader ExprTree
+expression_at n = read_sum (has_room n) (inner n Whole) (inner n Operand)
+
+-- statements
+
+abbrev pub read_print : Reader (List ExprTree) → Reader StmtTree
+read_print a = and_then second_of (one_of print_word) (and_then print_of a (one_of semi))
+
+unfoldable pub statement_at : ℕ → Role → Reader StmtTree
+statement_at n role = read_if (prints role) (read_if (has_room n) (read_print (args_at n)))
+
+unfoldable pub statements_at : ℕ → Role → Reader (List StmtTree)
+statements_at n role = and_then first_of (all_of (heads print_word) (statement_at n role)) at_end

@@ -14,3 +14,8 @@ pub fn one_script()
 pub fn no_refused_script()
     ensures { (role : Role) (outer : List (List ℕ)) (bytes : List ℕ) (x : Tree) (fault : ParseFault) → Spells role outer bytes x → Refused role outer bytes fault → ⊥ }
 {}
+
+/// No bytes are refused in two ways.
+pub fn one_refusal()
+    ensures { (role : Role) (outer : List (List ℕ)) (bytes : List ℕ) (x y : ParseFault) → Refused role outer bytes x → Refused role outer bytes y → x ≡ y }
+{}

@@ -1,21 +1,23 @@
 //! Reads the text of a script into its tree.
 //!
-//! [`parse`] is the one reader. Today's form has statements `print ( Text { + Text } ) ;` alone: a
-//! text stands between two `'`, and spaces and line feeds may stand before, between and after the
-//! tokens. Whatever else stands there is refused.
+//! [`parse`] is the one reader. The language of today has statements `print ( [ Expr { , Expr } ] ) ;`
+//! over all literals, with `+`, `-`, parentheses, `.length` and the methods `at` and `slice`, and
+//! may begin with the directive `'use strict' ;`. At most 200 may be open at once: parentheses, and
+//! signs whose operand isn't finished.
 #![tactic(auto)]
 
+mod expr;
 mod laws;
-mod lexeme;
+mod look;
+mod node;
 mod parser;
 mod statement;
 mod token;
-mod tokens;
 mod tree;
 
-pub use laws::{no_refused_script, one_script};
+pub use laws::{no_refused_script, one_refusal, one_script};
 pub use parser::{ParseFault, Role, parse};
-pub use tree::{Expr, Link, Name, Names, Op, Script, Stmt};
+pub use tree::{Expr, Link, Method, Name, Names, Op, PostStep, Script, Stmt};
 
 #[cfg(test)]
 mod tests;

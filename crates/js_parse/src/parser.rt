@@ -1,12 +1,13 @@
 // Reads a script.
-ghost use Rattle.std.specs.Prelude.{◌≡◌, ◌≤◌, ℕ, List, length, IfOk};
+ghost use Rattle.std.specs.Prelude.{◌≡◌, ◌≤◌, length, IfOk};
 ghost use Rattle.js_parse.specs.declared.parser.ParseFault.TheVariants.{Memory};
 ghost use Rattle.js_parse.specs.Tree.{Tree, tree_of};
 ghost use Rattle.js_parse.specs.Spells.{Spells, Refused, IsOrMemory, Refuses};
 
 use crate::statement::statements;
-use crate::tokens::tokens;
+use crate::token::tokens;
 use crate::tree::{Names, Script};
+use js_lex::LexFault;
 use js_units::NoMemory;
 use std::alloc::{AllocError, AllocFailed, Global};
 
@@ -20,6 +21,8 @@ pub enum Role {
 /// Why a text is no script, with the byte offset of the fault; or want of memory.
 #[derive(Clone, Copy, Debug, PartialEq, Eq)]
 pub enum ParseFault {
+    /// The first lexical fault, which comes before all others. It is never want of memory.
+    Lex(LexFault),
     NotInProfile { at: u32 },
     Memory,
 }
@@ -50,8 +53,8 @@ impl From<NoMemory> for ParseFault {
 
 /// The script that the bytes spell, in a role and after a prelude that declares the `outer` names.
 ///
-/// The place of a refusal is always 0 as long as the language is a part of what it is to be.
-#[tactic(auto, using(crate::proofs::Scripts::is_spelled, crate::proofs::Scripts::is_found, crate::proofs::Scripts::no_tokens, crate::proofs::Scripts::no_statements))]
+/// As long as the language is a part of what it is to be, the place of a refusal that isn't lexical
+/// is 0.
 pub fn parse(alloc: Global, bytes: &[u8], role: Role, outer: &Names) -> Result<Script, ParseFault>
     requires short { length bytes.now ≤ 1_048_576 }
     ensures spells { IfOk result (λ script. Spells role outer.now bytes.now (tree_of script)) }

@@ -1,43 +1,182 @@
-// Lexemes and tokens.
-ghost use Rattle.std.specs.Prelude.{◌≡◌};
-ghost use Rattle.js_parse.specs.Tokens.{mark_bytes};
+// Tokens as the grammar sees them, and how they come from those of the text.
+ghost use Rattle.std.specs.Prelude.{◌≡◌, ◌≤◌, ◌∷◌, ◌++◌, [], List, length, IfOk, IfErr, OnOk, IsTrue, ◌↔◌};
+ghost use Rattle.std.specs.Vec.Iter.{into_iter_items, into_iter_len};
+ghost use Rattle.js_lex.specs.Spans.{slice};
+ghost use Rattle.js_lex.specs.Tokens.{LexFaultOf};
+ghost use Rattle.js_parse.specs.Token.{word_of, token_of, text_of, tokens_of, texts_of, IsUseStrict};
+ghost use Rattle.js_parse.specs.Gives.{OnRefusal, Within, HasDirective, IsAfterDirective, Reads, IsLexical, lex_fault};
 
+use crate::parser::ParseFault;
+use crate::tree::Method;
+use js_lex::{LexFault, Mark, TokenKind};
 use js_units::Units;
+use std::alloc::Global;
+use std::vec::IntoIter;
 
-/// A word or a sign that is always spelled the same.
+/// A word, by what the grammar knows of it. It may be one thing at one place and a name at another.
 #[derive(Clone, Copy, Debug, PartialEq, Eq)]
-pub enum Mark {
+pub enum Word {
     Print,
-    Open,
-    Close,
-    Plus,
-    Semi,
+    Length,
+    Method(Method),
+    Undefined,
+    Null,
+    True,
+    False,
+    NaN,
+    Infinity,
+    Other,
 }
 
-pub(crate) fn bytes_of(mark: Mark) -> &'static [u8]
-    ensures { result.now ≡ mark_bytes mark }
+/// A token of the grammar: a text by its number in the order of the file, a number by its value,
+/// and a word or a mark with the offset of its first byte.
+#[derive(Clone, Copy, Debug, PartialEq, Eq)]
+pub enum Token {
+    Text(u32),
+    Number(u64),
+    Word(Word, u32),
+    Mark(Mark, u32),
+}
+
+fn word_named(letters: &[u8]) -> Word
+    ensures { result ≡ word_of letters.now }
 {
-    match mark {
-        Mark::Print => b"print",
-        Mark::Open => b"(",
-        Mark::Close => b")",
-        Mark::Plus => b"+",
-        Mark::Semi => b";",
+    if letters == b"print".as_slice() {
+        Word::Print
+    } else if letters == b"length".as_slice() {
+        Word::Length
+    } else if letters == b"at".as_slice() {
+        Word::Method(Method::At)
+    } else if letters == b"slice".as_slice() {
+        Word::Method(Method::Slice)
+    } else if letters == b"undefined".as_slice() {
+        Word::Undefined
+    } else if letters == b"null".as_slice() {
+        Word::Null
+    } else if letters == b"true".as_slice() {
+        Word::True
+    } else if letters == b"false".as_slice() {
+        Word::False
+    } else if letters == b"NaN".as_slice() {
+        Word::NaN
+    } else if letters == b"Infinity".as_slice() {
+        Word::Infinity
+    } else {
+        Word::Other
     }
 }
 
-/// What stands first in a text: a blank, a mark, or a text with its characters.
-#[derive(Drop)]
-pub enum Lexeme {
-    Blank { byte: u8 },
-    Mark { mark: Mark },
-    Text { units: Units },
+// Puts a token and the text that it is behind the others.
+fn put(
+    tokens: &mut Vec<Token>,
+    texts: &mut Vec<Units>,
+    bytes: &[u8],
+    token: js_lex::Token,
+) -> Result<(), ParseFault>
+    requires few { length texts.old.items ≤ 1_048_576 }
+    requires forward { token.from ≤ token.to }
+    requires inside { token.to ≤ length bytes.now }
+    ensures tokens { OnOk result (tokens.new.items ≡ tokens.old.items ++ token_of (slice bytes.now token.from token.to) (length texts.old.items) token.from token.kind ∷ []) }
+    ensures texts { OnOk result (texts.new.items ≡ texts.old.items ++ text_of token.kind) }
+    ensures refused { OnRefusal result ⊥ }
+{
+    let js_lex::Token { kind, from, to } = token;
+    let at = from;
+    match kind {
+        TokenKind::Word => {
+            let word = word_named(&bytes[from as usize..to as usize]);
+            tokens.push(Token::Word(word, at))?;
+        }
+        TokenKind::Text(units) => {
+            let number = texts.len() as u32;
+            texts.push(units)?;
+            tokens.push(Token::Text(number))?;
+        }
+        TokenKind::Number(value) => tokens.push(Token::Number(value))?,
+        TokenKind::Mark(mark) => tokens.push(Token::Mark(mark, at))?,
+    }
+    Ok(())
 }
 
-/// A token, as the grammar sees it: a text by its number in the order of the file, and a mark with
-/// its offset.
-#[derive(Clone, Copy, Debug, PartialEq, Eq)]
-pub enum Token {
-    Text { number: u32 },
-    Mark { mark: Mark, at: u32 },
+// The grammar's tokens, and what the texts among them stand for.
+fn classified(
+    alloc: Global,
+    bytes: &[u8],
+    mut lexed: IntoIter<js_lex::Token>,
+) -> Result<(Vec<Token>, Vec<Units>), ParseFault>
+    requires few { length (into_iter_items lexed) ≤ 1_048_576 }
+    requires counted { into_iter_len lexed ≡ length (into_iter_items lexed) }
+    requires inside { Within bytes.now (into_iter_items lexed) }
+    ensures tokens { IfOk result (λ found. found.0.items ≡ tokens_of bytes.now 0 (into_iter_items lexed)) }
+    ensures texts { IfOk result (λ found. found.1.items ≡ texts_of (into_iter_items lexed)) }
+    ensures refused { OnRefusal result ⊥ }
+{
+    let mut tokens = Vec::new(alloc);
+    let mut texts = Vec::new(alloc);
+    while let Some(token) = lexed.next() {
+        put(&mut tokens, &mut texts, bytes, token)?;
+    }
+    Ok((tokens, texts))
+}
+
+// Whether the token is a text that is spelled as the directive.
+fn is_use_strict(bytes: &[u8], token: &js_lex::Token) -> bool
+    requires forward { token.now.from ≤ token.now.to }
+    requires inside { token.now.to ≤ length bytes.now }
+    ensures { IsTrue result ↔ IsUseStrict bytes.now token.now }
+{
+    let source = &bytes[token.from as usize..token.to as usize];
+    matches!(token.kind, TokenKind::Text(_))
+        && (source == b"'use strict'".as_slice() || source == b"\"use strict\"".as_slice())
+}
+
+fn has_directive(bytes: &[u8], lexed: &[js_lex::Token]) -> bool
+    requires { Within bytes.now lexed.now }
+    ensures { IsTrue result ↔ HasDirective bytes.now lexed.now }
+{
+    match lexed {
+        [first, second, ..] => {
+            is_use_strict(bytes, first) && matches!(second.kind, TokenKind::Mark(Mark::Semicolon))
+        }
+        _ => false,
+    }
+}
+
+// The tokens behind the directive, or all where there is none.
+fn after_directive(bytes: &[u8], lexed: Vec<js_lex::Token>) -> IntoIter<js_lex::Token>
+    requires { Within bytes.now lexed.items }
+    ensures rest { IsAfterDirective bytes.now lexed.items (into_iter_items result) }
+    ensures counted { into_iter_len result ≡ length (into_iter_items result) }
+{
+    let strict = has_directive(bytes, &lexed);
+    let mut rest = lexed.into_iter();
+    if strict {
+        let _directive = rest.next();
+        let _semicolon = rest.next();
+    }
+    rest
+}
+
+fn lexical(fault: LexFault) -> ParseFault
+    ensures { result ≡ lex_fault fault }
+{
+    match fault {
+        LexFault::Memory => ParseFault::Memory,
+        fault => ParseFault::Lex(fault),
+    }
+}
+
+/// The grammar's tokens behind the directive, and what the texts among them stand for.
+#[tactic(auto, using(crate::proofs::Classes::within, crate::proofs::Classes::no_more_tokens, crate::proofs::Classes::lexical_fault))]
+pub(crate) fn tokens(alloc: Global, bytes: &[u8]) -> Result<(Vec<Token>, Vec<Units>), ParseFault>
+    requires { length bytes.now ≤ 1_048_576 }
+    ensures read { IfOk result (λ found. Reads bytes.now found.0.items found.1.items) }
+    ensures refused { IfErr result (λ fault. IsLexical fault (LexFaultOf bytes.now)) }
+{
+    let lexed = match js_lex::tokens(alloc, bytes) {
+        Ok(lexed) => lexed,
+        Err(fault) => return Err(lexical(fault)),
+    };
+    let rest = after_directive(bytes, lexed);
+    classified(alloc, bytes, rest)
 }

@@ -1,14 +1,15 @@
 // The tree of a script.
-ghost use Rattle.std.specs.Prelude.{◌≡◌, []};
+ghost use Rattle.std.specs.Prelude.{◌≡◌, [], IfOk};
 
-use js_units::Units;
+use js_units::{NoMemory, Units};
 use std::alloc::Global;
 use std::marker::Model;
 
 /// A script: its literals, its statements, and the names that it declares at its top.
 ///
-/// `literals` has one entry for each text, in the order in which they stand. In the whole tree an
-/// `at` is a byte offset in the file: that of the operator.
+/// `literals` has one entry for each string token, in the order of the text, without the
+/// directive. In the whole tree an `at` is a byte offset in the file: that of the operator, or of
+/// the method's word.
 #[derive(Drop)]
 pub struct Script {
     pub literals: Vec<Units>,
@@ -22,12 +23,21 @@ pub enum Stmt {
     Print { args: Vec<Expr> },
 }
 
-/// An expression. A `Literal` names its entry of the script's `literals`.
+/// An expression. A `Literal` names its entry of the script's `literals`, and a `Unary` is a minus
+/// or else a `!`.
 #[cycle(tree)]
 #[derive(Drop)]
 pub enum Expr {
     Literal { number: u32 },
+    Number { value: u64 },
+    Undefined,
+    Null,
+    Bool { value: bool },
+    NaN,
+    Infinity,
+    Unary { at: u32, minus: bool, of: Box<Expr> },
     Chain { first: Box<Expr>, rest: Vec<Link> },
+    Post { of: Box<Expr>, steps: Vec<PostStep> },
 }
 
 /// An operator of a chain with its right side. The links of one level group from the left.
@@ -39,10 +49,30 @@ pub struct Link {
     pub right: Expr,
 }
 
+/// A member or a call behind an expression.
+#[cycle(tree)]
+#[derive(Drop)]
+pub enum PostStep {
+    Length,
+    Call {
+        at: u32,
+        method: Method,
+        args: Vec<Expr>,
+    },
+}
+
 /// An operator of a chain.
 #[derive(Clone, Copy, Debug, PartialEq, Eq)]
 pub enum Op {
     Plus,
+    Minus,
+}
+
+/// A method of `String.prototype`.
+#[derive(Clone, Copy, Debug, PartialEq, Eq)]
+pub enum Method {
+    At,
+    Slice,
 }
 
 /// A name. Contracts see it as the list of its bytes.
@@ -57,6 +87,17 @@ impl Model for Name {
     ghost Value = { List ℕ };
 
     ghost view = { λ n. n.bytes.items };
+}
+
+impl Name {
+    /// The same name once more.
+    pub fn copy(&self) -> Result<Name, NoMemory>
+        ensures { IfOk result (λ name. name ≡ self.now) }
+    {
+        Ok(Name {
+            bytes: self.bytes.clone()?,
+        })
+    }
 }
 
 /// Names that a script declares at its top. Contracts see them as a list of names.

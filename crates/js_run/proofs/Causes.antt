@@ -1,6 +1,5 @@
 -- The causes of a call with one file.
-use Rattle.std.proofs.Common.{◌≡◌, ℕ, ◌≤◌, List, [], ◌∷◌, length, refl, sym, ap, ◌∙◌, append-nil}
-use Rattle.std.specs.List.{concat}
+use Rattle.std.proofs.Common.{◌≡◌, ℕ, ◌≤◌, List, [], ◌∷◌, length, Some, refl}
 use Rattle.js_io.specs.Counts.{next_count}
 use Rattle.js_io.specs.FilesState.{Tells, IsTooLarge, FilesState}
 use Rattle.js_io.specs.declared.files.TheConstants.{FILE_MAX}
@@ -8,11 +7,15 @@ use Rattle.js_parse.specs.declared.parser.Role.TheVariants.{Main}
 use Rattle.js_parse.specs.declared.parser.ParseFault.{ParseFault}
 use Rattle.js_parse.specs.Tree.{Tree}
 use Rattle.js_parse.specs.Spells as script
-use Rattle.js_run.specs.Words.{Name}
-use Rattle.js_run.specs.Meaning.{lines_of, runs_of}
-use Rattle.js_run.specs.Verdict.{Printed, Ran, report_of}
+use Rattle.js_run.specs.declared.answer.Answer.{Answer}
+use Rattle.js_run.specs.declared.answer.Answer.TheVariants as answer
+use Rattle.js_run.specs.Words.{Name, one_file}
+use Rattle.js_run.specs.Meaning.{runs_of}
+use Rattle.js_run.specs.Verdict.{NoMemory, Ran}
+use Rattle.js_run.specs.Answer.{Runs, Judges}
+use Rattle.js_run.proofs.Ends.{reports_one}
 use Rattle.js_run.specs.Cause as cause
-use Rattle.js_run.specs.Cause.{Read, ReadUpTo, IsUnread, IsLarge, IsRefused, IsRun}
+use Rattle.js_run.specs.Cause.{KeepsFiles, Read, ReadUpTo, IsUnread, IsLarge, IsRefused, IsRun}
 
 module _ (old new : FilesState) (name : Name) where
   none_before : ReadUpTo old.held (name ∷ []) name
@@ -47,7 +50,17 @@ module _ (old new : FilesState) (name : Name) where
     ran = refl;
   }
 
--- what one run reports
-pub reports_one : (name : Name) (tree : Tree) (printed : List ℕ) → printed ≡ concat (lines_of tree.literals tree.body)
-    → report_of (Ran (runs_of (name ∷ []) (tree ∷ []))) ≡ Printed 0 printed []
-reports_one name tree printed is = ap (λ l. Printed 0 l []) (append-nil (concat (lines_of tree.literals tree.body)) ∙ sym is)
+-- the answer on a script that was read
+pub judged : (old new : FilesState) (name : Name) (bytes : List ℕ) (tree : Tree) (a : Answer) → Runs name tree a → KeepsFiles old new
+    → Tells (old.held name) bytes → length bytes ≤ FILE_MAX → new.faults ≡ old.faults → script.Spells Main [] bytes tree → Judges (Some (one_file name)) old new a
+judged old new name bytes tree (answer.Ran named end lines) ran keeps tells small calm spells = record {
+  verdict = Ran (runs_of (name ∷ []) (tree ∷ []));
+  cause = run_one old new name bytes tree tells small calm spells;
+  reports = reports_one name tree named.now end lines ran;
+  keeps = keeps;
+}
+judged old new name bytes tree answer.NoMemory ran keeps tells small calm spells = record { verdict = NoMemory; cause = calm; reports = refl; keeps = keeps }
+judged old new name bytes tree answer.BadWords ran keeps tells small calm spells = absurd ran
+judged old new name bytes tree (answer.NotRead other) ran keeps tells small calm spells = absurd ran
+judged old new name bytes tree (answer.TooLarge other) ran keeps tells small calm spells = absurd ran
+judged old new name bytes tree (answer.Refused other fault) ran keeps tells small calm spells = absurd ran

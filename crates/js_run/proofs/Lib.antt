@@ -1,6 +1,5 @@
-pub mod Trees
-pub mod Texts
 pub mod Told
+pub mod Ends
 pub mod Causes
 pub mod Contents
 pub mod Rows

@@ -1,45 +1,27 @@
 -- Each status and why it comes, from the outcome.
-use Rattle.std.proofs.Common.{◌≡◌, ◌⊎◌, inl, inr, ℕ, ◌<◌, List, [], ◌∷◌, ◌++◌, None, Some, refl, sym, ap, ◌∙◌, subst, arith}
+use Rattle.std.proofs.Common.{◌≡◌, ◌⊎◌, inl, inr, ℕ, ◌≤◌, ◌<◌, List, None, Some, refl, sym, ap, ◌∙◌, subst, arith}
 use Rattle.std.specs.declared.option.Option.{Option}
 use Rattle.js_io.specs.Counts.{next_count}
 use Rattle.js_io.specs.FilesState.{IsTooLarge, FilesState}
-use Rattle.js_io.specs.SinkState.{IsProperPrefix}
 use Rattle.js_run.specs.Words.{Name, Plan, files_of, plan_of}
-use Rattle.js_run.specs.Meaning.{End, Done, Run, runs_of}
-use Rattle.js_run.specs.Verdict.{Verdict, BadWords, NotRead, TooLarge, Refused, NoMemory, Ran, Report, Refusal, Printed, report_of, status_of, out_of, err_of, status_or, end_line, unread_line, large_line}
+use Rattle.js_run.specs.Meaning.{Run, runs_of}
+use Rattle.js_run.specs.Verdict.{Verdict, BadWords, NotRead, TooLarge, Refused, NoMemory, Ran, Report, Refusal, Printed, report_of, status_of, unread_line, large_line}
 use Rattle.js_run.specs.Moment.{Moment, Sinks, Ended}
 use Rattle.js_run.specs.Cause.{AllSpell, FirstRefused, ReadUpTo, HasCauseBy, HasCauseIn, IsRun}
-use Rattle.js_run.specs.Ending.{TakesAll, TakesUntil, IsEnd}
+use Rattle.js_run.specs.Ending.{TakesAll, IsEnd}
 use Rattle.js_run.specs.Outcome.{Outcome}
 use Rattle.js_run.specs.Rows as row
-use Rattle.js_run.specs.Rows.{NoFault, IsWant, OrWant, Exactly, IsFileFault, IsToldLarge, IsNoScript, IsToldRefused, IsRefusal, IsRefusalTold, AreRun, Prints, IsCut, IsHonest, IsDone}
+use Rattle.js_run.specs.Rows.{NoFault, IsWant, OrWant, Exactly, IsFileFault, IsToldLarge, IsNoScript, IsToldRefused, IsRefusal, IsRefusalTold, AreRun, runs_by, Prints, PrintsAll, IsCut, IsHonest, IsDone}
+use Rattle.js_run.proofs.Ends.{status_is, quiet}
 use Rattle.js_run.proofs.Contents.{not_large, read_same, read_small, none_refused, same_trees}
 
--- every script ends Done, so the status is 0 and err takes nothing
+-- the status of scripts that were run
+ran_status : (old new : FilesState) (names : List Name) (runs : List Run) → IsRun old new names runs → (status_of runs ≡ 0) ⊎ (status_of runs ≡ 1)
+ran_status old new names runs why = subst (λ (r : List Run). (status_of r ≡ 0) ⊎ (status_of r ≡ 1)) (sym why.ran) (status_is names why.trees)
 
-done_or : (end : End) (later : ℕ) → status_or end later ≡ later
-done_or Done later = refl
-
-all_done : (runs : List Run) → status_of runs ≡ 0
-all_done [] = refl
-all_done (run ∷ runs) = done_or run.end (status_of runs) ∙ all_done runs
-
-no_line : (name : Name) (end : End) → end_line name end ≡ []
-no_line name Done = refl
-
-no_lines : (runs : List Run) → err_of runs ≡ []
-no_lines [] = refl
-no_lines (run ∷ runs) = ap (λ l. l ++ err_of runs) (no_line run.name run.end) ∙ no_lines runs
-
-no_prefix : (prefix : List ℕ) → IsProperPrefix prefix [] → ⊥
-no_prefix [] (byte, rest, split) = cc split
-no_prefix (first ∷ prefix) (byte, rest, split) = cc split
-
--- nothing fails halfway through nothing
-no_cut : (runs : List Run) (old new : Sinks) → TakesUntil old.err new.err (err_of runs) → ⊥
-no_cut runs old new cut =
-    let (prefix, split, took) = cut.took in
-    no_prefix prefix (subst (λ (l : List ℕ). IsProperPrefix prefix l) (no_lines runs) split)
+not_ran : (status wanted : ℕ) → (status ≡ 0) ⊎ (status ≡ 1) → status ≡ wanted → 2 ≤ wanted → ⊥
+not_ran status wanted (inl none) is low = omega (arith, none, is, low)
+not_ran status wanted (inr one) is low = omega (arith, one, is, low)
 
 abbrev status_in : Report → ℕ
 status_in (Refusal status line) = status
@@ -65,7 +47,7 @@ bad_words (Some plan) old new (NotRead name) why is = absurd (omega (arith, is))
 bad_words (Some plan) old new (TooLarge name) why is = absurd (omega (arith, is))
 bad_words (Some plan) old new (Refused name fault) why is = absurd (omega (arith, is))
 bad_words (Some plan) old new NoMemory why is = absurd (omega (arith, is))
-bad_words (Some plan) old new (Ran runs) why is = absurd (omega (arith, is, all_done runs))
+bad_words (Some plan) old new (Ran runs) why is = absurd (not_ran _ 2 (ran_status old new (files_of plan) runs why) is (omega arith))
 
 refused_words : (ended : Ended) (old new : Moment) (v : Verdict) → HasCauseBy None old.files new.files v → IsEnd (report_of v) ended.code old.sinks new.sinks → OrWant 2 ended old new
 refused_words ended old new BadWords why end = inl end.status
@@ -93,7 +75,8 @@ file_fault words (Some plan) old new (TooLarge name) planned why is = record {
 file_fault words plan old new BadWords planned why is = absurd (omega (arith, is))
 file_fault words plan old new (Refused name fault) planned why is = absurd (omega (arith, is))
 file_fault words plan old new NoMemory planned why is = absurd (omega (arith, is))
-file_fault words plan old new (Ran runs) planned why is = absurd (omega (arith, is, all_done runs))
+file_fault words (Some plan) old new (Ran runs) planned why is = absurd (not_ran _ 3 (ran_status old new (files_of plan) runs why) is (omega arith))
+file_fault words None old new (Ran runs) planned why is = absurd why
 file_fault words None old new (NotRead name) planned why is = absurd why
 file_fault words None old new (TooLarge name) planned why is = absurd why
 
@@ -121,7 +104,8 @@ no_script words plan old new BadWords planned why is = absurd (omega (arith, is)
 no_script words plan old new (NotRead name) planned why is = absurd (omega (arith, is))
 no_script words plan old new (TooLarge name) planned why is = absurd (omega (arith, is))
 no_script words plan old new NoMemory planned why is = absurd (omega (arith, is))
-no_script words plan old new (Ran runs) planned why is = absurd (omega (arith, is, all_done runs))
+no_script words (Some plan) old new (Ran runs) planned why is = absurd (not_ran _ 4 (ran_status old new (files_of plan) runs why) is (omega arith))
+no_script words None old new (Ran runs) planned why is = absurd why
 
 refused_end : (words : List (List ℕ)) (ended : Ended) (old new : Moment) (told : IsToldRefused words old.files new.files) (v : Verdict) → HasCauseIn old.files new.files (files_of told.plan) v
     → IsEnd (report_of v) ended.code old.sinks new.sinks → OrWant 4 ended old new
@@ -137,15 +121,15 @@ refused_end words ended old new told (Ran runs) why end =
 
 -- what a refusal tells
 
-not_refusal : (ended : Ended) (runs : List Run) → (ended.code ≡ status_of runs) ⊎ (ended.code ≡ 7) → IsRefusal ended → ⊥
-not_refusal ended runs (inl is) (inl two) = omega (arith, is, two, all_done runs)
-not_refusal ended runs (inl is) (inr (inl three)) = omega (arith, is, three, all_done runs)
-not_refusal ended runs (inl is) (inr (inr (inl four))) = omega (arith, is, four, all_done runs)
-not_refusal ended runs (inl is) (inr (inr (inr six))) = omega (arith, is, six, all_done runs)
-not_refusal ended runs (inr is) (inl two) = omega (arith, is, two)
-not_refusal ended runs (inr is) (inr (inl three)) = omega (arith, is, three)
-not_refusal ended runs (inr is) (inr (inr (inl four))) = omega (arith, is, four)
-not_refusal ended runs (inr is) (inr (inr (inr six))) = omega (arith, is, six)
+not_code : (code status wanted : ℕ) → (status ≡ 0) ⊎ (status ≡ 1) → (code ≡ status) ⊎ (code ≡ 7) → code ≡ wanted → 2 ≤ wanted → wanted < 7 → ⊥
+not_code code status wanted ran (inl is) w low high = not_ran status wanted ran (sym is ∙ w) low
+not_code code status wanted ran (inr is) w low high = omega (arith, is, w, high)
+
+not_refusal : (ended : Ended) (status : ℕ) → (status ≡ 0) ⊎ (status ≡ 1) → (ended.code ≡ status) ⊎ (ended.code ≡ 7) → IsRefusal ended → ⊥
+not_refusal ended status ran is (inl two) = not_code ended.code status 2 ran is two (omega arith) (omega arith)
+not_refusal ended status ran is (inr (inl three)) = not_code ended.code status 3 ran is three (omega arith) (omega arith)
+not_refusal ended status ran is (inr (inr (inl four))) = not_code ended.code status 4 ran is four (omega arith) (omega arith)
+not_refusal ended status ran is (inr (inr (inr six))) = not_code ended.code status 6 ran is six (omega arith) (omega arith)
 
 refusal_told : (words : List (List ℕ)) (plan : Option Plan) (ended : Ended) (old new : Moment) (v : Verdict) → plan_of words ≡ plan → HasCauseBy plan old.files new.files v
     → IsEnd (report_of v) ended.code old.sinks new.sinks → IsRefusal ended → IsRefusalTold words ended old new
@@ -178,9 +162,11 @@ refusal_told words plan ended old new NoMemory planned why end is = record {
   is = row.IsLine.no_memory end.status;
   told = record { status = refl; silent = end.silent; told = end.told };
 }
-refusal_told words plan ended old new (Ran runs) planned why end is = absurd (not_refusal ended runs (code_of (report_of (Ran runs)) ended.code old.sinks new.sinks end) is)
+refusal_told words None ended old new (Ran runs) planned why end is = absurd why
+refusal_told words (Some plan) ended old new (Ran runs) planned why end is =
+    absurd (not_refusal ended (status_of runs) (ran_status old.files new.files (files_of plan) runs why) (code_of (report_of (Ran runs)) ended.code old.sinks new.sinks end) is)
 
--- 0 and 7
+-- 0, 1 and 7
 
 module _ (words : List (List ℕ)) (plan : Plan) (old new : FilesState) (planned : plan_of words ≡ Some plan) (runs : List Run) (why : IsRun old new (files_of plan) runs) where
   abbrev are_run : AreRun words old new
@@ -194,37 +180,46 @@ module _ (words : List (List ℕ)) (plan : Plan) (old new : FilesState) (planned
     spell = why.spell;
   }
 
-prints : (words : List (List ℕ)) (plan : Option Plan) (ended : Ended) (old new : Moment) (v : Verdict) → plan_of words ≡ plan → HasCauseBy plan old.files new.files v
-    → IsEnd (report_of v) ended.code old.sinks new.sinks → ended.code ≡ 0 → Prints words old new
-prints words plan ended old new BadWords planned why end is = absurd (omega (arith, end.status, is))
-prints words plan ended old new (NotRead name) planned why end is = absurd (omega (arith, end.status, is))
-prints words plan ended old new (TooLarge name) planned why end is = absurd (omega (arith, end.status, is))
-prints words plan ended old new (Refused name fault) planned why end is = absurd (omega (arith, end.status, is))
-prints words plan ended old new NoMemory planned why end is = absurd (omega (arith, end.status, is))
-prints words None ended old new (Ran runs) planned why end is = absurd why
-prints words (Some plan) ended old new (Ran runs) planned why (inr (inl cut)) is = absurd (omega (arith, cut.status, is))
-prints words (Some plan) ended old new (Ran runs) planned why (inr (inr cut)) is = absurd (omega (arith, cut.status, is))
-prints words (Some plan) ended old new (Ran runs) planned why (inl whole) is = record {
+record RanTo (words : List (List ℕ)) (ended : Ended) (old new : Moment) : Type 0 where
+  run : AreRun words old.files new.files
+  end : IsEnd (report_of (Ran (runs_by words old.files new.files run))) ended.code old.sinks new.sinks
+
+other : (code status : ℕ) → code ≡ status → (code < 2) ⊎ (code ≡ 7) → 2 ≤ status → status < 7 → ⊥
+other code status is (inl few) low high = omega (arith, is, few, low)
+other code status is (inr cut) low high = omega (arith, is, cut, high)
+
+-- a status other than 2, 3, 4 and 6 comes of scripts that were run
+ran_only : (words : List (List ℕ)) (plan : Option Plan) (ended : Ended) (old new : Moment) (v : Verdict) → plan_of words ≡ plan → HasCauseBy plan old.files new.files v
+    → IsEnd (report_of v) ended.code old.sinks new.sinks → (ended.code < 2) ⊎ (ended.code ≡ 7) → RanTo words ended old new
+ran_only words plan ended old new BadWords planned why end is = absurd (other ended.code 2 end.status is (omega arith) (omega arith))
+ran_only words plan ended old new (NotRead name) planned why end is = absurd (other ended.code 3 end.status is (omega arith) (omega arith))
+ran_only words plan ended old new (TooLarge name) planned why end is = absurd (other ended.code 3 end.status is (omega arith) (omega arith))
+ran_only words plan ended old new (Refused name fault) planned why end is = absurd (other ended.code 4 end.status is (omega arith) (omega arith))
+ran_only words plan ended old new NoMemory planned why end is = absurd (other ended.code 6 end.status is (omega arith) (omega arith))
+ran_only words None ended old new (Ran runs) planned why end is = absurd why
+ran_only words (Some plan) ended old new (Ran runs) planned why end is = record {
   run = are_run words plan old.files new.files planned runs why;
-  out = subst (λ (r : List Run). TakesAll old.sinks.out new.sinks.out (out_of r)) why.ran whole.out;
-  err = subst (λ (l : List ℕ). TakesAll old.sinks.err new.sinks.err l) (no_lines runs) whole.err;
+  end = subst (λ (r : List Run). IsEnd (report_of (Ran r)) ended.code old.sinks new.sinks) why.ran end;
 }
 
-cut_short : (words : List (List ℕ)) (plan : Option Plan) (ended : Ended) (old new : Moment) (v : Verdict) → plan_of words ≡ plan → HasCauseBy plan old.files new.files v
-    → IsEnd (report_of v) ended.code old.sinks new.sinks → ended.code ≡ 7 → IsCut words old new
-cut_short words plan ended old new BadWords planned why end is = absurd (omega (arith, end.status, is))
-cut_short words plan ended old new (NotRead name) planned why end is = absurd (omega (arith, end.status, is))
-cut_short words plan ended old new (TooLarge name) planned why end is = absurd (omega (arith, end.status, is))
-cut_short words plan ended old new (Refused name fault) planned why end is = absurd (omega (arith, end.status, is))
-cut_short words plan ended old new NoMemory planned why end is = absurd (omega (arith, end.status, is))
-cut_short words None ended old new (Ran runs) planned why end is = absurd why
-cut_short words (Some plan) ended old new (Ran runs) planned why (inl whole) is = absurd (omega (arith, whole.status, all_done runs, is))
-cut_short words (Some plan) ended old new (Ran runs) planned why (inr (inr cut)) is = absurd (no_cut runs old.sinks new.sinks cut.err)
-cut_short words (Some plan) ended old new (Ran runs) planned why (inr (inl cut)) is = record {
-  run = are_run words plan old.files new.files planned runs why;
-  out = subst (λ (r : List Run). TakesUntil old.sinks.out new.sinks.out (out_of r)) why.ran cut.out;
-  err = cut.err;
+prints : (words : List (List ℕ)) (status : ℕ) (ended : Ended) (old new : Moment) → status < 2 → ended.code ≡ status → (run : AreRun words old.files new.files)
+    → IsEnd (report_of (Ran (runs_by words old.files new.files run))) ended.code old.sinks new.sinks → Prints words status old new
+prints words status ended old new small is run (inl whole) = record { run = run; ends = sym whole.status ∙ is; out = whole.out; err = whole.err }
+prints words status ended old new small is run (inr (inl cut)) = absurd (omega (arith, cut.status, is, small))
+prints words status ended old new small is run (inr (inr cut)) = absurd (omega (arith, cut.status, is, small))
+
+prints_all : (words : List (List ℕ)) (old new : Moment) → Prints words 0 old new → PrintsAll words old new
+prints_all words old new p = record {
+  run = p.run;
+  out = p.out;
+  err = subst (λ (l : List ℕ). TakesAll old.sinks.err new.sinks.err l) (quiet (files_of p.run.plan) p.run.trees p.ends) p.err;
 }
+
+cut_short : (words : List (List ℕ)) (ended : Ended) (old new : Moment) → ended.code ≡ 7 → (run : AreRun words old.files new.files)
+    → IsEnd (report_of (Ran (runs_by words old.files new.files run))) ended.code old.sinks new.sinks → IsCut words ended.code old new
+cut_short words ended old new is run (inl whole) =
+    absurd (not_ran (status_of (runs_by words old.files new.files run)) 7 (status_is (files_of run.plan) run.trees) (sym whole.status ∙ is) (omega arith))
+cut_short words ended old new is run (inr cut) = record { run = run; cut = cut }
 
 honest_end : (words : List (List ℕ)) (ended : Ended) (old new : Moment) (honest : IsHonest words old.files new.files) (v : Verdict) → HasCauseIn old.files new.files (files_of honest.plan) v
     → IsEnd (report_of v) ended.code old.sinks new.sinks → IsDone words ended old new honest
@@ -270,11 +265,17 @@ module _ (words : List (List ℕ)) (ended : Ended) (old new : Moment) (o : Outco
   pub told_row : IsRefusal ended → IsRefusalTold words ended old new
   told_row is = refusal_told words (plan_of words) ended old new o.verdict refl o.cause o.ending is
 
-  pub print_row : ended.code ≡ 0 → Prints words old new
-  print_row is = prints words (plan_of words) ended old new o.verdict refl o.cause o.ending is
+  ran_to : (ended.code < 2) ⊎ (ended.code ≡ 7) → RanTo words ended old new
+  ran_to is = ran_only words (plan_of words) ended old new o.verdict refl o.cause o.ending is
 
-  pub write_row : ended.code ≡ 7 → IsCut words old new
-  write_row is = cut_short words (plan_of words) ended old new o.verdict refl o.cause o.ending is
+  pub print_row : ended.code ≡ 0 → PrintsAll words old new
+  print_row is = let ran = ran_to (inl (omega (arith, is))) in prints_all words old new (prints words 0 ended old new (omega arith) is ran.run ran.end)
+
+  pub early_row : ended.code ≡ 1 → Prints words 1 old new
+  early_row is = let ran = ran_to (inl (omega (arith, is))) in prints words 1 ended old new (omega arith) is ran.run ran.end
+
+  pub write_row : ended.code ≡ 7 → IsCut words 7 old new
+  write_row is = let ran = ran_to (inr is) in subst (λ (n : ℕ). IsCut words n old new) is (cut_short words ended old new is ran.run ran.end)
 
   pub honest_row : (honest : IsHonest words old.files new.files) → IsDone words ended old new honest
   honest_row honest = honest_end words ended old new honest o.verdict (because (Some honest.plan) honest.planned) o.ending

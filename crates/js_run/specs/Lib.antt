@@ -1,5 +1,6 @@
 pub mod Words
 pub mod Meaning
+pub mod Fault
 pub mod Verdict
 pub mod Moment
 pub mod Cause

@@ -7,11 +7,11 @@ use Rattle.js_io.specs.declared.files.TheConstants.{FILE_MAX}
 use Rattle.js_parse.specs.declared.parser.ParseFault.{ParseFault}
 use Rattle.js_parse.specs.Tree.{Tree}
 use Rattle.js_run.specs.Words.{Name, Plan, files_of, plan_of}
-use Rattle.js_run.specs.Meaning.{runs_of}
+use Rattle.js_run.specs.Meaning.{Run, runs_of}
 use Rattle.js_run.specs.Verdict.{Printed, status_of, out_of, err_of, words_line, unread_line, large_line, refused_line, memory_line}
 use Rattle.js_run.specs.Moment.{Moment, Ended}
 use Rattle.js_run.specs.Cause.{Read, AllSpell, FirstRefused, ReadUpTo, IsRefused}
-use Rattle.js_run.specs.Ending.{TakesAll, TakesUntil, IsTold, IsEnd}
+use Rattle.js_run.specs.Ending.{TakesAll, IsTold, IsCutAtOut, IsCutAtErr, IsEnd}
 
 -- no fault was counted, and the count isn't at the end of its 64 bits
 abbrev pub NoFault : ℕ → ℕ → Type 0
@@ -105,21 +105,28 @@ pub record AreRun (words : List (List ℕ)) (old new : FilesState) : Type 0 wher
   pub calm : new.faults ≡ old.faults
   pub spell : AllSpell contents trees
 
--- what the scripts print
-abbrev pub printed_by : (words : List (List ℕ)) (old new : FilesState) → AreRun words old new → List ℕ
-printed_by words old new run = out_of (runs_of (files_of run.plan) run.trees)
+-- how each script ended and what it printed, by its meaning
+abbrev pub runs_by : (words : List (List ℕ)) (old new : FilesState) → AreRun words old new → List Run
+runs_by words old new run = runs_of (files_of run.plan) run.trees
 
--- scripts were run, and out took exactly what they print, and err nothing
-pub record Prints (words : List (List ℕ)) (old new : Moment) : Type 0 where
+-- scripts were run, the status is theirs, and all was written: out took exactly what they print, and err the lines of those that didn't end Done
+pub record Prints (words : List (List ℕ)) (status : ℕ) (old new : Moment) : Type 0 where
   pub run : AreRun words old.files new.files
-  pub out : TakesAll old.sinks.out new.sinks.out (printed_by words old.files new.files run)
+  pub ends : status_of (runs_by words old.files new.files run) ≡ status
+  pub out : TakesAll old.sinks.out new.sinks.out (out_of (runs_by words old.files new.files run))
+  pub err : TakesAll old.sinks.err new.sinks.err (err_of (runs_by words old.files new.files run))
+
+-- the same where every script ended Done, so that err took nothing
+pub record PrintsAll (words : List (List ℕ)) (old new : Moment) : Type 0 where
+  pub run : AreRun words old.files new.files
+  pub out : TakesAll old.sinks.out new.sinks.out (out_of (runs_by words old.files new.files run))
   pub err : TakesAll old.sinks.err new.sinks.err []
 
--- scripts were run, a write to out failed after a prefix of what they print, and err took nothing
-pub record IsCut (words : List (List ℕ)) (old new : Moment) : Type 0 where
+-- scripts were run, and a write failed: one to out after a prefix of what they print, and err took nothing; or one to err
+pub record IsCut (words : List (List ℕ)) (code : ℕ) (old new : Moment) : Type 0 where
   pub run : AreRun words old.files new.files
-  pub out : TakesUntil old.sinks.out new.sinks.out (printed_by words old.files new.files run)
-  pub err : TakesAll old.sinks.err new.sinks.err []
+  pub cut : IsCutAtOut (out_of (runs_by words old.files new.files run)) code old.sinks new.sinks
+      ⊎ IsCutAtErr (out_of (runs_by words old.files new.files run)) (err_of (runs_by words old.files new.files run)) code old.sinks new.sinks
 
 -- the words are lawful, all files are told, not too large and spell scripts, and no read failed
 pub record IsHonest (words : List (List ℕ)) (old new : FilesState) : Type 0 where

@@ -2,9 +2,15 @@
 use Rattle.std.specs.Prelude.{ℕ, List, [], ◌∷◌, ◌++◌, codes, decimal}
 use Rattle.std.specs.List.{concat}
 use Rattle.js_parse.specs.declared.parser.ParseFault.{ParseFault}
-use Rattle.js_parse.specs.declared.parser.ParseFault.TheVariants.{NotInProfile, Memory}
+use Rattle.js_store.specs.declared.faults.FullReport.{FullReport}
+use Rattle.js_store.specs.declared.faults.FullReport.TheVariants.{Ids, Words, Slots}
+use Rattle.js_eval.specs.declared.value.Kind.{Kind}
+use Rattle.js_eval.specs.declared.value.Kind.TheVariants.{RangeError, TypeError, ReferenceError}
+use Rattle.js_eval.specs.declared.value.End.{End}
+use Rattle.js_eval.specs.declared.value.End.TheVariants.{Done, Threw, Unsupported, Full, Memory}
 use Rattle.js_run.specs.Words.{Name}
-use Rattle.js_run.specs.Meaning.{End, Done, Run}
+use Rattle.js_run.specs.Meaning.{Run}
+use Rattle.js_run.specs.Fault.{fault_at, fault_text}
 
 pub data Verdict : Type 0 where
   BadWords : Verdict
@@ -21,8 +27,23 @@ out_of [] = []
 out_of (run ∷ runs) = concat run.lines ++ out_of runs
 
 -- the line of a script that didn't end Done
+
+abbrev pub kind_text : Kind → List ℕ
+kind_text RangeError = codes ": uncaught RangeError\n"
+kind_text TypeError = codes ": uncaught TypeError\n"
+kind_text ReferenceError = codes ": uncaught ReferenceError\n"
+
+abbrev pub full_text : FullReport → List ℕ
+full_text (Ids at want end) = codes ": heap full: ids\n"
+full_text (Words at want end) = codes ": heap full: words\n"
+full_text (Slots slots) = codes ": heap full: slots\n"
+
 abbrev pub end_line : Name → End → List ℕ
 end_line name Done = []
+end_line name (Threw kind) = name ++ kind_text kind
+end_line name (Unsupported at) = name ++ (codes ": unsupported at " ++ (decimal at ++ 10 ∷ []))
+end_line name (Full report) = name ++ full_text report
+end_line name Memory = name ++ codes ": out of memory\n"
 
 abbrev pub err_of : List Run → List ℕ
 err_of [] = []
@@ -31,6 +52,10 @@ err_of (run ∷ runs) = end_line run.name run.end ++ err_of runs
 -- the status of the first script that didn't end Done, or 0
 abbrev pub status_or : End → ℕ → ℕ
 status_or Done later = later
+status_or (Threw kind) later = 1
+status_or (Unsupported at) later = 1
+status_or (Full report) later = 5
+status_or Memory later = 6
 
 abbrev pub status_of : List Run → ℕ
 status_of [] = 0
@@ -47,13 +72,9 @@ unread_line name = name ++ codes ": cannot be read\n"
 abbrev pub large_line : Name → List ℕ
 large_line name = name ++ codes ": larger than 1048576 bytes\n"
 
--- the place of a fault and its words
-abbrev pub fault_text : ParseFault → List ℕ
-fault_text (NotInProfile at) = decimal at ++ codes ": refused: not in profile\n"
-fault_text Memory = []
-
+-- the place of the fault, and its words
 abbrev pub refused_line : Name → ParseFault → List ℕ
-refused_line name fault = name ++ 58 ∷ fault_text fault
+refused_line name fault = name ++ (58 ∷ [] ++ (decimal (fault_at fault) ++ fault_text fault))
 
 abbrev pub memory_line : List ℕ
 memory_line = codes "jsstr: out of memory\n"

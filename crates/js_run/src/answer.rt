@@ -1,13 +1,15 @@
 // What becomes of a call, before anything is written.
 
-#[derive(Debug, Drop)]
+use js_eval::{End, Lines};
+use js_parse::ParseFault;
+
+#[derive(Drop)]
 pub(crate) enum Answer<'a> {
     BadWords,
     NotRead(&'a str),
     TooLarge(&'a str),
-    /// The file, and the offset of the fault.
-    Refused(&'a str, u32),
+    Refused(&'a str, ParseFault),
     NoMemory,
-    /// What the scripts printed.
-    Ran(Vec<u8>),
+    /// The file whose script was run, how it ended, and what it printed.
+    Ran(&'a str, End, Lines),
 }

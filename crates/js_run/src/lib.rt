@@ -8,7 +8,7 @@
 
 mod answer;
 mod judging;
-mod printing;
+mod refusing;
 mod run;
 mod telling;
 

@@ -5,7 +5,7 @@ ghost use Rattle.js_io.specs.FilesState.{files_state};
 ghost use Rattle.js_run.specs.Words.{plan_of};
 ghost use Rattle.js_run.specs.Moment.{moment, ended};
 ghost use Rattle.js_run.specs.Outcome.{Outcome, Keeps};
-ghost use Rattle.js_run.specs.Rows.{Exactly, OrWant, IsFileFault, IsToldLarge, IsNoScript, IsToldRefused, IsRefusal, IsRefusalTold, Prints, IsCut, IsHonest, IsDone};
+ghost use Rattle.js_run.specs.Rows.{Exactly, OrWant, IsFileFault, IsToldLarge, IsNoScript, IsToldRefused, IsRefusal, IsRefusalTold, Prints, PrintsAll, IsCut, IsHonest, IsDone};
 
 use crate::judging::judge;
 use crate::telling::tell;
@@ -41,7 +41,8 @@ fn run<F: Files, O: Sink, E: Sink>(
 ///
 /// | Status | Comes |
 /// |---|---|
-/// | 0 | everything was read, run and written |
+/// | 0 | the script was read and ended Done, and everything was written |
+/// | 1 | the script threw, or met what the profile leaves out; its lines before that were written |
 /// | 2 | the words aren't the program's name and one word that doesn't begin with `-` |
 /// | 3 | the file can't be read, or has more than [`js_io::FILE_MAX`] bytes |
 /// | 4 | the file spells no script |
@@ -85,10 +86,13 @@ pub fn run_words<R: Threads + Sync, F: Files, O: Sink, E: Sink, G: Gate + Sync>(
         (moment F.held F.faults F.oversize F.blamed O.taken O.faults E.taken E.faults files.old out.old err.old)
         (moment F.held F.faults F.oversize F.blamed O.taken O.faults E.taken E.faults files.new out.new err.new) }
 
-    ensures print { result.code ≡ 0 → Prints (map string_bytes words.now)
+    ensures print { result.code ≡ 0 → PrintsAll (map string_bytes words.now)
         (moment F.held F.faults F.oversize F.blamed O.taken O.faults E.taken E.faults files.old out.old err.old)
         (moment F.held F.faults F.oversize F.blamed O.taken O.faults E.taken E.faults files.new out.new err.new) }
-    ensures write { result.code ≡ 7 → IsCut (map string_bytes words.now)
+    ensures early { result.code ≡ 1 → Prints (map string_bytes words.now) 1
+        (moment F.held F.faults F.oversize F.blamed O.taken O.faults E.taken E.faults files.old out.old err.old)
+        (moment F.held F.faults F.oversize F.blamed O.taken O.faults E.taken E.faults files.new out.new err.new) }
+    ensures write { result.code ≡ 7 → IsCut (map string_bytes words.now) 7
         (moment F.held F.faults F.oversize F.blamed O.taken O.faults E.taken E.faults files.old out.old err.old)
         (moment F.held F.faults F.oversize F.blamed O.taken O.faults E.taken E.faults files.new out.new err.new) }
 

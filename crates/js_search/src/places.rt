@@ -2,7 +2,7 @@
 ghost use Rattle.std.specs.Prelude.{◌≡◌, ◌+◌, ◌≤◌, ◌↔◌, IsTrue, length};
 ghost use Rattle.js_store.specs.State.{IsKnown, IsSettled, text};
 ghost use Rattle.js_store.specs.Faults.{Step};
-ghost use Rattle.js_search.specs.Places.{Stands, IsFirst, IsLast, first, last};
+ghost use Rattle.js_search.specs.Places.{Stands, IsFirst, IsLast, stands, first, last};
 
 use js_store::Strings;
 
@@ -25,7 +25,7 @@ pub fn index_of<S: Strings>(store: &mut S, hay: S::Ref, needle: S::Ref, from: u3
         return None;
     }
     for place in from..len - size + 1 {
-        if stands_at(store, hay, needle, place, size) {
+        if has_units_at(store, hay, needle, place, size) {
             return Some(place);
         }
     }
@@ -56,15 +56,31 @@ pub fn last_index_of<S: Strings>(
     }
     let most = limit.min(len - size);
     for at in (0..most + 1).rev() {
-        if stands_at(store, hay, needle, at, size) {
+        if has_units_at(store, hay, needle, at, size) {
             return Some(at);
         }
     }
     None
 }
 
+/// Whether `needle` stands in `hay` at `place`.
+pub fn stands_at<S: Strings>(store: &mut S, hay: S::Ref, needle: S::Ref, place: u32) -> bool
+    requires hay_known { IsKnown (S.state store.old) (S.number hay) }
+    requires hay_settled { IsSettled (S.state store.old) (S.number hay) }
+    requires needle_known { IsKnown (S.state store.old) (S.number needle) }
+    requires needle_settled { IsSettled (S.state store.old) (S.number needle) }
+    ensures stands { IsTrue result ↔ Stands (text (S.state store.old) (S.number hay)) (text (S.state store.old) (S.number needle)) place }
+    ensures test { result ≡ stands (text (S.state store.old) (S.number hay)) (text (S.state store.old) (S.number needle)) place }
+    ensures step { Step (S.state store.old) (S.state store.new) None 0 0 }
+    ensures history { (S.state store.new).history ≡ (S.state store.old).history }
+{
+    let len = store.len(hay);
+    let size = store.len(needle);
+    place <= len && size <= len - place && has_units_at(store, hay, needle, place, size)
+}
+
 // Whether `needle`, which has `size` units, stands in `hay` at a place that leaves it room.
-pub(crate) fn stands_at<S: Strings>(
+pub(crate) fn has_units_at<S: Strings>(
     store: &mut S,
     hay: S::Ref,
     needle: S::Ref,

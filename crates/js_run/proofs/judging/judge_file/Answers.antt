@@ -1,10 +1,9 @@
-use Rattle.std.proofs.Common.{◌≡◌, [], ◌∷◌, refl, ap, Err, IsErrOf}
+use Rattle.std.proofs.Common.{◌≡◌, refl, ap, Err, IsErrOf}
 use Rattle.js_io.specs.FilesState.{files_state}
-use Rattle.js_parse.specs.declared.parser.ParseFault.TheVariants.{NotInProfile}
+use Rattle.js_parse.specs.declared.parser.ParseFault.TheVariants.{Lex, NotInProfile}
 use Rattle.js_parse.specs.Tree.{tree_of}
-use Rattle.js_run.specs.Meaning.{runs_of}
-use Rattle.js_run.specs.Verdict.{NotRead, TooLarge, Refused, Ran}
-use Rattle.js_run.proofs.Causes.{unread_one, large_one, refused_one, run_one, reports_one}
+use Rattle.js_run.specs.Verdict.{NotRead, TooLarge, Refused}
+use Rattle.js_run.proofs.Causes.{unread_one, large_one, refused_one, judged}
 use Rattle.js_run.proofs.judging.judge_file.Goals as goal
 
 is_err : {T E : Type 0} {a b : E} → a ≡ b → IsErrOf {T = T} (Err a) b
@@ -33,18 +32,13 @@ returns-in-Err-TooLarge g c =
       keeps = record { held = read.held; faults = read.counted; oversize = read.sized };
     }
 
-pub returns-in-Ok-print_script : goal.returns-in-Ok-print_script
-returns-in-Ok-print_script g c =
+pub returns-in-Ok-parse : goal.returns-in-Ok-parse
+returns-in-Ok-parse g c =
     let state = files_state g.F.Files.held g.F.Files.faults g.F.Files.oversize g.F.Files.blamed in
     let read = c.in-Ok.ensures in
-    let tree = tree_of c.in-Ok-parse.script in
-    record {
-      verdict = Ran (runs_of (c.args.name.now ∷ []) (tree ∷ []));
-      cause = run_one (state c.args.files.now) (state c.read.new.self) c.args.name.now c.in-Ok.bytes.items tree read.bytes read.small (read.calm (λ h. cc))
-          (rw (c.new-outer.ensures, c.deref.ensures.value) at c.in-Ok-parse.ensures.spells);
-      reports = reports_one c.args.name.now tree c.in-Ok-print_script.printed.items c.in-Ok-print_script.ensures;
-      keeps = record { held = read.held; faults = read.counted; oversize = read.sized };
-    }
+    judged (state c.args.files.now) (state c.read.new.self) c.args.name.now c.in-Ok.bytes.items (tree_of c.in-Ok-parse.script) c.run_script.result
+    c.run_script.ensures (record { held = read.held; faults = read.counted; oversize = read.sized }) read.bytes read.small (read.calm (λ h. cc))
+    (rw (c.new-outer.ensures, c.deref.ensures.value) at c.in-Ok-parse.ensures.spells)
 
 pub returns-in-NotInProfile : goal.returns-in-NotInProfile
 returns-in-NotInProfile g c =
@@ -55,6 +49,19 @@ returns-in-NotInProfile g c =
       verdict = Refused c.args.name.now (NotInProfile at);
       cause = refused_one (state c.args.files.now) (state c.read.new.self) c.args.name.now c.in-Ok.bytes.items (NotInProfile at) read.bytes read.small (read.calm (λ h. cc))
           (rw (c.new-outer.ensures, c.deref.ensures.value, c.in-NotInProfile.is) at c.in-Err.ensures.refused);
+      reports = refl;
+      keeps = record { held = read.held; faults = read.counted; oversize = read.sized };
+    }
+
+pub returns-in-Lex : goal.returns-in-Lex
+returns-in-Lex g c =
+    let state = files_state g.F.Files.held g.F.Files.faults g.F.Files.oversize g.F.Files.blamed in
+    let read = c.in-Ok.ensures in
+    let fault = c.in-Lex.fault in
+    record {
+      verdict = Refused c.args.name.now (Lex fault);
+      cause = refused_one (state c.args.files.now) (state c.read.new.self) c.args.name.now c.in-Ok.bytes.items (Lex fault) read.bytes read.small (read.calm (λ h. cc))
+          (rw (c.new-outer.ensures, c.deref.ensures.value, c.in-Lex.is) at c.in-Err.ensures.refused);
       reports = refl;
       keeps = record { held = read.held; faults = read.counted; oversize = read.sized };
     }

@@ -1,4 +1,4 @@
-use Rattle.js_run.proofs.Rows.{words_row, read_row, large_row, script_row, refused_row, told_row, print_row, write_row, honest_row}
+use Rattle.js_run.proofs.Rows.{words_row, read_row, large_row, script_row, refused_row, told_row, print_row, early_row, write_row, honest_row}
 use Rattle.js_run.proofs.run.run_words.Goals as goal
 
 pub returns-clause-words : goal.returns-clause-words
@@ -21,6 +21,9 @@ returns-clause-told g c = told_row _ _ _ _ c.run.ensures
 
 pub returns-clause-print : goal.returns-clause-print
 returns-clause-print g c = print_row _ _ _ _ c.run.ensures
+
+pub returns-clause-early : goal.returns-clause-early
+returns-clause-early g c = early_row _ _ _ _ c.run.ensures
 
 pub returns-clause-write : goal.returns-clause-write
 returns-clause-write g c = write_row _ _ _ _ c.run.ensures

@@ -1,11 +1,11 @@
-use Rattle.std.proofs.Common.{◌∷◌, ◌++◌, [], ℕ, List, Result, Err, decimal, append_assoc, subst}
+use Rattle.std.proofs.Common.{◌++◌, ℕ, List, Result, Err, decimal, append_assoc, subst}
 use Rattle.js_io.specs.SinkState.{SinkState, sink_state, WritesAll}
 use Rattle.js_io.proofs.Prefixes.{then_second, first_failed}
 use Rattle.js_run.proofs.telling.write_place.Goals as goal
 
--- a name, a colon, an offset and words, put together from the left or from the right
-regroup : {E : Type 0} (r : Result Unit E) (a b : SinkState) (name at words : List ℕ) → WritesAll r a b ((name ++ 58 ∷ []) ++ (at ++ words)) → WritesAll r a b (name ++ 58 ∷ (at ++ words))
-regroup r a b name at words w = subst (λ (l : List ℕ). WritesAll r a b l) (append_assoc name (58 ∷ []) (at ++ words)) w
+-- four pieces, put together from the left or from the right
+regroup : {E : Type 0} (r : Result Unit E) (a b : SinkState) (name before rest : List ℕ) → WritesAll r a b ((name ++ before) ++ rest) → WritesAll r a b (name ++ (before ++ rest))
+regroup r a b name before rest w = subst (λ (l : List ℕ). WritesAll r a b l) (append_assoc name before rest) w
 
 pub returns-in-Ok : goal.returns-in-Ok
 returns-in-Ok g c =
@@ -13,7 +13,7 @@ returns-in-Ok g c =
     let old = state c.args.sink.now in
     let mid = state c.write_both.new.sink in
     let new = state c.write_both-in-Ok.new.sink in
-    regroup c.write_both-in-Ok.result old new c.args.name.now (decimal c.args.at) c.args.words.now
+    regroup c.write_both-in-Ok.result old new c.args.name.now c.args.before.now (decimal c.args.at ++ c.args.behind.now)
     (then_second c.write_both-in-Ok.result old mid new _ _
     (rw (c.as_bytes.ensures.value) at c.in-Ok.ensures) (rw (c.as_bytes-in-Ok.ensures.value, c.format.ensures.text) at c.write_both-in-Ok.ensures))
 
@@ -22,5 +22,5 @@ returns-in-Err g c =
     let state = sink_state g.O.Sink.taken g.O.Sink.faults in
     let old = state c.args.sink.now in
     let new = state c.write_both.new.sink in
-    regroup (Err c.in-Err.field-0) old new c.args.name.now (decimal c.args.at) c.args.words.now
-    (first_failed c.in-Err.field-0 old new (c.args.name.now ++ 58 ∷ []) (decimal c.args.at ++ c.args.words.now) (rw (c.as_bytes.ensures.value) at c.in-Err.ensures))
+    regroup (Err c.in-Err.field-0) old new c.args.name.now c.args.before.now (decimal c.args.at ++ c.args.behind.now)
+    (first_failed c.in-Err.field-0 old new (c.args.name.now ++ c.args.before.now) (decimal c.args.at ++ c.args.behind.now) (rw (c.as_bytes.ensures.value) at c.in-Err.ensures))

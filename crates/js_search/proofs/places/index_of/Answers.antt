@@ -6,8 +6,8 @@ use Rattle.js_search.proofs.places.index_of.Goals as goal
 pub returns-then-size-len-clause-place : goal.returns-then-size-len-clause-place
 returns-then-size-len-clause-place g c = first_is _ _ _ None (search rules)
 
-pub returns-then-stands_at-clause-place : goal.returns-then-stands_at-clause-place
-returns-then-stands_at-clause-place g c = first_is _ _ _ (Some c.loop-place.place) (search rules)
+pub returns-then-has_units_at-clause-place : goal.returns-then-has_units_at-clause-place
+returns-then-has_units_at-clause-place g c = first_is _ _ _ (Some c.loop-place.place) (search rules)
 
 pub returns-clause-place : goal.returns-clause-place
 returns-clause-place g c = first_is _ _ _ None (search rules)

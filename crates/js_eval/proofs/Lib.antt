@@ -1,0 +1,7 @@
+mod Still
+mod Compose
+mod Each
+mod Texts
+mod Expressions
+mod Flows
+mod Printing

@@ -1,0 +1,249 @@
+use Rattle.std.proofs.Common.{Ok, Err, refl, sym, subst, List, []}
+use Rattle.std.proofs.lemmas.Result.{err_from_is_err_and}
+use Rattle.std.proofs.Math.ListN.{drop_of_length-le}
+use Rattle.js_store.specs.declared.faults.StoreFault.TheVariants.{Memory}
+use Rattle.js_store.proofs.Laws.{grows_refl, grows_trans}
+use Rattle.js_parse.specs.Tree.{expr_tree, link_tree, links_tree, steps_tree, exprs_tree}
+use Rattle.js_parse.proofs.Trees.{tree_of_unary, tree_of_chain, tree_of_post, tree_of_call}
+use Rattle.js_eval.specs.declared.value.Stop.TheVariants.{Store}
+use Rattle.js_eval.specs.Outcome.{Val, Out}
+use Rattle.js_eval.specs.Expression.{expr_out}
+use Rattle.js_eval.specs.Seen.{seen, IsFine, scope_of}
+use Rattle.js_eval.specs.Does.{GivesAll}
+use Rattle.js_eval.proofs.Compose.{ran_free}
+use Rattle.js_eval.proofs.Each.{each_turn, each_halt, each_full, fine_turn}
+use Rattle.js_eval.proofs.Expressions.{unary_does, chain_does, chain_stops, post_does, post_stops, link_does, link_stops, links_turn, links_halt, steps_turn, steps_halt, call_does, call_stops, call_absent, exprs_are}
+use Rattle.js_eval.proofs.Still.{seen_still, fine_still, scope_still, scope_fine_still}
+use Rattle.js_eval.proofs.expr.+expr.Goals as goal
+
+pub expr-returns-in_ok-value-in-Unary-clause-scope : goal.expr-returns-in_ok-value-in-Unary-clause-scope
+expr-returns-in_ok-value-in-Unary-clause-scope g t c =
+    scope_fine_still (g.S.Strings.state c.expr.new.store) (g.S.Strings.state c.apply_unary.new.store) g.S.Strings.number c.apply_unary.ensures.grows c.args.scope.now c.in_ok-value-in-Unary.ensures.scope
+
+pub expr-returns-in_ok-value-in-Unary-clause-did : goal.expr-returns-in_ok-value-in-Unary-clause-did
+expr-returns-in_ok-value-in-Unary-clause-did g t c =
+    let state = g.S.Strings.state in
+    let i = c.in_ok-value-in-Unary.ensures.did in
+    let d = c.deref.ensures in
+    rw (c.in-Unary.is, tree_of_unary c.in-Unary.at c.in-Unary.minus c.in-Unary.of)
+    (unary_does g.S.Strings.number (state c.args.store.now) (state c.expr.new.store) (state c.apply_unary.new.store) c.in_ok-value-in-Unary.value c.apply_unary.result c.in-Unary.at c.in-Unary.minus (expr_tree c.in-Unary.of.value) (scope_of (state c.args.store.now) g.S.Strings.number c.args.scope.now) (rw d at i) c.apply_unary.ensures.did)
+
+pub expr-returns-in_err-value-in-Chain-clause-did : goal.expr-returns-in_err-value-in-Chain-clause-did
+expr-returns-in_err-value-in-Chain-clause-did g t c =
+    let state = g.S.Strings.state in
+    let p = err_from_is_err_and c.from_residual-in_err-value-in-Chain.result c.from_residual-in_err-value-in-Chain.ensures.1 in
+    let i = c.in_err-value-in-Chain.ensures.did in
+    let d = c.deref-in-Chain.ensures in
+    rw (p.1, p.2, c.in-Chain.is, tree_of_chain c.in-Chain.first c.in-Chain.rest)
+    (chain_stops g.S.Strings.number (state c.args.store.now) (state c.expr-in-Chain.new.store) c.in_err-value-in-Chain.field-0.0 (expr_tree c.in-Chain.first.value) (links_tree c.in-Chain.rest.items) (scope_of (state c.args.store.now) g.S.Strings.number c.args.scope.now) (rw d at i))
+
+pub expr-returns-in_ok-value-in-Chain-clause-did : goal.expr-returns-in_ok-value-in-Chain-clause-did
+expr-returns-in_ok-value-in-Chain-clause-did g t c =
+    let state = g.S.Strings.state in
+    let i = c.in_ok-value-in-Chain.ensures.did in
+    let k = c.links.ensures.did in
+    let d = c.deref-in-Chain.ensures in
+    let e = c.deref-in-Chain-2.ensures.value in
+    rw (c.in-Chain.is, tree_of_chain c.in-Chain.first c.in-Chain.rest)
+    (chain_does g.S.Strings.number (state c.args.store.now) (state c.expr-in-Chain.new.store) (state c.links.new.store) c.in_ok-value-in-Chain.value c.links.result (expr_tree c.in-Chain.first.value) (links_tree c.in-Chain.rest.items) c.args.scope.now c.in_ok-value-in-Chain.ensures.grows c.requires (rw d at i) (rw e at k))
+
+pub expr-returns-in_err-value-in-Post-clause-did : goal.expr-returns-in_err-value-in-Post-clause-did
+expr-returns-in_err-value-in-Post-clause-did g t c =
+    let state = g.S.Strings.state in
+    let p = err_from_is_err_and c.from_residual-in_err-value-in-Post.result c.from_residual-in_err-value-in-Post.ensures.1 in
+    let i = c.in_err-value-in-Post.ensures.did in
+    let d = c.deref-in-Post.ensures in
+    rw (p.1, p.2, c.in-Post.is, tree_of_post c.in-Post.of c.in-Post.rest)
+    (post_stops g.S.Strings.number (state c.args.store.now) (state c.expr-in-Post.new.store) c.in_err-value-in-Post.field-0.0 (expr_tree c.in-Post.of.value) (steps_tree c.in-Post.rest.items) (scope_of (state c.args.store.now) g.S.Strings.number c.args.scope.now) (rw d at i))
+
+pub expr-returns-in_ok-value-in-Post-clause-did : goal.expr-returns-in_ok-value-in-Post-clause-did
+expr-returns-in_ok-value-in-Post-clause-did g t c =
+    let state = g.S.Strings.state in
+    let i = c.in_ok-value-in-Post.ensures.did in
+    let k = c.steps.ensures.did in
+    let d = c.deref-in-Post.ensures in
+    let e = c.deref-in-Post-2.ensures.value in
+    rw (c.in-Post.is, tree_of_post c.in-Post.of c.in-Post.rest)
+    (post_does g.S.Strings.number (state c.args.store.now) (state c.expr-in-Post.new.store) (state c.steps.new.store) c.in_ok-value-in-Post.value c.steps.result (expr_tree c.in-Post.of.value) (steps_tree c.in-Post.rest.items) c.args.scope.now c.in_ok-value-in-Post.ensures.grows c.requires (rw d at i) (rw e at k))
+
+pub links-returns-in_err-value-clause-did : goal.links-returns-in_err-value-clause-did
+links-returns-in_err-value-clause-did g t c =
+    let state = g.S.Strings.state in
+    let number = g.S.Strings.number in
+    let p = err_from_is_err_and c.from_residual.result c.from_residual.ensures.1 in
+    let i = c.loop-link.invariant in
+    let same = scope_still (state c.args.store.now) (state c.loop-link.store) number i.grows c.args.scope.now c.requires.scope in
+    let d = c.in_err-value.ensures.did in
+    rw (p.1, p.2) (i.completes (state c.one_link.new.store) (Err c.in_err-value.field-0.0)
+    (links_halt number (state c.loop-link.store) (state c.one_link.new.store) c.loop-link.value c.args.rest.now c.loop-link.link-index c.link-item.result (scope_of (state c.args.store.now) number c.args.scope.now)
+    c.loop-link-test.true c.link-item.is c.in_err-value.field-0.0 (rw same at d)))
+
+pub links-loop-link-preserved : goal.links-loop-link-preserved
+links-loop-link-preserved g t c =
+    let state = g.S.Strings.state in
+    let number = g.S.Strings.number in
+    let i = c.loop-link.invariant in
+    let same = scope_still (state c.args.store.now) (state c.loop-link.store) number i.grows c.args.scope.now c.requires.scope in
+    let d = c.in_ok-value.ensures.did in
+    record {
+      grows = grows_trans i.grows c.in_ok-value.ensures.grows;
+      scope = c.in_ok-value.ensures.scope;
+      fine = c.in_ok-value.ensures.fine;
+      completes = λ e r f. i.completes e r
+          (links_turn number (state c.loop-link.store) (state c.one_link.new.store) e c.loop-link.value c.in_ok-value.value c.args.rest.now c.loop-link.link-index c.link-item.result (scope_of (state c.args.store.now) number c.args.scope.now)
+          c.loop-link-test.true c.link-item.is (rw same at d) r f);
+    }
+
+pub links-returns-clause-did : goal.links-returns-clause-did
+links-returns-clause-did g t c =
+    let past = drop_of_length-le c.args.rest.now {i = c.loop-link.link-index} c.loop-link-test.false in
+    c.loop-link.invariant.completes (g.S.Strings.state c.loop-link.store) (Ok c.loop-link.value)
+    (rw past (record { is = refl; good = c.loop-link.invariant.fine; ran = ran_free (g.S.Strings.state c.loop-link.store) }))
+
+pub one_link-returns-clause-scope : goal.one_link-returns-clause-scope
+one_link-returns-clause-scope g t c =
+    scope_fine_still (g.S.Strings.state c.expr.new.store) (g.S.Strings.state c.operate.new.store) g.S.Strings.number c.operate.ensures.grows c.args.scope.now c.in_ok-right.ensures.scope
+
+pub one_link-returns-in_err-right-clause-did : goal.one_link-returns-in_err-right-clause-did
+one_link-returns-in_err-right-clause-did g t c =
+    let p = err_from_is_err_and c.from_residual.result c.from_residual.ensures.1 in
+    let state = g.S.Strings.state in
+    rw (p.1, p.2) (link_stops g.S.Strings.number (state c.args.store.now) (state c.expr.new.store) c.args.left c.in_err-right.field-0.0 (link_tree c.args.link.now) (scope_of (state c.args.store.now) g.S.Strings.number c.args.scope.now) c.in_err-right.ensures.did)
+
+pub one_link-returns-clause-did : goal.one_link-returns-clause-did
+one_link-returns-clause-did g t c =
+    let state = g.S.Strings.state in
+    link_does g.S.Strings.number (state c.args.store.now) (state c.expr.new.store) (state c.operate.new.store)
+    c.args.left c.in_ok-right.right c.operate.result (link_tree c.args.link.now) c.args.scope.now
+    c.in_ok-right.ensures.grows c.requires.left c.in_ok-right.ensures.did c.operate.ensures.did
+
+pub steps-returns-in_err-value-clause-did : goal.steps-returns-in_err-value-clause-did
+steps-returns-in_err-value-clause-did g t c =
+    let state = g.S.Strings.state in
+    let number = g.S.Strings.number in
+    let p = err_from_is_err_and c.from_residual.result c.from_residual.ensures.1 in
+    let i = c.loop-step.invariant in
+    let same = scope_still (state c.args.store.now) (state c.loop-step.store) number i.grows c.args.scope.now c.requires.scope in
+    let d = c.in_err-value.ensures.did in
+    rw (p.1, p.2) (i.completes (state c.one_step.new.store) (Err c.in_err-value.field-0.0)
+    (steps_halt number (state c.loop-step.store) (state c.one_step.new.store) c.loop-step.value c.args.rest.now c.loop-step.step-index c.step-item.result (scope_of (state c.args.store.now) number c.args.scope.now)
+    c.loop-step-test.true c.step-item.is c.in_err-value.field-0.0 (rw same at d)))
+
+pub steps-loop-step-preserved : goal.steps-loop-step-preserved
+steps-loop-step-preserved g t c =
+    let state = g.S.Strings.state in
+    let number = g.S.Strings.number in
+    let i = c.loop-step.invariant in
+    let same = scope_still (state c.args.store.now) (state c.loop-step.store) number i.grows c.args.scope.now c.requires.scope in
+    let d = c.in_ok-value.ensures.did in
+    record {
+      grows = grows_trans i.grows c.in_ok-value.ensures.grows;
+      scope = c.in_ok-value.ensures.scope;
+      fine = c.in_ok-value.ensures.fine;
+      completes = λ e r f. i.completes e r
+          (steps_turn number (state c.loop-step.store) (state c.one_step.new.store) e c.loop-step.value c.in_ok-value.value c.args.rest.now c.loop-step.step-index c.step-item.result (scope_of (state c.args.store.now) number c.args.scope.now)
+          c.loop-step-test.true c.step-item.is (rw same at d) r f);
+    }
+
+pub steps-returns-clause-did : goal.steps-returns-clause-did
+steps-returns-clause-did g t c =
+    let past = drop_of_length-le c.args.rest.now {i = c.loop-step.step-index} c.loop-step-test.false in
+    c.loop-step.invariant.completes (g.S.Strings.state c.loop-step.store) (Ok c.loop-step.value)
+    (rw past (record { is = refl; good = c.loop-step.invariant.fine; ran = ran_free (g.S.Strings.state c.loop-step.store) }))
+
+pub one_step-returns-in-Length-clause-scope : goal.one_step-returns-in-Length-clause-scope
+one_step-returns-in-Length-clause-scope g t c =
+    scope_fine_still (g.S.Strings.state c.args.store.now) (g.S.Strings.state c.read_length.new.store) g.S.Strings.number c.read_length.ensures.grows c.args.scope.now c.requires.scope
+
+pub exprs-loop-e-init : goal.exprs-loop-e-init
+exprs-loop-e-init g t c =
+    let number = g.S.Strings.number in
+    let a = g.S.Strings.state c.args.store.now in
+    let e = c.new-values.ensures.items in
+    record {
+      grows = grows_refl a;
+      scope = c.requires;
+      fine = rw e tt;
+      completes = λ z r f. subst (λ (o : Out (List Val)). GivesAll number a z r o) (sym (exprs_are c.args.list.now (scope_of a number c.args.scope.now) [])) (rw e at f);
+    }
+
+pub exprs-loop-e-preserved : goal.exprs-loop-e-preserved
+exprs-loop-e-preserved g t c =
+    let state = g.S.Strings.state in
+    let number = g.S.Strings.number in
+    let a = state c.args.store.now in
+    let b = state c.loop-e.store in
+    let d = state c.expr.new.store in
+    let meant = scope_of a number c.args.scope.now in
+    let i = c.loop-e.invariant in
+    let e = c.in_ok-value.ensures in
+    let did = e.did in
+    let p = c.in_ok-push.ensures.added in
+    let same = scope_still a b number i.grows c.args.scope.now c.requires in
+    record {
+      grows = grows_trans i.grows e.grows;
+      scope = e.scope;
+      fine = rw p (fine_turn (λ s v. seen s number v) (λ s v. IsFine s number v) b d (λ x. expr_out (expr_tree x) meant) c.loop-e.values.items c.args.list.now c.loop-e.e-index c.e-item.result c.loop-e-test.true c.e-item.is c.in_ok-value.value (λ v k. fine_still b d number e.grows v k) i.fine e.fine);
+      completes = λ z r f. i.completes z r (each_turn (λ s v. seen s number v) (λ s v. IsFine s number v) b d (λ x. expr_out (expr_tree x) meant) c.loop-e.values.items c.args.list.now c.loop-e.e-index c.e-item.result c.loop-e-test.true c.e-item.is z c.in_ok-value.value r (λ v k. seen_still b d number e.grows v k) i.fine (rw same at did) (rw p at f));
+    }
+
+pub exprs-returns-in_err-value-clause-did : goal.exprs-returns-in_err-value-clause-did
+exprs-returns-in_err-value-clause-did g t c =
+    let state = g.S.Strings.state in
+    let number = g.S.Strings.number in
+    let a = state c.args.store.now in
+    let i = c.loop-e.invariant in
+    let p = err_from_is_err_and c.from_residual.result c.from_residual.ensures.1 in
+    let did = c.in_err-value.ensures.did in
+    let same = scope_still a (state c.loop-e.store) number i.grows c.args.scope.now c.requires in
+    rw (p.1, p.2) (i.completes (state c.expr.new.store) (Err c.in_err-value.field-0.0)
+    (each_halt (λ s v. seen s number v) (λ s v. IsFine s number v) (state c.loop-e.store) (state c.expr.new.store) (λ x. expr_out (expr_tree x) (scope_of a number c.args.scope.now)) c.loop-e.values.items c.args.list.now c.loop-e.e-index c.e-item.result c.loop-e-test.true c.e-item.is c.in_err-value.field-0.0 (rw same at did)))
+
+pub exprs-returns-in_err-push-clause-did : goal.exprs-returns-in_err-push-clause-did
+exprs-returns-in_err-push-clause-did g t c =
+    let state = g.S.Strings.state in
+    let number = g.S.Strings.number in
+    let a = state c.args.store.now in
+    let i = c.loop-e.invariant in
+    let p = err_from_is_err_and c.from_residual-in_err-push.result c.from_residual-in_err-push.ensures.1 in
+    let did = c.in_ok-value.ensures.did in
+    let same = scope_still a (state c.loop-e.store) number i.grows c.args.scope.now c.requires in
+    rw (p.1, p.2, c.in_err-push.ensures.fault) (i.completes (state c.expr.new.store) (Err (Store Memory))
+    (each_full (λ s v. seen s number v) (λ s v. IsFine s number v) (state c.loop-e.store) (state c.expr.new.store) (λ x. expr_out (expr_tree x) (scope_of a number c.args.scope.now)) c.loop-e.values.items c.args.list.now c.loop-e.e-index c.e-item.result c.loop-e-test.true c.e-item.is c.in_ok-value.value (rw same at did)))
+
+pub exprs-returns-clause-did : goal.exprs-returns-clause-did
+exprs-returns-clause-did g t c =
+    let past = drop_of_length-le c.args.list.now {i = c.loop-e.e-index} c.loop-e-test.false in
+    c.loop-e.invariant.completes (g.S.Strings.state c.loop-e.store) (Ok c.loop-e.values)
+    (rw past (record { is = refl; good = c.loop-e.invariant.fine; ran = ran_free (g.S.Strings.state c.loop-e.store) }))
+
+pub one_step-returns-in_err-present-in-Call-clause-did : goal.one_step-returns-in_err-present-in-Call-clause-did
+one_step-returns-in_err-present-in-Call-clause-did g t c =
+    let a = g.S.Strings.state c.args.store.now in
+    let number = g.S.Strings.number in
+    let p = err_from_is_err_and c.from_residual.result c.from_residual.ensures.1 in
+    rw (p.1, p.2, c.in-Call.is, tree_of_call c.in-Call.at c.in-Call.method c.in-Call.args)
+    (call_absent number a c.args.value c.in_err-present-in-Call.field-0.0 c.in-Call.at c.in-Call.method (exprs_tree c.in-Call.args.items) (scope_of a number c.args.scope.now) c.in_err-present-in-Call.ensures)
+
+pub one_step-returns-in_err-values-in-Call-clause-did : goal.one_step-returns-in_err-values-in-Call-clause-did
+one_step-returns-in_err-values-in-Call-clause-did g t c =
+    let state = g.S.Strings.state in
+    let p = err_from_is_err_and c.from_residual-in_err-values-in-Call.result c.from_residual-in_err-values-in-Call.ensures.1 in
+    let e = c.deref.ensures.value in
+    let d = c.in_err-values-in-Call.ensures.did in
+    rw (p.1, p.2, c.in-Call.is, tree_of_call c.in-Call.at c.in-Call.method c.in-Call.args)
+    (call_stops g.S.Strings.number (state c.args.store.now) (state c.exprs.new.store) c.args.value c.in_err-values-in-Call.field-0.0 c.in-Call.at c.in-Call.method (exprs_tree c.in-Call.args.items) c.args.scope.now c.in_ok-present-in-Call.ensures (rw e at d))
+
+pub one_step-returns-in_ok-values-in-Call-clause-scope : goal.one_step-returns-in_ok-values-in-Call-clause-scope
+one_step-returns-in_ok-values-in-Call-clause-scope g t c =
+    scope_fine_still (g.S.Strings.state c.exprs.new.store) (g.S.Strings.state c.call.new.store) g.S.Strings.number c.call.ensures.grows c.args.scope.now c.in_ok-values-in-Call.ensures.scope
+
+pub one_step-returns-in_ok-values-in-Call-clause-did : goal.one_step-returns-in_ok-values-in-Call-clause-did
+one_step-returns-in_ok-values-in-Call-clause-did g t c =
+    let state = g.S.Strings.state in
+    let e = c.deref.ensures.value in
+    let f = c.deref-in-Call.ensures.value in
+    let d = c.in_ok-values-in-Call.ensures.did in
+    let k = c.call.ensures.did in
+    rw (c.in-Call.is, tree_of_call c.in-Call.at c.in-Call.method c.in-Call.args)
+    (call_does g.S.Strings.number (state c.args.store.now) (state c.exprs.new.store) (state c.call.new.store) c.args.value c.in_ok-values-in-Call.values c.call.result c.in-Call.at c.in-Call.method (exprs_tree c.in-Call.args.items) c.args.scope.now c.in_ok-values-in-Call.ensures.grows c.requires.value c.in_ok-present-in-Call.ensures (rw e at d) (rw f at k))

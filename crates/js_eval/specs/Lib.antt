@@ -1,0 +1,10 @@
+pub mod Outcome
+pub mod Conversions
+pub mod Operators
+pub mod Members
+pub mod Expression
+pub mod Script
+pub mod Seen
+pub mod Ran
+pub mod Does
+pub mod Evaluates

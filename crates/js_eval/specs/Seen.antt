@@ -1,0 +1,75 @@
+-- What the values and bindings of the code stand for in a store, and when they may be used.
+use Rattle.std.specs.Prelude.{◌≡◌, ℕ, List, [], ◌∷◌, map, Option, Some}
+use Rattle.js_number.specs.declared.Num.{Num}
+use Rattle.js_number.specs.Places.{IsLawful}
+use Rattle.js_store.specs.State.{State, IsKnown, text as units_of}
+use Rattle.js_eval.specs.declared.value.Value.{Value}
+use Rattle.js_eval.specs.declared.value.Value.TheVariants as value
+use Rattle.js_eval.specs.declared.env.Binding.{Binding}
+use Rattle.js_eval.specs.declared.env.Scope.{Scope as CodeScope}
+use Rattle.js_eval.specs.Outcome.{Val, undefined, null, bool, number, text}
+use Rattle.js_eval.specs.Expression.{Bound, Scope, number_of}
+
+abbrev pub seen : {F R : Type 0} → State F → (R → ℕ) → Value R → Val
+seen s name value.Undefined = undefined
+seen s name value.Null = null
+seen s name (value.Bool b) = bool b
+seen s name (value.Number n) = number n
+seen s name (value.Text r) = text (units_of s (name r))
+
+-- a lawful number, or a known string
+abbrev pub IsFine : {F R : Type 0} → State F → (R → ℕ) → Value R → Type 0
+IsFine s name value.Undefined = Unit {0}
+IsFine s name value.Null = Unit {0}
+IsFine s name (value.Bool b) = Unit {0}
+IsFine s name (value.Number n) = IsLawful n
+IsFine s name (value.Text r) = IsKnown s (name r)
+
+-- every element is so
+abbrev pub Every : {A : Type 0} → (A → Type 0) → List A → Type 0
+Every P [] = Unit {0}
+Every P (x ∷ xs) = P x × Every P xs
+
+abbrev pub all_seen : {F R : Type 0} → State F → (R → ℕ) → List (Value R) → List Val
+all_seen s name vs = map (λ v. seen s name v) vs
+
+abbrev pub AllFine : {F R : Type 0} → State F → (R → ℕ) → List (Value R) → Type 0
+AllFine s name vs = Every (λ v. IsFine s name v) vs
+
+abbrev pub texts_seen : {F R : Type 0} → State F → (R → ℕ) → List R → List (List ℕ)
+texts_seen s name rs = map (λ r. units_of s (name r)) rs
+
+abbrev pub AllKnown : {F R : Type 0} → State F → (R → ℕ) → List R → Type 0
+AllKnown s name rs = Every (λ r. IsKnown s (name r)) rs
+
+abbrev pub bound_of : {F R : Type 0} → State F → (R → ℕ) → Binding R → Bound
+bound_of s name b = record { name = b.name; constant = b.constant; value = seen s name b.value }
+
+abbrev pub bindings_of : {F R : Type 0} → State F → (R → ℕ) → List (Binding R) → List Bound
+bindings_of s name bs = map (λ b. bound_of s name b) bs
+
+abbrev pub EnvFine : {F R : Type 0} → State F → (R → ℕ) → List (Binding R) → Type 0
+EnvFine s name bs = Every (λ b. IsFine s name b.value) bs
+
+pub record ScopeFine {F R : Type 0} (s : State F) (name : R → ℕ) (scope : CodeScope R) : Type 0 where
+  pub literals : AllKnown s name scope.literals.items
+  pub bindings : EnvFine s name scope.env
+
+abbrev pub scope_of : {F R : Type 0} → State F → (R → ℕ) → CodeScope R → Scope
+scope_of s name scope = record {
+  literals = texts_seen s name scope.literals.items;
+  bindings = bindings_of s name scope.env;
+  limit = s.limit;
+}
+
+-- a value that is the number as it is written, in any store
+abbrev pub IsWritten : {R : Type 0} → Value R → ℕ → Type 0
+IsWritten value.Undefined n = number_of n ≡ undefined
+IsWritten (value.Number m) n = (number_of n ≡ number m) × IsLawful m
+IsWritten value.Null n = ⊥
+IsWritten (value.Bool b) n = ⊥
+IsWritten (value.Text r) n = ⊥
+
+abbrev pub LawfulEnd : Option (Option Num) → Type 0
+LawfulEnd (Some (Some n)) = IsLawful n
+LawfulEnd _ = Unit {0}

@@ -1,0 +1,69 @@
+// Literals: strings, which are interned before a script runs, and numbers.
+ghost use Rattle.std.specs.Prelude.{◌≡◌, [], slice_get, IfOk};
+ghost use Rattle.js_store.specs.State.{Grows, IsKnown, text};
+ghost use Rattle.js_eval.specs.Outcome.{each};
+ghost use Rattle.js_eval.specs.Members.{maybe_text};
+ghost use Rattle.js_eval.specs.Script.{literal_out};
+ghost use Rattle.js_eval.specs.Seen.{seen, IsFine, AllKnown, ScopeFine, scope_of, IsWritten};
+ghost use Rattle.js_eval.specs.Does.{GivesText, GivesTexts};
+
+use crate::env::Scope;
+use crate::lists::push;
+use crate::value::{Kind, Stop, Value};
+use js_number::Num;
+use js_store::Strings;
+use js_units::Units;
+use std::alloc::Global;
+
+/// The interned strings of a script's literals, in the order of the text.
+pub fn intern_literals<S: Strings>(
+    alloc: Global,
+    store: &mut S,
+    literals: &[Units],
+) -> Result<Vec<S::Ref>, Stop>
+    ensures grows { Grows (S.state store.old) (S.state store.new) }
+    ensures known { IfOk result (λ v. AllKnown (S.state store.new) S.number v.items) }
+    ensures did { GivesTexts S.number (S.state store.old) (S.state store.new) result (each (literal_out (S.state store.old).limit) literals.now []) }
+{
+    let mut interned = Vec::new(alloc);
+    for units in literals {
+        let string = intern_literal(store, units.as_slice())?;
+        push(&mut interned, string)?;
+    }
+    Ok(interned)
+}
+
+fn intern_literal<S: Strings>(store: &mut S, units: &[u16]) -> Result<S::Ref, Stop>
+    ensures grows { Grows (S.state store.old) (S.state store.new) }
+    ensures known { IfOk result (λ r. IsKnown (S.state store.new) (S.number r)) }
+    ensures did { GivesText S.number (S.state store.old) (S.state store.new) result (literal_out (S.state store.old).limit units.now) }
+{
+    if units.len() > store.limit() as usize {
+        return Err(Stop::Threw(Kind::RangeError));
+    }
+    let made = store.from_units(units)?;
+    Ok(store.intern(made)?)
+}
+
+/// The value of a string literal.
+pub fn read_literal<S: Strings>(store: &S, scope: &Scope<S::Ref>, number: u32) -> Value<S::Ref>
+    requires { ScopeFine (S.state store.now) S.number scope.now }
+    ensures seen { seen (S.state store.now) S.number result ≡ maybe_text (slice_get (scope_of (S.state store.now) S.number scope.now).literals number) }
+    ensures fine { IsFine (S.state store.now) S.number result }
+{
+    match scope.literals.get(number as usize) {
+        Some(s) => Value::Text(*s),
+        None => Value::Undefined,
+    }
+}
+
+/// The value of a number literal.
+pub fn number_value<R>(value: u64) -> Value<R>
+    ensures { IsWritten result value }
+{
+    if value <= 9007199254740991 {
+        Value::Number(Num::Int(value as i64))
+    } else {
+        Value::Undefined
+    }
+}

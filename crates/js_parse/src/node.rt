@@ -1,0 +1,71 @@
+// The nodes of the tree.
+ghost use Rattle.std.specs.Prelude.{◌≡◌, map, IfOk};
+ghost use Rattle.js_parse.specs.Tree.{expr_tree, link_tree, step_tree, stmt_tree};
+ghost use Rattle.js_parse.specs.Grammar.{call_of, post_of, unary_of, link_of, chain_of, print_of};
+
+use crate::tree::{Expr, Link, Method, Op, PostStep, Stmt};
+use std::alloc::{AllocError, Global};
+
+pub(crate) fn link(op: (u32, Op), right: Expr) -> Link
+    ensures { link_tree result ≡ link_of (op.0, op.1) (expr_tree right) }
+{
+    Link {
+        at: op.0,
+        op: op.1,
+        right,
+    }
+}
+
+pub(crate) fn call(method: (u32, Method), args: Vec<Expr>) -> PostStep
+    ensures { step_tree result ≡ call_of (method.0, method.1) (map expr_tree args.items) }
+{
+    PostStep::Call {
+        at: method.0,
+        method: method.1,
+        args,
+    }
+}
+
+pub(crate) fn signed(alloc: Global, sign: (u32, bool), of: Expr) -> Result<Expr, AllocError>
+    ensures { IfOk result (λ e. expr_tree e ≡ unary_of (sign.0, sign.1) (expr_tree of)) }
+{
+    Ok(Expr::Unary {
+        at: sign.0,
+        minus: sign.1,
+        of: Box::new(alloc, of)?,
+    })
+}
+
+/// Without a link it is the first operand.
+#[tactic(auto, using(crate::proofs::Trees::tree_of_chain))]
+pub(crate) fn chain(alloc: Global, first: Expr, rest: Vec<Link>) -> Result<Expr, AllocError>
+    ensures { IfOk result (λ e. expr_tree e ≡ chain_of (expr_tree first) (map link_tree rest.items)) }
+{
+    if rest.is_empty() {
+        return Ok(first);
+    }
+    Ok(Expr::Chain {
+        first: Box::new(alloc, first)?,
+        rest,
+    })
+}
+
+/// Without a step it is what stands before.
+#[tactic(auto, using(crate::proofs::Trees::tree_of_post))]
+pub(crate) fn post(alloc: Global, of: Expr, steps: Vec<PostStep>) -> Result<Expr, AllocError>
+    ensures { IfOk result (λ e. expr_tree e ≡ post_of (expr_tree of) (map step_tree steps.items)) }
+{
+    if steps.is_empty() {
+        return Ok(of);
+    }
+    Ok(Expr::Post {
+        of: Box::new(alloc, of)?,
+        steps,
+    })
+}
+
+pub(crate) fn print(args: Vec<Expr>) -> Stmt
+    ensures { stmt_tree result ≡ print_of (map expr_tree args.items) tt }
+{
+    Stmt::Print { args }
+}
