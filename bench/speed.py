@@ -1,8 +1,9 @@
 #!/usr/bin/env python3
-"""Measures the built program: its start-up beside /bin/true, and the bytes that it reads a second.
+"""Measures the built program: its start-up beside /bin/true, and the bytes of a script that it takes a second.
 
-Usage: bench/speed.py. Build the program first, as tools/jsstr does. It belongs to no gate: run it on
-a machine that does nothing else. Each figure is the median of many runs; a run writes to /dev/null.
+Usage: bench/speed.py [WORD]. With a word only the shapes whose name holds it are measured. Build the
+program first, as tools/jsstr does. It belongs to no gate: run it on a machine that does nothing else.
+Each figure is the median of many runs; a run writes to /dev/null.
 """
 
 import os
@@ -14,42 +15,78 @@ import time
 
 ROOT = os.path.dirname(os.path.dirname(os.path.abspath(__file__)))
 PROGRAM = os.path.join(ROOT, "crates", "jsstr", "out", "jsstr")
-LINE = "print('the quick brown fox ' + 'jumps over the lazy dog');\n"
 SIZES = [64 * 1024, 256 * 1024, 1024 * 1024]
 START_RUNS = 201
-SCRIPT_RUNS = 51
+SCRIPT_RUNS = 21
+
+PRINT = "print('the quick brown fox ' + 'jumps over the lazy dog');\n"
+PLAIN = "the quick brown fox jumps over the lazy dog "
 
 
-def seconds(words, runs):
+def repeated(line, size):
+    return line * (size // len(line))
+
+
+def one_literal(piece, size):
+    return "print('" + repeated(piece, size - 20) + "'.length);"
+
+
+def sums(size):
+    """Sums of numbers on one line: a megabyte has 10,000 of them or more, in chains of 100."""
+    return repeated("print(" + " + ".join(["12345"] * 100) + "); ", size)
+
+
+# the name of a shape, the text of about so many bytes, and the status that it gives
+SHAPES = [
+    ("print statements", lambda size: repeated(PRINT, size), 0),
+    ("sums on one line", sums, 0),
+    ("a long literal", lambda size: one_literal(PLAIN, size), 0),
+    ("escapes", lambda size: one_literal("\\x41\\u0042\\u{43}\\n", size), 0),
+    ("comments", lambda size: repeated("// the quick brown fox jumps\n/* over the lazy dog */\n", size), 0),
+    ("marks", lambda size: repeated("=== <= >= && || += ++ { } ( ) [ ] . ; , < > + - ! ? : = ", size), 4),
+]
+
+
+def seconds(words, runs, wanted):
     """The median time of a run from its start to its end, after one that isn't counted."""
     times = []
     with open(os.devnull, "w", encoding="ascii") as nothing:
         for _ in range(runs + 1):
             begun = time.perf_counter()
-            status = subprocess.run(words, stdout=nothing, check=False).returncode
+            status = subprocess.run(words, stdout=nothing, stderr=nothing, check=False).returncode
             times.append(time.perf_counter() - begun)
-            if status != 0:
+            if status != wanted:
                 sys.exit(f"{words}: status {status}")
     return statistics.median(times[1:])
+
+
+def measure(folder, name, text_of, status, start):
+    """One line for each size, and how many times as long the largest takes as the smallest."""
+    spent = {}
+    for size in SIZES:
+        script = os.path.join(folder, "script.js")
+        with open(script, "w", encoding="ascii") as file:
+            file.write(text_of(size))
+        length = os.path.getsize(script)
+        spent[size] = seconds([PROGRAM, script], SCRIPT_RUNS, status) - start
+        print(f"{name}, {size // 1024} KiB: {spent[size] * 1e3:.2f} ms beyond start-up, {length / spent[size] / 1e6:.1f} MB a second")
+    print(f"{name}: 16 times the bytes take {spent[SIZES[-1]] / spent[SIZES[0]]:.1f} times as long")
 
 
 def main():
     if not os.access(PROGRAM, os.X_OK):
         sys.exit("the program isn't built: run tools/jsstr demo/hello.js")
+    wanted = sys.argv[1] if len(sys.argv) > 1 else ""
     with tempfile.TemporaryDirectory() as folder:
         empty = os.path.join(folder, "empty.js")
         with open(empty, "w", encoding="ascii"):
             pass
-        base = seconds(["/bin/true"], START_RUNS)
-        start = seconds([PROGRAM, empty], START_RUNS)
+        base = seconds(["/bin/true"], START_RUNS, 0)
+        start = seconds([PROGRAM, empty], START_RUNS, 0)
         print(f"start-up: {start * 1e3:.2f} ms, /bin/true {base * 1e3:.2f} ms, difference {(start - base) * 1e3:.2f} ms")
-        for size in SIZES:
-            script = os.path.join(folder, "script.js")
-            with open(script, "w", encoding="ascii") as file:
-                file.write(LINE * (size // len(LINE)))
-            length = os.path.getsize(script)
-            spent = seconds([PROGRAM, script], SCRIPT_RUNS) - start
-            print(f"{size // 1024:5} KiB: {spent * 1e3:6.2f} ms beyond start-up, {length / spent / 1e6:5.1f} MB a second")
+        for name, text_of, status in SHAPES:
+            if wanted in name:
+                measure(folder, name, text_of, status, start)
 
 
 main()
