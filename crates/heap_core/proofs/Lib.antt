@@ -28,3 +28,5 @@ pub mod Reading
 pub mod Parts
 pub mod Loads
 pub mod Seen
+pub mod Whole
+pub mod Possible

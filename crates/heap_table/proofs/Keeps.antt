@@ -1,0 +1,319 @@
+-- Each step of the table keeps the rule.
+use Rattle.std.proofs.Common.{◌≡◌, ℕ, zero, suc, [], ◌∷◌, ◌+◌, ◌^◌, ◌<◌, ◌≤◌, ⊎_elim, eqb, List, get_or, set, sym, refl, ap, ◌∙◌, subst, arith, eq-eqb, ne_eqb, cond, Bool, true, false, Option, Some, None}
+use Rattle.std.specs.Prelude.{unwrap_or, is_some}
+use Rattle.std.proofs.lemmas.List.{set-get_or}
+use mathlib.Core.Option.{none, some, some-injective}
+use lib.ListN.{get_elem?}
+use native.Mathlib.Decide.{ℕ_discrete}
+use prog.Atomic.{either}
+use Rattle.atomic_table.specs.Table.{State, step, keeps, Allows, Joins, Splits}
+use Rattle.heap_core.specs.declared.view.View.{View}
+use Rattle.heap_core.specs.declared.size.Counter.{Counter}
+use Rattle.heap_core.specs.declared.size.Counter.TheVariants.{Ids, Words}
+use Rattle.heap_core.specs.Layout.{IsLawful, counter_at, end_of, content_at, form_at, length_at, word_count, MAX}
+use Rattle.heap_core.specs.declared.size.HeapSize.{HeapSize}
+use Rattle.heap_core.specs.Agents.{joined, spent, noted, left_after_split, right_after_split}
+use Rattle.heap_core.specs.Loads.{with_form, loaded_form, loaded_length, loaded_word, MayLoadWord}
+use Rattle.heap_core.specs.Learning.{learned_all, all_named}
+use Rattle.heap_core.specs.Claims.{loaded_counter, claimed, won_claim, MayClaim}
+use Rattle.heap_core.specs.Births.{stored_word, MayStoreLength, stored_length, MayBear, born, born_with}
+use Rattle.heap_core.specs.Events.{IsBuilt}
+use Rattle.heap_core.specs.Sound.{IsSound, IsPossible}
+use Rattle.heap_core.specs.Maps.{Has, HasKey}
+use Rattle.heap_core.specs.Views.{IsKnown, shown}
+use Rattle.js_header.specs.Form.{IsInRange, form_of, word_of}
+use Rattle.js_header.specs.declared.form.Form.{Form}
+use Rattle.js_header.specs.declared.form.Form.TheVariants.{Unborn, Flat, Cons, Sliced, Thin}
+use Rattle.js_header.proofs.RoundTrip.{form_of-word_of}
+use Rattle.std.specs.FinMap.{contains_key, entries, get, insert}
+use Rattle.heap_core.proofs.Steps.{keeps_loaded_counter, keeps_won_claim, keeps_stored_word, keeps_stored_length, possible_within, counter_found, known_below, sizes_are}
+use Rattle.heap_core.proofs.Loading.{keeps_loaded_form, form_found, known_born}
+use Rattle.heap_core.proofs.Loads.{keeps_loaded_length, keeps_loaded_word}
+use Rattle.heap_core.proofs.Birth.{keeps_birth}
+use Rattle.heap_core.proofs.Splitting.{keeps_learned, keeps_noted, keeps_split, set_twice}
+use Rattle.heap_core.proofs.Whole.{share_within, whole_counter}
+use Rattle.heap_core.proofs.Joining.{keeps_joined}
+use Rattle.heap_core.proofs.Possible.{possible_frozen}
+use Rattle.heap_core.proofs.ListLemmas.{set_else, set_there}
+use Rattle.heap_core.proofs.MapLemmas.{insert_same, key_of}
+use Rattle.heap_table.specs.declared.rule.HeapKey.{HeapKey}
+use Rattle.heap_table.specs.Rule.{AreBuilt, KeepsHeap}
+use Rattle.heap_table.proofs.Stay.{built_else, built_born, known_form, known_length, known_word, known_birth}
+use Rattle.heap_table.specs.Plays.{Looked, Noted, Sat, FoundCounter, LoadedCounter, Claimed, StoredWord, StoredLength, GaveBirth, LoadedForm, LoadedLength, LoadedWord, Stays}
+use Rattle.heap_table.specs.Agents.{Belongs}
+use Rattle.heap_table.specs.declared.agent.Agent.{Agent}
+use Rattle.heap_table.specs.declared.heap.Heap.{Heap}
+
+-- what stands is put there again
+set_same : {A : Type 0} (l : List A) (i : ℕ) (a : A) → get_elem? l i ≡ some a → set l i a ≡ l
+set_same [] i a e = refl
+set_same (x ∷ xs) zero a e = λ k. sym (some-injective x a e) k ∷ xs
+set_same (x ∷ xs) (suc i) a e = λ k. x ∷ set_same xs i a e k
+
+one_place : (k l : Counter) → counter_at k ≡ counter_at l → k ≡ l
+one_place Ids Ids e = refl
+one_place Words Words e = refl
+one_place Ids Words e = absurd (omega arith)
+one_place Words Ids e = absurd (omega arith)
+
+one_content : (z : HeapSize) (c d : ℕ) → content_at z c ≡ content_at z d → c ≡ d
+one_content z c d e = omega arith
+
+one_form : (z : HeapSize) (c d : ℕ) → form_at z c ≡ form_at z d → c ≡ d
+one_form z c d e = omega arith
+
+one_length : (z : HeapSize) (c d : ℕ) → length_at z c ≡ length_at z d → c ≡ d
+one_length z c d e = omega arith
+
+-- a word spells one form
+one_spelling : (f g : Form) → IsInRange f → IsInRange g → word_of f ≡ word_of g → f ≡ g
+one_spelling f g a b e = let same : Some f ≡ Some g = sym (form_of-word_of f a) ∙ (ap form_of e ∙ form_of-word_of g b) in cc
+
+one_want : (a m n : ℕ) → a + m ≡ a + n → m ≡ n
+one_want a m n e = omega arith
+
+-- a claim leaves these as they are
+abbrev pub IsSameAgent : View → View → Type 0
+IsSameAgent v w = (w.sizes ≡ v.sizes) × (w.live ≡ v.live) × (w.share ≡ v.share)
+
+claimed_by : (v : View) (k : Counter) (a n x : ℕ) (b : Bool) → IsSameAgent v (cond b (won_claim v k a n) (loaded_counter v k x))
+claimed_by v Ids a n x true = (refl, refl, refl)
+claimed_by v Words a n x true = (refl, refl, refl)
+claimed_by v k a n x false = (refl, refl, refl)
+
+pub claimed_same : (v : View) (k : Counter) (a n x : ℕ) → IsSameAgent v (claimed v k a n x)
+claimed_same v k a n x = claimed_by v k a n x (eqb x a)
+
+form_same : (v : View) (i : ℕ) (o : Option Form) → IsSameAgent v (with_form v i o)
+form_same v i None = (refl, refl, refl)
+form_same v i (Some f) = (refl, refl, refl)
+
+module _ (key : HeapKey) (slots id : ℕ) (me : Sat) (live : me.0.live ≡ true) where
+  found : (k : Counter) (s : State (Unit {0}) View) → IsSound key.size key.agents s.words s.views → get_elem? s.views id ≡ some me.0 → FoundCounter me.0 k (get_or s.words (counter_at k) 0)
+  found k s h at = let f = counter_found key.size key.agents s.words s.views h id me.0 at live k in record {
+    grown = f.0;
+    within = f.1;
+    above = λ e i known. subst (λ (q : Counter). i < get_or s.words (counter_at q) 0) (sym e) (known_below key.size key.agents s.words s.views h id me.0 at live i known);
+    whole = whole_counter key.size key.agents s.words s.views h id me.0 at live k;
+  }
+
+  -- what the rule says of the view after a step
+  after_possible : (s : State (Unit {0}) View) → get_elem? s.views id ≡ some me.0 → (W : List ℕ) (w : View) → w.live ≡ true → IsSound key.size key.agents W (set s.views id w) → IsPossible w
+  after_possible s at W w l h = (key.size, key.agents, W, set s.views id w, id, h, set_there s.views id w me.0 at, l)
+
+  abbrev Holds : List ℕ → List View → Type 0
+  Holds W vs = IsSound key.size key.agents W vs × AreBuilt key.size W
+
+  -- a load of the word p that leaves the view w
+  pub a_load : (p : ℕ) (s : State (Unit {0}) View) (w : View) → Holds s.words (set s.views id w) → Holds (set s.words p (get_or s.words p 0)) (set s.views id w)
+  a_load p s w h = subst (λ (ws : List ℕ). Holds ws (set s.views id w)) (sym (set-get_or s.words p 0)) h
+
+  pub stores_word : (c n : ℕ) → HasKey me.0.own_words c → Allows (KeepsHeap key) slots id me (content_at me.0.sizes c) (λ _. n) (λ _. StoredWord (step slots (content_at me.0.sizes c) n 0 none) me n)
+  stores_word c n own s (h, b) _ at _ = let w : View = stored_word me.0 c n in let z : HeapSize = key.size in
+      let same : me.0.sizes ≡ z = sizes_are key.size key.agents s.words s.views h id me.0 at live in
+      let kept = keeps_stored_word key.size key.agents s.words s.views h id me.0 at live c n own in (
+        w,
+        keeps,
+        tt,
+        subst (λ (y : HeapSize). Holds (set s.words (content_at y c) n) (set s.views id w)) (sym same) (kept, built_else z s.words (content_at z c) n (λ i l e. omega arith) b),
+        (record { slots = refl; sizes = refl; live = refl; share = refl; possible = after_possible s at (set s.words (content_at key.size c) n) w live kept }, λ d e. let is : c ≡ d = one_content me.0.sizes c d e in ap (λ (y : ℕ). stored_word me.0 y n) is),
+      )
+
+  pub loads_form : (i : ℕ) → IsKnown me.0 i → Allows (KeepsHeap key) slots id me (form_at me.0.sizes i) (λ n. n) (LoadedForm (step slots (form_at me.0.sizes i) 0 0 none) me)
+  loads_form i known s (h, b) _ at _ = let z : HeapSize = me.0.sizes in let x : ℕ = get_or s.words (form_at z i) 0 in let w : View = learned_all (loaded_form me.0 i x) in
+      let same : z ≡ key.size = sizes_are key.size key.agents s.words s.views h id me.0 at live in
+      let kept : IsSound key.size key.agents s.words (set s.views id w) = subst (λ (y : HeapSize). IsSound key.size key.agents s.words (set s.views id (learned_all (loaded_form me.0 i (get_or s.words (form_at y i) 0))))) (sym same)
+      (keeps_loaded_form key.size key.agents s.words s.views h id me.0 at live i known (all_named (entries (loaded_form me.0 i (get_or s.words (form_at key.size i) 0)).forms))) in
+      let spelt = form_found key.size key.agents s.words s.views h id me.0 at live i known in
+      let found : form_of x ≡ Some spelt.0 = ap (λ (y : HeapSize). form_of (get_or s.words (form_at y i) 0)) same ∙ spelt.1 in
+      let built : IsBuilt spelt.0 = b i spelt.0 (known_born key.size key.agents s.words s.views h id me.0 at live i known) spelt.1 in (
+        w,
+        keeps,
+        tt,
+        a_load (form_at z i) s w (kept, b),
+        (
+          let t = form_same me.0 i (form_of x) in record { slots = refl; sizes = t.0; live = t.1; share = t.2; possible = after_possible s at s.words w (t.1 ∙ live) kept },
+          known_form key.size key.agents s.words s.views h id me.0 at live i x spelt.0 found spelt.1 built kept,
+          (spelt.0, found, built),
+          λ d e. let is : i ≡ d = one_form z i d e in ap (λ (y : ℕ). learned_all (loaded_form me.0 y x)) is,
+        ),
+      )
+
+  pub loads : (k : Counter) → Allows (KeepsHeap key) slots id me (counter_at k) (λ n. n) (LoadedCounter (step slots (counter_at k) 0 0 none) me)
+  loads k s (h, b) _ at _ = let x : ℕ = get_or s.words (counter_at k) 0 in let w : View = loaded_counter me.0 k x in (
+    w,
+    keeps,
+    tt,
+    a_load (counter_at k) s w (keeps_loaded_counter key.size key.agents s.words s.views h id me.0 at live k x refl, b),
+    (record { slots = refl; sizes = refl; live = refl; share = refl; possible = after_possible s at s.words w live (keeps_loaded_counter key.size key.agents s.words s.views h id me.0 at live k x refl) }, λ l e. subst (λ (q : Counter). (w ≡ loaded_counter me.0 q x) × FoundCounter me.0 q x) (one_place k l e) (refl, found k s h at)),
+  )
+
+  counter_built : (k : Counter) (W : List ℕ) (n : ℕ) → AreBuilt key.size W → AreBuilt key.size (set W (counter_at k) n)
+  counter_built Ids W n b = built_else key.size W 0 n (λ i l e. omega arith) b
+  counter_built Words W n b = built_else key.size W 1 n (λ i l e. omega arith) b
+
+  -- a claim, whether it is won or lost
+  claim_keeps : (k : Counter) (a want : ℕ) → MayClaim me.0 k a want → (s : State (Unit {0}) View) → IsSound key.size key.agents s.words s.views → get_elem? s.views id ≡ some me.0 → (x : ℕ) → x ≡ get_or s.words (counter_at k) 0 → Dec (x ≡ a)
+      → IsSound key.size key.agents (set s.words (counter_at k) (either (eqb x a) (a + want) x)) (set s.views id (claimed me.0 k a want x))
+  claim_keeps k a want may s h at x is (yes hit) = subst (λ b. IsSound key.size key.agents (set s.words (counter_at k) (either b (a + want) x)) (set s.views id (cond b (won_claim me.0 k a want) (loaded_counter me.0 k x)))) (sym (eq-eqb x a hit))
+      (keeps_won_claim key.size key.agents s.words s.views h id me.0 at live k a want may (sym hit ∙ is))
+  claim_keeps k a want may s h at x is (no miss) = subst (λ b. IsSound key.size key.agents (set s.words (counter_at k) (either b (a + want) x)) (set s.views id (cond b (won_claim me.0 k a want) (loaded_counter me.0 k x)))) (sym (ne_eqb x a miss))
+      (subst (λ (ws : List ℕ). IsSound key.size key.agents ws (set s.views id (loaded_counter me.0 k x))) (sym (ap (set s.words (counter_at k)) is ∙ set-get_or s.words (counter_at k) 0)) (keeps_loaded_counter key.size key.agents s.words s.views h id me.0 at live k x is))
+
+  pub claims : (k : Counter) (a want : ℕ) → MayClaim me.0 k a want → Allows (KeepsHeap key) slots id me (counter_at k) (λ n. either (eqb n a) (a + want) n) (Claimed (step slots (counter_at k) a (a + want) none) me)
+  claims k a want may s (h, b) _ at _ = let x : ℕ = get_or s.words (counter_at k) 0 in let w : View = claimed me.0 k a want x in (
+    w,
+    keeps,
+    tt,
+    (claim_keeps k a want may s h at x refl (ℕ_discrete x a), counter_built k s.words (either (eqb x a) (a + want) x) b),
+    (let t = claimed_same me.0 k a want x in record { slots = refl; sizes = t.0; live = t.1; share = t.2; possible = after_possible s at (set s.words (counter_at k) (either (eqb x a) (a + want) x)) w (t.1 ∙ live) (claim_keeps k a want may s h at x refl (ℕ_discrete x a)) }, λ l m e f. subst (λ (q : Counter × ℕ). (w ≡ claimed me.0 q.0 a q.1 x) × FoundCounter me.0 q.0 x) (λ i. (one_place k l e i, one_want a want m f i)) (refl, found k s h at)),
+  )
+
+  pub stores_length : (i n : ℕ) → MayStoreLength me.0 i n → Allows (KeepsHeap key) slots id me (length_at me.0.sizes i) (λ _. n) (λ _. StoredLength (step slots (length_at me.0.sizes i) n 0 none) me n)
+  stores_length i n may s (h, b) _ at _ = let w : View = stored_length me.0 i n in let z : HeapSize = key.size in
+      let same : me.0.sizes ≡ z = sizes_are key.size key.agents s.words s.views h id me.0 at live in
+      let kept = keeps_stored_length key.size key.agents s.words s.views h id me.0 at live i n may in (
+        w,
+        keeps,
+        tt,
+        subst (λ (y : HeapSize). Holds (set s.words (length_at y i) n) (set s.views id w)) (sym same) (kept, built_else z s.words (length_at z i) n (λ k l e. omega arith) b),
+        (record { slots = refl; sizes = refl; live = refl; share = refl; possible = after_possible s at (set s.words (length_at key.size i) n) w live kept }, λ d e. let is : i ≡ d = one_length me.0.sizes i d e in ap (λ (y : ℕ). stored_length me.0 y n) is),
+      )
+
+  -- a birth of a Flat
+  bears_flat : (i : ℕ) (wide : Bool) (start : ℕ) (fixed : Bool) → MayBear me.0 i (Flat wide start fixed)
+      → Allows (KeepsHeap key) slots id me (form_at me.0.sizes i) (λ _. word_of (Flat wide start fixed)) (λ _. GaveBirth (step slots (form_at me.0.sizes i) (word_of (Flat wide start fixed)) 0 none) me (word_of (Flat wide start fixed)))
+  bears_flat i wide start fixed (n, own, fits) s (h, b) _ at _ = let f : Form = Flat wide start fixed in let w : View = born me.0 i f in let z : HeapSize = key.size in
+      let same : me.0.sizes ≡ z = sizes_are key.size key.agents s.words s.views h id me.0 at live in
+      let as_born : born_with me.0 i n f ≡ w = ap (λ (o : Option ℕ). born_with me.0 i (unwrap_or o 0) f) (sym own) in
+      let kept : IsSound key.size key.agents (set s.words (form_at z i) (word_of f)) (set s.views id w) =
+      subst (λ (y : View). IsSound key.size key.agents (set s.words (form_at z i) (word_of f)) (set s.views id y)) as_born (keeps_birth key.size key.agents s.words s.views h id me.0 at live i n own wide start fixed fits) in (
+        w,
+        keeps,
+        tt,
+        subst (λ (y : HeapSize). Holds (set s.words (form_at y i) (word_of f)) (set s.views id w)) (sym same) (kept, built_born z s.words i wide start fixed fits.0 h.counted.long b),
+        (
+          record { slots = refl; sizes = refl; live = refl; share = refl; possible = after_possible s at (set s.words (form_at z i) (word_of f)) w live kept },
+          known_birth z key.agents s.words s.views h id me.0 at live i wide start fixed (key_of me.0.own_ids i n own),
+          λ d g e q r. let is : i ≡ d = one_form me.0.sizes i d e in let alike : f ≡ g = one_spelling f g fits.0 r q in λ k. born me.0 (is k) (alike k),
+        ),
+      )
+
+  pub bears : (i : ℕ) (f : Form) → IsBuilt f → MayBear me.0 i f → Allows (KeepsHeap key) slots id me (form_at me.0.sizes i) (λ _. word_of f) (λ _. GaveBirth (step slots (form_at me.0.sizes i) (word_of f) 0 none) me (word_of f))
+  bears i (Flat wide start fixed) built may = bears_flat i wide start fixed may
+  bears i Unborn built may = absurd built
+  bears i (Cons wide left right) built may = absurd built
+  bears i (Sliced wide parent offset) built may = absurd built
+  bears i (Thin target) built may = absurd built
+
+  -- what is learned comes on top of a step that changed no word
+  then_learned : (s : State (Unit {0}) View) → get_elem? s.views id ≡ some me.0 → (w : View) → w.live ≡ true → IsSound key.size key.agents s.words (set s.views id w) → IsSound key.size key.agents s.words (set s.views id (learned_all w))
+  then_learned s at w l h = subst (λ (vs : List View). IsSound key.size key.agents s.words vs) (set_twice s.views id w (learned_all w))
+      (keeps_learned key.size key.agents s.words (set s.views id w) h id w (set_there s.views id w me.0 at) l (all_named (entries w.forms)))
+
+  pub loads_length : (i : ℕ) → IsKnown me.0 i → Allows (KeepsHeap key) slots id me (length_at me.0.sizes i) (λ n. n) (LoadedLength (step slots (length_at me.0.sizes i) 0 0 none) me)
+  loads_length i known s (h, b) _ at _ = let z : HeapSize = me.0.sizes in let x : ℕ = get_or s.words (length_at z i) 0 in let w : View = learned_all (loaded_length me.0 i x) in
+      let same : z ≡ key.size = sizes_are key.size key.agents s.words s.views h id me.0 at live in
+      let kept : IsSound key.size key.agents s.words (set s.views id w) = then_learned s at (loaded_length me.0 i x) live
+      (subst (λ (y : HeapSize). IsSound key.size key.agents s.words (set s.views id (loaded_length me.0 i (get_or s.words (length_at y i) 0)))) (sym same) (keeps_loaded_length key.size key.agents s.words s.views h id me.0 at live i known)) in
+      let short : x ≤ MAX = subst (λ (y : HeapSize). get_or s.words (length_at y i) 0 ≤ MAX) (sym same) (h.standing i (known_born key.size key.agents s.words s.views h id me.0 at live i known)).short in (
+        w,
+        keeps,
+        tt,
+        a_load (length_at z i) s w (kept, b),
+        (record { slots = refl; sizes = refl; live = refl; share = refl; possible = after_possible s at s.words w live kept }, known_length key.size key.agents s.words s.views h id me.0 at live i x (ap (λ (y : HeapSize). get_or s.words (length_at y i) 0) (sym same)) kept, short, λ d e. let is : i ≡ d = one_length z i d e in ap (λ (y : ℕ). learned_all (loaded_length me.0 y x)) is),
+      )
+
+  -- what the view has for the word afterwards is what was found
+  word_shown : (c x : ℕ) (own : Option ℕ) → get me.0.own_words c ≡ own → ((y : ℕ) → Has me.0.own_words c y → y ≡ x) → x ≡ shown (loaded_word me.0 c x) c
+  word_shown c x (Some y) e found = sym (ap (λ (o : Option ℕ). shown (cond (is_some o) me.0 (record me.0 { frozen = insert me.0.frozen c x })) c) e ∙ (ap (λ (o : Option ℕ). unwrap_or o (unwrap_or (get me.0.frozen c) 0)) e ∙ found y e))
+  word_shown c x None e found = sym (ap (λ (o : Option ℕ). shown (cond (is_some o) me.0 (record me.0 { frozen = insert me.0.frozen c x })) c) e
+      ∙ (ap (λ (o : Option ℕ). unwrap_or o (unwrap_or (get (insert me.0.frozen c x) c) 0)) e ∙ ap (λ (o : Option ℕ). unwrap_or o 0) (insert_same me.0.frozen c x)))
+
+  word_same : (c x : ℕ) (b : Bool) → IsSameAgent me.0 (cond b me.0 (record me.0 { frozen = insert me.0.frozen c x }))
+  word_same c x true = (refl, refl, refl)
+  word_same c x false = (refl, refl, refl)
+
+  pub loads_word : (c : ℕ) → MayLoadWord me.0 c → Allows (KeepsHeap key) slots id me (content_at me.0.sizes c) (λ n. n) (LoadedWord (step slots (content_at me.0.sizes c) 0 0 none) me)
+  loads_word c may s (h, b) _ at _ = let z : HeapSize = me.0.sizes in let x : ℕ = get_or s.words (content_at z c) 0 in let v : View = loaded_word me.0 c x in let w : View = learned_all v in
+      let same : z ≡ key.size = sizes_are key.size key.agents s.words s.views h id me.0 at live in let t = word_same c x (contains_key me.0.own_words c) in
+      let kept : IsSound key.size key.agents s.words (set s.views id w) = then_learned s at v (t.1 ∙ live)
+      (subst (λ (y : HeapSize). IsSound key.size key.agents s.words (set s.views id (loaded_word me.0 c (get_or s.words (content_at y c) 0)))) (sym same) (keeps_loaded_word key.size key.agents s.words s.views h id me.0 at live c may)) in
+      let found : (y : ℕ) → Has me.0.own_words c y → y ≡ x = (λ y o. sym (ap (λ (q : HeapSize). get_or s.words (content_at q c) 0) same ∙ ((h.own_words id me.0 at live).each c y o).1)) in (
+        w,
+        keeps,
+        tt,
+        a_load (content_at z c) s w (kept, b),
+        (
+          record { slots = refl; sizes = t.0; live = t.1; share = t.2; possible = after_possible s at s.words w (t.1 ∙ live) kept },
+          known_word key.size key.agents s.words s.views h id me.0 at live c x kept,
+          λ d e. let is : c ≡ d = one_content z c d e in subst (λ (y : ℕ). (w ≡ learned_all (loaded_word me.0 y x)) × (x ≡ shown w y)) is (refl, word_shown c x (get me.0.own_words c) refl found),
+        ),
+      )
+
+  same_anyway : (x g : ℕ) → Dec (x ≡ g) → either (eqb x g) g x ≡ x
+  same_anyway x g (yes e) = ap (λ b. either b g x) (eq-eqb x g e) ∙ sym e
+  same_anyway x g (no ne) = ap (λ b. either b g x) (ne_eqb x g ne)
+
+  -- a compare-exchange from a number to itself changes no word, and tells the number
+  pub notes : (give : ℕ) → Allows (KeepsHeap key) slots id me 0 (λ n. either (eqb n give) give n) (Noted (step slots 0 give give none) me)
+  notes give s (h, b) _ at _ = let x : ℕ = get_or s.words 0 0 in let w : View = noted me.0 give in let kept = keeps_noted key.size key.agents s.words s.views h id me.0 at live give in (
+    w,
+    keeps,
+    tt,
+    subst (λ (y : ℕ). Holds (set s.words 0 y) (set s.views id w)) (sym (same_anyway x give (ℕ_discrete x give))) (a_load 0 s w (kept, b)),
+    (record { slots = refl; sizes = refl; live = refl; share = refl; possible = after_possible s at s.words w live kept }, refl),
+  )
+
+  -- a load that changes no view
+  pub looks : key.agents ≤ 64 → Allows (KeepsHeap key) slots id me 0 (λ n. n) (Looked (step slots 0 0 0 none) me)
+  looks few s (h, b) _ at _ = let same : set s.views id me.0 ≡ s.views = set_same s.views id me.0 at in let kept : IsSound key.size key.agents s.words (set s.views id me.0) = subst (λ (vs : List View). IsSound key.size key.agents s.words vs) (sym same) h in
+      let l = share_within key.size key.agents s.words s.views h id me.0 at live in (
+        me.0,
+        keeps,
+        tt,
+        a_load 0 s me.0 (kept, b),
+        (record { slots = refl; sizes = refl; live = refl; share = refl; possible = after_possible s at s.words me.0 live kept }, refl, omega arith),
+      )
+
+pub joins : (key : HeapKey) (id other : ℕ) (v b : View) → v.live ≡ true → b.live ≡ true → Joins (KeepsHeap key) id v other b (joined v b) spent
+joins key id other v b live live' s (h, built) at ne at' = (
+  keeps_joined key.size key.agents s.words s.views h id other v b (λ e. ne (sym e)) at live (sym (set_else s.views id other (joined v b) ne) ∙ at') live',
+  built,
+)
+
+pub splits : (key : HeapKey) (id : ℕ) (v : View) → v.live ≡ true → 1 ≤ v.giving → v.giving < v.share → Splits (KeepsHeap key) id v (left_after_split v v.giving) (right_after_split v v.giving)
+splits key id v live some_give less s (h, b) at = (keeps_split key.size key.agents s.words s.views h id v at live v.giving some_give less, b)
+
+pub end_small : (z : HeapSize) (k : Counter) → IsLawful z → end_of z k < 2 ^ 29
+end_small z Ids h = h.1
+end_small z Words h = h.3
+
+-- a word that may be loaded lies in the heap
+pub word_within : (v : View) → IsPossible v → (c : ℕ) → MayLoadWord v c → c < v.sizes.words
+word_within v p c may = ⊎_elim (λ (h : HasKey v.own_words c). (possible_within v p).words c h) (λ h. possible_frozen v p c h) may
+
+-- a form that may be born is spelt by a word
+pub born_in_range : (v : View) (i : ℕ) (f : Form) → IsBuilt f → MayBear v i f → IsInRange f
+born_in_range v i (Flat wide start fixed) built may = may.2.0
+born_in_range v i Unborn built may = absurd built
+born_in_range v i (Cons wide left right) built may = absurd built
+born_in_range v i (Sliced wide parent offset) built may = absurd built
+born_in_range v i (Thin target) built may = absurd built
+
+pub counter_small : (z : HeapSize) (k : Counter) → counter_at k < word_count z
+counter_small z Ids = omega arith
+counter_small z Words = omega arith
+
+pub content_small : (z : HeapSize) (c : ℕ) → c < z.words → content_at z c < word_count z
+content_small z c h = omega arith
+
+pub length_small : (z : HeapSize) (i : ℕ) → i < z.ids → length_at z i < word_count z
+length_small z i h = omega arith
+
+pub form_small : (z : HeapSize) (i : ℕ) → i < z.ids → form_at z i < word_count z
+form_small z i h = omega arith
+
+-- an agent belongs to its heap after a step of its seat
+pub belongs_then : (h : Heap) (a b : Agent) → Belongs a h → b.share ≡ a.share → b.seat.table_id ≡ a.seat.table_id → Stays a.seat.me b.seat.me → Belongs b h
+belongs_then h a b g n t s = (t ∙ g.0, s.sizes ∙ g.1, s.live ∙ g.2, s.slots ∙ g.3, s.share ∙ (g.4 ∙ sym n), s.possible)

@@ -1,0 +1,2 @@
+pub mod Stay
+pub mod Keeps

@@ -1,0 +1,146 @@
+-- What stays as it is over a step: the forms whose births are built, and what the agent knew.
+use Rattle.std.proofs.Common.{◌≡◌, ◌≢◌, ℕ, zero, suc, ◌^◌, ◌<◌, ⊎_elim, Bool, true, false, cond, List, [], ◌∷◌, length, get_or, set, sym, refl, ap, ◌∙◌, subst, arith, get_or-set_other, get_or-set_same, Option, Some, None}
+use Rattle.std.specs.Prelude.{replicate, unwrap_or}
+use mathlib.Core.Logic.{dite}
+use native.Mathlib.Decide.{ℕ_discrete}
+use Rattle.std.specs.FinMap.{FinMap, get, insert, contains_key, entries}
+use Rattle.std.specs.Ordering.{nat_cmp}
+use Rattle.js_header.specs.Form.{form_of, word_of}
+use Rattle.js_header.specs.declared.form.Form.{Form}
+use Rattle.js_header.specs.declared.form.Form.TheVariants.{Unborn, Flat, Cons, Sliced, Thin}
+use Rattle.js_header.proofs.RoundTrip.{form_of-word_of}
+use Rattle.heap_core.specs.declared.view.View.{View}
+use Rattle.heap_core.specs.declared.size.HeapSize.{HeapSize}
+use Rattle.heap_core.specs.Layout.{form_at, form, length_word, word_count, IsBorn}
+use Rattle.heap_core.specs.Maps.{Has, HasKey}
+use Rattle.heap_core.specs.Forms.{IsCons, IsLater}
+use Rattle.heap_core.specs.Learning.{justified, learn_one, learn_into, learned_all, all_named}
+use Rattle.heap_core.specs.Loads.{with_form, added_loads, loaded_form, loaded_length, loaded_word}
+use Rattle.heap_core.specs.Births.{born, units_for}
+use Rattle.heap_core.specs.Events.{IsBuilt}
+use Rattle.heap_core.specs.Sound.{At, IsSound}
+use Rattle.heap_core.proofs.MapLemmas.{insert_same, insert_other, has_key, key_of}
+use Rattle.heap_core.proofs.ListLemmas.{set_there}
+use Rattle.heap_table.specs.Known.{KeepsKnown}
+use Rattle.heap_table.specs.Rule.{AreBuilt}
+
+-- another word than a form's changed
+pub built_else : (z : HeapSize) (W : List ℕ) (p n : ℕ) → ((i : ℕ) → i < z.ids → form_at z i ≡ p → ⊥) → AreBuilt z W → AreBuilt z (set W p n)
+built_else z W p n ne b i f born e = let same : form z (set W p n) i ≡ form z W i = get_or-set_other W p (form_at z i) n 0 (λ e'. ne i born.0 (omega arith)) in
+    b i f (born.0, λ e'. born.1 (same ∙ e')) (ap form_of (sym same) ∙ e)
+
+-- a Flat was born
+pub built_born : (z : HeapSize) (W : List ℕ) (i : ℕ) (wide : Bool) (start : ℕ) (fixed : Bool) → start < 2 ^ 29 → length W ≡ word_count z → AreBuilt z W → AreBuilt z (set W (form_at z i) (word_of (Flat wide start fixed)))
+built_born z W i wide start fixed small long b k f born e = let g : Form = Flat wide start fixed in let W' : List ℕ = set W (form_at z i) (word_of g) in dite (ℕ_discrete k i)
+    (λ (is : k ≡ i). let l = born.0 in let word : form z W' k ≡ word_of g = ap (form z W') is ∙ get_or-set_same W (form_at z i) (word_of g) 0 (omega arith) in
+    let same : Some g ≡ Some f = sym (form_of-word_of g small) ∙ (ap form_of (sym word) ∙ e) in let alike : g ≡ f = cc in subst IsBuilt alike tt)
+    (λ ne. let same : form z W' k ≡ form z W k = get_or-set_other W (form_at z i) (form_at z k) (word_of g) 0 (λ e'. ne (omega arith)) in
+    b k f (born.0, λ e'. born.1 (same ∙ e')) (ap form_of (sym same) ∙ e))
+
+abbrev zeros_of : ℕ → List ℕ
+zeros_of n = replicate n 0
+
+all_zero : (n i : ℕ) → get_or (zeros_of n) i 0 ≡ 0
+all_zero zero i = refl
+all_zero (suc n) zero = refl
+all_zero (suc n) (suc i) = all_zero n i
+
+-- nothing is born in a new heap
+pub built_zeros : (z : HeapSize) → AreBuilt z (zeros_of (word_count z))
+built_zeros z i f born e = absurd (born.1 (all_zero (word_count z) (form_at z i)))
+
+-- learning takes no pair away
+key_learned : (f : ℕ → Option (List ℕ)) (m : FinMap nat_cmp (List ℕ)) (i : ℕ) (o : Option (List ℕ)) (q : ℕ) → HasKey m q → HasKey (learn_one m i o) q
+key_learned f m i None q h = h
+key_learned f m i (Some us) q h = dite (ℕ_discrete q i)
+    (λ e. key_of (insert m i us) q us (ap (get (insert m i us)) e ∙ insert_same m i us))
+    (λ ne. let p = has_key m q h in key_of (insert m i us) q p.0 (insert_other m i q us ne ∙ p.1))
+
+keys_learned : (f : ℕ → Option (List ℕ)) (names : List ℕ) (m : FinMap nat_cmp (List ℕ)) (q : ℕ) → HasKey m q → HasKey (learn_into f m names) q
+keys_learned f [] m q h = h
+keys_learned f (i ∷ names) m q h = keys_learned f names (learn_one m i (f i)) q (key_learned f m i (f i) q h)
+
+-- a form that is built is no Cons
+not_cons : (f : Form) → IsBuilt f → IsCons f → ⊥
+not_cons (Flat wide start fixed) b c = c
+not_cons Unborn b c = b
+not_cons (Cons wide left right) b c = b
+not_cons (Sliced wide parent offset) b c = b
+not_cons (Thin target) b c = b
+
+-- where a Flat was seen, no other form stands that is built
+flat_stands : (wide : Bool) (start : ℕ) (fixed : Bool) (now : Form) → IsBuilt now → IsLater (Flat wide start fixed) now → ⊥
+flat_stands wide start false Unborn b l = b
+flat_stands wide start false (Flat w s true) b l = absurd (cc)
+flat_stands wide start false (Flat w s false) b l = absurd (cc)
+flat_stands wide start false (Cons w s p) b l = b
+flat_stands wide start false (Sliced w s p) b l = b
+flat_stands wide start false (Thin t) b l = b
+flat_stands wide start true now b l = absurd (cc)
+
+module _ (z : HeapSize) (agents : ℕ) (W : List ℕ) (vs : List View) (s : IsSound z agents W vs) (j : ℕ) (v : View) (at : At vs j v) (live : v.live ≡ true) where
+  -- what two sound views of the same words say of an id's units agrees
+  units_stay : (w : View) → w.live ≡ true → IsSound z agents W (set vs j w) → ((q : ℕ) → HasKey v.units q → HasKey w.units q) → (i : ℕ) (us : List ℕ) → Has v.units i us → Has w.units i us
+  units_stay w l kept keys i us h = let p = has_key w.units i (keys i (key_of v.units i us h)) in let a = ((s.knows j v at live).of_units i us h).1 in
+      let b = ((kept.knows j w (set_there vs j w v at) l).of_units i p.0 p.1).1 in p.1 ∙ ap Some (sym b ∙ a)
+
+  with_learned : (m : FinMap nat_cmp (List ℕ)) (f : ℕ → Option (List ℕ)) (names : List ℕ) → m ≡ v.units → (q : ℕ) → HasKey v.units q → HasKey (learn_into f m names) q
+  with_learned m f names e q h = keys_learned f names m q (subst (λ (y : FinMap nat_cmp (List ℕ)). HasKey y q) (sym e) h)
+
+  -- what was known stays known where a load of the word x, which spells the form f, learns
+  known_form_by : (i : ℕ) (o : Option Form) (f : Form) (n : ℕ) → o ≡ Some f → form_of (form z W i) ≡ Some f → IsBuilt f
+      → IsSound z agents W (set vs j (learned_all (record (with_form v i o) { form_loads = n }))) → KeepsKnown v (learned_all (record (with_form v i o) { form_loads = n }))
+  known_form_by i None f n spelt found built kept = absurd (cc)
+  known_form_by i (Some g) f n spelt found built kept = let w : View = record (with_form v i (Some g)) { form_loads = n } in let is : g ≡ f = cc in let built' : IsBuilt g = subst IsBuilt (sym is) built in record {
+    units = units_stay (learned_all w) live kept (with_learned v.units (justified w) (all_named (entries w.forms)) refl);
+    lengths = λ q m h. h;
+    flats = λ q wide start fixed h. dite (ℕ_discrete q i)
+        (λ (e : q ≡ i). let k = (s.knows j v at live).of_forms q (Flat wide start fixed) h in let now : k.now ≡ g = (let d : Some k.now ≡ Some f = sym k.decodes ∙ (ap (λ (y : ℕ). form_of (form z W y)) e ∙ found) in cc) in
+        let same : Flat wide start fixed ≡ g = ⊎_elim (λ (y : Flat wide start fixed ≡ k.now). y ∙ now) (λ (y : IsLater (Flat wide start fixed) k.now). absurd (flat_stands wide start fixed g built' (subst (IsLater (Flat wide start fixed)) now y))) k.later in
+        ap (get (insert v.forms i g)) e ∙ (insert_same v.forms i g ∙ ap Some (sym same)))
+        (λ ne. insert_other v.forms i q g ne ∙ h);
+    settled = λ q h. dite (ℕ_discrete q i)
+        (λ (e : q ≡ i). (g, ap (get (insert v.forms i g)) e ∙ insert_same v.forms i g, not_cons g built'))
+        (λ ne. (h.0, insert_other v.forms i q g ne ∙ h.1, h.2));
+  }
+
+  pub known_form : (i x : ℕ) (f : Form) → form_of x ≡ Some f → form_of (form z W i) ≡ Some f → IsBuilt f → IsSound z agents W (set vs j (learned_all (loaded_form v i x))) → KeepsKnown v (learned_all (loaded_form v i x))
+  known_form i x f spelt found built kept = known_form_by i (form_of x) f (added_loads v.form_loads 1) spelt found built kept
+
+  pub known_length : (i x : ℕ) → length_word z W i ≡ x → IsSound z agents W (set vs j (learned_all (loaded_length v i x))) → KeepsKnown v (learned_all (loaded_length v i x))
+  known_length i x is kept = let w : View = loaded_length v i x in record {
+    units = units_stay (learned_all w) live kept (with_learned v.units (justified w) (all_named (entries w.forms)) refl);
+    lengths = λ q n h. dite (ℕ_discrete q i)
+        (λ (e : q ≡ i). let n_is : n ≡ x = sym ((s.knows j v at live).of_lengths q n h).1 ∙ (ap (length_word z W) e ∙ is) in ap (get (insert v.lengths i x)) e ∙ (insert_same v.lengths i x ∙ ap Some (sym n_is)))
+        (λ ne. insert_other v.lengths i q x ne ∙ h);
+    flats = λ q wide start fixed h. h;
+    settled = λ q h. h;
+  }
+
+  known_word_by : (b : Bool) (c x : ℕ) → IsSound z agents W (set vs j (learned_all (cond b v (record v { frozen = insert v.frozen c x })))) → KeepsKnown v (learned_all (cond b v (record v { frozen = insert v.frozen c x })))
+  known_word_by true c x kept = record {
+    units = units_stay (learned_all v) live kept (with_learned v.units (justified v) (all_named (entries v.forms)) refl);
+    lengths = λ q n h. h;
+    flats = λ q wide start fixed h. h;
+    settled = λ q h. h;
+  }
+  known_word_by false c x kept = let w : View = record v { frozen = insert v.frozen c x } in record {
+    units = units_stay (learned_all w) live kept (with_learned v.units (justified w) (all_named (entries w.forms)) refl);
+    lengths = λ q n h. h;
+    flats = λ q wide start fixed h. h;
+    settled = λ q h. h;
+  }
+
+  pub known_word : (c x : ℕ) → IsSound z agents W (set vs j (learned_all (loaded_word v c x))) → KeepsKnown v (learned_all (loaded_word v c x))
+  known_word c x kept = known_word_by (contains_key v.own_words c) c x kept
+
+  -- an id that is born was no known one
+  pub known_birth : (i : ℕ) (wide : Bool) (start : ℕ) (fixed : Bool) → HasKey v.own_ids i → KeepsKnown v (born v i (Flat wide start fixed))
+  known_birth i wide start fixed own = let f : Form = Flat wide start fixed in let p = has_key v.own_ids i own in let k = s.knows j v at live in
+      let unborn : IsBorn z W i → ⊥ = (λ b. b.1 ((s.own_ids j v at live).each i p.0 p.1).1) in
+      let other : (q : ℕ) → IsBorn z W q → q ≢ i = (λ q b e. unborn (subst (IsBorn z W) e b)) in record {
+        units = λ q us h. insert_other v.units i q (units_for v (unwrap_or (get v.own_ids i) 0) f) (other q (k.of_units q us h).0) ∙ h;
+        lengths = λ q n h. insert_other v.lengths i q (unwrap_or (get v.own_ids i) 0) (other q (k.of_lengths q n h).0) ∙ h;
+        flats = λ q b t x h. insert_other v.forms i q f (other q (k.of_forms q (Flat b t x) h).born) ∙ h;
+        settled = λ q h. (h.0, insert_other v.forms i q f (other q (k.of_forms q h.0 h.1).born) ∙ h.1, h.2);
+      }

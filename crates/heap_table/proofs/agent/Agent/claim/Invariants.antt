@@ -1,0 +1,11 @@
+use Rattle.std.proofs.Common.{◌≡◌, ◌-◌}
+use Rattle.heap_core.specs.Claims.{loaded_counter}
+use Rattle.heap_table.specs.Agents.{Belongs, view_of}
+use Rattle.heap_table.specs.Plays.{FoundCounter}
+use Rattle.heap_table.proofs.agent.Agent.claim.Given as goal
+
+abbrev pub invariant-tries : goal.invariant-tries
+invariant-tries l = (view_of l.self ≡ loaded_counter (view_of l.fn.self) l.counter l.at) × Belongs l.self l.heap × FoundCounter (view_of l.fn.self) l.counter l.at
+
+abbrev pub decreases-tries : goal.decreases-tries
+decreases-tries l = l.end - l.at

@@ -1,0 +1,6 @@
+-- A counter that has no room for what is wanted: its end lies below the number read plus the want.
+use Rattle.std.specs.Prelude.{◌≡◌, ℕ, ◌+◌, ◌<◌}
+use Rattle.heap_table.specs.declared.claims.CounterFull.{CounterFull}
+
+abbrev pub IsFull : CounterFull → ℕ → ℕ → Type 0
+IsFull f want end = (f.want ≡ want) × (f.end ≡ end) × (end < f.at + want)

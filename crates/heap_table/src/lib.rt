@@ -1,0 +1,23 @@
+//! The heap as threads run it: all its words lie in one table of atomic words, and each call of
+//! an [`Agent`] is one step of the machine of `heap_core` (a claim is a list of such steps).
+//!
+//! A [`Heap`] is shared by reference among threads; an [`Agent`] belongs to one heap and is moved
+//! to the thread that uses it. No call takes a lock or waits, and only [`Heap::make`] takes
+//! memory. What an agent knows, its view, exists for the proofs alone.
+#![tactic(auto)]
+
+mod agent;
+mod claims;
+mod heap;
+mod loads;
+mod rule;
+mod stores;
+
+pub use agent::Agent;
+pub use claims::CounterFull;
+pub use heap::{Heap, MakeFault};
+pub use rule::{HeapKey, HeapRule};
+pub use stores::Step;
+
+#[cfg(test)]
+mod tests;

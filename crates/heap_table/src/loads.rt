@@ -1,0 +1,65 @@
+// Loads of headers and content words. Each also learns every pair that the view's new data
+// justify, which takes nothing at run time.
+ghost use Rattle.std.specs.Prelude.{◌≡◌, ℕ, ◌+◌, ◌*◌, ◌≤◌, ◌<◌, ◌^◌, Some};
+ghost use Rattle.heap_core.specs.Events.{IsBuilt};
+ghost use Rattle.heap_core.specs.Views.{IsKnown, shown};
+ghost use Rattle.heap_core.specs.Layout.{MAX};
+ghost use Rattle.heap_core.specs.Loads.{MayLoadWord, loaded_form, loaded_length, loaded_word};
+ghost use Rattle.heap_core.specs.Learning.{learned_all};
+ghost use Rattle.js_header.specs.Form.{form_of};
+ghost use Rattle.heap_table.specs.Agents.{Belongs, view_of};
+ghost use Rattle.heap_table.specs.Known.{KeepsKnown};
+
+use crate::agent::Agent;
+use crate::heap::Heap;
+use crate::rule::{LoadsForm, LoadsLength, LoadsWord};
+use js_header::{Form, decode};
+
+impl Agent {
+    /// The form of a known id, as it is at this moment.
+    pub fn load_form(&mut self, heap: &Heap, id: u32) -> Form
+        requires belongs { Belongs self.old heap.now }
+        requires known { IsKnown (view_of self.old) id }
+        ensures belongs { Belongs self.new heap.now }
+        ensures known { KeepsKnown (view_of self.old) (view_of self.new) }
+        ensures view { (word : ℕ) × (form_of word ≡ Some result) × (view_of self.new ≡ learned_all (loaded_form (view_of self.old) id word)) }
+        ensures built { IsBuilt result }
+    {
+        let word = heap
+            .table
+            .shared
+            .load::<LoadsForm>(&mut self.seat, heap.size.form_place(id));
+        match decode(word) {
+            Some(form) => form,
+            None => unreachable!(),
+        }
+    }
+
+    /// The length of a known id, in units.
+    pub fn load_length(&mut self, heap: &Heap, id: u32) -> u32
+        requires belongs { Belongs self.old heap.now }
+        requires known { IsKnown (view_of self.old) id }
+        ensures belongs { Belongs self.new heap.now }
+        ensures known { KeepsKnown (view_of self.old) (view_of self.new) }
+        ensures view { view_of self.new ≡ learned_all (loaded_length (view_of self.old) id result) }
+        ensures short { result ≤ MAX }
+    {
+        heap.table
+            .shared
+            .load::<LoadsLength>(&mut self.seat, heap.size.length_place(id)) as u32
+    }
+
+    /// A content word that is the agent's own or known to be frozen.
+    pub fn load_word(&mut self, heap: &Heap, at: u32) -> u64
+        requires belongs { Belongs self.old heap.now }
+        requires may { MayLoadWord (view_of self.old) at }
+        ensures belongs { Belongs self.new heap.now }
+        ensures known { KeepsKnown (view_of self.old) (view_of self.new) }
+        ensures view { view_of self.new ≡ learned_all (loaded_word (view_of self.old) at result) }
+        ensures shown { result ≡ shown (view_of self.new) at }
+    {
+        heap.table
+            .shared
+            .load::<LoadsWord>(&mut self.seat, heap.size.content_place(at))
+    }
+}

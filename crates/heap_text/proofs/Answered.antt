@@ -1,0 +1,54 @@
+-- The units of what joining and cutting answer.
+use Rattle.std.proofs.Common.{◌≡◌, ℕ, ◌+◌, ◌-◌, ◌≤◌, ⊎_elim, ◌⊎◌, inl, inr, false, List, [], ◌∷◌, ◌++◌, append-nil, length, sym, refl, ap, ◌∙◌, subst, arith}
+use Rattle.std.specs.Prelude.{Result, Ok, Err, IfOk}
+use Rattle.std.proofs.lemmas.List.{take_all}
+use mathlib.Core.Logic.{dite}
+use native.Mathlib.Decide.{ℕ_discrete, dec_le}
+use Rattle.js_header.specs.declared.form.Form.TheVariants.{Flat}
+use Rattle.heap_core.specs.declared.size.HeapSize.{HeapSize}
+use Rattle.heap_core.specs.declared.view.View.{View}
+use Rattle.heap_core.specs.Births.{part}
+use Rattle.heap_core.specs.Layout.{MAX}
+use Rattle.heap_core.specs.Maps.{Has}
+use Rattle.heap_core.specs.Views.{IsSettled}
+use Rattle.heap_text.specs.declared.faults.TextFull.{TextFull}
+use Rattle.heap_text.specs.declared.string.JsStr.{JsStr}
+use Rattle.heap_text.specs.Joins.{IsCopy, IsCut, IsJoined, IsRefused}
+use Rattle.heap_text.specs.Texts.{is_wide}
+
+module _ (v w : View) (z : HeapSize) where
+  pub joined_units : (a b t : JsStr) (us vs : List ℕ) → IsJoined v w z a b us vs (Ok t) → Has w.units a.id us → Has w.units b.id vs → Has w.units t.id (us ++ vs)
+  joined_units a b t [] vs h k l = let e = h.left_empty refl in let is : t ≡ b = (let same : t ≡ e.0 = (let o = e.1 in cc) in same ∙ e.2.0) in subst (λ (x : JsStr). Has w.units x.id vs) (sym is) l
+  joined_units a b t (x ∷ us) [] h k l = let e = h.right_empty (omega arith) refl in let is : t ≡ a = (let same : t ≡ e.0 = (let o = e.1 in cc) in same ∙ e.2.0) in
+      subst (λ (y : JsStr). Has w.units y.id ((x ∷ us) ++ [])) (sym is) (subst (Has w.units a.id) (sym (append-nil (x ∷ us))) k)
+  joined_units a b t (x ∷ us) (y ∷ vs) h k l = dite (dec_le (length (x ∷ us) + length (y ∷ vs)) MAX)
+      (λ m. ⊎_elim
+      (λ (c : (s : JsStr) × (Ok t ≡ Ok s) × IsCopy v w s ((x ∷ us) ++ y ∷ vs)). let same : t ≡ c.0 = (let o = c.1 in cc) in subst (λ (q : JsStr). Has w.units q.id ((x ∷ us) ++ y ∷ vs)) (sym same) c.2.0)
+      (λ c. let o = c.1 in absurd (cc))
+      (h.both (omega arith) (omega arith) m))
+      (λ m. let o = (h.long (omega arith)).0 in absurd (cc))
+
+  other_units : (s t : JsStr) (from to : ℕ) (us : List ℕ) (r : Result JsStr TextFull) → r ≡ Ok t → ((x : JsStr) × (r ≡ Ok x) × IsCopy v w x (part from (to - from) us)) ⊎ ((f : TextFull) × (r ≡ Err f) × IsRefused v w z (part from (to - from) us) f)
+      → Has w.units t.id (part from (to - from) us) × IsSettled w t.id
+  other_units s t from to us r is h = ⊎_elim
+      (λ (c : (x : JsStr) × (r ≡ Ok x) × IsCopy v w x (part from (to - from) us)). let same : t ≡ c.0 = (let o : Ok t ≡ Ok c.0 = sym is ∙ c.1 in cc) in
+      subst (λ (y : JsStr). Has w.units y.id (part from (to - from) us) × IsSettled w y.id) (sym same) (c.2.0, (Flat (is_wide (part from (to - from) us)) c.2.1.0 false, c.2.1.1, λ x. x)))
+      (λ (c : (f : TextFull) × (r ≡ Err f) × IsRefused v w z (part from (to - from) us) f). let o : Ok t ≡ Err c.0 = sym is ∙ c.1 in absurd (cc)) h
+
+  pub cut_units : (s t : JsStr) (from to : ℕ) (us : List ℕ) → IsCut v w z s from to us (Ok t) → Has w.units s.id us → IsSettled w s.id → from ≤ to → to ≤ length us → Has w.units t.id (part from (to - from) us) × IsSettled w t.id
+  cut_units s t from to us h k settled l m = dite (ℕ_discrete from 0)
+      (λ (e : from ≡ 0). dite (ℕ_discrete to (length us))
+      (λ f. let g = h.whole e f in let is : t ≡ s = (let same : t ≡ g.0 = (let o = g.1 in cc) in same ∙ g.2.0) in
+      let all : part from (to - from) us ≡ us = (let n : length us ≤ to - from = omega arith in ap (λ (o : ℕ). part o (to - from) us) e ∙ take_all (to - from) us n) in
+      subst (λ (y : JsStr). Has w.units y.id (part from (to - from) us) × IsSettled w y.id) (sym is) (subst (Has w.units s.id) (sym all) k, settled))
+      (λ ne. other_units s t from to us (Ok t) refl (h.other (inr (omega arith)))))
+      (λ ne. other_units s t from to us (Ok t) refl (h.other (inl (omega arith))))
+
+  pub cut_all : (s : JsStr) (from to : ℕ) (r : Result JsStr TextFull) → ((us : List ℕ) → Has v.units s.id us → IsCut v w z s from to us r × Has w.units s.id us × (from ≤ to) × (to ≤ length us)) → IsSettled w s.id
+      → IfOk r (λ t. (us : List ℕ) → Has v.units s.id us → Has w.units t.id (part from (to - from) us))
+  cut_all s from to (Ok t) f settled = λ us h. let q = f us h in (cut_units s t from to us q.0 q.1 settled q.2 q.3).0
+  cut_all s from to (Err e) f settled = tt
+
+  pub cut_settled : (s : JsStr) (from to : ℕ) (us : List ℕ) (r : Result JsStr TextFull) → IsCut v w z s from to us r → Has w.units s.id us → from ≤ to → to ≤ length us → IsSettled w s.id → IfOk r (λ t. IsSettled w t.id)
+  cut_settled s from to us (Ok t) c h l m settled = (cut_units s t from to us c h settled l m).1
+  cut_settled s from to us (Err e) c h l m settled = tt

@@ -1,0 +1,77 @@
+-- What a window shows.
+use Rattle.std.proofs.Common.{◌≡◌, ℕ, ◌+◌, ◌/◌, ◌^◌, ◌<◌, ◌≤◌, ◌⊎◌, inl, inr, Bool, true, false, List, length, drop, get_or, sym, ap, ◌∙◌, subst, arith, Option, Some, None}
+use Rattle.std.proofs.lemmas.List.{get_or-drop, get_or-take, length-drop, length-take-le}
+use Rattle.js_units.specs.Lanes.{lane_count, words_over}
+use Rattle.heap_core.specs.declared.view.View.{View}
+use Rattle.heap_core.specs.Contents.{lane_in}
+use Rattle.heap_core.specs.Maps.{Has, HasKey}
+use Rattle.heap_core.specs.Views.{IsFrozen, shown}
+use Rattle.heap_core.specs.Loads.{added_loads, loaded_form, with_form}
+use Rattle.heap_core.specs.Learning.{learned_all}
+use Rattle.heap_core.specs.Births.{part}
+use Rattle.heap_core.proofs.MapLemmas.{insert_same}
+use Rattle.js_header.specs.Form.{form_of}
+use Rattle.js_header.specs.declared.form.Form.{Form}
+use Rattle.heap_core.specs.Sound.{IsPossible}
+use Rattle.heap_core.proofs.Possible.{possible_frozen, possible_lane, possible_lawful}
+use Rattle.heap_table.specs.Known.{KeepsKnown}
+use Rattle.heap_text.specs.declared.string.Window.{Window}
+use Rattle.heap_text.specs.Windows.{IsFrozenWindow, IsWindow}
+
+more_words : (wide : Bool) (n m : ℕ) → n ≤ m → words_over wide n ≤ words_over wide m
+more_words true n m l = omega arith
+more_words false n m l = omega arith
+
+-- its words are known to be frozen
+pub window_frozen : (v : View) (w : Window) (us : List ℕ) → IsWindow v w us → IsFrozenWindow v w
+window_frozen v w us k c lo hi = let m = more_words w.wide (w.offset + w.len) (length k.whole) k.within in inr (k.id, w.wide, w.start, k.fixed, length k.whole, k.form, inl k.length_known, lo, omega arith)
+
+pub window_kept : (v u : View) (w : Window) (us : List ℕ) → KeepsKnown v u → IsWindow v w us → IsWindow u w us
+window_kept v u w us k h = record {
+  id = h.id;
+  fixed = h.fixed;
+  whole = h.whole;
+  form = k.flats h.id w.wide w.start h.fixed h.form;
+  known = k.units h.id h.whole h.known;
+  length_known = k.lengths h.id (length h.whole) h.length_known;
+  within = h.within;
+  shows = h.shows;
+}
+
+pub window_length : (v : View) (w : Window) (us : List ℕ) → IsWindow v w us → length us ≡ w.len
+window_length v w us h = let l = h.within in let d = length-drop w.offset h.whole in ap length h.shows ∙ length-take-le w.len (drop w.offset h.whole) (omega arith)
+
+pub part_unit : (o n i : ℕ) (us : List ℕ) → i < n → get_or (part o n us) i 0 ≡ get_or us (o + i) 0
+part_unit o n i us l = get_or-take n (drop o us) i 0 l ∙ get_or-drop o us i 0
+
+-- a lane of a word that the view has shows its unit
+pub window_unit : (v : View) (w : Window) (us : List ℕ) (i : ℕ) → IsPossible v → IsWindow v w us → i < w.len
+    → HasKey v.own_words (w.start + (w.offset + i) / lane_count w.wide) ⊎ HasKey v.frozen (w.start + (w.offset + i) / lane_count w.wide) → lane_in (shown v) w.wide w.start (w.offset + i) ≡ get_or us i 0
+window_unit v w us i p h l has = let m = h.within in possible_lane v p h.id w.wide w.start h.fixed h.whole (w.offset + i) h.form h.known (omega arith) has
+    ∙ (sym (part_unit w.offset w.len i h.whole l) ∙ ap (λ (xs : List ℕ). get_or xs i 0) (sym h.shows))
+
+in_span : (wide : Bool) (start o n : ℕ) → o < n → start + o / lane_count wide < start + words_over wide n
+in_span true start o n l = omega arith
+in_span false start o n l = omega arith
+
+place_by : (wide : Bool) (start o : ℕ) → start + o / lane_count wide < 2 ^ 29 → o < 2 ^ 32
+place_by true start o l = omega arith
+place_by false start o l = omega arith
+
+-- the word of a unit lies in the heap, and its lane is a number of 32 bits
+pub place_frozen : (v : View) (w : Window) (i : ℕ) → IsFrozenWindow v w → i < w.len → IsFrozen v (w.start + (w.offset + i) / lane_count w.wide)
+place_frozen v w i h l = h (w.start + (w.offset + i) / lane_count w.wide) (omega arith) (in_span w.wide w.start (w.offset + i) (w.offset + w.len) (omega arith))
+
+pub word_small : (v : View) (w : Window) (i : ℕ) → IsPossible v → IsFrozenWindow v w → i < w.len → w.start + (w.offset + i) / lane_count w.wide < 2 ^ 29
+word_small v w i p h l = let a = possible_frozen v p (w.start + (w.offset + i) / lane_count w.wide) (place_frozen v w i h l) in let b = (possible_lawful v p).3 in omega arith
+
+pub place_small : (v : View) (w : Window) (i : ℕ) → IsPossible v → IsFrozenWindow v w → i < w.len → w.offset + i < 2 ^ 32
+place_small v w i p h l = place_by w.wide w.start (w.offset + i) (word_small v w i p h l)
+
+-- the form that was loaded is the one that the view has
+form_by : (v : View) (i n : ℕ) (o : Option Form) (f : Form) → o ≡ Some f → Has (learned_all (record (with_form v i o) { form_loads = n })).forms i f
+form_by v i n None f e = absurd (cc)
+form_by v i n (Some g) f e = insert_same v.forms i g ∙ e
+
+pub form_there : (v w : View) (i x : ℕ) (f : Form) → form_of x ≡ Some f → w ≡ learned_all (loaded_form v i x) → Has w.forms i f
+form_there v w i x f spelt e = subst (λ (u : View). Has u.forms i f) (sym e) (form_by v i (added_loads v.form_loads 1) (form_of x) f spelt)

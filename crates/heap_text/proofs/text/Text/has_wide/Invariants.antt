@@ -1,0 +1,15 @@
+use Rattle.std.proofs.Common.{◌≡◌, ◌<◌, ◌≤◌, ℕ, get_or}
+use Rattle.heap_table.specs.Agents.{Belongs, view_of}
+use Rattle.heap_text.specs.Sources.{Shows, listed}
+use Rattle.heap_text.specs.Texts.{Reads}
+use Rattle.heap_text.proofs.text.Text.has_wide.Given as goal
+
+abbrev pub invariant-loop-i : goal.invariant-loop-i
+invariant-loop-i l = record {
+  text : Belongs l.self.agent l.self.heap.now;
+  heap : l.self.heap ≡ l.fn.self.heap;
+  reads : Reads (view_of l.fn.self.agent) (view_of l.self.agent);
+  shows : Shows (view_of l.self.agent) l.source;
+  same : listed (view_of l.self.agent) l.source ≡ listed (view_of l.fn.self.agent) l.source;
+  narrow : (q : ℕ) → q < l.i → get_or (listed (view_of l.fn.self.agent) l.source) q 0 ≤ 255;
+}

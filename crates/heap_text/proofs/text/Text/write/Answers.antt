@@ -1,0 +1,44 @@
+use Rattle.std.proofs.Common.{◌≡◌, ◌+◌, ◌∙◌, ℕ, List, suc, refl, ap, subst, sym, arith}
+use Rattle.std.specs.FinMap.{FinMap}
+use Rattle.std.specs.Ordering.{nat_cmp}
+use Rattle.heap_core.specs.declared.view.View.{View}
+use Rattle.heap_core.specs.declared.size.Counters.{Counters}
+use Rattle.heap_core.specs.Maps.{Has, HasKey}
+use Rattle.heap_table.specs.Known.{KeepsKnown}
+use Rattle.heap_text.specs.Sources.{listed}
+use Rattle.heap_text.specs.Texts.{Continues}
+use Rattle.heap_text.specs.Written.{AreWords, IsWordOf}
+use Rattle.heap_text.proofs.Going.{continues_reads, continues_stored, continues_trans, continues_words, key_kept, known_stored, known_words, run_keys, words_stored}
+use Rattle.heap_text.proofs.Listing.{listed_same, shows_kept}
+use Rattle.heap_text.proofs.text.Text.write.Goals as goal
+
+pub loop-at-init : goal.loop-at-init
+loop-at-init c = let v : View = c.args.self.now.agent.seat.me.0 in let w : View = c.claim_words.new.self.seat.me.0 in let start = c.in_ok-start.start in let want = c.words_for-want.result in let e = c.in_ok-start.ensures in
+    let known : KeepsKnown v w = subst (KeepsKnown v) (sym e.view) (known_words v start want) in record {
+      text = e.belongs;
+      heap = refl;
+      continues = continues_words v w start want e.view e.low;
+      shows = shows_kept v w c.args.source.now known c.requires.shows;
+      same = listed_same v w c.args.source.now known c.requires.shows;
+      ids = ap (λ (x : View). x.used.ids) e.view;
+      words = ap (λ (x : View). x.used.words) e.view;
+      own = λ q l. subst (λ (x : View). HasKey x.own_words (start + q)) (sym e.view) (run_keys v.own_words start want q 0 l);
+      done = record { each = λ q l. absurd (omega arith) };
+    }
+
+pub loop-at-preserved : goal.loop-at-preserved
+loop-at-preserved c = let v : View = c.args.self.now.agent.seat.me.0 in let u : View = c.loop-at.self.agent.seat.me.0 in let p : View = c.pack-word.new.self.agent.seat.me.0 in let w : View = c.store_word.new.self.seat.me.0 in
+    let i = c.loop-at.invariant in let e = c.pack-word.ensures in let f = c.store_word.ensures in let start = c.in_ok-start.start in let at = c.loop-at.at in let word = c.pack-word.result in
+    let us : List ℕ = listed v c.args.source.now in let known : KeepsKnown p w = subst (KeepsKnown p) (sym f.view) (known_stored p (start + at) word) in
+    let done : AreWords p c.args.wide start us at = record { each = λ q l. let t = i.done.each q l in (t.0, subst (λ (m : FinMap nat_cmp ℕ). Has m (start + q) t.0) (sym e.reads.own_words) t.1, t.2) } in
+    let next : suc at ≡ at + 1 = omega arith in let is : IsWordOf c.args.wide us at word = subst (λ (xs : List ℕ). IsWordOf c.args.wide xs at word) i.same e.word in record {
+      text = f.belongs;
+      heap = e.heap ∙ i.heap;
+      continues = continues_trans v u w i.continues (continues_trans u p w (continues_reads u p e.reads) (subst (Continues p) (sym f.view) (continues_stored p (start + at) word)));
+      shows = shows_kept p w c.args.source.now known e.shows;
+      same = listed_same p w c.args.source.now known e.shows ∙ (e.listed ∙ i.same);
+      ids = ap (λ (x : View). x.used.ids) f.view ∙ (ap (λ (n : Counters). n.ids) e.reads.used ∙ i.ids);
+      words = ap (λ (x : View). x.used.words) f.view ∙ (ap (λ (n : Counters). n.words) e.reads.used ∙ i.words);
+      own = λ q l. subst (λ (x : View). HasKey x.own_words (start + q)) (sym f.view) (key_kept p.own_words (start + at) (start + q) word (subst (λ (m : FinMap nat_cmp ℕ). HasKey m (start + q)) (sym e.reads.own_words) (i.own q l)));
+      done = subst (λ (d : ℕ). AreWords w c.args.wide start us d) next (subst (λ (x : View). AreWords x c.args.wide start us (suc at)) (sym f.view) (words_stored p c.args.wide start at word us done is));
+    }

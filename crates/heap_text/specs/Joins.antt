@@ -1,0 +1,42 @@
+-- What joining two strings and cutting one answer.
+use Rattle.std.specs.Prelude.{◌≡◌, ℕ, ◌+◌, ◌-◌, ◌<◌, ◌≤◌, ◌++◌, ◌⊎◌, false, List, length, Result, Ok, Err}
+use Rattle.js_units.specs.Lanes.{words_over}
+use Rattle.js_header.specs.declared.form.Form.TheVariants.{Flat}
+use Rattle.heap_core.specs.declared.size.HeapSize.{HeapSize}
+use Rattle.heap_core.specs.declared.view.View.{View}
+use Rattle.heap_core.specs.Layout.{MAX}
+use Rattle.heap_core.specs.Births.{part}
+use Rattle.heap_core.specs.Maps.{Has}
+use Rattle.heap_text.specs.declared.faults.JoinFault.{JoinFault}
+use Rattle.heap_text.specs.declared.faults.JoinFault.TheVariants.{TooLong, Full}
+use Rattle.heap_text.specs.declared.faults.TextFull.{TextFull}
+use Rattle.heap_text.specs.declared.string.JsStr.{JsStr}
+use Rattle.heap_text.specs.Texts.{Uses, UsesAtMost, Told, is_wide}
+
+-- a new flat string with these units: one id, and the words that hold them
+abbrev pub IsCopy : View → View → JsStr → List ℕ → Type 0
+IsCopy v w s us = Has w.units s.id us × ((start : ℕ) × Has w.forms s.id (Flat (is_wide us) start false)) × Uses v w 1 (words_over (is_wide us) (length us))
+
+-- a call that was refused for want of ids or words: it told that there is no room, and used no id
+abbrev pub IsRefused : View → View → HeapSize → List ℕ → TextFull → Type 0
+IsRefused v w z us f = Told w z (words_over (is_wide us) (length us)) f × UsesAtMost v w 0 (words_over (is_wide us) (length us))
+
+-- the string s itself, for which nothing was used
+abbrev pub IsItself : View → View → JsStr → JsStr → Type 0
+IsItself v w s t = (t ≡ s) × (w.used ≡ v.used)
+
+module _ (v w : View) (z : HeapSize) where
+  -- Joining strings a with the units us and b with the units vs. An empty side gives the other side; a sum over the greatest length is
+  -- refused, and no other.
+  pub record IsJoined (a b : JsStr) (us vs : List ℕ) (answer : Result JsStr JoinFault) : Type 0 where
+    pub left_empty : length us ≡ 0 → (t : JsStr) × (answer ≡ Ok t) × IsItself v w b t
+    pub right_empty : 0 < length us → length vs ≡ 0 → (t : JsStr) × (answer ≡ Ok t) × IsItself v w a t
+    pub long : MAX < length us + length vs → (answer ≡ Err (TooLong (length us) (length vs))) × (w.used ≡ v.used)
+    pub both : 0 < length us → 0 < length vs → length us + length vs ≤ MAX
+        → ((t : JsStr) × (answer ≡ Ok t) × IsCopy v w t (us ++ vs)) ⊎ ((f : TextFull) × (answer ≡ Err (Full f)) × IsRefused v w z (us ++ vs) f)
+
+  -- cutting the part from unit `from` up to unit `to` out of the string s with the units us
+  pub record IsCut (s : JsStr) (from to : ℕ) (us : List ℕ) (answer : Result JsStr TextFull) : Type 0 where
+    pub whole : from ≡ 0 → to ≡ length us → (t : JsStr) × (answer ≡ Ok t) × IsItself v w s t
+    pub other : (0 < from) ⊎ (to < length us)
+        → ((t : JsStr) × (answer ≡ Ok t) × IsCopy v w t (part from (to - from) us)) ⊎ ((f : TextFull) × (answer ≡ Err f) × IsRefused v w z (part from (to - from) us) f)

@@ -1,0 +1,5 @@
+pub mod Windows
+pub mod Texts
+pub mod Sources
+pub mod Written
+pub mod Joins

@@ -1,0 +1,56 @@
+-- What a call on a text leaves: what is known, what is used, and what a refusal tells.
+use Rattle.std.specs.Prelude.{◌≡◌, ℕ, ◌+◌, ◌≤◌, Bool, List, nat_lt}
+use Rattle.std.specs.List.{list_any}
+use Rattle.heap_core.specs.declared.view.View.{View}
+use Rattle.heap_core.specs.declared.size.HeapSize.{HeapSize}
+use Rattle.heap_table.specs.Full.{IsFull}
+use Rattle.heap_table.specs.Known.{KeepsKnown}
+use Rattle.heap_text.specs.declared.faults.TextFull.{TextFull}
+use Rattle.heap_text.specs.declared.faults.TextFull.TheVariants.{Ids, Words}
+
+-- a call that only loads: what the agent owns, used and read of the counters stays, and so does its history
+pub record Reads (v w : View) : Type 0 where
+  pub known : KeepsKnown v w
+  pub sizes : w.sizes ≡ v.sizes
+  pub agents : w.agents ≡ v.agents
+  pub live : w.live ≡ v.live
+  pub share : w.share ≡ v.share
+  pub used : w.used ≡ v.used
+  pub low : w.low ≡ v.low
+  pub own_ids : w.own_ids ≡ v.own_ids
+  pub own_words : w.own_words ≡ v.own_words
+  pub slots : w.slots ≡ v.slots
+  pub seen : w.seen ≡ v.seen
+  pub mine : w.mine ≡ v.mine
+
+-- any call: what is known stays known, counters and uses never fall, and the history stays
+pub record Continues (v w : View) : Type 0 where
+  pub known : KeepsKnown v w
+  pub sizes : w.sizes ≡ v.sizes
+  pub agents : w.agents ≡ v.agents
+  pub live : w.live ≡ v.live
+  pub share : w.share ≡ v.share
+  pub ids_used : v.used.ids ≤ w.used.ids
+  pub words_used : v.used.words ≤ w.used.words
+  pub ids_low : v.low.ids ≤ w.low.ids
+  pub words_low : v.low.words ≤ w.low.words
+  pub slots : w.slots ≡ v.slots
+  pub seen : w.seen ≡ v.seen
+  pub mine : w.mine ≡ v.mine
+
+-- so many ids and content words were claimed in between
+abbrev pub Uses : View → View → ℕ → ℕ → Type 0
+Uses v w ids words = (w.used.ids ≡ v.used.ids + ids) × (w.used.words ≡ v.used.words + words)
+
+-- at most so many ids and content words were claimed in between
+abbrev pub UsesAtMost : View → View → ℕ → ℕ → Type 0
+UsesAtMost v w ids words = (w.used.ids ≤ v.used.ids + ids) × (w.used.words ≤ v.used.words + words)
+
+-- The counter that was read last has no room for what the call wanted of it: one id, or that many content words.
+abbrev pub Told : View → HeapSize → ℕ → TextFull → Type 0
+Told w z words (Ids f) = IsFull f 1 z.ids × (w.low.ids ≡ f.at)
+Told w z words (Words f) = IsFull f words z.words × (w.low.words ≡ f.at)
+
+-- two-byte lanes are taken exactly where a unit is over 255
+abbrev pub is_wide : List ℕ → Bool
+is_wide us = list_any (λ u. nat_lt 255 u) us

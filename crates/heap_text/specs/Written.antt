@@ -1,0 +1,19 @@
+-- Content words that hold units.
+use Rattle.std.specs.Prelude.{◌≡◌, ℕ, ◌+◌, ◌*◌, ◌<◌, ◌^◌, Bool, List, length, slice_index}
+use Rattle.js_units.specs.Lanes.{lane_count, lane_of, words_over}
+use Rattle.heap_core.specs.declared.view.View.{View}
+use Rattle.heap_core.specs.Maps.{Has}
+
+-- word number q of the units, whose lanes past the last unit are 0
+abbrev pub IsWordOf : Bool → List ℕ → ℕ → ℕ → Type 0
+IsWordOf wide us q word = (k : ℕ) → k < lane_count wide → lane_of wide word k ≡ slice_index us (q * lane_count wide + k)
+
+-- the first `done` of the words from `start` on are own and hold the units
+pub record AreWords (v : View) (wide : Bool) (start : ℕ) (us : List ℕ) (done : ℕ) : Type 0 where
+  pub each : (q : ℕ) → q < done → (x : ℕ) × Has v.own_words (start + q) x × IsWordOf wide us q x
+
+-- all of them, from `start` on; an empty list has no word and starts at 0
+pub record IsWritten (v : View) (wide : Bool) (start : ℕ) (us : List ℕ) : Type 0 where
+  pub small : start < 2 ^ 29
+  pub words : AreWords v wide start us (words_over wide (length us))
+  pub empty : length us ≡ 0 → start ≡ 0

@@ -1,0 +1,133 @@
+// Making a flat string with the units of a source.
+ghost use Rattle.std.specs.Prelude.{◌≡◌, ◌+◌, ◌*◌, ◌/◌, ◌%◌, ◌≤◌, ◌<◌, ◌^◌, ℕ, IfOk, IfErr, Some, false, slice_index, length};
+ghost use Rattle.js_units.specs.Lanes.{words_over, lane_count, lane_base};
+ghost use Rattle.js_header.specs.declared.form.Form.TheVariants.{Flat};
+ghost use Rattle.heap_core.specs.Layout.{MAX};
+ghost use Rattle.heap_core.specs.Maps.{Has};
+ghost use Rattle.heap_table.specs.Agents.{Belongs, view_of, size_of};
+ghost use Rattle.heap_table.specs.Full.{IsFull};
+ghost use Rattle.heap_text.specs.Texts.{Reads, Continues, Uses, UsesAtMost, Told, is_wide};
+ghost use Rattle.heap_text.specs.Sources.{Shows, listed};
+ghost use Rattle.heap_text.specs.Written.{IsWordOf, IsWritten};
+
+use crate::faults::TextFull;
+use crate::source::Source;
+use crate::string::JsStr;
+use crate::text::Text;
+use heap_table::CounterFull;
+use js_header::Form;
+use js_units::{lanes, words_for};
+
+impl<'h> Text<'h> {
+    // Whether a unit is over 255.
+    fn has_wide(&mut self, source: &Source, n: u32) -> bool
+        requires text { Belongs self.old.agent self.old.heap.now }
+        requires shows { Shows (view_of self.old.agent) source.now }
+        requires count { length (listed (view_of self.old.agent) source.now) ≡ n }
+        ensures text { Belongs self.new.agent self.new.heap.now }
+        ensures heap { self.new.heap ≡ self.old.heap }
+        ensures reads { Reads (view_of self.old.agent) (view_of self.new.agent) }
+        ensures shows { Shows (view_of self.new.agent) source.now }
+        ensures listed { listed (view_of self.new.agent) source.now ≡ listed (view_of self.old.agent) source.now }
+        ensures wide { result ≡ is_wide (listed (view_of self.old.agent) source.now) }
+    {
+        for i in 0..n {
+            if self.unit_or_zero(source, n, i) > 255 {
+                return true;
+            }
+        }
+        false
+    }
+
+    // Word number `at` of the units, the last unit's lane first.
+    fn pack(&mut self, source: &Source, n: u32, wide: bool, at: u32) -> u64
+        requires text { Belongs self.old.agent self.old.heap.now }
+        requires shows { Shows (view_of self.old.agent) source.now }
+        requires count { length (listed (view_of self.old.agent) source.now) ≡ n }
+        requires wide { wide ≡ is_wide (listed (view_of self.old.agent) source.now) }
+        requires within { (n ≤ MAX) × (at < words_over wide n) }
+        ensures text { Belongs self.new.agent self.new.heap.now }
+        ensures heap { self.new.heap ≡ self.old.heap }
+        ensures reads { Reads (view_of self.old.agent) (view_of self.new.agent) }
+        ensures shows { Shows (view_of self.new.agent) source.now }
+        ensures listed { listed (view_of self.new.agent) source.now ≡ listed (view_of self.old.agent) source.now }
+        ensures word { IsWordOf wide (listed (view_of self.old.agent) source.now) at result }
+    {
+        let lanes = lanes(wide);
+        let base = lane_size(wide);
+        let mut word = 0;
+        for k in 0..lanes {
+            let unit = self.unit_or_zero(source, n, at * lanes + (lanes - 1 - k));
+            word = word * base + u64::from(unit);
+        }
+        word
+    }
+
+    // Content words with the units of a source, now the agent's own. The answer is the first.
+    fn write(&mut self, source: &Source, n: u32, wide: bool) -> Result<u32, CounterFull>
+        requires text { Belongs self.old.agent self.old.heap.now }
+        requires shows { Shows (view_of self.old.agent) source.now }
+        requires count { length (listed (view_of self.old.agent) source.now) ≡ n }
+        requires wide { wide ≡ is_wide (listed (view_of self.old.agent) source.now) }
+        requires short { n ≤ MAX }
+        ensures text { Belongs self.new.agent self.new.heap.now }
+        ensures heap { self.new.heap ≡ self.old.heap }
+        ensures continues { Continues (view_of self.old.agent) (view_of self.new.agent) }
+        ensures ids { (view_of self.new.agent).used.ids ≡ (view_of self.old.agent).used.ids }
+        ensures ok { IfOk result (λ start. IsWritten (view_of self.new.agent) wide start (listed (view_of self.old.agent) source.now) × ((view_of self.new.agent).used.words ≡ (view_of self.old.agent).used.words + words_over wide n)) }
+        ensures refused { IfErr result (λ f. IsFull f (words_over wide n) (size_of self.old.heap.now).words × ((view_of self.new.agent).low.words ≡ f.at) × ((view_of self.new.agent).used.words ≡ (view_of self.old.agent).used.words)) }
+    {
+        let want = words_for(n, wide);
+        if want == 0 {
+            return Ok(0);
+        }
+        let start = self.agent.claim_words(self.heap, want)?;
+        for at in 0..want {
+            let word = self.pack(source, n, wide, at);
+            self.agent.store_word(self.heap, start + at, word);
+        }
+        Ok(start)
+    }
+
+    // A new flat string with the `n` units of a source. The content words come first, then the
+    // id.
+    pub(crate) fn copy(&mut self, source: &Source, n: u32) -> Result<JsStr, TextFull>
+        requires text { Belongs self.old.agent self.old.heap.now }
+        requires shows { Shows (view_of self.old.agent) source.now }
+        requires count { length (listed (view_of self.old.agent) source.now) ≡ n }
+        requires short { n ≤ MAX }
+        ensures text { Belongs self.new.agent self.new.heap.now }
+        ensures heap { self.new.heap ≡ self.old.heap }
+        ensures continues { Continues (view_of self.old.agent) (view_of self.new.agent) }
+        ensures units { IfOk result (λ s. Has (view_of self.new.agent).units s.id (listed (view_of self.old.agent) source.now)) }
+        ensures form { IfOk result (λ s. (start : ℕ) × Has (view_of self.new.agent).forms s.id (Flat (is_wide (listed (view_of self.old.agent) source.now)) start false)) }
+        ensures used { IfOk result (λ s. Uses (view_of self.old.agent) (view_of self.new.agent) 1 (words_over (is_wide (listed (view_of self.old.agent) source.now)) n)) }
+        ensures refused { IfErr result (λ f. Told (view_of self.new.agent) (size_of self.old.heap.now) (words_over (is_wide (listed (view_of self.old.agent) source.now)) n) f) }
+        ensures at_most { IfErr result (λ f. UsesAtMost (view_of self.old.agent) (view_of self.new.agent) 0 (words_over (is_wide (listed (view_of self.old.agent) source.now)) n)) }
+    {
+        let wide = self.has_wide(source, n);
+        let start = match self.write(source, n, wide) {
+            Ok(start) => start,
+            Err(full) => return Err(TextFull::Words(full)),
+        };
+        let id = match self.agent.claim_id(self.heap) {
+            Ok(id) => id,
+            Err(full) => return Err(TextFull::Ids(full)),
+        };
+        self.agent.store_length(self.heap, id, n);
+        let form = Form::Flat {
+            wide,
+            start,
+            fixed: false,
+        };
+        self.agent.birth(self.heap, id, form);
+        Ok(JsStr { id })
+    }
+}
+
+// One more than the greatest unit of a lane.
+fn lane_size(wide: bool) -> u64
+    ensures { result ≡ lane_base wide }
+{
+    if wide { 65536 } else { 256 }
+}

@@ -1,0 +1,112 @@
+// Reading a string: its length, its window, its units.
+ghost use Rattle.std.specs.Prelude.{◌≡◌, ℕ, List, ◌+◌, ◌*◌, ◌/◌, ◌%◌, ◌≤◌, ◌<◌, IsOk, slice_index, length};
+ghost use Rattle.js_units.specs.Lanes.{words_over};
+ghost use Rattle.heap_core.specs.Contents.{lane_in};
+ghost use Rattle.heap_core.specs.Maps.{Has, HasKey};
+ghost use Rattle.heap_core.specs.Views.{IsSettled, shown};
+ghost use Rattle.heap_table.specs.Agents.{Belongs, view_of};
+ghost use Rattle.heap_text.specs.Texts.{Reads};
+ghost use Rattle.heap_text.specs.Windows.{IsFrozenWindow, IsWindow};
+
+use crate::faults::TextFull;
+use crate::string::{JsStr, Window};
+use crate::text::Text;
+use js_header::Form;
+use js_units::{lane, lanes};
+
+impl<'h> Text<'h> {
+    /// The length of a string, in units.
+    pub fn len(&mut self, s: JsStr) -> u32
+        requires text { Belongs self.old.agent self.old.heap.now }
+        requires known { HasKey (view_of self.old.agent).units s.id }
+        ensures text { Belongs self.new.agent self.new.heap.now }
+        ensures heap { self.new.heap ≡ self.old.heap }
+        ensures reads { Reads (view_of self.old.agent) (view_of self.new.agent) }
+        ensures length { (us : List ℕ) → Has (view_of self.old.agent).units s.id us → result ≡ length us }
+    {
+        self.agent.load_length(self.heap, s.id)
+    }
+
+    // A window on all units of a string.
+    pub(crate) fn window_on(&mut self, s: JsStr) -> Window
+        requires text { Belongs self.old.agent self.old.heap.now }
+        requires known { HasKey (view_of self.old.agent).units s.id }
+        ensures text { Belongs self.new.agent self.new.heap.now }
+        ensures heap { self.new.heap ≡ self.old.heap }
+        ensures reads { Reads (view_of self.old.agent) (view_of self.new.agent) }
+        ensures settled { IsSettled (view_of self.new.agent) s.id }
+        ensures shows { (us : List ℕ) → Has (view_of self.old.agent).units s.id us → IsWindow (view_of self.new.agent) result us × (result.len ≡ length us) }
+    {
+        let form = self.agent.load_form(self.heap, s.id);
+        let len = self.agent.load_length(self.heap, s.id);
+        match form {
+            Form::Flat { wide, start, .. } => Window {
+                wide,
+                start,
+                offset: 0,
+                len,
+            },
+            _ => unreachable!(),
+        }
+    }
+
+    /// Sees to it that the string is settled: its header is no Cons from then on. Each string is
+    /// flat so far, so nothing has to be copied.
+    pub fn settle(&mut self, s: JsStr) -> Result<(), TextFull>
+        requires text { Belongs self.old.agent self.old.heap.now }
+        requires known { HasKey (view_of self.old.agent).units s.id }
+        ensures text { Belongs self.new.agent self.new.heap.now }
+        ensures heap { self.new.heap ≡ self.old.heap }
+        ensures reads { Reads (view_of self.old.agent) (view_of self.new.agent) }
+        ensures ok { IsOk result }
+        ensures settled { IsSettled (view_of self.new.agent) s.id }
+    {
+        self.window_on(s);
+        Ok(())
+    }
+
+    /// A window on the units of a settled string.
+    pub fn window(&mut self, s: JsStr) -> Window
+        requires text { Belongs self.old.agent self.old.heap.now }
+        requires known { HasKey (view_of self.old.agent).units s.id }
+        requires settled { IsSettled (view_of self.old.agent) s.id }
+        ensures text { Belongs self.new.agent self.new.heap.now }
+        ensures heap { self.new.heap ≡ self.old.heap }
+        ensures reads { Reads (view_of self.old.agent) (view_of self.new.agent) }
+        ensures shows { (us : List ℕ) → Has (view_of self.old.agent).units s.id us → IsWindow (view_of self.new.agent) result us × (result.len ≡ length us) }
+        ensures frozen { IsFrozenWindow (view_of self.new.agent) result }
+    {
+        self.window_on(s)
+    }
+
+    /// Unit `i` of a window, by one load: lane `i` of the words that the window lies over.
+    pub fn unit_in(&mut self, w: Window, i: u32) -> u16
+        requires text { Belongs self.old.agent self.old.heap.now }
+        requires frozen { IsFrozenWindow (view_of self.old.agent) w }
+        requires within { i < w.len }
+        ensures text { Belongs self.new.agent self.new.heap.now }
+        ensures heap { self.new.heap ≡ self.old.heap }
+        ensures reads { Reads (view_of self.old.agent) (view_of self.new.agent) }
+        ensures lane { result ≡ lane_in (shown (view_of self.new.agent)) w.wide w.start (w.offset + i) }
+        ensures unit { (us : List ℕ) → IsWindow (view_of self.old.agent) w us → result ≡ slice_index us i }
+    {
+        let place = w.offset + i;
+        let lanes = lanes(w.wide);
+        let word = self.agent.load_word(self.heap, w.start + place / lanes);
+        lane(word, w.wide, place % lanes)
+    }
+
+    /// Unit `i` of a settled string.
+    pub fn unit_at(&mut self, s: JsStr, i: u32) -> u16
+        requires text { Belongs self.old.agent self.old.heap.now }
+        requires settled { IsSettled (view_of self.old.agent) s.id }
+        requires within { (us : List ℕ) × Has (view_of self.old.agent).units s.id us × (i < length us) }
+        ensures text { Belongs self.new.agent self.new.heap.now }
+        ensures heap { self.new.heap ≡ self.old.heap }
+        ensures reads { Reads (view_of self.old.agent) (view_of self.new.agent) }
+        ensures unit { (us : List ℕ) → Has (view_of self.old.agent).units s.id us → result ≡ slice_index us i }
+    {
+        let window = self.window(s);
+        self.unit_in(window, i)
+    }
+}
