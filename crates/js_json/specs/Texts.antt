@@ -1,0 +1,41 @@
+-- Several strings of a store, one after another.
+use Rattle.std.specs.Prelude.{ℕ, ◌+◌, List, [], ◌∷◌, ◌++◌, map, length, Option, None, Some, Result, Ok, Err}
+use Rattle.js_store.specs.State.{State, IsKnown, text}
+use Rattle.js_store.specs.Rows.{settle_words}
+use Rattle.js_store.specs.declared.faults.StoreFault.{StoreFault}
+use Rattle.js_store.specs.declared.faults.StoreFault.TheVariants.{Full, Memory}
+
+abbrev pub texts : {F R : Type 0} → State F → (R → ℕ) → List R → List (List ℕ)
+texts s name rs = map (λ r. text s (name r)) rs
+
+-- every element is so
+abbrev pub Every : {A : Type 0} → (A → Type 0) → List A → Type 0
+Every P [] = Unit {0}
+Every P (x ∷ xs) = P x × Every P xs
+
+abbrev pub AllKnown : {F R : Type 0} → State F → (R → ℕ) → List R → Type 0
+AllKnown s name rs = Every (λ r. IsKnown s (name r)) rs
+
+-- what settling strings takes at most
+abbrev pub settle_most : {F R : Type 0} → State F → (R → ℕ) → List R → ℕ
+settle_most s name [] = 0
+settle_most s name (r ∷ rs) = settle_words (s.settled (name r)) (length (text s (name r))) + settle_most s name rs
+
+-- the report of a call that may want memory itself: its own want of memory says nothing of the store
+abbrev pub full_only : StoreFault → Option StoreFault
+full_only (Full r) = Some (Full r)
+full_only Memory = None
+
+abbrev pub full_fault_of : {R : Type 0} → Result R StoreFault → Option StoreFault
+full_fault_of (Ok r) = None
+full_fault_of (Err f) = full_only f
+
+-- texts by f, with a unit before each, and one behind all
+abbrev pub rest_of : (List ℕ → List ℕ) → ℕ → ℕ → List (List ℕ) → List ℕ
+rest_of f sep end [] = end ∷ []
+rest_of f sep end (u ∷ us) = sep ∷ f u ++ rest_of f sep end us
+
+-- texts by f, with a unit between two, and one behind all
+abbrev pub joined : (List ℕ → List ℕ) → ℕ → ℕ → List (List ℕ) → List ℕ
+joined f sep end [] = end ∷ []
+joined f sep end (u ∷ us) = f u ++ rest_of f sep end us

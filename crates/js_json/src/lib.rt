@@ -1,0 +1,20 @@
+//! Strings as JSON text (ECMA-262, "QuoteJSONString"), and the lines that scripts print, over any
+//! store of strings.
+//!
+//! Each call settles what it reads, keeps what the store knows and the history of interned
+//! strings, and never finds the string table full. Every fault but a RangeError is one that the
+//! store answered, or want of memory for a list of the call's own.
+#![tactic(auto)]
+
+mod escapes;
+mod lists;
+mod printing;
+mod quoting;
+mod reading;
+
+pub use lists::stringify_list;
+pub use printing::print_line;
+pub use quoting::quote;
+
+#[cfg(test)]
+mod tests;

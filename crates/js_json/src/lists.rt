@@ -1,0 +1,177 @@
+// Arrays of strings as JSON text.
+ghost use Rattle.std.specs.Prelude.{◌≡◌, ◌+◌, ◌*◌, ◌≤◌, ◌++◌, ◌∷◌, [], length, IfOk, OnOk, IfErr};
+ghost use Rattle.js_store.specs.State.{Has, IsKnown, text as text_of};
+ghost use Rattle.js_store.specs.Rows.{flat_words, settle_words};
+ghost use Rattle.js_store.specs.Faults.{Step, NeverSlots};
+ghost use Rattle.js_store.specs.Answers.{ThrowsLong, full_of};
+ghost use Rattle.js_json.specs.Quoting.{quoted, elements, list_rest, list_text};
+ghost use Rattle.js_json.specs.Texts.{texts, AllKnown, settle_most, full_fault_of};
+
+use crate::escapes::{push_quoted, quoted_len};
+use crate::reading::read;
+use js_store::{Cause, MethodFault, StoreFault, Strings};
+use js_units::Units;
+use std::alloc::Global;
+
+/// The array of the strings: a bracket at both ends, each string as `quote` has it, and a comma
+/// between two ("SerializeJSONArray"). The length is found before anything of that size is made,
+/// so that each string is read twice.
+#[tactic(auto, using(crate::proofs::Joining::texts_still, crate::proofs::Joining::all_known_still, crate::proofs::Joining::settle_still))]
+pub fn stringify_list<S: Strings>(
+    alloc: Global,
+    store: &mut S,
+    parts: &[S::Ref],
+) -> Result<S::Ref, MethodFault>
+    requires { AllKnown (S.state store.old) S.number parts.now }
+    ensures value { IfOk result (λ r. Has (S.state store.new) (S.number r) (list_text (texts (S.state store.old) S.number parts.now))) }
+    ensures throws { ThrowsLong result (S.state store.old).limit (length (list_text (texts (S.state store.old) S.number parts.now))) }
+    ensures step { Step (S.state store.old) (S.state store.new) (full_of result)
+        1 (2 * settle_most (S.state store.old) S.number parts.now + flat_words (list_text (texts (S.state store.old) S.number parts.now))) }
+    ensures slots { NeverSlots (full_of result) }
+    ensures history { (S.state store.new).history ≡ (S.state store.old).history }
+{
+    let length = list_len(alloc, store, parts)?;
+    if length > u128::from(store.limit()) {
+        return Err(MethodFault::RangeError(Cause::TooLong { length }));
+    }
+    let text = list_units(alloc, store, parts)?;
+    Ok(store.from_units(text.as_slice())?)
+}
+
+// How many units the array has.
+#[tactic(auto, using(crate::proofs::Elements::no_elements, crate::proofs::Elements::some_elements))]
+fn list_len<S: Strings>(alloc: Global, store: &mut S, parts: &[S::Ref]) -> Result<u128, StoreFault>
+    requires { AllKnown (S.state store.old) S.number parts.now }
+    ensures value { IfOk result (λ n. n ≡ length (list_text (texts (S.state store.old) S.number parts.now))) }
+    ensures step { Step (S.state store.old) (S.state store.new) (full_fault_of result) 0 (settle_most (S.state store.old) S.number parts.now) }
+    ensures slots { NeverSlots (full_fault_of result) }
+    ensures history { (S.state store.new).history ≡ (S.state store.old).history }
+{
+    let len = rest_len(alloc, store, parts)?;
+    // the comma that it counts before the first element takes the place of the first bracket
+    Ok(if len < 2 { 2 } else { len })
+}
+
+// How many units the elements have with a comma before each, and the last bracket.
+fn rest_len<S: Strings>(alloc: Global, store: &mut S, rest: &[S::Ref]) -> Result<u128, StoreFault>
+    requires { AllKnown (S.state store.old) S.number rest.now }
+    ensures value { IfOk result (λ n. n ≡ length (list_rest (texts (S.state store.old) S.number rest.now))) }
+    ensures step { Step (S.state store.old) (S.state store.new) (full_fault_of result) 0 (settle_most (S.state store.old) S.number rest.now) }
+    ensures slots { NeverSlots (full_fault_of result) }
+    ensures history { (S.state store.new).history ≡ (S.state store.old).history }
+{
+    let mut len = 1;
+    for s in rest {
+        len += 1 + element_len(alloc, store, *s)?;
+    }
+    Ok(len)
+}
+
+// How many units the string has with its quotes.
+fn element_len<S: Strings>(alloc: Global, store: &mut S, s: S::Ref) -> Result<u128, StoreFault>
+    requires { IsKnown (S.state store.old) (S.number s) }
+    ensures value { IfOk result (λ n. n ≡ length (quoted (text_of (S.state store.old) (S.number s)))) }
+    ensures most { IfOk result (λ n. n ≤ 2 + 6 * length (text_of (S.state store.old) (S.number s))) }
+    ensures step { Step (S.state store.old) (S.state store.new) (full_fault_of result) 0 (settle_words ((S.state store.old).settled (S.number s)) (length (text_of (S.state store.old) (S.number s)))) }
+    ensures slots { NeverSlots (full_fault_of result) }
+    ensures history { (S.state store.new).history ≡ (S.state store.old).history }
+{
+    let units = read(alloc, store, s)?;
+    Ok(quoted_len(units.as_slice()))
+}
+
+fn list_units<S: Strings>(
+    alloc: Global,
+    store: &mut S,
+    parts: &[S::Ref],
+) -> Result<Units, StoreFault>
+    requires { AllKnown (S.state store.old) S.number parts.now }
+    ensures value { IfOk result (λ u. u ≡ list_text (texts (S.state store.old) S.number parts.now)) }
+    ensures step { Step (S.state store.old) (S.state store.new) (full_fault_of result) 0 (settle_most (S.state store.old) S.number parts.now) }
+    ensures slots { NeverSlots (full_fault_of result) }
+    ensures history { (S.state store.new).history ≡ (S.state store.old).history }
+{
+    let mut text = Units::new(alloc);
+    push_unit(&mut text, 0x5B)?;
+    append_elements(alloc, store, parts, &mut text)?;
+    Ok(text)
+}
+
+// Adds the elements with a comma between two, and the last bracket.
+fn append_elements<S: Strings>(
+    alloc: Global,
+    store: &mut S,
+    parts: &[S::Ref],
+    text: &mut Units,
+) -> Result<(), StoreFault>
+    requires { AllKnown (S.state store.old) S.number parts.now }
+    ensures added { OnOk result (text.new ≡ text.old ++ elements (texts (S.state store.old) S.number parts.now)) }
+    ensures step { Step (S.state store.old) (S.state store.new) (full_fault_of result) 0 (settle_most (S.state store.old) S.number parts.now) }
+    ensures slots { NeverSlots (full_fault_of result) }
+    ensures history { (S.state store.new).history ≡ (S.state store.old).history }
+{
+    match parts {
+        [] => push_unit(text, 0x5D),
+        [first, rest @ ..] => {
+            append_quoted(alloc, store, *first, text)?;
+            append_rest(alloc, store, rest, text)
+        }
+    }
+}
+
+// Adds a comma and the element for each of the strings, and the last bracket.
+fn append_rest<S: Strings>(
+    alloc: Global,
+    store: &mut S,
+    rest: &[S::Ref],
+    text: &mut Units,
+) -> Result<(), StoreFault>
+    requires { AllKnown (S.state store.old) S.number rest.now }
+    ensures added { OnOk result (text.new ≡ text.old ++ list_rest (texts (S.state store.old) S.number rest.now)) }
+    ensures step { Step (S.state store.old) (S.state store.new) (full_fault_of result) 0 (settle_most (S.state store.old) S.number rest.now) }
+    ensures slots { NeverSlots (full_fault_of result) }
+    ensures history { (S.state store.new).history ≡ (S.state store.old).history }
+{
+    for s in rest {
+        push_unit(text, 0x2C)?;
+        append_quoted(alloc, store, *s, text)?;
+    }
+    push_unit(text, 0x5D)
+}
+
+// Adds a string between its quotes.
+fn append_quoted<S: Strings>(
+    alloc: Global,
+    store: &mut S,
+    s: S::Ref,
+    text: &mut Units,
+) -> Result<(), StoreFault>
+    requires { IsKnown (S.state store.old) (S.number s) }
+    ensures added { OnOk result (text.new ≡ text.old ++ quoted (text_of (S.state store.old) (S.number s))) }
+    ensures step { Step (S.state store.old) (S.state store.new) (full_fault_of result) 0 (settle_words ((S.state store.old).settled (S.number s)) (length (text_of (S.state store.old) (S.number s)))) }
+    ensures slots { NeverSlots (full_fault_of result) }
+    ensures history { (S.state store.new).history ≡ (S.state store.old).history }
+{
+    let units = read(alloc, store, s)?;
+    push_text(text, units.as_slice())
+}
+
+fn push_text(text: &mut Units, units: &[u16]) -> Result<(), StoreFault>
+    ensures added { OnOk result (text.new ≡ text.old ++ quoted units.now) }
+    ensures fault { IfErr result (λ f. f ≡ StoreFault.Memory) }
+{
+    match push_quoted(text, units) {
+        Ok(()) => Ok(()),
+        Err(_) => Err(StoreFault::Memory),
+    }
+}
+
+fn push_unit(text: &mut Units, unit: u16) -> Result<(), StoreFault>
+    ensures added { OnOk result (text.new ≡ text.old ++ unit ∷ []) }
+    ensures fault { IfErr result (λ f. f ≡ StoreFault.Memory) }
+{
+    match text.push(unit) {
+        Ok(()) => Ok(()),
+        Err(_) => Err(StoreFault::Memory),
+    }
+}
