@@ -89,4 +89,5 @@ def main():
                 measure(folder, name, text_of, status, start)
 
 
-main()
+if __name__ == "__main__":
+    main()

@@ -1,5 +1,5 @@
 -- What the code reads at the front of a string literal's inside, for the contracts of private functions. No public contract cites this file.
-use Rattle.std.specs.Prelude.{ℕ, ◌+◌, ◌*◌, List, [], ◌∷◌, Option, Some, None, nat_le, ◌==◌, ◌&&◌, ◌||◌, if◌then◌else◌}
+use Rattle.std.specs.Prelude.{ℕ, ◌+◌, ◌*◌, List, [], ◌∷◌, Option, Some, None, Bool, nat_le, ◌==◌, not, ◌&&◌, ◌||◌, if◌then◌else◌}
 use Rattle.std.specs.Str.{chars}
 use Rattle.js_units.specs.Text.{utf16_of}
 use Rattle.js_literal.specs.Literal.{hex_value, letter_unit, begins_digit, Kind, Unclosed, RawLineEnd, BadEscape, CodePointTooLarge, LegacyOctal}
@@ -89,6 +89,19 @@ escape_of (c ∷ rest) = chosen_escape (letter_unit c) c rest
 unfoldable pub reading : ℕ → List ℕ → Reading
 reading q [] = Break Unclosed
 reading q (c ∷ rest) = if c == q then Shut rest else (if c == 92 then escape_of rest else (if c == 10 || c == 13 then Break RawLineEnd else Take (utf16_of c) rest))
+
+-- a printable character of ASCII that stands for itself: neither the quote nor a backslash
+abbrev pub is_plain : ℕ → ℕ → Bool
+is_plain q c = nat_le 32 c && nat_le c 126 && not (c == q) && not (c == 92)
+
+-- the longest run of such characters in front, and what follows it
+abbrev pub plain_run : ℕ → List ℕ → List ℕ
+plain_run q [] = []
+plain_run q (c ∷ s) = if is_plain q c then c ∷ plain_run q s else []
+
+abbrev pub after_plain : ℕ → List ℕ → List ℕ
+after_plain q [] = []
+after_plain q (c ∷ s) = if is_plain q c then after_plain q s else c ∷ s
 
 -- the code's values
 abbrev pub value_units : Value → List ℕ

@@ -4,7 +4,7 @@ ghost use Rattle.std.specs.Prelude.{◌≡◌, ◌<◌, ◌≤◌, ◌+◌, ◌*
 ghost use Rattle.std.specs.Str.{chars};
 ghost use Rattle.js_units.specs.Text.{utf16_of};
 ghost use Rattle.js_literal.specs.Literal.{letter_unit};
-ghost use Rattle.js_literal.specs.Reader.{reading_of, value_units, reading, escape_of, seen, after_return};
+ghost use Rattle.js_literal.specs.Reader.{plain_run, after_plain, reading_of, value_units, reading, escape_of, seen, after_return};
 ghost use Rattle.js_literal.specs.Reader;
 
 use crate::text::{begins_digit, hex_value, split_char};
@@ -204,6 +204,37 @@ fn escape(text: &str) -> Front<'_>
             None => other_escape(c, rest),
         },
     }
+}
+
+/// Whether the character stands for itself and is its own byte: printable ASCII, neither the quote
+/// nor a backslash.
+fn is_plain(quote: char, c: char) -> bool
+    ensures { result ≡ Reader.is_plain quote c }
+{
+    matches!(c, ' '..='~') && c != quote && c != '\\'
+}
+
+/// What follows the longest run of such characters.
+fn past_plain(quote: char, text: &str) -> &str
+    ensures { chars result.now ≡ after_plain quote (chars text.now) }
+{
+    let mut text = text;
+    while let Some((c, rest)) = split_char(text) {
+        if !is_plain(quote, c) {
+            break;
+        }
+        text = rest;
+    }
+    text
+}
+
+/// The longest run of such characters, and what follows it: most literals are one run.
+pub fn split_plain(quote: char, text: &str) -> (&[u8], &str)
+    ensures run { result.0.now ≡ plain_run quote (chars text.now) }
+    ensures rest { chars result.1.now ≡ after_plain quote (chars text.now) }
+{
+    let rest = past_plain(quote, text);
+    (&text.as_bytes()[..text.len() - rest.len()], rest)
 }
 
 /// What stands at the front of a literal's inside.

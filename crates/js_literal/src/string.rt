@@ -9,7 +9,7 @@ ghost use Rattle.js_literal.specs.Stops.{IsStop};
 ghost use Rattle.js_literal.specs.Place.{StandsAt};
 
 use crate::fault::LiteralFault;
-use crate::front::{Front, Refusal, Value, read_front};
+use crate::front::{Front, Refusal, Value, read_front, split_plain};
 use crate::text::byte_len;
 use js_units::{NoMemory, Units};
 use std::alloc::Global;
@@ -40,7 +40,11 @@ fn inside(alloc: Global, quote: char, text: &str) -> Result<(Units, usize), Stop
     let mut units = Units::new(alloc);
     let mut rest = text;
     'pieces: loop {
-        match read_front(quote, rest) {
+        let (run, behind) = split_plain(quote, rest);
+        if units.extend_from_latin1(run).is_err() {
+            return Err(Stop::Memory);
+        }
+        match read_front(quote, behind) {
             Front::Piece(value, after) => {
                 if push_value(&mut units, value).is_err() {
                     return Err(Stop::Memory);
@@ -48,7 +52,7 @@ fn inside(alloc: Global, quote: char, text: &str) -> Result<(Units, usize), Stop
                 rest = after;
             }
             Front::Close(after) => return Ok((units, byte_len(after))),
-            Front::Refused(refusal) => return Err(Stop::Broken(refusal, byte_len(rest))),
+            Front::Refused(refusal) => return Err(Stop::Broken(refusal, byte_len(behind))),
         }
     }
 }

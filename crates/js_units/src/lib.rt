@@ -2,8 +2,8 @@
 //! the growing list [`Units`], what a single unit is, the UTF-8 that a list is printed as, and
 //! how units lie in the 64-bit words of a heap.
 //!
-//! All but [`Units::push`], [`Units::push_code_point`], [`Units::extend_from_slice`] and
-//! [`append_utf8`] take no memory.
+//! [`append_utf8`] and the calls of [`Units`] that add units or make room for them take memory;
+//! the others take none.
 #![tactic(auto)]
 
 mod text;

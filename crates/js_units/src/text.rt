@@ -1,5 +1,5 @@
 // What a single unit is, and the UTF-8 of a list of units.
-ghost use Rattle.std.specs.Prelude.{◌≡◌, ◌++◌, ◌∷◌, ◌<◌, ◌≤◌, length, IsTrue, OnOk, OnErr, MatchOption};
+ghost use Rattle.std.specs.Prelude.{◌≡◌, ◌++◌, [], ◌∷◌, ◌<◌, ◌≤◌, length, take, All, IsTrue, IfOk, OnOk, OnErr, MatchOption};
 ghost use Rattle.js_units.specs.Text.{pair_value, points, utf8, well};
 ghost use Rattle.js_units.specs.Text;
 
@@ -65,6 +65,51 @@ fn alone(unit: u16) -> char
     char::from_u32(u32::from(unit)).unwrap_or('\u{FFFD}')
 }
 
+/// How many units in front are ASCII.
+fn ascii_len(units: &[u16]) -> usize
+    ensures bound { result ≤ length units.now }
+    ensures ascii { All (λ u. u < 0x80) (take result units.now) }
+{
+    for (i, unit) in units.iter().enumerate() {
+        if *unit >= 0x80 {
+            return i;
+        }
+    }
+    units.len()
+}
+
+/// Adds ASCII units at the end, a byte each.
+fn push_ascii(units: &[u16], out: &mut Vec<u8>) -> Result<(), NoMemory>
+    requires { All (λ u. u < 0x80) units.now }
+    ensures added { OnOk result (out.new.items ≡ out.old.items ++ units.now) }
+    ensures unchanged { OnErr result (out.new.items ≡ out.old.items) }
+{
+    out.reserve(units.len())?;
+    for unit in units {
+        out.push_reserved(*unit as u8);
+    }
+    Ok(())
+}
+
+/// Adds the UTF-8 of the first units, one at least, and answers those behind them; none at the
+/// end.
+fn push_front<'a>(units: &'a [u16], out: &mut Vec<u8>) -> Result<Option<&'a [u16]>, NoMemory>
+    ensures added { IfOk result (λ left. MatchOption left ((units.now ≡ []) × (out.new.items ≡ out.old.items)) (λ rest. (out.new.items ++ utf8 rest.now ≡ out.old.items ++ utf8 units.now) × (length rest.now < length units.now) × (take (length out.old.items) out.new.items ≡ out.old.items))) }
+    ensures unchanged { OnErr result (out.new.items ≡ out.old.items) }
+{
+    let ascii = ascii_len(units);
+    if ascii > 0 {
+        push_ascii(&units[..ascii], out)?;
+        return Ok(Some(&units[ascii..]));
+    }
+    let Some((c, rest)) = split_point(units) else {
+        return Ok(None);
+    };
+    let mut room = [0; 4];
+    out.extend_from_slice(c.encode_utf8(&mut room).as_bytes())?;
+    Ok(Some(rest))
+}
+
 /// Adds the UTF-8 of the units at the end, each unpaired surrogate as U+FFFD. A refusal leaves
 /// `out` as it was.
 pub fn append_utf8(units: &[u16], out: &mut Vec<u8>) -> Result<(), NoMemory>
@@ -73,14 +118,14 @@ pub fn append_utf8(units: &[u16], out: &mut Vec<u8>) -> Result<(), NoMemory>
 {
     let before = out.len();
     let mut rest = units;
-    while let Some((c, after)) = split_point(rest) {
-        let mut room = [0; 4];
-        let bytes = c.encode_utf8(&mut room).as_bytes();
-        if out.extend_from_slice(bytes).is_err() {
-            out.truncate(before);
-            return Err(NoMemory);
+    'fronts: loop {
+        match push_front(rest, out) {
+            Ok(Some(after)) => rest = after,
+            Ok(None) => return Ok(()),
+            Err(_) => {
+                out.truncate(before);
+                return Err(NoMemory);
+            }
         }
-        rest = after;
     }
-    Ok(())
 }

@@ -61,6 +61,9 @@ impl Units {
         ensures added { OnOk result (self.new ≡ self.old ++ utf16_of c) }
         ensures unchanged { OnErr result (self.new ≡ self.old) }
     {
+        if let Ok(unit) = u16::try_from(c as u32) {
+            return self.push(unit);
+        }
         let mut room = [0; 2];
         let units = c.encode_utf16(&mut room);
         self.items.extend_from_slice(units)?;
@@ -73,6 +76,26 @@ impl Units {
         ensures unchanged { OnErr result (self.new ≡ self.old) }
     {
         self.items.extend_from_slice(units)?;
+        Ok(())
+    }
+
+    /// Adds a unit for each byte, all or none: a text of Latin-1, ASCII among them.
+    pub fn extend_from_latin1(&mut self, bytes: &[u8]) -> Result<(), NoMemory>
+        ensures added { OnOk result (self.new ≡ self.old ++ bytes.now) }
+        ensures unchanged { OnErr result (self.new ≡ self.old) }
+    {
+        self.items.reserve(bytes.len())?;
+        for byte in bytes {
+            self.items.push_reserved(u16::from(*byte));
+        }
+        Ok(())
+    }
+
+    /// Makes room for `more` further units, so that adding them moves none. The list stays.
+    pub fn reserve(&mut self, more: usize) -> Result<(), NoMemory>
+        ensures { self.new ≡ self.old }
+    {
+        self.items.reserve(more)?;
         Ok(())
     }
 

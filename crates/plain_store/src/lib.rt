@@ -121,6 +121,7 @@ impl Strings for PlainStore {
             return Err(ConcatFault::TooLong { left, right });
         }
         let mut both = Units::new(self.alloc);
+        both.reserve((left + right) as usize)?;
         both.extend_from_slice(self.strings[a as usize].as_slice())?;
         both.extend_from_slice(self.strings[b as usize].as_slice())?;
         Ok(self.keep(both)?)

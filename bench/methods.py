@@ -1,0 +1,76 @@
+#!/usr/bin/env python3
+"""Measures the methods of strings in the built program: units a second, and how the time grows with the text.
+
+Usage: bench/methods.py [WORD]. With a word only the methods whose name holds it are measured. Build the
+program first, as tools/jsstr does. It belongs to no gate: run it on a machine that does nothing else.
+Each figure is the median of many runs, less that of a script that makes the same text and no call. Where
+node is installed its time for the same script is printed beside it, less that of its own start.
+"""
+
+import os
+import shutil
+import sys
+import tempfile
+
+from speed import PROGRAM, seconds
+
+SIZES = [100_000, 1_000_000]
+RUNS = 15
+
+# the name of a measure, the script that makes its text of so many units, and the script that calls
+ALIKE = "print('a'.repeat({n}).length);"
+METHODS = [
+    ("repeat", "print('ab'.length);", "print('ab'.repeat({half}).length);"),
+    ("padStart", "print('x'.length);", "print('x'.padStart({n}, 'ab').length);"),
+    ("trim", "print(' '.repeat({n}).length);", "print(' '.repeat({n}).trim().length);"),
+    ("indexOf, a unit that isn't there", ALIKE, "print('a'.repeat({n}).indexOf('b'));"),
+    ("indexOf, 16 units that begin as the text does", ALIKE, "print('a'.repeat({n}).indexOf('a'.repeat(15) + 'b'));"),
+    ("lastIndexOf, a unit that isn't there", ALIKE, "print('a'.repeat({n}).lastIndexOf('b'));"),
+]
+
+
+def script_file(folder, text, size):
+    path = os.path.join(folder, "script.js")
+    with open(path, "w", encoding="ascii") as file:
+        file.write(text.format(n=size, half=size // 2))
+    return path
+
+
+def spent(folder, words, base, call, size):
+    """The seconds of the call alone."""
+    without = seconds(words + [script_file(folder, base, size)], RUNS, 0)
+    return max(seconds(words + [script_file(folder, call, size)], RUNS, 0) - without, 1e-9)
+
+
+def node_words(folder):
+    """How node runs a script that prints, or nothing where it isn't installed."""
+    if shutil.which("node") is None:
+        return None
+    prelude = os.path.join(folder, "print.js")
+    with open(prelude, "w", encoding="ascii") as file:
+        file.write("globalThis.print = (...parts) => console.log(parts.join(' '));")
+    return ["node", "--require", prelude]
+
+
+def measure(folder, name, base, call, node):
+    times = {size: spent(folder, [PROGRAM], base, call, size) for size in SIZES}
+    for size in SIZES:
+        line = f"{name}, {size} units: {times[size] * 1e3:.2f} ms, {size / times[size] / 1e6:.0f} million units a second"
+        if node:
+            line += f"; node {spent(folder, node, base, call, size) * 1e3:.2f} ms"
+        print(line)
+    print(f"{name}: 10 times the units take {times[SIZES[1]] / times[SIZES[0]]:.1f} times as long")
+
+
+def main():
+    if not os.access(PROGRAM, os.X_OK):
+        sys.exit("the program isn't built: run tools/jsstr demo/hello.js")
+    wanted = sys.argv[1] if len(sys.argv) > 1 else ""
+    with tempfile.TemporaryDirectory() as folder:
+        node = node_words(folder)
+        for name, base, call in METHODS:
+            if wanted in name:
+                measure(folder, name, base, call, node)
+
+
+main()
