@@ -1,6 +1,6 @@
 -- Pairs of surrogates, unit by unit.
 use Rattle.std.proofs.Common.{◌≡◌, ℕ, List, [], ◌∷◌, Bool, true, false, refl, ap, sym, ◌∙◌}
-use Rattle.std.specs.Prelude.{not, ◌&&◌, ◌||◌, if◌then◌else◌, IsTrue, ◌↔◌}
+use Rattle.std.specs.Prelude.{not, ◌&&◌, if◌then◌else◌, IsTrue, ◌↔◌}
 use Rattle.js_units.specs.Text.{is_lead, is_trail, alone, well}
 use Rattle.js_methods.specs.WellFormed.{all_paired, is_surrogate}
 

@@ -5,3 +5,5 @@ pub mod Trimming
 pub mod WellFormed
 pub mod Building
 pub mod Waiting
+pub mod Repeating
+pub mod Padding

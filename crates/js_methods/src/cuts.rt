@@ -2,13 +2,13 @@
 ghost use Rattle.std.specs.Prelude.{◌≡◌, ◌+◌, ◌*◌, ◌≤◌, ◌++◌, length, slice_range, IfOk, IfSome};
 ghost use Rattle.js_store.specs.State.{Has, IsKnown, IsSettled, text};
 ghost use Rattle.js_store.specs.Rows.{wide_words, join_ids, join_words};
-ghost use Rattle.js_store.specs.Faults.{Step, method_fault_of, NeverSlots};
+ghost use Rattle.js_store.specs.Faults.{Step, fault_of, method_fault_of, NeverSlots};
 ghost use Rattle.js_store.specs.Answers.{ThrowsLong};
 ghost use Rattle.js_number.specs.Places.{IsLawful};
 ghost use Rattle.js_methods.specs.Cuts.{slice_of, substring_of, substr_of};
 
 use js_number::Num;
-use js_store::{Cause, MethodFault, Strings};
+use js_store::{Cause, ConcatFault, MethodFault, StoreFault, Strings};
 use js_units::{NoMemory, Units};
 use std::alloc::Global;
 
@@ -121,6 +121,26 @@ pub fn concat<S: Strings>(store: &mut S, s: S::Ref, t: S::Ref) -> Result<S::Ref,
     Ok(store.concat(s, t)?)
 }
 
+// The units of `a` followed by those of `b`, which together aren't too many.
+pub(crate) fn joined<S: Strings>(store: &mut S, a: S::Ref, b: S::Ref) -> Result<S::Ref, StoreFault>
+    requires left { IsKnown (S.state store.old) (S.number a) }
+    requires right { IsKnown (S.state store.old) (S.number b) }
+    requires short { length (text (S.state store.old) (S.number a)) + length (text (S.state store.old) (S.number b)) ≤ (S.state store.old).limit }
+    ensures value { IfOk result (λ r. Has (S.state store.new) (S.number r) (text (S.state store.old) (S.number a) ++ text (S.state store.old) (S.number b))) }
+    ensures step { Step (S.state store.old) (S.state store.new) (fault_of result)
+        1 (wide_words (length (text (S.state store.old) (S.number a)) + length (text (S.state store.old) (S.number b))) + 3) }
+    ensures slots { NeverSlots (fault_of result) }
+    ensures history { (S.state store.new).history ≡ (S.state store.old).history }
+{
+    match store.concat(a, b) {
+        Ok(both) => Ok(both),
+        Err(fault) => match fault {
+            ConcatFault::Store(fault) => Err(fault),
+            ConcatFault::TooLong { .. } => unreachable!(),
+        },
+    }
+}
+
 /// A copy of the units of a settled string.
 pub fn copied<S: Strings>(alloc: Global, store: &mut S, s: S::Ref) -> Result<Units, NoMemory>
     requires known { IsKnown (S.state store.old) (S.number s) }
@@ -131,6 +151,7 @@ pub fn copied<S: Strings>(alloc: Global, store: &mut S, s: S::Ref) -> Result<Uni
 {
     let len = store.len(s);
     let mut units = Units::new(alloc);
+    units.reserve(len as usize)?;
     for i in 0..len {
         let unit = store.unit_at(s, i);
         units.push(unit)?;

@@ -1,0 +1,21 @@
+-- What the pads give ("StringPad"), and what they use of a store.
+use Rattle.std.specs.Prelude.{ℕ, ◌+◌, ◌-◌, ◌*◌, List, length, take, ◌++◌}
+use Rattle.std.specs.List.{repeat}
+
+-- the filler repeated and cut to n units, where it has any
+abbrev pub filling : List ℕ → ℕ → List ℕ
+filling filler n = take n (repeat n filler)
+
+-- "String.prototype.padStart", "String.prototype.padEnd": what is missing at `most` units is filled, before or behind
+abbrev pub pad_start_of : List ℕ → ℕ → List ℕ → List ℕ
+pad_start_of u most filler = filling filler (most - length u) ++ u
+
+abbrev pub pad_end_of : List ℕ → ℕ → List ℕ → List ℕ
+pad_end_of u most filler = u ++ filling filler (most - length u)
+
+-- what a pad uses at most, of a string of n units and a filler of m, where its result has r
+abbrev pub pad_ids : ℕ
+pad_ids = 120
+
+abbrev pub pad_words : ℕ → ℕ → ℕ → ℕ
+pad_words n m r = 2 * (n + m + r) + 1000
