@@ -19,12 +19,16 @@ RUNS = 15
 
 # the name of a measure, the script that makes its text of so many units, and the script that calls
 ALIKE = "print('a'.repeat({n}).length);"
+CELLS = "print('abcd,efgh,'.repeat({tenth}).length);"
 METHODS = [
     ("repeat", "print('ab'.length);", "print('ab'.repeat({half}).length);"),
     ("padStart", "print('x'.length);", "print('x'.padStart({n}, 'ab').length);"),
     ("trim", "print(' '.repeat({n}).length);", "print(' '.repeat({n}).trim().length);"),
     ("indexOf, a unit that isn't there", ALIKE, "print('a'.repeat({n}).indexOf('b'));"),
     ("indexOf, 16 units that begin as the text does", ALIKE, "print('a'.repeat({n}).indexOf('a'.repeat(15) + 'b'));"),
+    ("replaceAll", CELLS, "print('abcd,efgh,'.repeat({tenth}).replaceAll(',', '; ').length);"),
+    ("split and join", CELLS, "print('abcd,efgh,'.repeat({tenth}).split(',').join('; ').length);"),
+    ("JSON.stringify", CELLS, "print(JSON.stringify('abcd,efgh,'.repeat({tenth})).length);"),
     ("lastIndexOf, a unit that isn't there", ALIKE, "print('a'.repeat({n}).lastIndexOf('b'));"),
 ]
 
@@ -32,7 +36,7 @@ METHODS = [
 def script_file(folder, text, size):
     path = os.path.join(folder, "script.js")
     with open(path, "w", encoding="ascii") as file:
-        file.write(text.format(n=size, half=size // 2))
+        file.write(text.format(n=size, half=size // 2, tenth=size // 10))
     return path
 
 
