@@ -3,7 +3,7 @@
 
 Usage: bench/methods.py [WORD]. With a word only the methods whose name holds it are measured. Build the
 program first, as tools/jsstr does. It belongs to no gate: run it on a machine that does nothing else.
-Each figure is the median of many runs, less that of a script that makes the same text and no call. Where
+Each figure is the median of many runs, less that of a script that makes the same text without the call. Where
 node is installed its time for the same script is printed beside it, less that of its own start.
 """
 
@@ -14,22 +14,23 @@ import tempfile
 
 from speed import PROGRAM, seconds
 
-SIZES = [100_000, 1_000_000]
+SMALL = (100_000, 1_000_000)
+LARGE = (1_000_000, 10_000_000)
 RUNS = 15
 
-# the name of a measure, the script that makes its text of so many units, and the script that calls
+# the name of a measure, the sizes of its text, the script that makes the text, and the script that calls
 ALIKE = "print('a'.repeat({n}).length);"
 CELLS = "print('abcd,efgh,'.repeat({tenth}).length);"
 METHODS = [
-    ("repeat", "print('ab'.length);", "print('ab'.repeat({half}).length);"),
-    ("padStart", "print('x'.length);", "print('x'.padStart({n}, 'ab').length);"),
-    ("trim", "print(' '.repeat({n}).length);", "print(' '.repeat({n}).trim().length);"),
-    ("indexOf, a unit that isn't there", ALIKE, "print('a'.repeat({n}).indexOf('b'));"),
-    ("indexOf, 16 units that begin as the text does", ALIKE, "print('a'.repeat({n}).indexOf('a'.repeat(15) + 'b'));"),
-    ("replaceAll", CELLS, "print('abcd,efgh,'.repeat({tenth}).replaceAll(',', '; ').length);"),
-    ("split and join", CELLS, "print('abcd,efgh,'.repeat({tenth}).split(',').join('; ').length);"),
-    ("JSON.stringify", CELLS, "print(JSON.stringify('abcd,efgh,'.repeat({tenth})).length);"),
-    ("lastIndexOf, a unit that isn't there", ALIKE, "print('a'.repeat({n}).lastIndexOf('b'));"),
+    ("repeat", LARGE, "print('ab'.length);", "print('ab'.repeat({half}).length);"),
+    ("padStart", LARGE, "print('x'.length);", "print('x'.padStart({n}, 'ab').length);"),
+    ("trim", LARGE, "print(' '.repeat({n}).length);", "print(' '.repeat({n}).trim().length);"),
+    ("indexOf, a unit that isn't there", LARGE, ALIKE, "print('a'.repeat({n}).indexOf('b'));"),
+    ("indexOf, 16 units that begin as the text does", LARGE, ALIKE, "print('a'.repeat({n}).indexOf('a'.repeat(15) + 'b'));"),
+    ("replaceAll", SMALL, CELLS, "print('abcd,efgh,'.repeat({tenth}).replaceAll(',', '; ').length);"),
+    ("split and join", SMALL, CELLS, "print('abcd,efgh,'.repeat({tenth}).split(',').join('; ').length);"),
+    ("JSON.stringify", SMALL, CELLS, "print(JSON.stringify('abcd,efgh,'.repeat({tenth})).length);"),
+    ("lastIndexOf, a unit that isn't there", LARGE, ALIKE, "print('a'.repeat({n}).lastIndexOf('b'));"),
 ]
 
 
@@ -56,14 +57,14 @@ def node_words(folder):
     return ["node", "--require", prelude]
 
 
-def measure(folder, name, base, call, node):
-    times = {size: spent(folder, [PROGRAM], base, call, size) for size in SIZES}
-    for size in SIZES:
+def measure(folder, name, sizes, base, call, node):
+    times = {size: spent(folder, [PROGRAM], base, call, size) for size in sizes}
+    for size in sizes:
         line = f"{name}, {size} units: {times[size] * 1e3:.2f} ms, {size / times[size] / 1e6:.0f} million units a second"
         if node:
             line += f"; node {spent(folder, node, base, call, size) * 1e3:.2f} ms"
         print(line)
-    print(f"{name}: 10 times the units take {times[SIZES[1]] / times[SIZES[0]]:.1f} times as long")
+    print(f"{name}: 10 times the units take {times[sizes[1]] / times[sizes[0]]:.1f} times as long")
 
 
 def main():
@@ -72,9 +73,9 @@ def main():
     wanted = sys.argv[1] if len(sys.argv) > 1 else ""
     with tempfile.TemporaryDirectory() as folder:
         node = node_words(folder)
-        for name, base, call in METHODS:
+        for name, sizes, base, call in METHODS:
             if wanted in name:
-                measure(folder, name, base, call, node)
+                measure(folder, name, sizes, base, call, node)
 
 
 main()
