@@ -9,6 +9,8 @@ use Rattle.js_parse.specs.declared.parser.Role.TheVariants.{Prelude, Main}
 use Rattle.js_parse.specs.declared.tree.Op.{Op}
 use Rattle.js_parse.specs.declared.tree.Op.TheVariants as op
 use Rattle.js_parse.specs.declared.tree.Method.{Method}
+use Rattle.js_parse.specs.declared.tree.Builtin.{Builtin}
+use Rattle.js_parse.specs.declared.tree.Builtin.TheVariants as builtin
 use Rattle.js_parse.specs.Lang.{Lang, One, Then, Mapped, Either, Many, Never, only_if}
 use Rattle.js_parse.specs.Tree as tree
 use Rattle.js_parse.specs.Tree.{ExprTree, LinkTree, StepTree, StmtTree, links, steps, exprs}
@@ -35,6 +37,15 @@ abbrev pub closing : Token → Option (Unit {0})
 closing (token.Mark mark.CloseParen at) = Some tt
 closing _ = None
 
+-- the mark [ : its offset
+abbrev pub open_bracket : Token → Option ℕ
+open_bracket (token.Mark mark.OpenBracket at) = Some at
+open_bracket _ = None
+
+abbrev pub close_bracket : Token → Option (Unit {0})
+close_bracket (token.Mark mark.CloseBracket at) = Some tt
+close_bracket _ = None
+
 abbrev pub comma : Token → Option (Unit {0})
 comma (token.Mark mark.Comma at) = Some tt
 comma _ = None
@@ -59,6 +70,27 @@ length_word _ = None
 abbrev pub method : Token → Option (ℕ × Method)
 method (token.Word (word.Method m) at) = Some (at, m)
 method _ = None
+
+-- the word String: its offset
+abbrev pub string_word : Token → Option ℕ
+string_word (token.Word word.String at) = Some at
+string_word _ = None
+
+-- what stands behind String and a point
+abbrev pub from_word : Token → Option Builtin
+from_word (token.Word word.FromCharCode at) = Some builtin.FromCharCode
+from_word (token.Word word.FromCodePoint at) = Some builtin.FromCodePoint
+from_word _ = None
+
+-- the word JSON: its offset
+abbrev pub json_word : Token → Option ℕ
+json_word (token.Word word.Json at) = Some at
+json_word _ = None
+
+-- what stands behind JSON and a point
+abbrev pub stringify_word : Token → Option Builtin
+stringify_word (token.Word word.Stringify at) = Some builtin.Stringify
+stringify_word _ = None
 
 -- a sign: its offset, and whether it is a minus
 abbrev pub sign : Token → Option (ℕ × Bool)
@@ -85,8 +117,21 @@ list_of x xs = x ∷ xs
 abbrev pub none_of : {A B : Type 0} → A → List B
 none_of x = []
 
+abbrev pub single_of : {A : Type 0} → A → List A
+single_of x = x ∷ []
+
+abbrev pub index_of : ℕ → ExprTree → StepTree
+index_of at t = tree.of_index at t
+
 abbrev pub call_of : ℕ × Method → List ExprTree → StepTree
 call_of m ts = tree.of_call m.0 m.1 (exprs ts)
+
+abbrev pub pair_of : {A B : Type 0} → A → B → A × B
+pair_of x y = (x, y)
+
+-- a built-in function, at an offset, with its arguments
+abbrev pub builtin_of : ℕ → Builtin × List ExprTree → ExprTree
+builtin_of at c = tree.builtin at c.0 (exprs c.1)
 
 -- without a step it is what it is of
 abbrev pub post_of : ExprTree → List StepTree → ExprTree
@@ -129,17 +174,42 @@ args_rest E = Either (Mapped none_of (One closing)) (Then first_of (items E) (On
 abbrev pub args : Lang ExprTree → Lang (List ExprTree)
 args E = Then second_of (One opening) (args_rest E)
 
+-- . word
+abbrev pub behind_point : (Token → Option Builtin) → Lang Builtin
+behind_point v = Then second_of (One point) (One v)
+
+-- String . fromCharCode Args | String . fromCodePoint Args
+abbrev pub string_call : Lang ExprTree → Lang ExprTree
+string_call E = Then builtin_of (One string_word) (Then pair_of (behind_point from_word) (args E))
+
+-- JSON . stringify ( E )
+abbrev pub json_call : Lang ExprTree → Lang ExprTree
+json_call E = Then builtin_of (One json_word) (Then pair_of (behind_point stringify_word) (Mapped single_of (parens E)))
+
+-- what parentheses are a part of
+abbrev pub enclosed : Lang ExprTree → Lang ExprTree
+enclosed E = Either (string_call E) (Either (json_call E) (parens E))
+
 -- Text | Number | undefined | null | true | false | NaN | Infinity | ( E )
+-- | String . fromCharCode Args | String . fromCodePoint Args | JSON . stringify ( E )
 abbrev pub primary : Bool → Lang ExprTree → Lang ExprTree
-primary room E = Either (One simple) (only_if room (parens E))
+primary room E = Either (One simple) (only_if room (enclosed E))
 
 -- Method Args
 abbrev pub call : Lang ExprTree → Lang StepTree
 call E = Then call_of (One method) (args E)
 
 -- . length | . Method Args
+abbrev pub member : Bool → Lang ExprTree → Lang StepTree
+member room E = Then second_of (One point) (Either (One length_word) (only_if room (call E)))
+
+-- [ E ]
+abbrev pub index : Lang ExprTree → Lang StepTree
+index E = Then index_of (One open_bracket) (Then first_of E (One close_bracket))
+
+-- . length | . Method Args | [ E ]
 abbrev pub step : Bool → Lang ExprTree → Lang StepTree
-step room E = Then second_of (One point) (Either (One length_word) (only_if room (call E)))
+step room E = Either (only_if room (index E)) (member room E)
 
 -- Primary { Step }
 abbrev pub post : Bool → Lang ExprTree → Lang ExprTree

@@ -1,9 +1,10 @@
 //! Reads the text of a script into its tree.
 //!
 //! [`parse`] is the one reader. The language of today has statements `print ( [ Expr { , Expr } ] ) ;`
-//! over all literals, with `+`, `-`, parentheses, `.length` and the methods `at` and `slice`, and
-//! may begin with the directive `'use strict' ;`. At most 200 may be open at once: parentheses, and
-//! signs whose operand isn't finished.
+//! over all literals, with `+`, `-`, parentheses, `.length`, indexing, all methods, and the calls of
+//! `String.fromCharCode`, `String.fromCodePoint` and `JSON.stringify`, and may begin with the
+//! directive `'use strict' ;`. At most 200 may be open at once: parentheses, brackets, and signs
+//! whose operand isn't finished.
 #![tactic(auto)]
 
 mod expr;
@@ -17,7 +18,7 @@ mod tree;
 
 pub use laws::{no_refused_script, one_refusal, one_script};
 pub use parser::{ParseFault, Role, parse};
-pub use tree::{Expr, Link, Method, Name, Names, Op, PostStep, Script, Stmt};
+pub use tree::{Builtin, Expr, Link, Method, Name, Names, Op, PostStep, Script, Stmt};
 
 #[cfg(test)]
 mod tests;

@@ -1,10 +1,24 @@
 // The nodes of the tree.
-ghost use Rattle.std.specs.Prelude.{◌≡◌, map, IfOk};
+ghost use Rattle.std.specs.Prelude.{◌≡◌, ◌++◌, ◌∷◌, [], map, IfOk, IfErr, OnOk};
+ghost use Rattle.js_parse.specs.declared.parser.ParseFault.TheVariants.{Memory};
 ghost use Rattle.js_parse.specs.Tree.{expr_tree, link_tree, step_tree, stmt_tree};
-ghost use Rattle.js_parse.specs.Grammar.{call_of, post_of, unary_of, link_of, chain_of, print_of};
+ghost use Rattle.js_parse.specs.Grammar.{call_of, index_of, builtin_of, post_of, unary_of, link_of, chain_of, print_of};
 
-use crate::tree::{Expr, Link, Method, Op, PostStep, Stmt};
+use crate::parser::ParseFault;
+use crate::tree::{Builtin, Expr, Link, Method, Op, PostStep, Stmt};
 use std::alloc::{AllocError, Global};
+
+/// Adds an element. Most lists of a tree have one: the first takes room for itself alone.
+pub(crate) fn add<T: Drop>(list: &mut Vec<T>, item: T) -> Result<(), ParseFault>
+    ensures items { OnOk result (list.new.items ≡ list.old.items ++ item ∷ []) }
+    ensures refused { IfErr result (λ fault. fault ≡ Memory) }
+{
+    if list.is_empty() {
+        list.reserve_exact(1)?;
+    }
+    list.push(item)?;
+    Ok(())
+}
 
 pub(crate) fn link(op: (u32, Op), right: Expr) -> Link
     ensures { link_tree result ≡ link_of (op.0, op.1) (expr_tree right) }
@@ -24,6 +38,18 @@ pub(crate) fn call(method: (u32, Method), args: Vec<Expr>) -> PostStep
         method: method.1,
         args,
     }
+}
+
+pub(crate) fn index(at: u32, index: Expr) -> PostStep
+    ensures { step_tree result ≡ index_of at (expr_tree index) }
+{
+    PostStep::Index { at, index }
+}
+
+pub(crate) fn builtin(at: u32, which: Builtin, args: Vec<Expr>) -> Expr
+    ensures { expr_tree result ≡ builtin_of at (which, map expr_tree args.items) }
+{
+    Expr::Builtin { at, which, args }
 }
 
 pub(crate) fn signed(alloc: Global, sign: (u32, bool), of: Expr) -> Result<Expr, AllocError>

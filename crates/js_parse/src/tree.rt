@@ -8,8 +8,8 @@ use std::marker::Model;
 /// A script: its literals, its statements, and the names that it declares at its top.
 ///
 /// `literals` has one entry for each string token, in the order of the text, without the
-/// directive. In the whole tree an `at` is a byte offset in the file: that of the operator, or of
-/// the method's word.
+/// directive. In the whole tree an `at` is a byte offset in the file: that of the operator, of the
+/// method's word, of the `[`, or of the first word of a built-in call.
 #[derive(Drop)]
 pub struct Script {
     pub literals: Vec<Units>,
@@ -28,16 +28,37 @@ pub enum Stmt {
 #[cycle(tree)]
 #[derive(Drop)]
 pub enum Expr {
-    Literal { number: u32 },
-    Number { value: u64 },
+    Literal {
+        number: u32,
+    },
+    Number {
+        value: u64,
+    },
     Undefined,
     Null,
-    Bool { value: bool },
+    Bool {
+        value: bool,
+    },
     NaN,
     Infinity,
-    Unary { at: u32, minus: bool, of: Box<Expr> },
-    Chain { first: Box<Expr>, rest: Vec<Link> },
-    Post { of: Box<Expr>, steps: Vec<PostStep> },
+    Unary {
+        at: u32,
+        minus: bool,
+        of: Box<Expr>,
+    },
+    Chain {
+        first: Box<Expr>,
+        rest: Vec<Link>,
+    },
+    Post {
+        of: Box<Expr>,
+        steps: Vec<PostStep>,
+    },
+    Builtin {
+        at: u32,
+        which: Builtin,
+        args: Vec<Expr>,
+    },
 }
 
 /// An operator of a chain with its right side. The links of one level group from the left.
@@ -49,7 +70,7 @@ pub struct Link {
     pub right: Expr,
 }
 
-/// A member or a call behind an expression.
+/// A member, a call or an index behind an expression.
 #[cycle(tree)]
 #[derive(Drop)]
 pub enum PostStep {
@@ -58,6 +79,10 @@ pub enum PostStep {
         at: u32,
         method: Method,
         args: Vec<Expr>,
+    },
+    Index {
+        at: u32,
+        index: Expr,
     },
 }
 
@@ -68,11 +93,43 @@ pub enum Op {
     Minus,
 }
 
-/// A method of `String.prototype`.
+/// A method of `String.prototype`, or `join` of `Array.prototype`.
 #[derive(Clone, Copy, Debug, PartialEq, Eq)]
 pub enum Method {
     At,
+    CharAt,
+    CharCodeAt,
+    CodePointAt,
+    Concat,
+    EndsWith,
+    Includes,
+    IndexOf,
+    IsWellFormed,
+    Join,
+    LastIndexOf,
+    PadEnd,
+    PadStart,
+    Repeat,
+    Replace,
+    ReplaceAll,
     Slice,
+    Split,
+    StartsWith,
+    Substr,
+    Substring,
+    ToWellFormed,
+    Trim,
+    TrimEnd,
+    TrimStart,
+}
+
+/// A built-in function that is called by its name: `String.fromCharCode`, `String.fromCodePoint`,
+/// and `JSON.stringify` with its one argument.
+#[derive(Clone, Copy, Debug, PartialEq, Eq)]
+pub enum Builtin {
+    FromCharCode,
+    FromCodePoint,
+    Stringify,
 }
 
 /// A name. Contracts see it as the list of its bytes.
