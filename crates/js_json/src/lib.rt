@@ -15,6 +15,7 @@ mod reading;
 pub use lists::stringify_list;
 pub use printing::print_line;
 pub use quoting::quote;
+pub use reading::read;
 
 #[cfg(test)]
 mod tests;

@@ -119,10 +119,14 @@ fn append_string<S: Strings>(
     append_units(units.as_slice(), line)
 }
 
+// Adds the UTF-8 of units, and has room for one more byte where they are ASCII.
 fn append_units(units: &[u16], line: &mut Vec<u8>) -> Result<(), StoreFault>
     ensures added { OnOk result (line.new.items ≡ line.old.items ++ utf8 units.now) }
     ensures fault { IfErr result (λ f. f ≡ StoreFault.Memory) }
 {
+    if line.reserve(units.len().saturating_add(1)).is_err() {
+        return Err(StoreFault::Memory);
+    }
     match append_utf8(units, line) {
         Ok(()) => Ok(()),
         Err(_) => Err(StoreFault::Memory),

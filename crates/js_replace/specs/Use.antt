@@ -1,0 +1,27 @@
+-- What the calls use at most, as functions of their operands and results.
+use Rattle.std.specs.Prelude.{ℕ, ◌+◌, List, [], ◌∷◌, length, nat_lt, if◌then◌else◌, Option, Some, None}
+use Rattle.js_store.specs.State.{State, text}
+use Rattle.js_store.specs.Rows.{settle_words, flat_words, copy_words}
+use Rattle.js_replace.specs.Parts.{parts}
+
+-- settling one string
+abbrev pub settling : {F : Type 0} → State F → ℕ → ℕ
+settling s n = settle_words (s.settled n) (length (text s n))
+
+-- the words of a new string of these units; nothing is made of units that are more than the limit
+abbrev pub made_words : ℕ → List ℕ → ℕ
+made_words limit u = if nat_lt limit (length u) then 0 else flat_words u
+
+-- copies of several lists
+abbrev pub copies : List (List ℕ) → ℕ
+copies [] = 0
+copies (u ∷ us) = copy_words (length u) + copies us
+
+-- splitting: without a separator nothing, since the string itself is the one part; else both are settled and each part is a copy
+abbrev pub split_ids : {F R : Type 0} → State F → (R → ℕ) → R → Option R → ℕ → ℕ
+split_ids s name r None limit = 0
+split_ids s name r (Some sep) limit = length (parts (text s (name r)) (Some (text s (name sep))) limit)
+
+abbrev pub split_words : {F R : Type 0} → State F → (R → ℕ) → R → Option R → ℕ → ℕ
+split_words s name r None limit = 0
+split_words s name r (Some sep) limit = settling s (name r) + settling s (name sep) + copies (parts (text s (name r)) (Some (text s (name sep))) limit)

@@ -1,0 +1,86 @@
+// What a template stands for at a match.
+ghost use Rattle.std.specs.Prelude.{◌≡◌, ◌+◌, ◌≤◌, length, IfOk};
+ghost use Rattle.js_store.specs.State.{Has, IsKnown, IsSettled, text};
+ghost use Rattle.js_store.specs.Faults.{Step, NeverSlots};
+ghost use Rattle.js_store.specs.Answers.{ThrowsLong, full_of};
+ghost use Rattle.js_json.specs.Texts.{full_fault_of};
+ghost use Rattle.js_search.specs.Places.{Stands};
+ghost use Rattle.js_replace.specs.Substitution.{substituted};
+ghost use Rattle.js_replace.specs.Use.{settling, made_words};
+
+use crate::making::made;
+use crate::pieces::{Shape, push_substituted};
+use js_json::read;
+use js_store::{Cause, MethodFault, StoreFault, Strings};
+use js_units::Units;
+use std::alloc::Global;
+
+/// The template as it stands for the match of `w`, which stands in `s` at `at`: `$$` gives a
+/// dollar sign, `$&` the match, `` $` `` the part of `s` before it and `$'` the part after it; all
+/// else stands for itself ("GetSubstitution", without captures).
+pub fn substitution<S: Strings>(
+    alloc: Global,
+    store: &mut S,
+    template: S::Ref,
+    s: S::Ref,
+    at: u32,
+    w: S::Ref,
+) -> Result<S::Ref, MethodFault>
+    requires template_known { IsKnown (S.state store.old) (S.number template) }
+    requires known { IsKnown (S.state store.old) (S.number s) }
+    requires match_known { IsKnown (S.state store.old) (S.number w) }
+    requires stands { Stands (text (S.state store.old) (S.number s)) (text (S.state store.old) (S.number w)) at }
+    ensures value { IfOk result (λ r. Has (S.state store.new) (S.number r) (substituted (text (S.state store.old) (S.number template)) (text (S.state store.old) (S.number s)) at (text (S.state store.old) (S.number w)))) }
+    ensures settled { IfOk result (λ r. IsSettled (S.state store.new) (S.number r)) }
+    ensures throws { ThrowsLong result (S.state store.old).limit (length (substituted (text (S.state store.old) (S.number template)) (text (S.state store.old) (S.number s)) at (text (S.state store.old) (S.number w)))) }
+    ensures step { Step (S.state store.old) (S.state store.new) (full_of result)
+        1 (settling (S.state store.old) (S.number template) + settling (S.state store.old) (S.number s) + settling (S.state store.old) (S.number w) + made_words (S.state store.old).limit (substituted (text (S.state store.old) (S.number template)) (text (S.state store.old) (S.number s)) at (text (S.state store.old) (S.number w)))) }
+    ensures slots { NeverSlots (full_of result) }
+    ensures history { (S.state store.new).history ≡ (S.state store.old).history }
+{
+    let template = read(alloc, store, template)?;
+    let length = match_len(store, template.as_slice(), s, at, w);
+    if length > u128::from(store.limit()) {
+        return Err(MethodFault::RangeError(Cause::TooLong { length }));
+    }
+    let text = match_units(alloc, store, template.as_slice(), s, at, w)?;
+    Ok(made(store, text.as_slice())?)
+}
+
+// How many units the template stands for.
+fn match_len<S: Strings>(store: &mut S, template: &[u16], s: S::Ref, at: u32, w: S::Ref) -> u128
+    requires short { length template.now ≤ 536870888 }
+    requires known { IsKnown (S.state store.old) (S.number s) }
+    requires match_known { IsKnown (S.state store.old) (S.number w) }
+    requires stands { Stands (text (S.state store.old) (S.number s)) (text (S.state store.old) (S.number w)) at }
+    ensures value { result ≡ length (substituted template.now (text (S.state store.old) (S.number s)) at (text (S.state store.old) (S.number w))) }
+    ensures step { Step (S.state store.old) (S.state store.new) None 0 0 }
+    ensures history { (S.state store.new).history ≡ (S.state store.old).history }
+{
+    let len = store.len(s);
+    let size = store.len(w);
+    Shape::of(template).len_at(len, at, size)
+}
+
+fn match_units<S: Strings>(
+    alloc: Global,
+    store: &mut S,
+    template: &[u16],
+    s: S::Ref,
+    at: u32,
+    w: S::Ref,
+) -> Result<Units, StoreFault>
+    requires known { IsKnown (S.state store.old) (S.number s) }
+    requires match_known { IsKnown (S.state store.old) (S.number w) }
+    requires stands { Stands (text (S.state store.old) (S.number s)) (text (S.state store.old) (S.number w)) at }
+    ensures value { IfOk result (λ u. u ≡ substituted template.now (text (S.state store.old) (S.number s)) at (text (S.state store.old) (S.number w))) }
+    ensures step { Step (S.state store.old) (S.state store.new) (full_fault_of result) 0 (settling (S.state store.old) (S.number s) + settling (S.state store.old) (S.number w)) }
+    ensures slots { NeverSlots (full_fault_of result) }
+    ensures history { (S.state store.new).history ≡ (S.state store.old).history }
+{
+    let s = read(alloc, store, s)?;
+    let w = read(alloc, store, w)?;
+    let mut text = Units::new(alloc);
+    push_substituted(&mut text, template, s.as_slice(), at, w.as_slice())?;
+    Ok(text)
+}
