@@ -1,23 +1,27 @@
 -- One evaluation after another.
-use Rattle.std.proofs.Common.{◌≡◌, ℕ, ◌+◌, ◌*◌, ◌≤◌, List, [], ◌∷◌, ◌++◌, refl, ap, ◌∙◌, sym, subst, arith, append_assoc, Some, None, Result, Ok, Err, Contains, inl, inr}
+use Rattle.std.proofs.Common.{◌≡◌, ℕ, ◌+◌, ◌<◌, ◌≤◌, zero, suc, slice_index_or, List, [], ◌∷◌, ◌++◌, refl, ap, ◌∙◌, sym, subst, arith, append_assoc, Some, None, Result, Ok, Err, Contains, inl, inr}
 use Rattle.std.proofs.lemmas.List.Elements.{Contains-append_cases}
 use Rattle.std.proofs.lemmas.List.{map-append, append-nil}
-use Rattle.js_store.specs.State.{State}
+use Rattle.js_store.specs.State.{State, Has}
 use Rattle.js_store.specs.Faults.{Honest, Step, NeverSlots}
-use Rattle.js_store.specs.Rows.{join_ids, join_words, wide_words}
-use Rattle.js_store.proofs.Laws.{grows_trans, has_still, grows_refl, joined_within}
+use Rattle.js_store.specs.Rows.{join_ids, join_words}
+use Rattle.js_store.proofs.Laws.{grows_trans, has_still, has_text, has_known, grows_refl, joined_within}
 use Rattle.js_store.specs.declared.faults.FullReport.TheVariants.{Ids, Words, Slots}
 use Rattle.js_store.specs.declared.faults.StoreFault.{StoreFault}
 use Rattle.js_store.specs.declared.faults.StoreFault.TheVariants.{Full, Memory}
 use Rattle.js_eval.specs.declared.value.Stop.{Stop}
 use Rattle.js_eval.specs.declared.value.Stop.TheVariants.{Threw, Unsupported, Store}
-use Rattle.js_eval.specs.Outcome.{Ledger, both, free, Out, gave, ended, threw, unsupported, after, bind, ledger_of, gives, throws, text, row_words}
+use Rattle.js_eval.specs.Outcome.{Ledger, both, free, Out, gave, ended, threw, unsupported, after, bind, ledger_of, gives, throws, text, row_ids, row_words}
 use Rattle.js_eval.specs.declared.value.Kind.TheVariants.{RangeError}
-use Rattle.js_number.specs.declared.Num.{Num}
-use Rattle.js_eval.specs.Operators.{joined}
-use Rattle.js_eval.specs.Members.{at_call, cut}
+use Rattle.js_store.specs.Answers.{full_part}
+use Rattle.js_store.specs.declared.faults.MethodFault.TheVariants.{Store as MethodStore}
+use Rattle.js_eval.specs.declared.value.Value.TheVariants.{Text}
+use Rattle.js_eval.specs.Cutting.{within}
+use Rattle.js_eval.specs.Building.{joined_text}
 use Rattle.std.specs.Prelude.{nat_le, if◌then◌else◌, true, false, length}
-use Rattle.js_eval.specs.Ran.{Interns, Ran, NextShut, full_only, Cut, Did}
+use Rattle.js_json.specs.Texts.{full_only}
+use Rattle.js_eval.specs.Ran.{Interns, Ran, NextShut, Cut, Did}
+use Rattle.js_eval.specs.Does.{Does}
 
 pub interns_both : {x y z : List (List ℕ × ℕ)} {us vs : List (List ℕ)} → Interns x y us → Interns y z vs → Interns x z (us ++ vs)
 interns_both {x} i j = record {
@@ -86,6 +90,43 @@ ran_cut {l = l} r s = record {
   within_ids = omega arith;
   within_words = omega arith;
 }
+
+ran_before : {F : Type 0} {a b c : State F} {l : Ledger} → Step a b None 0 0 → b.history ≡ a.history → Ran b c l → Ran a c l
+ran_before s h r = record {
+  grows = grows_trans s.grows r.grows;
+  history = record { pairs = r.history.pairs; grown = r.history.grown ∙ ap (λ p. p ++ r.history.pairs) h; same = r.history.same };
+  texts = r.texts;
+  within_ids = let e = s.within_ids in omega arith;
+  within_words = let e = s.within_words in omega arith;
+}
+
+cut_before : {F : Type 0} {a b c : State F} {f : StoreFault} {l : Ledger} → Step a b None 0 0 → b.history ≡ a.history → Cut b c f l → Cut a c f l
+cut_before s h r = record {
+  grows = grows_trans s.grows r.grows;
+  honest = r.honest;
+  history = record {
+    done = r.history.done;
+    left = r.history.left;
+    split = r.history.split;
+    interns = record { pairs = r.history.interns.pairs; grown = r.history.interns.grown ∙ ap (λ p. p ++ r.history.interns.pairs) h; same = r.history.interns.same };
+    next = r.history.next;
+  };
+  within_ids = let e = s.within_ids in omega arith;
+  within_words = let e = s.within_words in omega arith;
+}
+
+-- a call that uses nothing, and then an evaluation
+pub did_before : {F V A : Type 0} (a b c : State F) (see : State F → V → A) (fine : State F → V → Type 0) (r : Result V Stop) (o : Out A) → Step a b None 0 0 → b.history ≡ a.history → Did b c see fine r o → Did a c see fine r o
+did_before a b c see fine (Ok v) (gave x m) s h d = record { is = d.is; good = d.good; ran = ran_before s h d.ran }
+did_before a b c see fine (Ok v) (ended e m) s h d = absurd d
+did_before a b c see fine (Err (Threw k)) (gave x m) s h d = absurd d
+did_before a b c see fine (Err (Threw k)) (ended (threw n) m) s h d = (d.0, ran_before s h d.1)
+did_before a b c see fine (Err (Threw k)) (ended (unsupported n) m) s h d = absurd d
+did_before a b c see fine (Err (Unsupported k)) (gave x m) s h d = absurd d
+did_before a b c see fine (Err (Unsupported k)) (ended (threw n) m) s h d = absurd d
+did_before a b c see fine (Err (Unsupported k)) (ended (unsupported n) m) s h d = (d.0, ran_before s h d.1)
+did_before a b c see fine (Err (Store f)) (gave x m) s h d = cut_before s h d
+did_before a b c see fine (Err (Store f)) (ended e m) s h d = cut_before s h d
 
 pub did_after : {F V A : Type 0} (a b c : State F) (see : State F → V → A) (fine : State F → V → Type 0) (l : Ledger) (r : Result V Stop) (o : Out A) → Ran a b l → Did b c see fine r o → Did a c see fine r (after l o)
 did_after a b c see fine l (Ok v) (gave x m) r d = record { is = d.is; good = d.good; ran = ran_both r d.ran }
@@ -177,23 +218,58 @@ ran_of_step {a = a} ids words s h p q = record {
   within_words = let e = s.within_words in omega arith;
 }
 
--- a concatenation that was refused, of strings that have at most 80 units more than the operands
-pub joined_cut : {F : Type 0} {a b : State F} {f : StoreFault} (limit t : ℕ) (u w : List ℕ) → length u + length w ≤ t + 80 → Step a b (Some f) (join_ids (length u) (length w)) (join_words (length u) (length w)) → b.history ≡ a.history → NeverSlots (Some f) → Cut a b f (ledger_of (joined limit t u w))
+-- a method that was refused, of which the result may be too long
+pub within_cut : {F : Type 0} {a b : State F} {f : StoreFault} {i k : ℕ} (limit ids : ℕ) (words : ℕ → ℕ) (w : List ℕ) → Step a b (Some f) i k → b.history ≡ a.history → NeverSlots (Some f) → i ≤ ids → k ≤ words (length w) → k ≤ words 0 → Cut a b f (ledger_of (within limit ids words w))
+within_cut {a = a} {b = b} {f = f} limit ids words w s h n p q r =
+    elim (nat_le (length w) limit) as (λ v. Cut a b f (ledger_of (if v then gives (text w) ids (words (length w)) else throws RangeError ids (words 0)))) [
+      | true ↦ cut_of_step _ s h n p q
+      | false ↦ cut_of_step _ s h n p r
+    ]
+
+-- two strings that were not joined, which have at most 40 units more than the operands
+pub joined_cut : {F : Type 0} {a b : State F} {f : StoreFault} (limit t : ℕ) (u w : List ℕ) → length u + length w ≤ t + 40 → Step a b (Some f) (join_ids (length u) (length w)) (join_words (length u) (length w)) → b.history ≡ a.history → NeverSlots (Some f) → Cut a b f (ledger_of (joined_text limit t u w))
 joined_cut {a = a} {b = b} {f = f} limit t u w k s0 h n =
     let s = joined_within (length u) (length w) s0 in
-    elim (nat_le (length u + length w) limit) as (λ v. Cut a b f (ledger_of (if v then gives (text (u ++ w)) 8 (row_words (t + (length u + length w))) else throws RangeError 8 (row_words t)))) [
+    elim (nat_le (length u + length w) limit) as (λ v. Cut a b f (ledger_of (if v then gave (u ++ w) (record { interned = []; texts = []; ids = row_ids; words = row_words (t + (length u + length w)) }) else ended (threw RangeError) (record { interned = []; texts = []; ids = row_ids; words = row_words t })))) [
       | true ↦ cut_of_step _ s h n (omega arith) (omega arith)
       | false ↦ cut_of_step _ s h n (omega arith) (omega arith)
     ]
 
--- `at` that was refused
-pub at_cut : {F : Type 0} {a b : State F} {f : StoreFault} (at t : ℕ) (u : List ℕ) (n : Num) → length u ≤ t → Step a b (Some f) 1 (wide_words (length u) + 3) → b.history ≡ a.history → NeverSlots (Some f) → Cut a b f (ledger_of (at_call at t u (Some n)))
-at_cut at t u n k s h m = cut_of_step (ledger_of (at_call at t u (Some n))) s h m (omega arith) (omega arith)
+-- the report of a method that may find no memory itself
+pub full_same : (f : StoreFault) → full_part (MethodStore f) ≡ full_only f
+full_same (Full r) = refl
+full_same Memory = refl
 
--- a slice that was refused
-pub sliced_cut : {F : Type 0} {a b : State F} {f : StoreFault} (limit t : ℕ) (u w : List ℕ) → length u ≤ t → Step a b (Some f) 1 (2 * wide_words (length u) + 3) → b.history ≡ a.history → NeverSlots (Some f) → Cut a b f (ledger_of (cut limit t w))
-sliced_cut {a = a} {b = b} {f = f} limit t u w k s h n =
-    elim (nat_le (length w) limit) as (λ v. Cut a b f (ledger_of (if v then gives (text w) 8 (row_words (t + length w)) else throws RangeError 8 (row_words t)))) [
-      | true ↦ cut_of_step _ s h n (omega arith) (omega arith)
-      | false ↦ cut_of_step _ s h n (omega arith) (omega arith)
+pub within_full : {F : Type 0} {a b : State F} {f : StoreFault} {i k : ℕ} (limit ids : ℕ) (words : ℕ → ℕ) (w : List ℕ) → Step a b (full_part (MethodStore f)) i k → b.history ≡ a.history → NeverSlots (full_part (MethodStore f)) → i ≤ ids → k ≤ words (length w) → k ≤ words 0 → Cut a b f (ledger_of (within limit ids words w))
+within_full {a = a} {b = b} {f = f} limit ids words w s h n p q r =
+    let s' = rw (full_same f) at s in
+    let n' = rw (full_same f) at n in
+    elim (nat_le (length w) limit) as (λ v. Cut a b f (ledger_of (if v then gives (text w) ids (words (length w)) else throws RangeError ids (words 0)))) [
+      | true ↦ cut_of_full f _ s' h n' p q
+      | false ↦ cut_of_full f _ s' h n' p r
     ]
+
+one_text : (w u : List ℕ) (k : ℕ) → k < 1 → slice_index_or (w ∷ []) k u ≡ u → w ≡ u
+one_text w u zero l e = e
+one_text w u (suc k) l e = absurd (omega (arith, l))
+
+-- a chain of calls that gave one string
+pub ran_of_text : {F : Type 0} {a b : State F} {i k : ℕ} (ids words : ℕ) (w : List ℕ) (n : ℕ) → Has b n w → Step a b None i k → b.history ≡ a.history → i ≤ ids → k ≤ words → Ran a b (record { interned = []; texts = w ∷ []; ids = ids; words = words })
+ran_of_text {a = a} {b = b} ids words w n z s h p q = record {
+  grows = s.grows;
+  history = record { pairs = []; grown = h ∙ sym (append-nil a.history); same = refl };
+  texts = λ u c. (n, z ∙ ap Some (one_text w u c.0 c.1 c.2));
+  within_ids = let e = s.within_ids in omega arith;
+  within_words = let e = s.within_words in omega arith;
+}
+
+-- a method whose result isn't too long, and one whose result is
+pub within_given : {F R : Type 0} (name : R → ℕ) (a b : State F) {i k : ℕ} (limit ids : ℕ) (words : ℕ → ℕ) (w : List ℕ) (r : R) → Has b (name r) w → length w ≤ limit → Step a b None i k → b.history ≡ a.history → i ≤ ids → k ≤ words (length w) → Does name a b (Ok (Text r)) (within limit ids words w)
+within_given name a b limit ids words w r z l s h p q =
+    let fits : nat_le (length w) limit ≡ true = grind (arith, l) in
+    rw fits (record { is = ap text (has_text b (name r) w z); good = has_known b (name r) w z; ran = ran_of_text ids (words (length w)) w (name r) z s h p q })
+
+pub within_thrown : {F R : Type 0} (name : R → ℕ) (a b : State F) {i k : ℕ} (limit ids : ℕ) (words : ℕ → ℕ) (w : List ℕ) → limit < length w → Step a b None i k → b.history ≡ a.history → i ≤ ids → k ≤ words 0 → Does name a b (Err (Threw RangeError)) (within limit ids words w)
+within_thrown name a b limit ids words w l s h p q =
+    let past : nat_le (length w) limit ≡ false = grind (arith, l) in
+    rw past (refl, ran_of_step ids (words 0) s h p q)

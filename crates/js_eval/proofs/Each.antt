@@ -6,13 +6,11 @@ use Rattle.js_store.proofs.Laws.{step_refl}
 use Rattle.js_eval.specs.declared.value.Stop.{Stop}
 use Rattle.js_eval.specs.declared.value.Stop.TheVariants.{Store}
 use Rattle.js_eval.specs.Outcome.{Out, gave, ended, after, bind, each, ledger_of}
-use Rattle.js_eval.specs.Seen.{Every}
+use Rattle.js_json.specs.Texts.{Every}
 use Rattle.js_eval.specs.Ran.{Did}
+use Rattle.js_json.proofs.Joining.{drop_at, every_map}
 use Rattle.js_eval.proofs.Compose.{did_bind, did_stop, cut_of_memory}
-use Rattle.js_eval.proofs.Still.{every_map, map_same}
-
-pub drop_at : {X : Type 0} (xs : List X) (i : ℕ) (x : X) → i < length xs → x ≡ get_or xs i x → drop i xs ≡ x ∷ drop (i + 1) xs
-drop_at xs i x h e = rw (add-one, drop-cons xs i x) (cc (sym e))
+use Rattle.js_eval.proofs.Still.{map_same}
 
 every_push : {A : Type 0} (P : A → Type 0) (xs : List A) (x : A) → Every P xs → P x → Every P (xs ++ x ∷ [])
 every_push P [] x h k = (k, tt)

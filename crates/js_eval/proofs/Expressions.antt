@@ -5,25 +5,29 @@ use Rattle.js_parse.specs.declared.tree.Expr.{Expr}
 use Rattle.js_parse.specs.declared.tree.Link.{Link}
 use Rattle.js_parse.specs.declared.tree.PostStep.{PostStep}
 use Rattle.js_parse.specs.declared.tree.Method.{Method}
-use Rattle.js_parse.specs.Tree.{ExprTree, chain, unary, post, Links, Steps, Exprs, LinkTree, StepTree, of_length, of_call, with_step, expr_tree, link_tree, links_tree, step_tree, steps_tree, exprs_tree}
+use Rattle.js_parse.specs.declared.tree.Builtin.{Builtin}
+use Rattle.js_parse.specs.Tree.{ExprTree, chain, unary, post, builtin, Links, Steps, Exprs, LinkTree, StepTree, of_length, of_call, of_index, with_step, expr_tree, link_tree, links_tree, step_tree, steps_tree, exprs_tree}
 use Rattle.js_eval.specs.declared.value.Value.{Value}
 use Rattle.js_eval.specs.declared.value.Stop.{Stop}
 use Rattle.js_eval.specs.declared.env.Scope.{Scope as CodeScope}
 use Rattle.js_eval.specs.Outcome.{Val, Out, bind, each}
 use Rattle.js_eval.specs.Operators.{operated, unary_out}
-use Rattle.js_eval.specs.Members.{present, called}
-use Rattle.js_eval.specs.Expression.{Scope, expr_out, links_out, link_out, steps_out, step_out, call_out, exprs_out}
+use Rattle.js_eval.specs.Members.{present, called, built}
+use Rattle.js_eval.specs.Arrays.{indexed}
+use Rattle.js_eval.specs.Expression.{Scope, expr_out, links_out, link_out, steps_out, step_out, call_out, index_out, exprs_out}
 use Rattle.js_eval.specs.Seen.{seen, IsFine, all_seen, AllFine, ScopeFine, scope_of}
 use Rattle.js_eval.specs.Ran.{Did}
 use Rattle.js_eval.specs.Does.{Does, GivesAll}
+use Rattle.js_json.proofs.Joining.{drop_at}
 use Rattle.js_eval.proofs.Compose.{did_bind, did_stop}
-use Rattle.js_eval.proofs.Each.{drop_at, bind_same}
+use Rattle.js_eval.proofs.Each.{bind_same}
 use Rattle.js_eval.proofs.Still.{seen_still, scope_still}
 
 -- a step in front of others
 steps_step : (s : StepTree) (rest : Steps) (scope : Scope) (v : Val) → steps_out (with_step s rest) scope v ≡ bind (step_out s scope v) (λ x. steps_out rest scope x)
 steps_step of_length rest scope v = refl
 steps_step (of_call at method args) rest scope v = refl
+steps_step (of_index at index) rest scope v = refl
 
 -- expressions in order are the same evaluation of each
 pub exprs_are : (es : List Expr) (s : Scope) (found : List Val) → exprs_out (exprs_tree es) s found ≡ each (λ e. expr_out (expr_tree e) s) es found
@@ -59,6 +63,13 @@ module _ {F R : Type 0} (name : R → ℕ) (a b : State F) where
 
   pub post_stops : (n : Stop) (t : ExprTree) (ss : Steps) (s : Scope) → Does name a b (Err n) (expr_out t s) → Does name a b (Err n) (expr_out (post t ss) s)
   post_stops n t ss s d = does_stop n (expr_out t s) (λ w. steps_out ss s w) d
+
+  pub builtin_does : (c : State F) (vs : Vec (Value R) Global) (r : Result (Value R) Stop) (at : ℕ) (which : Builtin) (es : Exprs) (scope : CodeScope R) → Grows a b → GivesAll name a b (Ok vs) (exprs_out es (scope_of a name scope) []) → Does name b c r (built which at b.limit (all_seen b name vs.items)) → Does name a c r (expr_out (builtin at which es) (scope_of a name scope))
+  builtin_does c vs r at which es scope g d e = did_bind {V = Vec (Value R) Global} a b c (λ o w. all_seen o name w.items) (λ o w. AllFine o name w.items) (λ o w. seen o name w) (λ o w. IsFine o name w) vs r (exprs_out es (scope_of a name scope) []) (λ ws. built which at a.limit ws) d
+      (subst (λ (q : ℕ). Does name b c r (built which at q (all_seen b name vs.items))) g.limit e)
+
+  pub builtin_stops : (n : Stop) (at : ℕ) (which : Builtin) (es : Exprs) (s : Scope) → GivesAll name a b (Err n) (exprs_out es s []) → Does name a b (Err n) (expr_out (builtin at which es) s)
+  builtin_stops n at which es s d = did_stop {V = Vec (Value R) Global} a b (λ o w. all_seen o name w.items) (λ o w. AllFine o name w.items) (λ o w. seen o name w) (λ o w. IsFine o name w) n (exprs_out es s []) (λ ws. built which at s.limit ws) d
 
   pub link_does : (c : State F) (left right : Value R) (r : Result (Value R) Stop) (l : LinkTree) (scope : CodeScope R) → Grows a b → IsFine a name left → Does name a b (Ok right) (expr_out l.right (scope_of a name scope)) → Does name b c r (operated l.op l.at b.limit (seen b name left) (seen b name right)) → Does name a c r (link_out l (scope_of a name scope) (seen a name left))
   link_does c left right r l scope g h d e =
@@ -104,6 +115,15 @@ module _ {F R : Type 0} (name : R → ℕ) (a b : State F) where
   call_stops v n at m es scope p d =
       did_bind {V = Unit {0}} a a b (λ _ u. u) (λ _ _. Unit {0}) (λ s w. seen s name w) (λ s w. IsFine s name w) tt (Err n) (present (seen a name v)) (λ _. bind (exprs_out es (scope_of a name scope) []) (λ ws. called m at a.limit (seen a name v) ws)) p
       (did_stop {V = Vec (Value R) Global} a b (λ s w. all_seen s name w.items) (λ s w. AllFine s name w.items) (λ s w. seen s name w) (λ s w. IsFine s name w) n (exprs_out es (scope_of a name scope) []) (λ ws. called m at a.limit (seen a name v) ws) d)
+
+  -- an index, and then the element
+  pub index_does : (c : State F) (v i : Value R) (r : Result (Value R) Stop) (at : ℕ) (e : ExprTree) (scope : CodeScope R) → Grows a b → IsFine a name v → Does name a b (Ok i) (expr_out e (scope_of a name scope)) → Does name b c r (indexed at (seen b name v) (seen b name i)) → Does name a c r (index_out at e (scope_of a name scope) (seen a name v))
+  index_does c v i r at e scope g h d k =
+      does_bind c i r (expr_out e (scope_of a name scope)) (λ w. indexed at (seen a name v) w) d
+      (subst (λ (q : Val). Does name b c r (indexed at q (seen b name i))) (seen_still a b name g v h) k)
+
+  pub index_stops : (v : Value R) (n : Stop) (at : ℕ) (e : ExprTree) (s : Scope) → Does name a b (Err n) (expr_out e s) → Does name a b (Err n) (index_out at e s (seen a name v))
+  index_stops v n at e s d = does_stop n (expr_out e s) (λ w. indexed at (seen a name v) w) d
 
 pub call_absent : {F R : Type 0} (name : R → ℕ) (a : State F) (v : Value R) (n : Stop) (at : ℕ) (m : Method) (es : Exprs) (s : Scope) → Did {V = Unit {0}} a a (λ _ u. u) (λ _ _. Unit {0}) (Err n) (present (seen a name v)) → Does name a a (Err n) (call_out at m es s (seen a name v))
 call_absent name a v n at m es s d = did_stop {V = Unit {0}} a a (λ _ u. u) (λ _ _. Unit {0}) (λ o w. seen o name w) (λ o w. IsFine o name w) n (present (seen a name v)) (λ _. bind (exprs_out es s []) (λ ws. called m at s.limit (seen a name v) ws)) d

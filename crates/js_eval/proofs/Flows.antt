@@ -14,14 +14,16 @@ use Rattle.js_eval.specs.declared.value.Stop.TheVariants.{Threw, Unsupported, St
 use Rattle.js_eval.specs.declared.env.Binding.{Binding}
 use Rattle.js_eval.specs.declared.env.Scope.{Scope as CodeScope}
 use Rattle.js_eval.specs.Outcome.{Val, Ledger, Out, gave, ended, threw, unsupported, after, bind, each, ledger_of, some_parts, parts_ids, parts_words}
-use Rattle.js_eval.specs.Conversions.{to_string, all_units}
+use Rattle.js_eval.specs.Conversions.{to_string, all_text_units}
 use Rattle.js_eval.specs.Expression.{Bound, Scope, exprs_out}
-use Rattle.js_eval.specs.Script.{Flow, then_flow, go_on, line_out, print_out, printed, line, with_bindings, stmt_flow, stmts_flow, literal_out, with_literals}
-use Rattle.js_eval.specs.Seen.{AllKnown, AllFine, EnvFine, all_seen, ScopeFine, texts_seen, bindings_of, scope_of}
-use Rattle.js_eval.specs.Ran.{Ran, Cut, Did, full_only}
-use Rattle.js_eval.specs.Does.{WroteSome, Wrote, Leaves, Went, GivesTexts, GivesAll, settle_most, string_words}
+use Rattle.js_json.specs.Texts.{AllKnown, texts as texts_seen, full_only, settle_most}
+use Rattle.js_json.specs.Printing.{line}
+use Rattle.js_eval.specs.Script.{Flow, then_flow, go_on, line_out, print_out, printed, with_bindings, stmt_flow, stmts_flow, literal_out, with_literals}
+use Rattle.js_eval.specs.Seen.{AllFine, EnvFine, all_seen, ScopeFine, bindings_of, scope_of}
+use Rattle.js_eval.specs.Ran.{Ran, Cut, Did}
+use Rattle.js_eval.specs.Does.{WroteSome, Wrote, Leaves, Went, GivesTexts, GivesAll, string_words}
 use Rattle.js_eval.proofs.Compose.{did_after, cut_after, cut_more, cut_of_full, ran_of_step}
-use Rattle.js_eval.proofs.Each.{drop_at}
+use Rattle.js_json.proofs.Joining.{drop_at}
 use Rattle.js_eval.proofs.Still.{scope_still, bindings_still}
 
 one_after : (x y z : List ℕ) (us vs : List (List ℕ)) → y ≡ x ++ concat us → z ≡ y ++ concat vs → z ≡ x ++ concat (us ++ vs)
@@ -99,7 +101,7 @@ printed_halt a b x see fine (Store f) bs (gave q l) go d = record { did = cut_pr
 printed_halt a b x see fine (Store f) bs (ended e l) go d = record { did = d; wrote = wrote_none x []; leaves = tt }
 
 -- the need of a line covers the settling of its strings
-string_words_most : (vs : List Val) → string_words vs ≤ all_units vs + length vs
+string_words_most : (vs : List Val) → string_words vs ≤ all_text_units vs + length vs
 string_words_most [] = omega arith
 string_words_most (v ∷ vs) = omega (arith, string_words_most vs)
 
@@ -107,29 +109,29 @@ some_most : (p : ℕ) → p ≤ some_parts p
 some_most zero = omega arith
 some_most (suc p) = omega arith
 
-pub line_need : (vs : List Val) → string_words vs ≤ parts_words (length vs) (all_units vs)
+pub line_need : (vs : List Val) → string_words vs ≤ parts_words (length vs) (all_text_units vs)
 line_need vs = omega (arith, string_words_most vs, some_most (length vs))
 
 -- a line that was printed
-pub line_went : {F : Type 0} (a b : State F) (x y : List ℕ) (bs : List Bound) (us : List (List ℕ)) (vs : List Val) (w : ℕ) → Step a b None 0 w → b.history ≡ a.history → w ≤ string_words vs → y ≡ x ++ line us → Went a b x y (Ok tt) bs (printed (gave (line us) (record { interned = []; texts = []; ids = parts_ids (length vs); words = parts_words (length vs) (all_units vs) })) bs)
+pub line_went : {F : Type 0} (a b : State F) (x y : List ℕ) (bs : List Bound) (us : List (List ℕ)) (vs : List Val) (w : ℕ) → Step a b None 0 w → b.history ≡ a.history → w ≤ string_words vs → y ≡ x ++ line us → Went a b x y (Ok tt) bs (printed (gave (line us) (record { interned = []; texts = []; ids = parts_ids (length vs); words = parts_words (length vs) (all_text_units vs) })) bs)
 line_went a b x y bs us vs w s h k e =
     let need = line_need vs in
     record {
       did = record {
         is = refl;
         good = tt;
-        ran = ran_of_step (parts_ids (length vs)) (parts_words (length vs) (all_units vs)) s h (omega arith) (omega (arith, need, k));
+        ran = ran_of_step (parts_ids (length vs)) (parts_words (length vs) (all_text_units vs)) s h (omega arith) (omega (arith, need, k));
       };
       wrote = e ∙ ap (λ q. x ++ q) (sym (append-nil (line us)));
       leaves = refl;
     }
 
 -- a line that was not printed
-pub line_halts : {F : Type 0} (a b : State F) (x y : List ℕ) (bs : List Bound) (us : List (List ℕ)) (vs : List Val) (w : ℕ) (f : StoreFault) → Step a b (full_only f) 0 w → NeverSlots (full_only f) → b.history ≡ a.history → w ≤ string_words vs → y ≡ x → Went a b x y (Err (Store f)) bs (printed (gave (line us) (record { interned = []; texts = []; ids = parts_ids (length vs); words = parts_words (length vs) (all_units vs) })) bs)
+pub line_halts : {F : Type 0} (a b : State F) (x y : List ℕ) (bs : List Bound) (us : List (List ℕ)) (vs : List Val) (w : ℕ) (f : StoreFault) → Step a b (full_only f) 0 w → NeverSlots (full_only f) → b.history ≡ a.history → w ≤ string_words vs → y ≡ x → Went a b x y (Err (Store f)) bs (printed (gave (line us) (record { interned = []; texts = []; ids = parts_ids (length vs); words = parts_words (length vs) (all_text_units vs) })) bs)
 line_halts a b x y bs us vs w f s n h k e =
     let need = line_need vs in
     record {
-      did = cut_of_full f (record { interned = []; texts = []; ids = parts_ids (length vs); words = parts_words (length vs) (all_units vs) }) s h n (omega arith) (omega (arith, need, k));
+      did = cut_of_full f (record { interned = []; texts = []; ids = parts_ids (length vs); words = parts_words (length vs) (all_text_units vs) }) s h n (omega arith) (omega (arith, need, k));
       wrote = record { done = []; left = line us ∷ []; split = refl; written = e ∙ sym (append-nil x) };
       leaves = tt;
     }
@@ -168,28 +170,29 @@ with_halt a b x see fine (Store f) bs cs (ended e l) go h d = record { did = d; 
 
 module _ {F R : Type 0} (name : R → ℕ) where
   -- the texts of values, and then their line
-  pub values_went : (a b c : State F) (x y : List ℕ) (vs : List (Value R)) (us : Vec R Global) (bs : List Bound) → GivesTexts name a b (Ok us) (each to_string (all_seen a name vs) []) → Step b c None 0 (settle_most b name us.items) → c.history ≡ b.history → settle_most b name us.items ≤ string_words (all_seen a name vs) → y ≡ x ++ line (texts_seen b name us.items) → Went a c x y (Ok tt) bs (printed (line_out (all_seen a name vs)) bs)
+  pub values_went : (a b c : State F) (x y : List ℕ) (vs : List (Value R)) (us : Vec R Global) (bs : List Bound) → GivesTexts name a b (Ok us) (each (to_string a.limit) (all_seen a name vs) []) → Step b c None 0 (settle_most b name us.items) → c.history ≡ b.history → settle_most b name us.items ≤ string_words (all_seen a name vs) → y ≡ x ++ line (texts_seen b name us.items) → Went a c x y (Ok tt) bs (printed (line_out a.limit (all_seen a name vs)) bs)
   values_went a b c x y vs us bs d s h k e =
-      printed_on a b c x y (λ o (v : Vec R Global). texts_seen o name v.items) (λ o (v : Vec R Global). AllKnown o name v.items) us (Ok tt) bs (each to_string (all_seen a name vs) []) (λ ts. gave (line ts) (record { interned = []; texts = []; ids = parts_ids (length (all_seen a name vs)); words = parts_words (length (all_seen a name vs)) (all_units (all_seen a name vs)) })) d
+      printed_on a b c x y (λ o (v : Vec R Global). texts_seen o name v.items) (λ o (v : Vec R Global). AllKnown o name v.items) us (Ok tt) bs (each (to_string a.limit) (all_seen a name vs) []) (λ ts. gave (line ts) (record { interned = []; texts = []; ids = parts_ids (length (all_seen a name vs)); words = parts_words (length (all_seen a name vs)) (all_text_units (all_seen a name vs)) })) d
       (line_went b c x y bs (texts_seen b name us.items) (all_seen a name vs) (settle_most b name us.items) s h k e)
 
-  pub values_halt : (a b c : State F) (x y : List ℕ) (vs : List (Value R)) (us : Vec R Global) (bs : List Bound) (f : StoreFault) → GivesTexts name a b (Ok us) (each to_string (all_seen a name vs) []) → Step b c (full_only f) 0 (settle_most b name us.items) → NeverSlots (full_only f) → c.history ≡ b.history → settle_most b name us.items ≤ string_words (all_seen a name vs) → y ≡ x → Went a c x y (Err (Store f)) bs (printed (line_out (all_seen a name vs)) bs)
+  pub values_halt : (a b c : State F) (x y : List ℕ) (vs : List (Value R)) (us : Vec R Global) (bs : List Bound) (f : StoreFault) → GivesTexts name a b (Ok us) (each (to_string a.limit) (all_seen a name vs) []) → Step b c (full_only f) 0 (settle_most b name us.items) → NeverSlots (full_only f) → c.history ≡ b.history → settle_most b name us.items ≤ string_words (all_seen a name vs) → y ≡ x → Went a c x y (Err (Store f)) bs (printed (line_out a.limit (all_seen a name vs)) bs)
   values_halt a b c x y vs us bs f d s n h k e =
-      printed_on a b c x y (λ o (v : Vec R Global). texts_seen o name v.items) (λ o (v : Vec R Global). AllKnown o name v.items) us (Err (Store f)) bs (each to_string (all_seen a name vs) []) (λ ts. gave (line ts) (record { interned = []; texts = []; ids = parts_ids (length (all_seen a name vs)); words = parts_words (length (all_seen a name vs)) (all_units (all_seen a name vs)) })) d
+      printed_on a b c x y (λ o (v : Vec R Global). texts_seen o name v.items) (λ o (v : Vec R Global). AllKnown o name v.items) us (Err (Store f)) bs (each (to_string a.limit) (all_seen a name vs) []) (λ ts. gave (line ts) (record { interned = []; texts = []; ids = parts_ids (length (all_seen a name vs)); words = parts_words (length (all_seen a name vs)) (all_text_units (all_seen a name vs)) })) d
       (line_halts b c x y bs (texts_seen b name us.items) (all_seen a name vs) (settle_most b name us.items) f s n h k e)
 
-  pub texts_halt : (a b : State F) (x : List ℕ) (vs : List (Value R)) (bs : List Bound) (n : Stop) → GivesTexts name a b (Err n) (each to_string (all_seen a name vs) []) → Went a b x x (Err n) bs (printed (line_out (all_seen a name vs)) bs)
+  pub texts_halt : (a b : State F) (x : List ℕ) (vs : List (Value R)) (bs : List Bound) (n : Stop) → GivesTexts name a b (Err n) (each (to_string a.limit) (all_seen a name vs) []) → Went a b x x (Err n) bs (printed (line_out a.limit (all_seen a name vs)) bs)
   texts_halt a b x vs bs n d =
-      printed_halt {V = Vec R Global} a b x (λ o (v : Vec R Global). texts_seen o name v.items) (λ o (v : Vec R Global). AllKnown o name v.items) n bs (each to_string (all_seen a name vs) []) (λ ts. gave (line ts) (record { interned = []; texts = []; ids = parts_ids (length (all_seen a name vs)); words = parts_words (length (all_seen a name vs)) (all_units (all_seen a name vs)) })) d
+      printed_halt {V = Vec R Global} a b x (λ o (v : Vec R Global). texts_seen o name v.items) (λ o (v : Vec R Global). AllKnown o name v.items) n bs (each (to_string a.limit) (all_seen a name vs) []) (λ ts. gave (line ts) (record { interned = []; texts = []; ids = parts_ids (length (all_seen a name vs)); words = parts_words (length (all_seen a name vs)) (all_text_units (all_seen a name vs)) })) d
 
   -- the arguments of a `print`, and then their line
-  pub print_went : (a b c : State F) (x y : List ℕ) (es : Exprs) (s : Scope) (vs : Vec (Value R) Global) (r : Result (Unit {0}) Stop) (bs : List Bound) → GivesAll name a b (Ok vs) (exprs_out es s []) → Went b c x y r bs (printed (line_out (all_seen b name vs.items)) bs) → Went a c x y r bs (printed (print_out es s) bs)
-  print_went a b c x y es s vs r bs d w =
-      printed_on a b c x y (λ o (v : Vec (Value R) Global). all_seen o name v.items) (λ o (v : Vec (Value R) Global). AllFine o name v.items) vs r bs (exprs_out es s []) (λ ws. line_out ws) d w
+  pub print_went : (a b c : State F) (x y : List ℕ) (es : Exprs) (scope : CodeScope R) (vs : Vec (Value R) Global) (r : Result (Unit {0}) Stop) (bs : List Bound) → Grows a b → GivesAll name a b (Ok vs) (exprs_out es (scope_of a name scope) []) → Went b c x y r bs (printed (line_out b.limit (all_seen b name vs.items)) bs) → Went a c x y r bs (printed (print_out es (scope_of a name scope)) bs)
+  print_went a b c x y es scope vs r bs g d w =
+      printed_on a b c x y (λ o (v : Vec (Value R) Global). all_seen o name v.items) (λ o (v : Vec (Value R) Global). AllFine o name v.items) vs r bs (exprs_out es (scope_of a name scope) []) (λ ws. line_out a.limit ws) d
+      (subst (λ (q : ℕ). Went b c x y r bs (printed (line_out q (all_seen b name vs.items)) bs)) g.limit w)
 
   pub print_halt : (a b : State F) (x : List ℕ) (es : Exprs) (s : Scope) (n : Stop) (bs : List Bound) → GivesAll name a b (Err n) (exprs_out es s []) → Went a b x x (Err n) bs (printed (print_out es s) bs)
   print_halt a b x es s n bs d =
-      printed_halt {V = Vec (Value R) Global} a b x (λ o (v : Vec (Value R) Global). all_seen o name v.items) (λ o (v : Vec (Value R) Global). AllFine o name v.items) n bs (exprs_out es s []) (λ ws. line_out ws) d
+      printed_halt {V = Vec (Value R) Global} a b x (λ o (v : Vec (Value R) Global). all_seen o name v.items) (λ o (v : Vec (Value R) Global). AllFine o name v.items) n bs (exprs_out es s []) (λ ws. line_out s.limit ws) d
 
   -- bindings that stand for the same in a store that grew
   pub went_still : (a c : State F) (x y : List ℕ) (r : Result (Unit {0}) Stop) (env : List (Binding R)) (o : Out (List ℕ)) → Grows a c → EnvFine a name env → ((bs : List Bound) → Went a c x y r bs (printed o bs)) → Went a c x y r (bindings_of c name env) (printed o (bindings_of a name env))

@@ -2,6 +2,14 @@ mod Still
 mod Compose
 mod Each
 mod Texts
+mod Calls
+mod Numbers
+mod Pads
+mod Parts
+mod Made
+mod Replacements
+mod Quoted
+mod ListTexts
+mod Elements
 mod Expressions
 mod Flows
-mod Printing

@@ -5,15 +5,13 @@ use Rattle.std.specs.Prelude.{slice_get}
 use Rattle.js_store.specs.State.{State, Grows}
 use Rattle.js_store.proofs.Laws.{known_still, text_still}
 use Rattle.js_eval.specs.declared.value.Value.{Value}
-use Rattle.js_eval.specs.declared.value.Value.TheVariants.{Undefined, Null, Bool, Number, Text}
+use Rattle.js_eval.specs.declared.value.Value.TheVariants.{Undefined, Null, Bool, Number, Text, List as Listed}
 use Rattle.js_eval.specs.declared.env.Binding.{Binding}
 use Rattle.js_eval.specs.declared.env.Scope.{Scope as CodeScope}
-use Rattle.js_eval.specs.Outcome.{text}
-use Rattle.js_eval.specs.Seen.{seen, IsFine, Every, bound_of, bindings_of, EnvFine, ScopeFine, scope_of}
-
-pub every_map : {A : Type 0} {P Q : A → Type 0} → ((x : A) → P x → Q x) → (xs : List A) → Every P xs → Every Q xs
-every_map h [] e = tt
-every_map h (x ∷ xs) e = (h x e.0, every_map h xs e.1)
+use Rattle.js_eval.specs.Outcome.{text, list}
+use Rattle.js_json.specs.Texts.{Every}
+use Rattle.js_json.proofs.Joining.{every_map, texts_still, all_known_still}
+use Rattle.js_eval.specs.Seen.{seen, IsFine, all_seen, AllFine, bound_of, bindings_of, EnvFine, ScopeFine, scope_of}
 
 pub map_same : {A B : Type 0} {P : A → Type 0} {f g : A → B} → ((x : A) → P x → f x ≡ g x) → (xs : List A) → Every P xs → map f xs ≡ map g xs
 map_same h [] e = refl
@@ -26,6 +24,7 @@ module _ {F R : Type 0} (a b : State F) (name : R → ℕ) (g : Grows a b) where
   seen_still (Bool b) h = refl
   seen_still (Number n) h = refl
   seen_still (Text r) h = ap text (text_still g (name r) h)
+  seen_still (Listed v) h = ap list (texts_still name a b v.items g h)
 
   pub fine_still : (v : Value R) → IsFine a name v → IsFine b name v
   fine_still Undefined h = tt
@@ -33,6 +32,13 @@ module _ {F R : Type 0} (a b : State F) (name : R → ℕ) (g : Grows a b) where
   fine_still (Bool b) h = tt
   fine_still (Number n) h = h
   fine_still (Text r) h = known_still g (name r) h
+  fine_still (Listed v) h = all_known_still name a b v.items g h
+
+  pub values_still : (vs : List (Value R)) → AllFine a name vs → all_seen b name vs ≡ all_seen a name vs
+  values_still vs h = map_same (λ v k. seen_still v k) vs h
+
+  pub values_fine_still : (vs : List (Value R)) → AllFine a name vs → AllFine b name vs
+  values_fine_still vs h = every_map (λ v k. fine_still v k) vs h
 
   bound_still : (e : Binding R) → IsFine a name e.value → bound_of b name e ≡ bound_of a name e
   bound_still e h = cc (seen_still e.value h)
@@ -57,6 +63,3 @@ pub every_get : {A : Type 0} (P : A → Type 0) (xs : List A) (n : ℕ) (x : A) 
 every_get P [] n x h e = cc
 every_get P (y ∷ xs) zero x h e = let d : y ≡ x = cc in subst P d h.0
 every_get P (y ∷ xs) (suc n) x h e = every_get P xs n x h.1 e
-
-pub every_at : {A : Type 0} (P : A → Type 0) (xs : List A) (i : ℕ) (x : A) → Every P xs → i < length xs → x ≡ get_or xs i x → P x
-every_at P xs i x h l e = every_get P xs i x h (slice_get-get_or xs i x l ∙ ap Some (sym e))

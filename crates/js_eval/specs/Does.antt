@@ -3,17 +3,20 @@ use Rattle.std.specs.Prelude.{◌≡◌, ℕ, ◌+◌, List, [], ◌∷◌, ◌+
 use Rattle.std.specs.List.{concat}
 use Rattle.std.proofs.Common.{Vec, Global}
 use Rattle.js_store.specs.State.{State, IsKnown, text as units_of}
-use Rattle.js_store.specs.Rows.{wide_words, settle_words}
+use Rattle.js_store.specs.Rows.{wide_words}
 use Rattle.js_store.specs.declared.faults.StoreFault.{StoreFault}
+use Rattle.js_number.specs.declared.Num.{Num}
+use Rattle.js_eval.specs.declared.builtins.Codes.{Codes}
 use Rattle.js_eval.specs.declared.value.Value.{Value}
 use Rattle.js_eval.specs.declared.value.Stop.{Stop}
 use Rattle.js_eval.specs.declared.value.Stop.TheVariants.{Threw, Unsupported, Store}
 use Rattle.js_eval.specs.Outcome.{Val, Out}
-use Rattle.js_eval.specs.Conversions.{string_units}
+use Rattle.js_eval.specs.Conversions.{text_units}
 use Rattle.js_eval.specs.Expression.{Bound}
+use Rattle.js_json.specs.Texts.{texts as texts_seen, AllKnown, Every, full_only}
 use Rattle.js_eval.specs.Script.{Flow}
-use Rattle.js_eval.specs.Seen.{seen, IsFine, all_seen, AllFine, texts_seen, AllKnown}
-use Rattle.js_eval.specs.Ran.{Did, full_only}
+use Rattle.js_eval.specs.Seen.{seen, IsFine, all_seen, AllFine, IsFor}
+use Rattle.js_eval.specs.Ran.{Did}
 
 abbrev pub Does : {F R : Type 0} → (R → ℕ) → State F → State F → Result (Value R) Stop → Out Val → Type 0
 Does name a b r o = Did a b (λ s v. seen s name v) (λ s v. IsFine s name v) r o
@@ -26,6 +29,13 @@ GivesAll name a b r o = Did a b (λ s v. all_seen s name v.items) (λ s v. AllFi
 
 abbrev pub GivesTexts : {F R : Type 0} → (R → ℕ) → State F → State F → Result (Vec R Global) Stop → Out (List (List ℕ)) → Type 0
 GivesTexts name a b r o = Did a b (λ s v. texts_seen s name v.items) (λ s v. AllKnown s name v.items) r o
+
+-- numbers that a function of the String constructor takes
+abbrev pub GivesNumber : {F : Type 0} → State F → Codes → Result Num Stop → Out Num → Type 0
+GivesNumber a which r o = Did a a (λ s n. n) (λ s n. IsFor which n) r o
+
+abbrev pub GivesNumbers : {F : Type 0} → State F → Codes → Result (Vec Num Global) Stop → Out (List Num) → Type 0
+GivesNumbers a which r o = Did a a (λ s v. v.items) (λ s v. Every (IsFor which) v.items) r o
 
 -- whole lines were written, the first ones of these
 pub record WroteSome (x y : List ℕ) (lines : List (List ℕ)) : Type 0 where
@@ -54,16 +64,7 @@ pub record Went {F : Type 0} (a b : State F) (x y : List ℕ) (r : Result (Unit 
   pub wrote : Wrote x y r f.lines
   pub leaves : Leaves r bindings f.bindings
 
--- what settling strings takes at most, and the strings of values that are strings
-abbrev pub settle_most : {F R : Type 0} → State F → (R → ℕ) → List R → ℕ
-settle_most s name [] = 0
-settle_most s name (r ∷ rs) = settle_words (s.settled (name r)) (length (units_of s (name r))) + settle_most s name rs
-
+-- what settling the strings of values takes at most
 abbrev pub string_words : List Val → ℕ
 string_words [] = 0
-string_words (v ∷ vs) = wide_words (string_units v) + string_words vs
-
--- the report of a call that may want memory itself
-abbrev pub full_fault_of : {R : Type 0} → Result R StoreFault → Option StoreFault
-full_fault_of (Ok r) = None
-full_fault_of (Err f) = full_only f
+string_words (v ∷ vs) = wide_words (text_units v) + string_words vs

@@ -1,12 +1,14 @@
 -- What an expression means in a scope, by recursion over its tree.
-use Rattle.std.specs.Prelude.{ℕ, List, [], ◌∷◌, ◌++◌, slice_get, nat_le, if◌then◌else◌, pos, Bool}
-use Rattle.js_number.specs.declared.Num.TheVariants.{Int, NaN, PosInf}
+use Rattle.std.specs.Prelude.{ℕ, List, [], ◌∷◌, ◌++◌, slice_get, Bool}
+use Rattle.js_number.specs.declared.Num.TheVariants.{NaN, PosInf}
 use Rattle.js_parse.specs.declared.tree.Method.{Method}
 use Rattle.js_parse.specs.Tree as tree
-use Rattle.js_parse.specs.Tree.{ExprTree, Links, no_links, link, Steps, no_steps, length_step, call_step, Exprs, no_exprs, expr, LinkTree, StepTree, of_length, of_call}
-use Rattle.js_eval.specs.Outcome.{Val, undefined, null, bool, number, Out, gave, bind, free, gives}
+use Rattle.js_parse.specs.Tree.{ExprTree, Links, no_links, link, Steps, no_steps, length_step, call_step, index_step, Exprs, no_exprs, expr, LinkTree, StepTree, of_length, of_call, of_index}
+use Rattle.js_eval.specs.Outcome.{Val, undefined, null, bool, number, Out, gave, bind, free, number_of, gives}
 use Rattle.js_eval.specs.Operators.{operated, unary_out}
-use Rattle.js_eval.specs.Members.{length_of, present, called, maybe_text}
+use Rattle.js_eval.specs.Reading.{maybe_text}
+use Rattle.js_eval.specs.Members.{length_of, present, called, built}
+use Rattle.js_eval.specs.Arrays.{indexed}
 
 -- a name that was declared and evaluated, whether by `const`, and its value
 pub record Bound : Type 0 where
@@ -20,10 +22,6 @@ pub record Scope : Type 0 where
   pub bindings : List Bound
   pub limit : ℕ
 
--- a number as it is written; no text spells one past the range
-abbrev pub number_of : ℕ → Val
-number_of n = if nat_le n 9007199254740991 then number (Int (pos n)) else undefined
-
 abbrev mutual
   pub expr_out : ExprTree → Scope → Out Val
   expr_out (tree.literal n) s = gives (maybe_text (slice_get s.literals n)) 0 0
@@ -36,6 +34,7 @@ abbrev mutual
   expr_out (tree.unary at minus of) s = bind (expr_out of s) (λ v. unary_out minus at v)
   expr_out (tree.chain first rest) s = bind (expr_out first s) (λ v. links_out rest s v)
   expr_out (tree.post of steps) s = bind (expr_out of s) (λ v. steps_out steps s v)
+  expr_out (tree.builtin at which args) s = bind (exprs_out args s []) (λ vs. built which at s.limit vs)
 
   -- the links of a chain, from the value on their left
   pub links_out : Links → Scope → Val → Out Val
@@ -47,6 +46,7 @@ abbrev mutual
   steps_out no_steps s v = gave v free
   steps_out (length_step rest) s v = bind (length_of v) (λ x. steps_out rest s x)
   steps_out (call_step at method args rest) s v = bind (bind (present v) (λ _. bind (exprs_out args s []) (λ ws. called method at s.limit v ws))) (λ x. steps_out rest s x)
+  steps_out (index_step at index rest) s v = bind (bind (expr_out index s) (λ i. indexed at v i)) (λ x. steps_out rest s x)
 
   -- expressions from left to right, behind the values that were found
   pub exprs_out : Exprs → Scope → List Val → Out (List Val)
@@ -60,6 +60,10 @@ link_out l s v = bind (expr_out l.right s) (λ w. operated l.op l.at s.limit v w
 abbrev pub call_out : ℕ → Method → Exprs → Scope → Val → Out Val
 call_out at method args s v = bind (present v) (λ _. bind (exprs_out args s []) (λ ws. called method at s.limit v ws))
 
+abbrev pub index_out : ℕ → ExprTree → Scope → Val → Out Val
+index_out at index s v = bind (expr_out index s) (λ i. indexed at v i)
+
 abbrev pub step_out : StepTree → Scope → Val → Out Val
 step_out of_length s v = length_of v
 step_out (of_call at method args) s v = call_out at method args s v
+step_out (of_index at index) s v = index_out at index s v

@@ -6,7 +6,7 @@ use Rattle.js_parse.specs.declared.tree.Op.{Op}
 use Rattle.js_parse.specs.declared.tree.Op.TheVariants.{Plus, Minus}
 use Rattle.js_eval.specs.declared.value.Kind.TheVariants.{RangeError}
 use Rattle.js_eval.specs.Outcome.{Val, bool, number, text, Out, bind, gives, throws, refuses, row_ids, row_words}
-use Rattle.js_eval.specs.Conversions.{to_string, to_number, to_boolean, is_text, string_units}
+use Rattle.js_eval.specs.Conversions.{to_string, to_number, to_boolean, is_text, text_units}
 
 -- a number of the profile, or none, which ends the script at the operator
 abbrev pub counted : ℕ → Option Num → Out Val
@@ -35,7 +35,7 @@ joined limit t u w =
     else throws RangeError row_ids (row_words t)
 
 abbrev pub joined_strings : ℕ → Val → Val → Out Val
-joined_strings limit v w = bind (to_string v) (λ u. bind (to_string w) (λ x. joined limit (string_units v + string_units w) u x))
+joined_strings limit v w = bind (to_string limit v) (λ u. bind (to_string limit w) (λ x. joined limit (text_units v + text_units w) u x))
 
 abbrev pub plus : Bool → ℕ → ℕ → Val → Val → Out Val
 plus true at limit v w = joined_strings limit v w

@@ -1,15 +1,18 @@
 -- What an evaluation comes to: a value, or what ended the script, beside a ledger of what it interned, made and needs.
-use Rattle.std.specs.Prelude.{ℕ, suc, zero, ◌+◌, ◌*◌, List, [], ◌∷◌, ◌++◌, Bool}
+use Rattle.std.specs.Prelude.{ℕ, suc, zero, ◌+◌, ◌*◌, List, [], ◌∷◌, ◌++◌, Bool, nat_le, if◌then◌else◌, pos}
 use Rattle.js_number.specs.declared.Num.{Num}
+use Rattle.js_number.specs.declared.Num.TheVariants.{Int}
 use Rattle.js_eval.specs.declared.value.Kind.{Kind}
 
--- the language values of the profile, where a string is its list of units (ECMA-262, "ECMAScript Language Types")
+-- the language values of the profile, where a string is its list of units, and an array, whose elements are all strings, is
+-- the list of these (ECMA-262, "ECMAScript Language Types")
 pub data Val : Type 0 where
   undefined : Val
   null : Val
   bool : Bool → Val
   number : Num → Val
   text : List ℕ → Val
+  list : List (List ℕ) → Val
 
 -- `interned`: the lists that were interned, in order; `texts`: the strings that expressions gave;
 -- `ids`, `words`: what the evaluation needs of a store at most
@@ -54,7 +57,12 @@ each f (x ∷ xs) found = bind (f x) (λ a. each f xs (found ++ a ∷ []))
 
 abbrev pub texts_of : Val → List (List ℕ)
 texts_of (text u) = u ∷ []
+texts_of (list us) = us
 texts_of _ = []
+
+-- a number as it is written, or a count of elements; no text spells one past the range, and no array has as many
+abbrev pub number_of : ℕ → Val
+number_of n = if nat_le n 9007199254740991 then number (Int (pos n)) else undefined
 
 -- the value of an expression, which needs so much
 abbrev pub gives : Val → ℕ → ℕ → Out Val

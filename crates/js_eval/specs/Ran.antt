@@ -5,6 +5,7 @@ use Rattle.js_store.specs.Faults.{Honest, ids_wanted, words_wanted}
 use Rattle.js_store.specs.declared.faults.FullReport.TheVariants.{Slots}
 use Rattle.js_store.specs.declared.faults.StoreFault.{StoreFault}
 use Rattle.js_store.specs.declared.faults.StoreFault.TheVariants.{Full, Memory}
+use Rattle.js_json.specs.Texts.{full_only}
 use Rattle.js_eval.specs.declared.value.Stop.{Stop}
 use Rattle.js_eval.specs.declared.value.Stop.TheVariants.{Threw, Unsupported, Store}
 use Rattle.js_eval.specs.Outcome.{Ledger, Out, gave, ended, threw, unsupported, ledger_of}
@@ -22,11 +23,6 @@ pub record Ran {F : Type 0} (a b : State F) (l : Ledger) : Type 0 where
   pub texts : (u : List ℕ) → Contains l.texts u → (n : ℕ) × Has b n u
   pub within_ids : b.used_ids ≤ a.used_ids + l.ids
   pub within_words : b.used_words ≤ a.used_words + l.words
-
--- the fault, but for want of memory, which may be the evaluator's own
-abbrev pub full_only : StoreFault → Option StoreFault
-full_only (Full r) = Some (Full r)
-full_only Memory = None
 
 -- where the string table is full, the next list is there and is shut
 abbrev pub NextShut : {F : Type 0} → State F → StoreFault → List (List ℕ) → Type 0

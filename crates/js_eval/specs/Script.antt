@@ -1,10 +1,10 @@
 -- What statements and a script mean: how they end, the lines that they print, and the bindings that they leave.
 use Rattle.std.specs.Prelude.{ℕ, List, [], ◌∷◌, ◌++◌, length, nat_le, if◌then◌else◌}
-use Rattle.js_units.specs.Text.{utf8}
+use Rattle.js_json.specs.Printing.{line}
 use Rattle.js_parse.specs.Tree.{Exprs, StmtTree, print, Stmts, no_stmts, stmt, Tree}
 use Rattle.js_eval.specs.declared.value.Kind.TheVariants.{RangeError}
 use Rattle.js_eval.specs.Outcome.{Val, Out, gave, ended, threw, after, bind, each, free, row_ids, row_words, parts_ids, parts_words}
-use Rattle.js_eval.specs.Conversions.{to_string, all_units}
+use Rattle.js_eval.specs.Conversions.{to_string, all_text_units}
 use Rattle.js_eval.specs.Expression.{Scope, Bound, exprs_out}
 
 pub record Flow : Type 0 where
@@ -20,21 +20,12 @@ go_on (ended e l) ls bs go = record { out = ended e l; lines = ls; bindings = bs
 abbrev pub then_flow : Flow → (List Bound → Flow) → Flow
 then_flow f go = go_on f.out f.lines f.bindings go
 
--- the bytes of a line: the UTF-8 of the texts, joined by one space, and a line feed
-abbrev pub line_rest : List (List ℕ) → List ℕ
-line_rest [] = 10 ∷ []
-line_rest (u ∷ us) = 32 ∷ utf8 u ++ line_rest us
-
-abbrev pub line : List (List ℕ) → List ℕ
-line [] = 10 ∷ []
-line (u ∷ us) = utf8 u ++ line_rest us
-
 -- the line of a `print`: all its arguments, then their texts
-abbrev pub line_out : List Val → Out (List ℕ)
-line_out vs = bind (each to_string vs []) (λ us. gave (line us) (record { interned = []; texts = []; ids = parts_ids (length vs); words = parts_words (length vs) (all_units vs) }))
+abbrev pub line_out : ℕ → List Val → Out (List ℕ)
+line_out limit vs = bind (each (to_string limit) vs []) (λ us. gave (line us) (record { interned = []; texts = []; ids = parts_ids (length vs); words = parts_words (length vs) (all_text_units vs) }))
 
 abbrev pub print_out : Exprs → Scope → Out (List ℕ)
-print_out args s = bind (exprs_out args s []) (λ vs. line_out vs)
+print_out args s = bind (exprs_out args s []) (λ vs. line_out s.limit vs)
 
 -- a line that is printed whole, or not at all
 abbrev pub printed : Out (List ℕ) → List Bound → Flow

@@ -1,14 +1,18 @@
 -- What the values and bindings of the code stand for in a store, and when they may be used.
-use Rattle.std.specs.Prelude.{◌≡◌, ℕ, List, [], ◌∷◌, map, Option, Some}
+use Rattle.std.specs.Prelude.{◌≡◌, ℕ, true, List, [], ◌∷◌, map, Option, Some}
 use Rattle.js_number.specs.declared.Num.{Num}
 use Rattle.js_number.specs.Places.{IsLawful}
 use Rattle.js_store.specs.State.{State, IsKnown, text as units_of}
+use Rattle.js_methods.specs.Building.{is_code_point}
+use Rattle.js_json.specs.Texts.{Every, AllKnown, texts as texts_seen}
+use Rattle.js_eval.specs.declared.builtins.Codes.{Codes}
+use Rattle.js_eval.specs.declared.builtins.Codes.TheVariants.{CharCodes, CodePoints}
 use Rattle.js_eval.specs.declared.value.Value.{Value}
 use Rattle.js_eval.specs.declared.value.Value.TheVariants as value
 use Rattle.js_eval.specs.declared.env.Binding.{Binding}
 use Rattle.js_eval.specs.declared.env.Scope.{Scope as CodeScope}
-use Rattle.js_eval.specs.Outcome.{Val, undefined, null, bool, number, text}
-use Rattle.js_eval.specs.Expression.{Bound, Scope, number_of}
+use Rattle.js_eval.specs.Outcome.{Val, undefined, null, bool, number, text, list, number_of}
+use Rattle.js_eval.specs.Expression.{Bound, Scope}
 
 abbrev pub seen : {F R : Type 0} → State F → (R → ℕ) → Value R → Val
 seen s name value.Undefined = undefined
@@ -16,31 +20,22 @@ seen s name value.Null = null
 seen s name (value.Bool b) = bool b
 seen s name (value.Number n) = number n
 seen s name (value.Text r) = text (units_of s (name r))
+seen s name (value.List v) = list (texts_seen s name v.items)
 
--- a lawful number, or a known string
+-- a lawful number, a known string, or an array of known strings
 abbrev pub IsFine : {F R : Type 0} → State F → (R → ℕ) → Value R → Type 0
 IsFine s name value.Undefined = Unit {0}
 IsFine s name value.Null = Unit {0}
 IsFine s name (value.Bool b) = Unit {0}
 IsFine s name (value.Number n) = IsLawful n
 IsFine s name (value.Text r) = IsKnown s (name r)
-
--- every element is so
-abbrev pub Every : {A : Type 0} → (A → Type 0) → List A → Type 0
-Every P [] = Unit {0}
-Every P (x ∷ xs) = P x × Every P xs
+IsFine s name (value.List v) = AllKnown s name v.items
 
 abbrev pub all_seen : {F R : Type 0} → State F → (R → ℕ) → List (Value R) → List Val
 all_seen s name vs = map (λ v. seen s name v) vs
 
 abbrev pub AllFine : {F R : Type 0} → State F → (R → ℕ) → List (Value R) → Type 0
 AllFine s name vs = Every (λ v. IsFine s name v) vs
-
-abbrev pub texts_seen : {F R : Type 0} → State F → (R → ℕ) → List R → List (List ℕ)
-texts_seen s name rs = map (λ r. units_of s (name r)) rs
-
-abbrev pub AllKnown : {F R : Type 0} → State F → (R → ℕ) → List R → Type 0
-AllKnown s name rs = Every (λ r. IsKnown s (name r)) rs
 
 abbrev pub bound_of : {F R : Type 0} → State F → (R → ℕ) → Binding R → Bound
 bound_of s name b = record { name = b.name; constant = b.constant; value = seen s name b.value }
@@ -69,7 +64,13 @@ IsWritten (value.Number m) n = (number_of n ≡ number m) × IsLawful m
 IsWritten value.Null n = ⊥
 IsWritten (value.Bool b) n = ⊥
 IsWritten (value.Text r) n = ⊥
+IsWritten (value.List v) n = ⊥
 
 abbrev pub LawfulEnd : Option (Option Num) → Type 0
 LawfulEnd (Some (Some n)) = IsLawful n
 LawfulEnd _ = Unit {0}
+
+-- a number that a function of the String constructor takes
+abbrev pub IsFor : Codes → Num → Type 0
+IsFor CharCodes n = IsLawful n
+IsFor CodePoints n = is_code_point n ≡ true

@@ -1,5 +1,6 @@
 // The bindings that a script leaves, and the scope that it runs in.
-ghost use Rattle.std.specs.Prelude.{◌≡◌, [], IfOk};
+ghost use Rattle.std.specs.Prelude.{◌≡◌, [], map, IfOk};
+ghost use Rattle.js_eval.specs.Copies.{bound_content};
 
 use crate::value::Value;
 use js_parse::Name;
@@ -43,11 +44,11 @@ impl<R> Env<R> {
         }
     }
 
-    /// The same bindings once more.
+    /// The same names once more, bound to the same values.
     pub fn copy(&self) -> Result<Env<R>, NoMemory>
     where
         R: Copy,
-        ensures { IfOk result (λ env. env ≡ self.now) }
+        ensures { IfOk result (λ env. map bound_content env ≡ map bound_content self.now) }
     {
         Ok(Env {
             alloc: self.alloc,
@@ -57,14 +58,14 @@ impl<R> Env<R> {
 }
 
 fn copied<R: Copy>(alloc: Global, bindings: &[Binding<R>]) -> Result<Vec<Binding<R>>, NoMemory>
-    ensures { IfOk result (λ list. list.items ≡ bindings.now) }
+    ensures { IfOk result (λ list. map bound_content list.items ≡ map bound_content bindings.now) }
 {
     let mut list = Vec::new(alloc);
     for binding in bindings {
         let same = Binding {
             name: binding.name.copy()?,
             constant: binding.constant,
-            value: binding.value,
+            value: binding.value.copy(alloc)?,
         };
         if list.push(same).is_err() {
             return Err(NoMemory);

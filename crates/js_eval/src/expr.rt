@@ -6,6 +6,8 @@ ghost use Rattle.js_eval.specs.Expression.{expr_out, links_out, link_out, steps_
 ghost use Rattle.js_eval.specs.Seen.{seen, IsFine, AllFine, ScopeFine, scope_of};
 ghost use Rattle.js_eval.specs.Does.{Does, GivesAll};
 
+use crate::arrays::read_index;
+use crate::builtins::call_builtin;
 use crate::env::Scope;
 use crate::lists::push;
 use crate::literals::{number_value, read_literal};
@@ -41,7 +43,7 @@ pub fn expr<S: Strings>(
         Expr::Infinity => Ok(Value::Number(Num::PosInf)),
         Expr::Unary { at, minus, of } => {
             let value = expr(alloc, store, scope, of)?;
-            apply_unary(store, *at, *minus, value)
+            apply_unary(store, *at, *minus, &value)
         }
         Expr::Chain { first, rest } => {
             let value = expr(alloc, store, scope, first)?;
@@ -50,6 +52,10 @@ pub fn expr<S: Strings>(
         Expr::Post { of, steps: rest } => {
             let value = expr(alloc, store, scope, of)?;
             steps(alloc, store, scope, value, rest)
+        }
+        Expr::Builtin { at, which, args } => {
+            let values = exprs(alloc, store, scope, args)?;
+            call_builtin(alloc, store, *at, *which, &values)
         }
     }
 }
@@ -72,7 +78,7 @@ fn links<S: Strings>(
 {
     let mut value = first;
     for link in rest {
-        value = one_link(alloc, store, scope, value, link)?;
+        value = one_link(alloc, store, scope, &value, link)?;
     }
     Ok(value)
 }
@@ -82,18 +88,18 @@ fn one_link<S: Strings>(
     alloc: Global,
     store: &mut S,
     scope: &Scope<S::Ref>,
-    left: Value<S::Ref>,
+    left: &Value<S::Ref>,
     link: &Link,
 ) -> Result<Value<S::Ref>, Stop>
     requires scope { ScopeFine (S.state store.old) S.number scope.now }
-    requires left { IsFine (S.state store.old) S.number left }
+    requires left { IsFine (S.state store.old) S.number left.now }
     ensures grows { Grows (S.state store.old) (S.state store.new) }
     ensures scope { ScopeFine (S.state store.new) S.number scope.now }
     ensures fine { IfOk result (λ v. IsFine (S.state store.new) S.number v) }
-    ensures did { Does S.number (S.state store.old) (S.state store.new) result (link_out (link_tree link.now) (scope_of (S.state store.old) S.number scope.now) (seen (S.state store.old) S.number left)) }
+    ensures did { Does S.number (S.state store.old) (S.state store.new) result (link_out (link_tree link.now) (scope_of (S.state store.old) S.number scope.now) (seen (S.state store.old) S.number left.now)) }
 {
     let right = expr(alloc, store, scope, &link.right)?;
-    operate(alloc, store, link.at, link.op, left, right)
+    operate(alloc, store, link.at, link.op, left, &right)
 }
 
 // The steps behind a value.
@@ -114,7 +120,7 @@ fn steps<S: Strings>(
 {
     let mut value = first;
     for step in rest {
-        value = one_step(alloc, store, scope, value, step)?;
+        value = one_step(alloc, store, scope, &value, step)?;
     }
     Ok(value)
 }
@@ -124,22 +130,26 @@ fn one_step<S: Strings>(
     alloc: Global,
     store: &mut S,
     scope: &Scope<S::Ref>,
-    value: Value<S::Ref>,
+    value: &Value<S::Ref>,
     step: &PostStep,
 ) -> Result<Value<S::Ref>, Stop>
     requires scope { ScopeFine (S.state store.old) S.number scope.now }
-    requires value { IsFine (S.state store.old) S.number value }
+    requires value { IsFine (S.state store.old) S.number value.now }
     ensures grows { Grows (S.state store.old) (S.state store.new) }
     ensures scope { ScopeFine (S.state store.new) S.number scope.now }
     ensures fine { IfOk result (λ v. IsFine (S.state store.new) S.number v) }
-    ensures did { Does S.number (S.state store.old) (S.state store.new) result (step_out (step_tree step.now) (scope_of (S.state store.old) S.number scope.now) (seen (S.state store.old) S.number value)) }
+    ensures did { Does S.number (S.state store.old) (S.state store.new) result (step_out (step_tree step.now) (scope_of (S.state store.old) S.number scope.now) (seen (S.state store.old) S.number value.now)) }
 {
     match step {
         PostStep::Length => read_length(store, value),
         PostStep::Call { at, method, args } => {
             present(store, value)?;
             let values = exprs(alloc, store, scope, args)?;
-            call(store, *at, *method, value, &values)
+            call(alloc, store, *at, *method, value, &values)
+        }
+        PostStep::Index { at, index } => {
+            let index = expr(alloc, store, scope, index)?;
+            read_index(store, *at, value, &index)
         }
     }
 }

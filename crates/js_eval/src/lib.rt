@@ -7,7 +7,12 @@
 //! as such, with what it printed so far.
 #![tactic(auto)]
 
+mod arguments;
+mod arrays;
+mod building;
+mod builtins;
 mod conversions;
+mod cutting;
 mod env;
 mod expr;
 mod lines;
@@ -15,7 +20,13 @@ mod lists;
 mod literals;
 mod members;
 mod operators;
+mod padding;
+mod quoting;
+mod reading;
+mod replacing;
 mod script;
+mod searching;
+mod splitting;
 mod value;
 
 pub use env::Env;

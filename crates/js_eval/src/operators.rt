@@ -20,14 +20,14 @@ pub fn operate<S: Strings>(
     store: &mut S,
     at: u32,
     op: Op,
-    left: Value<S::Ref>,
-    right: Value<S::Ref>,
+    left: &Value<S::Ref>,
+    right: &Value<S::Ref>,
 ) -> Result<Value<S::Ref>, Stop>
-    requires left { IsFine (S.state store.old) S.number left }
-    requires right { IsFine (S.state store.old) S.number right }
+    requires left { IsFine (S.state store.old) S.number left.now }
+    requires right { IsFine (S.state store.old) S.number right.now }
     ensures grows { Grows (S.state store.old) (S.state store.new) }
     ensures fine { IfOk result (λ v. IsFine (S.state store.new) S.number v) }
-    ensures did { Does S.number (S.state store.old) (S.state store.new) result (operated op at (S.state store.old).limit (seen (S.state store.old) S.number left) (seen (S.state store.old) S.number right)) }
+    ensures did { Does S.number (S.state store.old) (S.state store.new) result (operated op at (S.state store.old).limit (seen (S.state store.old) S.number left.now) (seen (S.state store.old) S.number right.now)) }
 {
     match op {
         Op::Plus => {
@@ -46,12 +46,12 @@ pub fn apply_unary<S: Strings>(
     store: &mut S,
     at: u32,
     minus: bool,
-    value: Value<S::Ref>,
+    value: &Value<S::Ref>,
 ) -> Result<Value<S::Ref>, Stop>
-    requires { IsFine (S.state store.old) S.number value }
+    requires { IsFine (S.state store.old) S.number value.now }
     ensures grows { Grows (S.state store.old) (S.state store.new) }
     ensures fine { IfOk result (λ v. IsFine (S.state store.new) S.number v) }
-    ensures did { Does S.number (S.state store.old) (S.state store.new) result (unary_out minus at (seen (S.state store.old) S.number value)) }
+    ensures did { Does S.number (S.state store.old) (S.state store.new) result (unary_out minus at (seen (S.state store.old) S.number value.now)) }
 {
     if minus {
         negate(store, at, value)
@@ -61,9 +61,9 @@ pub fn apply_unary<S: Strings>(
     }
 }
 
-fn negate<S: Strings>(store: &S, at: u32, value: Value<S::Ref>) -> Result<Value<S::Ref>, Stop>
-    requires { IsFine (S.state store.now) S.number value }
-    ensures { Does S.number (S.state store.now) (S.state store.now) result (counted at (negative_in (to_number (seen (S.state store.now) S.number value)))) }
+fn negate<S: Strings>(store: &S, at: u32, value: &Value<S::Ref>) -> Result<Value<S::Ref>, Stop>
+    requires { IsFine (S.state store.now) S.number value.now }
+    ensures { Does S.number (S.state store.now) (S.state store.now) result (counted at (negative_in (to_number (seen (S.state store.now) S.number value.now)))) }
 {
     match number_of(store, value) {
         Some(n) => count(store, at, Some(n.neg())),
@@ -71,8 +71,8 @@ fn negate<S: Strings>(store: &S, at: u32, value: Value<S::Ref>) -> Result<Value<
     }
 }
 
-fn one_is_string<S: Strings>(store: &S, left: Value<S::Ref>, right: Value<S::Ref>) -> bool
-    ensures { result ≡ (is_text (seen (S.state store.now) S.number left) || is_text (seen (S.state store.now) S.number right)) }
+fn one_is_string<S: Strings>(store: &S, left: &Value<S::Ref>, right: &Value<S::Ref>) -> bool
+    ensures { result ≡ (is_text (seen (S.state store.now) S.number left.now) || is_text (seen (S.state store.now) S.number right.now)) }
 {
     is_string(store, left) || is_string(store, right)
 }
@@ -91,12 +91,12 @@ fn count<S: Strings>(_store: &S, at: u32, n: Option<Num>) -> Result<Value<S::Ref
 fn add<S: Strings>(
     store: &S,
     at: u32,
-    left: Value<S::Ref>,
-    right: Value<S::Ref>,
+    left: &Value<S::Ref>,
+    right: &Value<S::Ref>,
 ) -> Result<Value<S::Ref>, Stop>
-    requires left { IsFine (S.state store.now) S.number left }
-    requires right { IsFine (S.state store.now) S.number right }
-    ensures { Does S.number (S.state store.now) (S.state store.now) result (counted at (sum_in (to_number (seen (S.state store.now) S.number left)) (to_number (seen (S.state store.now) S.number right)))) }
+    requires left { IsFine (S.state store.now) S.number left.now }
+    requires right { IsFine (S.state store.now) S.number right.now }
+    ensures { Does S.number (S.state store.now) (S.state store.now) result (counted at (sum_in (to_number (seen (S.state store.now) S.number left.now)) (to_number (seen (S.state store.now) S.number right.now)))) }
 {
     match (number_of(store, left), number_of(store, right)) {
         (Some(m), Some(n)) => count(store, at, m.add(n)),
@@ -107,12 +107,12 @@ fn add<S: Strings>(
 fn subtract<S: Strings>(
     store: &S,
     at: u32,
-    left: Value<S::Ref>,
-    right: Value<S::Ref>,
+    left: &Value<S::Ref>,
+    right: &Value<S::Ref>,
 ) -> Result<Value<S::Ref>, Stop>
-    requires left { IsFine (S.state store.now) S.number left }
-    requires right { IsFine (S.state store.now) S.number right }
-    ensures { Does S.number (S.state store.now) (S.state store.now) result (counted at (difference_in (to_number (seen (S.state store.now) S.number left)) (to_number (seen (S.state store.now) S.number right)))) }
+    requires left { IsFine (S.state store.now) S.number left.now }
+    requires right { IsFine (S.state store.now) S.number right.now }
+    ensures { Does S.number (S.state store.now) (S.state store.now) result (counted at (difference_in (to_number (seen (S.state store.now) S.number left.now)) (to_number (seen (S.state store.now) S.number right.now)))) }
 {
     match (number_of(store, left), number_of(store, right)) {
         (Some(m), Some(n)) => count(store, at, m.sub(n)),
@@ -124,14 +124,14 @@ fn subtract<S: Strings>(
 fn join_strings<S: Strings>(
     alloc: Global,
     store: &mut S,
-    left: Value<S::Ref>,
-    right: Value<S::Ref>,
+    left: &Value<S::Ref>,
+    right: &Value<S::Ref>,
 ) -> Result<Value<S::Ref>, Stop>
-    requires left { IsFine (S.state store.old) S.number left }
-    requires right { IsFine (S.state store.old) S.number right }
+    requires left { IsFine (S.state store.old) S.number left.now }
+    requires right { IsFine (S.state store.old) S.number right.now }
     ensures grows { Grows (S.state store.old) (S.state store.new) }
     ensures fine { IfOk result (λ v. IsFine (S.state store.new) S.number v) }
-    ensures did { Does S.number (S.state store.old) (S.state store.new) result (joined_strings (S.state store.old).limit (seen (S.state store.old) S.number left) (seen (S.state store.old) S.number right)) }
+    ensures did { Does S.number (S.state store.old) (S.state store.new) result (joined_strings (S.state store.old).limit (seen (S.state store.old) S.number left.now) (seen (S.state store.old) S.number right.now)) }
 {
     let a = to_text(alloc, store, left)?;
     let b = to_text(alloc, store, right)?;

@@ -4,8 +4,9 @@ ghost use Rattle.js_store.specs.State.{Grows};
 ghost use Rattle.js_parse.specs.Tree;
 ghost use Rattle.js_parse.specs.Tree.{exprs_tree, stmt_tree, stmts_tree, tree_of};
 ghost use Rattle.js_eval.specs.Expression.{Bound};
+ghost use Rattle.js_json.specs.Texts.{AllKnown};
 ghost use Rattle.js_eval.specs.Script.{line_out, print_out, printed, stmt_flow, stmts_flow, meaning};
-ghost use Rattle.js_eval.specs.Seen.{all_seen, AllFine, AllKnown, EnvFine, ScopeFine, bindings_of, scope_of};
+ghost use Rattle.js_eval.specs.Seen.{all_seen, AllFine, EnvFine, ScopeFine, bindings_of, scope_of};
 ghost use Rattle.js_eval.specs.Does.{Went};
 ghost use Rattle.js_eval.specs.Evaluates.{Evaluates};
 
@@ -137,7 +138,7 @@ fn print_values<S: Strings>(
 ) -> Result<(), Stop>
     requires { AllFine (S.state store.old) S.number values.now }
     ensures grows { Grows (S.state store.old) (S.state store.new) }
-    ensures went { (bs : List Bound) → Went (S.state store.old) (S.state store.new) lines.old lines.new result bs (printed (line_out (all_seen (S.state store.old) S.number values.now)) bs) }
+    ensures went { (bs : List Bound) → Went (S.state store.old) (S.state store.new) lines.old lines.new result bs (printed (line_out (S.state store.old).limit (all_seen (S.state store.old) S.number values.now)) bs) }
 {
     let texts = texts(alloc, store, values)?;
     match print_line(alloc, store, &texts, lines) {

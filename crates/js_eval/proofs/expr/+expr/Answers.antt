@@ -4,7 +4,7 @@ use Rattle.std.proofs.Math.ListN.{drop_of_length-le}
 use Rattle.js_store.specs.declared.faults.StoreFault.TheVariants.{Memory}
 use Rattle.js_store.proofs.Laws.{grows_refl, grows_trans}
 use Rattle.js_parse.specs.Tree.{expr_tree, link_tree, links_tree, steps_tree, exprs_tree}
-use Rattle.js_parse.proofs.Trees.{tree_of_unary, tree_of_chain, tree_of_post, tree_of_call}
+use Rattle.js_parse.proofs.Trees.{tree_of_unary, tree_of_chain, tree_of_post, tree_of_call, tree_of_index, tree_of_builtin}
 use Rattle.js_eval.specs.declared.value.Stop.TheVariants.{Store}
 use Rattle.js_eval.specs.Outcome.{Val, Out}
 use Rattle.js_eval.specs.Expression.{expr_out}
@@ -12,7 +12,7 @@ use Rattle.js_eval.specs.Seen.{seen, IsFine, scope_of}
 use Rattle.js_eval.specs.Does.{GivesAll}
 use Rattle.js_eval.proofs.Compose.{ran_free}
 use Rattle.js_eval.proofs.Each.{each_turn, each_halt, each_full, fine_turn}
-use Rattle.js_eval.proofs.Expressions.{unary_does, chain_does, chain_stops, post_does, post_stops, link_does, link_stops, links_turn, links_halt, steps_turn, steps_halt, call_does, call_stops, call_absent, exprs_are}
+use Rattle.js_eval.proofs.Expressions.{unary_does, chain_does, chain_stops, post_does, post_stops, builtin_does, builtin_stops, index_does, index_stops, link_does, link_stops, links_turn, links_halt, steps_turn, steps_halt, call_does, call_stops, call_absent, exprs_are}
 use Rattle.js_eval.proofs.Still.{seen_still, fine_still, scope_still, scope_fine_still}
 use Rattle.js_eval.proofs.expr.+expr.Goals as goal
 
@@ -66,6 +66,29 @@ expr-returns-in_ok-value-in-Post-clause-did g t c =
     rw (c.in-Post.is, tree_of_post c.in-Post.of c.in-Post.rest)
     (post_does g.S.Strings.number (state c.args.store.now) (state c.expr-in-Post.new.store) (state c.steps.new.store) c.in_ok-value-in-Post.value c.steps.result (expr_tree c.in-Post.of.value) (steps_tree c.in-Post.rest.items) c.args.scope.now c.in_ok-value-in-Post.ensures.grows c.requires (rw d at i) (rw e at k))
 
+pub expr-returns-in_err-values-in-Builtin-clause-did : goal.expr-returns-in_err-values-in-Builtin-clause-did
+expr-returns-in_err-values-in-Builtin-clause-did g t c =
+    let state = g.S.Strings.state in
+    let p = err_from_is_err_and c.from_residual-in_err-values-in-Builtin.result c.from_residual-in_err-values-in-Builtin.ensures.1 in
+    let i = c.in_err-values-in-Builtin.ensures.did in
+    let d = c.deref-in-Builtin.ensures.value in
+    rw (p.1, p.2, c.in-Builtin.is, tree_of_builtin c.in-Builtin.at c.in-Builtin.which c.in-Builtin.args)
+    (builtin_stops g.S.Strings.number (state c.args.store.now) (state c.exprs.new.store) c.in_err-values-in-Builtin.field-0.0 c.in-Builtin.at c.in-Builtin.which (exprs_tree c.in-Builtin.args.items) (scope_of (state c.args.store.now) g.S.Strings.number c.args.scope.now) (rw d at i))
+
+pub expr-returns-in_ok-values-in-Builtin-clause-scope : goal.expr-returns-in_ok-values-in-Builtin-clause-scope
+expr-returns-in_ok-values-in-Builtin-clause-scope g t c =
+    scope_fine_still (g.S.Strings.state c.exprs.new.store) (g.S.Strings.state c.call_builtin.new.store) g.S.Strings.number c.call_builtin.ensures.grows c.args.scope.now c.in_ok-values-in-Builtin.ensures.scope
+
+pub expr-returns-in_ok-values-in-Builtin-clause-did : goal.expr-returns-in_ok-values-in-Builtin-clause-did
+expr-returns-in_ok-values-in-Builtin-clause-did g t c =
+    let state = g.S.Strings.state in
+    let i = c.in_ok-values-in-Builtin.ensures.did in
+    let k = c.call_builtin.ensures.did in
+    let d = c.deref-in-Builtin.ensures.value in
+    let e = c.deref-in-Builtin-2.ensures.value in
+    rw (c.in-Builtin.is, tree_of_builtin c.in-Builtin.at c.in-Builtin.which c.in-Builtin.args)
+    (builtin_does g.S.Strings.number (state c.args.store.now) (state c.exprs.new.store) (state c.call_builtin.new.store) c.in_ok-values-in-Builtin.values c.call_builtin.result c.in-Builtin.at c.in-Builtin.which (exprs_tree c.in-Builtin.args.items) c.args.scope.now c.in_ok-values-in-Builtin.ensures.grows (rw d at i) (rw e at k))
+
 pub links-returns-in_err-value-clause-did : goal.links-returns-in_err-value-clause-did
 links-returns-in_err-value-clause-did g t c =
     let state = g.S.Strings.state in
@@ -108,13 +131,13 @@ pub one_link-returns-in_err-right-clause-did : goal.one_link-returns-in_err-righ
 one_link-returns-in_err-right-clause-did g t c =
     let p = err_from_is_err_and c.from_residual.result c.from_residual.ensures.1 in
     let state = g.S.Strings.state in
-    rw (p.1, p.2) (link_stops g.S.Strings.number (state c.args.store.now) (state c.expr.new.store) c.args.left c.in_err-right.field-0.0 (link_tree c.args.link.now) (scope_of (state c.args.store.now) g.S.Strings.number c.args.scope.now) c.in_err-right.ensures.did)
+    rw (p.1, p.2) (link_stops g.S.Strings.number (state c.args.store.now) (state c.expr.new.store) c.args.left.now c.in_err-right.field-0.0 (link_tree c.args.link.now) (scope_of (state c.args.store.now) g.S.Strings.number c.args.scope.now) c.in_err-right.ensures.did)
 
 pub one_link-returns-clause-did : goal.one_link-returns-clause-did
 one_link-returns-clause-did g t c =
     let state = g.S.Strings.state in
     link_does g.S.Strings.number (state c.args.store.now) (state c.expr.new.store) (state c.operate.new.store)
-    c.args.left c.in_ok-right.right c.operate.result (link_tree c.args.link.now) c.args.scope.now
+    c.args.left.now c.in_ok-right.right c.operate.result (link_tree c.args.link.now) c.args.scope.now
     c.in_ok-right.ensures.grows c.requires.left c.in_ok-right.ensures.did c.operate.ensures.did
 
 pub steps-returns-in_err-value-clause-did : goal.steps-returns-in_err-value-clause-did
@@ -223,7 +246,7 @@ one_step-returns-in_err-present-in-Call-clause-did g t c =
     let number = g.S.Strings.number in
     let p = err_from_is_err_and c.from_residual.result c.from_residual.ensures.1 in
     rw (p.1, p.2, c.in-Call.is, tree_of_call c.in-Call.at c.in-Call.method c.in-Call.args)
-    (call_absent number a c.args.value c.in_err-present-in-Call.field-0.0 c.in-Call.at c.in-Call.method (exprs_tree c.in-Call.args.items) (scope_of a number c.args.scope.now) c.in_err-present-in-Call.ensures)
+    (call_absent number a c.args.value.now c.in_err-present-in-Call.field-0.0 c.in-Call.at c.in-Call.method (exprs_tree c.in-Call.args.items) (scope_of a number c.args.scope.now) c.in_err-present-in-Call.ensures)
 
 pub one_step-returns-in_err-values-in-Call-clause-did : goal.one_step-returns-in_err-values-in-Call-clause-did
 one_step-returns-in_err-values-in-Call-clause-did g t c =
@@ -232,7 +255,7 @@ one_step-returns-in_err-values-in-Call-clause-did g t c =
     let e = c.deref.ensures.value in
     let d = c.in_err-values-in-Call.ensures.did in
     rw (p.1, p.2, c.in-Call.is, tree_of_call c.in-Call.at c.in-Call.method c.in-Call.args)
-    (call_stops g.S.Strings.number (state c.args.store.now) (state c.exprs.new.store) c.args.value c.in_err-values-in-Call.field-0.0 c.in-Call.at c.in-Call.method (exprs_tree c.in-Call.args.items) c.args.scope.now c.in_ok-present-in-Call.ensures (rw e at d))
+    (call_stops g.S.Strings.number (state c.args.store.now) (state c.exprs.new.store) c.args.value.now c.in_err-values-in-Call.field-0.0 c.in-Call.at c.in-Call.method (exprs_tree c.in-Call.args.items) c.args.scope.now c.in_ok-present-in-Call.ensures (rw e at d))
 
 pub one_step-returns-in_ok-values-in-Call-clause-scope : goal.one_step-returns-in_ok-values-in-Call-clause-scope
 one_step-returns-in_ok-values-in-Call-clause-scope g t c =
@@ -246,4 +269,21 @@ one_step-returns-in_ok-values-in-Call-clause-did g t c =
     let d = c.in_ok-values-in-Call.ensures.did in
     let k = c.call.ensures.did in
     rw (c.in-Call.is, tree_of_call c.in-Call.at c.in-Call.method c.in-Call.args)
-    (call_does g.S.Strings.number (state c.args.store.now) (state c.exprs.new.store) (state c.call.new.store) c.args.value c.in_ok-values-in-Call.values c.call.result c.in-Call.at c.in-Call.method (exprs_tree c.in-Call.args.items) c.args.scope.now c.in_ok-values-in-Call.ensures.grows c.requires.value c.in_ok-present-in-Call.ensures (rw e at d) (rw f at k))
+    (call_does g.S.Strings.number (state c.args.store.now) (state c.exprs.new.store) (state c.call.new.store) c.args.value.now c.in_ok-values-in-Call.values c.call.result c.in-Call.at c.in-Call.method (exprs_tree c.in-Call.args.items) c.args.scope.now c.in_ok-values-in-Call.ensures.grows c.requires.value c.in_ok-present-in-Call.ensures (rw e at d) (rw f at k))
+
+pub one_step-returns-in_err-index-in-Index-clause-did : goal.one_step-returns-in_err-index-in-Index-clause-did
+one_step-returns-in_err-index-in-Index-clause-did g t c =
+    let state = g.S.Strings.state in
+    let p = err_from_is_err_and c.from_residual-in_err-index-in-Index.result c.from_residual-in_err-index-in-Index.ensures.1 in
+    rw (p.1, p.2, c.in-Index.is, tree_of_index c.in-Index.at c.in-Index.index)
+    (index_stops g.S.Strings.number (state c.args.store.now) (state c.expr.new.store) c.args.value.now c.in_err-index-in-Index.field-0.0 c.in-Index.at (expr_tree c.in-Index.index) (scope_of (state c.args.store.now) g.S.Strings.number c.args.scope.now) c.in_err-index-in-Index.ensures.did)
+
+pub one_step-returns-in_ok-index-in-Index-clause-scope : goal.one_step-returns-in_ok-index-in-Index-clause-scope
+one_step-returns-in_ok-index-in-Index-clause-scope g t c =
+    scope_fine_still (g.S.Strings.state c.expr.new.store) (g.S.Strings.state c.read_index.new.store) g.S.Strings.number c.read_index.ensures.grows c.args.scope.now c.in_ok-index-in-Index.ensures.scope
+
+pub one_step-returns-in_ok-index-in-Index-clause-did : goal.one_step-returns-in_ok-index-in-Index-clause-did
+one_step-returns-in_ok-index-in-Index-clause-did g t c =
+    let state = g.S.Strings.state in
+    rw (c.in-Index.is, tree_of_index c.in-Index.at c.in-Index.index)
+    (index_does g.S.Strings.number (state c.args.store.now) (state c.expr.new.store) (state c.read_index.new.store) c.args.value.now c.in_ok-index-in-Index.index c.read_index.result c.in-Index.at (expr_tree c.in-Index.index) c.args.scope.now c.in_ok-index-in-Index.ensures.grows c.requires.value c.in_ok-index-in-Index.ensures.did c.read_index.ensures.did)

@@ -20,4 +20,4 @@ returns-clause-went g c = λ bs.
     let state = g.S.Strings.state in
     let d = c.deref.ensures.value in
     let w = c.print_values.ensures.went bs in
-    print_went g.S.Strings.number (state c.args.store.now) (state c.exprs.new.store) (state c.print_values.new.store) c.args.lines.now c.print_values.new.lines (exprs_tree c.args.args.now) (scope_of (state c.args.store.now) g.S.Strings.number c.args.scope.now) c.in_ok-values.values c.print_values.result bs c.in_ok-values.ensures.did (rw d at w)
+    print_went g.S.Strings.number (state c.args.store.now) (state c.exprs.new.store) (state c.print_values.new.store) c.args.lines.now c.print_values.new.lines (exprs_tree c.args.args.now) c.args.scope.now c.in_ok-values.values c.print_values.result bs c.in_ok-values.ensures.grows c.in_ok-values.ensures.did (rw d at w)
