@@ -85,6 +85,13 @@ fn each_status_comes(rt: HostRuntime) -> Result<(), Fail> {
             "",
             "a.js: unsupported at 11\n",
         ),
+        (
+            &file,
+            "print(String.fromCodePoint(1114112));",
+            1,
+            "",
+            "a.js: uncaught RangeError\n",
+        ),
         (&["jsstr", "b.js"], "", 3, "", "b.js: cannot be read\n"),
         (&["jsstr", ""], "", 3, "", ": cannot be read\n"),
         (&["jsstr"], "", 2, "", "jsstr: the words are refused\n"),
@@ -130,6 +137,18 @@ fn scripts_print_what_the_standard_gives(rt: HostRuntime) -> Result<(), Fail> {
             "true null undefined NaN -Infinity\n",
         ),
         ("print(9007199254740991, -(1 - 2));", "9007199254740991 1\n"),
+        (
+            "print('\\ud800x', '\\ud800x'.isWellFormed(), 'abcdef'.substring(4, 1));",
+            "\u{FFFD}x false bcd\n",
+        ),
+        (
+            "print(String.fromCharCode(65601, 98), String.fromCodePoint(128512));",
+            "Ab \u{1F600}\n",
+        ),
+        (
+            "print('ab'.repeat(3), 'x'.padEnd(4, 'ab'), 'abab'.lastIndexOf('ab', 1));",
+            "ababab xaba 0\n",
+        ),
     ] {
         let ran = run(&rt, rt.alloc(), &file, text.as_bytes(), 100, 100)?;
         assert_eq!(rt; ran.code, 0, "at {text}");
