@@ -90,7 +90,7 @@ key_laid m upper q h = let p = has_key (laid_over upper_one m upper) q h in
     laid_has upper_one (λ r _. HasKey m r ⊎ HasKey upper r) (upper_of _) m upper (λ r x e. inl (key_of m r x e)) (λ r x e. inr (key_of upper r x e)) q p.0 p.1
 
 -- the sum where a live view is spent
-total_gone : (f : View → ℕ) (vs : List View) (j : ℕ) (v : View) → At vs j v → v.live ≡ true → total f (set vs j spent) + f v ≡ total f vs
+pub total_gone : (f : View → ℕ) (vs : List View) (j : ℕ) (v : View) → At vs j v → v.live ≡ true → total f (set vs j spent) + f v ≡ total f vs
 total_gone f [] j v e l = absurd (some-ne-none v (sym e))
 total_gone f (x ∷ xs) zero v e l = let b : of_live f x ≡ f v = ap (of_live f) (some-injective x v e) ∙ of_live_true f v l in
     let c : total f (spent ∷ xs) ≡ 0 + total f xs = sum_by-cons (of_live f) spent xs in let d : total f (x ∷ xs) ≡ of_live f x + total f xs = sum_by-cons (of_live f) x xs in omega arith

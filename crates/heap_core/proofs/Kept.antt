@@ -1,5 +1,5 @@
 -- Each enabled event keeps the rule, and the units of the born ids.
-use Rattle.std.proofs.Common.{◌≡◌, ℕ, ◌+◌, inr, ⊎_elim, Bool, true, false, cond, List, [], get_or, set, sym, refl, ap, ◌∙◌, subst, arith, Option, Result, Ok, Err, eqb, eqb-true}
+use Rattle.std.proofs.Common.{◌≡◌, ℕ, ◌+◌, ◌<◌, ◌≤◌, inr, ⊎_elim, Bool, true, false, cond, List, [], get_or, set, sym, refl, ap, ◌∙◌, subst, arith, Option, Result, Ok, Err, eqb, eqb-true}
 use Rattle.std.specs.Prelude.{unwrap_or, IfOk, OnErr}
 use Rattle.std.proofs.lemmas.List.{set-get_or}
 use Rattle.js_header.specs.Form.{word_of}
@@ -10,21 +10,25 @@ use Rattle.heap_core.specs.declared.size.Counter.{Counter}
 use Rattle.heap_core.specs.declared.event.Refusal.{Refusal}
 use Rattle.heap_core.specs.declared.event.Refusal.TheVariants.{NotEnabled, Memory}
 use Rattle.heap_core.specs.declared.event.Event.{Event}
-use Rattle.heap_core.specs.declared.event.Event.TheVariants.{Make, LoadCounter, Claim, StoreWord, StoreLength, Birth}
+use Rattle.heap_core.specs.declared.event.Event.TheVariants.{Make, Split, Join, LoadCounter, Claim, StoreWord, StoreLength, Birth, LoadHeader, LoadWord}
 use Rattle.heap_core.specs.Layout.{counter_at, content_at, length_at, form_at, form, IsBorn}
 use Rattle.heap_core.specs.Maps.{HasKey}
 use Rattle.heap_core.specs.Sound.{At, total}
 use Rattle.heap_core.specs.Core.{Core, core}
-use Rattle.heap_core.specs.Events.{IsCore, IsSoundCore, view_at, Enabled, after, found, Applied, KeepsUnits, Kept, BornBy}
+use Rattle.heap_core.specs.Events.{IsCore, IsSoundCore, LiveAt, view_at, Enabled, after, found, Applied, KeepsUnits, Kept, BornBy}
 use Rattle.heap_core.specs.Claims.{loaded_counter, MayClaim, won_claim}
 use Rattle.heap_core.specs.Births.{stored_word, MayStoreLength, stored_length, MayBear, born_with, born}
-use Rattle.heap_core.specs.Agents.{spent}
+use Rattle.heap_core.specs.Views.{IsKnown}
+use Rattle.heap_core.specs.Learning.{MayLearn}
+use Rattle.heap_core.specs.Loads.{MayLoadWord, loaded_word}
+use Rattle.heap_core.specs.Agents.{spent, MayJoin}
 use Rattle.heap_core.proofs.ListLemmas.{at_index}
 use Rattle.heap_core.proofs.Agreement.{Agrees, born_then, units_stay}
 use Rattle.heap_core.proofs.Making.{keeps_making}
 use Rattle.heap_core.proofs.Steps.{keeps_loaded_counter, keeps_won_claim, agrees_won_claim, keeps_stored_word, agrees_stored_word, keeps_stored_length, agrees_stored_length}
 use Rattle.heap_core.proofs.Birth.{keeps_birth, agrees, born_now}
 use Rattle.heap_core.proofs.StateLemmas.{sound_of}
+use Rattle.heap_core.proofs.KnowingKept.{split_kept, join_kept, load_header_kept, load_word_kept}
 
 same_kept : (s : Core) → KeepsUnits s s
 same_kept s i b = (b, refl)
@@ -52,6 +56,8 @@ claim_kept s j v k a want false h at live may won = subst (λ (ws : List ℕ). K
 
 pub enabled_keeps : (s : Core) (e : Event) → IsCore s → Enabled s e → Kept s (after s e)
 enabled_keeps s (Make z agents) h en = (keeps_making z agents en.1 en.2, λ i b. absurd (none_born s h en.0 i b))
+enabled_keeps s (Split j give) h en = split_kept s j give (sound_of s j (λ v. (1 ≤ give) × (give < v.share)) h en) en
+enabled_keeps s (Join j other) h en = join_kept s j other (sound_of s j (λ v. LiveAt s other (λ b. MayJoin v b)) h en.1) en
 enabled_keeps s (LoadCounter j k) h en = let g : IsSoundCore s = sound_of s j (λ v. Unit {0}) h en in
     subst (λ (v : View). Kept s (core s.size s.agents s.words (set s.views j (loaded_counter v k (get_or s.words (counter_at k) 0))))) (sym (at_index s.views j en.0 spent en.1)) (loaded_kept s j en.0 k g en.1 en.2)
 enabled_keeps s (Claim j k a want) h en = let g : IsSoundCore s = sound_of s j (λ v. MayClaim v k a want) h en in let x : ℕ = get_or s.words (counter_at k) 0 in
@@ -71,6 +77,8 @@ enabled_keeps s (Birth j i Unborn) h (no', live) = absurd no'
 enabled_keeps s (Birth j i (Cons a b c)) h (no', live) = absurd no'
 enabled_keeps s (Birth j i (Sliced a b c)) h (no', live) = absurd no'
 enabled_keeps s (Birth j i (Thin a)) h (no', live) = absurd no'
+enabled_keeps s (LoadHeader j i len names) h en = load_header_kept s j i len names.items (sound_of s j (λ v. IsKnown v i) h en.0) en
+enabled_keeps s (LoadWord j c names) h en = load_word_kept s j c names.items (sound_of s j (λ v. MayLoadWord v c × MayLearn (loaded_word v c (get_or s.words (content_at s.size c) 0)) names.items) h en) en
 
 -- what an application leaves
 pub applied_keeps : (s : Core) (e : Event) (t : Core) (r : Result ℕ Refusal) → IsCore s → Applied s e t r → IsCore t × KeepsUnits s t
@@ -101,10 +109,14 @@ birth_born s j i (Thin a) h (no', live) = absurd no'
 pub applied_born : (s : Core) (e : Event) (t : Core) (r : Result ℕ Refusal) → IsCore s → Applied s e t r → IfOk r (λ _. BornBy e t)
 applied_born s (Birth j i f) t (Ok x) h a = subst (λ (u : Core). IsBorn u.size u.words i) (sym a.1) (birth_born s j i f h a.0)
 applied_born s (Make z n) t (Ok x) h a = tt
+applied_born s (Split j n) t (Ok x) h a = tt
+applied_born s (Join j o) t (Ok x) h a = tt
 applied_born s (LoadCounter j k) t (Ok x) h a = tt
 applied_born s (Claim j k b w) t (Ok x) h a = tt
 applied_born s (StoreWord j c w) t (Ok x) h a = tt
 applied_born s (StoreLength j i n) t (Ok x) h a = tt
+applied_born s (LoadHeader j i len names) t (Ok x) h a = tt
+applied_born s (LoadWord j c names) t (Ok x) h a = tt
 applied_born s e t (Err q) h a = tt
 
 -- the clauses of an application, one by one

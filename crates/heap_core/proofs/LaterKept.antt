@@ -21,12 +21,10 @@ use Rattle.heap_core.specs.Agents.{spent, joined, left_after_split, right_after_
 use Rattle.heap_core.specs.Sound.{At, IsSound}
 use Rattle.heap_core.specs.Core.{Core, core}
 use Rattle.heap_core.specs.Events.{IsSoundCore, Kept, view_at}
-use Rattle.heap_core.specs.Later.{SplittingKeeps, JoiningKeeps, LoadingHeadersKeeps, LoadingWordsKeeps, FlatteningKeeps, ThinningKeeps, LoadingSlotsKeeps, TakingSlotsKeeps, BirthsKeep}
+use Rattle.heap_core.specs.Later.{FlatteningKeeps, ThinningKeeps, LoadingSlotsKeeps, TakingSlotsKeeps, BirthsKeep}
 use Rattle.heap_core.proofs.ListLemmas.{at_index, set_there}
-use Rattle.heap_core.proofs.Loading.{keeps_loaded_form}
-use Rattle.heap_core.proofs.Loads.{keeps_loaded_length, keeps_loaded_word}
-use Rattle.heap_core.proofs.Splitting.{set_twice, keeps_learned, keeps_split}
-use Rattle.heap_core.proofs.Joining.{keeps_joined}
+use Rattle.heap_core.proofs.KnowingKept.{still, then_learns}
+use Rattle.heap_core.proofs.Splitting.{set_twice, keeps_learned}
 use Rattle.heap_core.proofs.Flattening.{keeps_flattening, agrees_flattening}
 use Rattle.heap_core.proofs.Thinning.{keeps_thinning, agrees_thinning}
 use Rattle.heap_core.proofs.Slots.{keeps_took_slot, agrees_took_slot}
@@ -35,42 +33,6 @@ use Rattle.heap_core.proofs.RopeBirth.{keeps_cons_birth, agrees_cons_birth, keep
 use Rattle.heap_core.proofs.Birth.{keeps_birth}
 use Rattle.heap_core.proofs.Birth as birth
 use Rattle.heap_core.proofs.Kept.{units_by_agrees}
-
--- a step that changes no word
-still : (s : Core) (vs' : List View) → IsSound s.size s.agents s.words vs' → Kept s (core s.size s.agents s.words vs')
-still s vs' h = (h, λ i b. (b, refl))
-
--- a step of one view, and what it learns
-then_learns : (s : Core) (j : ℕ) (v w : View) (names : List ℕ) → At s.views j v → w.live ≡ true → IsSound s.size s.agents s.words (set s.views j w) → Kept s (core s.size s.agents s.words (set s.views j (learned w names)))
-then_learns s j v w names at live h = still s (set s.views j (learned w names))
-    (subst (IsSound s.size s.agents s.words) (set_twice s.views j w (learned w names)) (keeps_learned s.size s.agents s.words (set s.views j w) h j w (set_there s.views j w v at) live names))
-
-pub split_kept : SplittingKeeps
-split_kept s j give h can = let v : View = can.0 in
-    subst (λ (u : View). Kept s (core s.size s.agents s.words (set s.views j (left_after_split u give) ++ right_after_split u give ∷ []))) (sym (at_index s.views j v spent can.1))
-    (still s _ (keeps_split s.size s.agents s.words s.views h j v can.1 can.2 give can.3.0 can.3.1))
-
-pub join_kept : JoiningKeeps
-join_kept s j other h can = let l = can.1 in let v : View = l.0 in let t = l.3 in let b : View = t.0 in
-    subst (λ (u : View × View). Kept s (core s.size s.agents s.words (set (set s.views j (joined u.0 u.1)) other spent))) (λ i. (sym (at_index s.views j v spent l.1) i, sym (at_index s.views other b spent t.1) i))
-    (still s _ (keeps_joined s.size s.agents s.words s.views h j other v b can.0 l.1 l.2 t.1 t.2))
-
-pub load_header_kept : LoadingHeadersKeeps
-load_header_kept s j i true names h can = let l = can.0 in let v : View = l.0 in let x : ℕ = get_or s.words (length_at s.size i) 0 in
-    subst (λ (u : View). Kept s (core s.size s.agents s.words (set s.views j (learned (loaded_length u i x) names)))) (sym (at_index s.views j v spent l.1))
-    (then_learns s j v (loaded_length v i x) names l.1 l.2 (keeps_loaded_length s.size s.agents s.words s.views h j v l.1 l.2 i l.3))
-load_header_kept s j i false names h can = let l = can.0 in let v : View = l.0 in let x : ℕ = get_or s.words (form_at s.size i) 0 in
-    subst (λ (u : View). Kept s (core s.size s.agents s.words (set s.views j (learned (loaded_form u i x) names)))) (sym (at_index s.views j v spent l.1))
-    (still s _ (keeps_loaded_form s.size s.agents s.words s.views h j v l.1 l.2 i l.3 names))
-
-same_live : (v : View) (c x : ℕ) (b : Bool) → (cond b v (record v { frozen = insert v.frozen c x })).live ≡ v.live
-same_live v c x true = refl
-same_live v c x false = refl
-
-pub load_word_kept : LoadingWordsKeeps
-load_word_kept s j c names h l = let v : View = l.0 in let x : ℕ = get_or s.words (content_at s.size c) 0 in
-    subst (λ (u : View). Kept s (core s.size s.agents s.words (set s.views j (learned (loaded_word u c x) names)))) (sym (at_index s.views j v spent l.1))
-    (then_learns s j v (loaded_word v c x) names l.1 (same_live v c x (contains_key v.own_words c) ∙ l.2) (keeps_loaded_word s.size s.agents s.words s.views h j v l.1 l.2 c l.3.0))
 
 -- a step of one view that changes words, and what it learns
 moves_then_learns : (s : Core) (j : ℕ) (v w : View) (W' : List ℕ) (names : List ℕ) → At s.views j v → w.live ≡ true → Kept s (core s.size s.agents W' (set s.views j w)) → Kept s (core s.size s.agents W' (set s.views j (learned w names)))

@@ -1,5 +1,8 @@
 pub mod MapLemmas
 pub mod MapEntries
+pub mod MapLaying
+pub mod Searches
+pub mod CallLists
 pub mod UnitLemmas
 pub mod Agreement
 pub mod Carried
@@ -10,6 +13,8 @@ pub mod Making
 pub mod StateLemmas
 pub mod KindLemmas
 pub mod Learning
+pub mod Justified
+pub mod FrozenWords
 pub mod Birth
 pub mod Flattening
 pub mod Loading
@@ -18,6 +23,8 @@ pub mod Thinning
 pub mod RopeBirth
 pub mod Splitting
 pub mod Joining
+pub mod KnowingKept
+pub mod LoadSteps
 pub mod Kept
 pub mod Legal
 pub mod LaterKept

@@ -1,7 +1,8 @@
 -- What the executable steps do to the machine, as plain data.
-use Rattle.std.proofs.Common.{◌≡◌, ◌≢◌, ℕ, zero, suc, ◌+◌, ◌^◌, ◌<◌, ◌≤◌, ⊎_elim, Bool, true, false, cond, List, [], ◌∷◌, length, get_or, set, sym, refl, ap, ◌∙◌, subst, arith, IsTrue, Option, Some, None, Ok, eqb, eq-eqb, ne_eqb}
+use Rattle.std.proofs.Common.{◌≡◌, ◌≢◌, ℕ, zero, suc, ◌+◌, ◌^◌, ◌<◌, ◌≤◌, ⊎_elim, Bool, true, false, cond, List, [], ◌∷◌, ◌++◌, length, get_or, set, sym, refl, ap, ◌∙◌, subst, arith, IsTrue, Option, Some, None, Ok, eqb, eq-eqb, ne_eqb}
 use Rattle.std.specs.Prelude.{unwrap_or}
-use Rattle.std.proofs.lemmas.List.{set-get_or}
+use Rattle.std.proofs.lemmas.List.{set-get_or, set-append_left}
+use Rattle.std.proofs.Math.ListN.{get_or-append}
 use Rattle.std.specs.FinMap.{get}
 use mathlib.Core.Option.{some, some-injective}
 use Rattle.js_header.specs.Form.{word_of}
@@ -12,7 +13,7 @@ use Rattle.heap_core.specs.declared.size.HeapSize.{HeapSize}
 use Rattle.heap_core.specs.declared.size.Counter.{Counter}
 use Rattle.heap_core.specs.declared.size.Counter.TheVariants.{Ids, Words}
 use Rattle.heap_core.specs.declared.event.Event.{Event}
-use Rattle.heap_core.specs.declared.event.Event.TheVariants.{LoadCounter, Claim, StoreWord, StoreLength, Birth}
+use Rattle.heap_core.specs.declared.event.Event.TheVariants.{Split, Join, LoadCounter, Claim, StoreWord, StoreLength, Birth}
 use Rattle.heap_core.specs.Layout.{counter_at, content_at, length_at, form_at, form, end_of, MAX, count_in, IsLawful}
 use Rattle.heap_core.specs.Maps.{Has, HasKey}
 use Rattle.heap_core.specs.Sound.{At, EachLive, total}
@@ -20,9 +21,10 @@ use Rattle.heap_core.specs.Core.{Core, core}
 use Rattle.heap_core.specs.Events.{IsCore, IsSoundCore, LiveIn, view_at, Enabled, Applied}
 use Rattle.heap_core.specs.Claims.{loaded_counter, MayClaim, won_claim}
 use Rattle.heap_core.specs.Births.{stored_word, MayStoreLength, stored_length, MayBear, born_with, born}
-use Rattle.heap_core.specs.Agents.{nothing_used, spent}
+use Rattle.heap_core.specs.Agents.{nothing_used, spent, left_after_split, right_after_split, MayJoin, joined}
 use Rattle.heap_core.proofs.MapLemmas.{has_key}
-use Rattle.heap_core.proofs.ListLemmas.{at_within, at_index, total_set}
+use Rattle.heap_core.proofs.ListLemmas.{at_within, at_index, set_else, total_set}
+use Rattle.heap_core.proofs.Joining.{total_gone}
 
 pub at_here : {A : Type 0} (l : List A) (i : ℕ) (a : A) → i < length l → a ≡ get_or l i a → At l i a
 at_here [] i a h e = absurd (omega arith)
@@ -174,3 +176,57 @@ enabled_by s t e f b p q h = subst (λ (x : Core × Event). Tells b (Enabled x.0
 
 pub views_by : (vs us : List View) (j : ℕ) (P : View → Type 0) (b : Bool) → vs ≡ us → Tells b (LiveIn vs j P) → Tells b (LiveIn us j P)
 views_by vs us j P b e h = subst (λ (l : List View). Tells b (LiveIn l j P)) e h
+
+-- what a test of the two views tells of a joining
+pub join_if : (vs : List View) (j o : ℕ) (v b : View) (t : Bool) → j ≢ o → LiveIn vs j (λ v. Unit {0}) → LiveIn vs o (λ v. Unit {0}) → v ≡ get_or vs j v → b ≡ get_or vs o b → Tells t (MayJoin v b)
+    → Tells t ((j ≢ o) × LiveIn vs j (λ v. LiveIn vs o (λ b. MayJoin v b)))
+join_if vs j o v b t ne live_j live_o here_v here_b test = let inner = live_if vs o (λ b. MayJoin v b) b t live_o here_b test in let outer = live_if vs j (λ v. LiveIn vs o (λ b. MayJoin v b)) v t live_j here_v inner in
+    ((λ h. (ne, outer.0 h)), (λ h. outer.1 h.1))
+
+pub join_not : (vs : List View) (j o : ℕ) → (LiveIn vs j (λ v. Unit {0}) → IsTrue false) → Tells false ((j ≢ o) × LiveIn vs j (λ v. LiveIn vs o (λ b. MayJoin v b)))
+join_not vs j o not = ((λ (e : false ≡ true). absurd (cc)), (λ h. not (h.1.0, h.1.1, h.1.2, tt)))
+
+pub join_not_other : (vs : List View) (j o : ℕ) → (LiveIn vs o (λ v. Unit {0}) → IsTrue false) → Tells false ((j ≢ o) × LiveIn vs j (λ v. LiveIn vs o (λ b. MayJoin v b)))
+join_not_other vs j o not = ((λ (e : false ≡ true). absurd (cc)), (λ h. let t = h.1.3 in not (t.0, t.1, t.2, tt)))
+
+-- word 0 is there
+pub some_words : (s : Core) (j : ℕ) (P : View → Type 0) → IsCore s → LiveIn s.views j P → 0 < length s.words
+some_words s j P h t = let g : IsSoundCore s = sound_of s j P h t in let l = g.counted.long in omega arith
+
+pub split_done : (s : Core) (j give x : ℕ) (d e left right : View) (vs : List View) → LiveIn s.views j (λ v. (1 ≤ give) × (give < v.share)) → x ≡ get_or s.words 0 0 → right ≡ right_after_split (get_or s.views j d) give
+    → vs ≡ s.views ++ right ∷ [] → left ≡ left_after_split (get_or vs j e) give → Applied s (Split j give) (core s.size s.agents s.words (set vs j left)) (Ok x)
+split_done s j give x d e left right vs live found is grown rest = let P : View → Type 0 = (λ v. (1 ≤ give) × (give < v.share)) in let l = view_inside s.views j P live in let u : View = view_at s j in
+    let r : right ≡ right_after_split u give = is ∙ ap (λ (v : View). right_after_split v give) (any_default s.views j d spent l) in
+    let h : left ≡ left_after_split u give = rest ∙ ap (λ (v : View). left_after_split v give) (ap (λ (ws : List View). get_or ws j e) grown ∙ (get_or-append s.views (right ∷ []) e j l ∙ any_default s.views j e spent l)) in (
+      live,
+      (λ i. core s.size s.agents s.words (set (grown i) j left)) ∙ ((λ i. core s.size s.agents s.words (set-append_left s.views (right ∷ []) j left l i)) ∙ (λ i. core s.size s.agents s.words (set s.views j (h i) ++ r i ∷ []))),
+      found,
+    )
+
+-- what a giver has left, where one more view stands behind it
+pub split_room : (vs us : List View) (j give : ℕ) (v right : View) → LiveIn vs j (λ v. (1 ≤ give) × (give < v.share)) → us ≡ vs ++ right ∷ [] → v ≡ get_or us j v → give ≤ v.share
+split_room vs us j give v right live grown here = let is : v ≡ live.0 = here ∙ (ap (λ (ws : List View). get_or ws j v) grown ∙ (get_or-append vs (right ∷ []) v j (at_within vs j live.0 live.1) ∙ at_index vs j live.0 v live.1)) in
+    let less = live.3.1 in subst (λ (u : View). give ≤ u.share) (sym is) (omega arith)
+
+pub join_done : (s : Core) (j o x : ℕ) (d e w b : View) → (j ≢ o) × LiveIn s.views j (λ v. LiveIn s.views o (λ b. MayJoin v b)) → x ≡ get_or s.words 0 0 → w ≡ joined (get_or s.views j d) (get_or s.views o e) → b ≡ spent
+    → Applied s (Join j o) (core s.size s.agents s.words (set (set s.views j w) o b)) (Ok x)
+join_done s j o x d e w b can found is dead = let l = view_inside s.views j (λ v. LiveIn s.views o (λ b. MayJoin v b)) can.1 in let m = view_inside s.views o (λ b. MayJoin can.1.0 b) can.1.3 in (
+  can,
+  (λ i. core s.size s.agents s.words (set (set s.views j ((is ∙ (λ k. joined (any_default s.views j d spent l k) (any_default s.views o e spent m k))) i)) o (dead i))),
+  found,
+)
+
+-- the sums of two different live views' parts are within the sum of all
+pub two_within : (f : View → ℕ) (vs : List View) (j o : ℕ) (v b : View) → j ≢ o → At vs j v → v.live ≡ true → At vs o b → b.live ≡ true → f v + f b ≤ total f vs
+two_within f vs j o v b ne at live at_other live_other = let gone = total_gone f vs j v at live in let there : At (set vs j spent) o b = set_else vs j o spent (λ h. ne (sym h)) ∙ at_other in
+    let rest = total_gone f (set vs j spent) o b there live_other in omega arith
+
+-- what a joining adds up fits
+pub join_fits : (s : Core) (j o : ℕ) (d e : View) → s.agents < 2 ^ 32 → IsCore s → (j ≢ o) × LiveIn s.views j (λ v. LiveIn s.views o (λ b. MayJoin v b))
+    → let v : View = get_or s.views j d in let b : View = get_or s.views o e in (v.share + b.share < 2 ^ 32) × (v.used.ids + b.used.ids < 2 ^ 32) × (v.used.words + b.used.words < 2 ^ 32)
+join_fits s j o d e small_agents h can = let t = can.1 in let v : View = t.0 in let r = t.3 in let b : View = r.0 in let g : IsSoundCore s = sound_of s j (λ v. LiveIn s.views o (λ b. MayJoin v b)) h t in
+    let a = g.added in let n = g.counted in let z = g.lawful in let small = n.ids_end in let small_words = n.words_end in
+    let shares = two_within (λ u. u.share) s.views j o v b can.0 t.1 t.2 r.1 r.2 in let ids = two_within (λ u. u.used.ids) s.views j o v b can.0 t.1 t.2 r.1 r.2 in let words = two_within (λ u. u.used.words) s.views j o v b can.0 t.1 t.2 r.1 r.2 in
+    let agents = a.shares in let total_ids = a.ids in let total_words = a.words in
+    subst (λ (p : View × View). (p.0.share + p.1.share < 2 ^ 32) × (p.0.used.ids + p.1.used.ids < 2 ^ 32) × (p.0.used.words + p.1.used.words < 2 ^ 32))
+    (λ i. (sym (at_index s.views j v d t.1) i, sym (at_index s.views o b e r.1) i)) (omega arith, omega arith, omega arith)

@@ -1,5 +1,5 @@
 -- The machine: where each event may come, and what it does. An event is one atomic step of one agent on one word, but for the making of the heap.
-use Rattle.std.specs.Prelude.{◌≡◌, ℕ, ◌+◌, ◌≤◌, ◌⊎◌, ◌==◌, true, if◌then◌else◌, List, [], ◌∷◌, slice_index, slice_index_or, slice_set, replicate, Result, Ok, Err}
+use Rattle.std.specs.Prelude.{◌≡◌, ◌≢◌, ℕ, ◌+◌, ◌<◌, ◌≤◌, ◌⊎◌, ◌==◌, Bool, true, false, if◌then◌else◌, List, [], ◌∷◌, ◌++◌, slice_index, slice_index_or, slice_set, replicate, Result, Ok, Err}
 use Rattle.js_header.specs.Form.{word_of}
 use Rattle.js_header.specs.declared.form.Form.{Form}
 use Rattle.js_header.specs.declared.form.Form.TheVariants.{Flat}
@@ -8,7 +8,7 @@ use Rattle.heap_core.specs.declared.size.HeapSize.{HeapSize}
 use Rattle.heap_core.specs.declared.event.Refusal.{Refusal}
 use Rattle.heap_core.specs.declared.event.Refusal.TheVariants.{NotEnabled, Memory}
 use Rattle.heap_core.specs.declared.event.Event.{Event}
-use Rattle.heap_core.specs.declared.event.Event.TheVariants.{Make, LoadCounter, Claim, StoreWord, StoreLength, Birth}
+use Rattle.heap_core.specs.declared.event.Event.TheVariants.{Make, Split, Join, LoadCounter, Claim, StoreWord, StoreLength, Birth, LoadHeader, LoadWord}
 use Rattle.heap_core.specs.Layout.{IsLawful, counter_at, form_at, length_at, content_at, word_count, IsBorn}
 use Rattle.heap_core.specs.Contents.{units_of}
 use Rattle.heap_core.specs.Maps.{Has, HasKey}
@@ -16,7 +16,10 @@ use Rattle.heap_core.specs.Sound.{At, IsSound, AreLegal}
 use Rattle.heap_core.specs.Core.{Core}
 use Rattle.heap_core.specs.Claims.{loaded_counter, MayClaim, claimed}
 use Rattle.heap_core.specs.Births.{stored_word, MayStoreLength, stored_length, MayBear, born}
-use Rattle.heap_core.specs.Agents.{first_view, spent}
+use Rattle.heap_core.specs.Views.{IsKnown}
+use Rattle.heap_core.specs.Learning.{learned, MayLearn}
+use Rattle.heap_core.specs.Loads.{loaded_form, loaded_length, MayLoadWord, loaded_word}
+use Rattle.heap_core.specs.Agents.{first_view, spent, left_after_split, right_after_split, MayJoin, joined}
 
 abbrev pub IsSoundCore : Core → Type 0
 IsSoundCore s = IsSound s.size s.agents s.words s.views
@@ -50,6 +53,45 @@ exchanged s p old new = if slice_index s.words p == old then new else slice_inde
 abbrev pub looked : Core → ℕ → View → Core
 looked s j w = record s { views = slice_set s.views j w }
 
+-- a header word: the place of the length or of the form
+abbrev pub header_at : HeapSize → ℕ → Bool → ℕ
+header_at z i true = length_at z i
+header_at z i false = form_at z i
+
+module _ (s : Core) where
+  -- splitting: `give` of the share goes to a new agent, whose view stands at the end
+  abbrev pub CanSplit : ℕ → ℕ → Type 0
+  CanSplit j give = LiveAt s j (λ v. (1 ≤ give) × (give < v.share))
+
+  abbrev pub after_split : ℕ → ℕ → Core
+  after_split j give = record s { views = slice_set s.views j (left_after_split (view_at s j) give) ++ right_after_split (view_at s j) give ∷ [] }
+
+  -- joining: the other agent is spent
+  abbrev pub CanJoin : ℕ → ℕ → Type 0
+  CanJoin j other = (j ≢ other) × LiveAt s j (λ v. LiveAt s other (λ b. MayJoin v b))
+
+  abbrev pub after_join : ℕ → ℕ → Core
+  after_join j other = record s { views = slice_set (slice_set s.views j (joined (view_at s j) (view_at s other))) other spent }
+
+  -- the view after a load of a header word
+  abbrev pub header_seen : ℕ → ℕ → Bool → View
+  header_seen j i true = loaded_length (view_at s j) i (slice_index s.words (length_at s.size i))
+  header_seen j i false = loaded_form (view_at s j) i (slice_index s.words (form_at s.size i))
+
+  -- loading a header word of a known string; each pair that the event names is justified by the view afterwards
+  abbrev pub CanLoadHeader : ℕ → ℕ → Bool → List ℕ → Type 0
+  CanLoadHeader j i len names = LiveAt s j (λ v. IsKnown v i) × MayLearn (header_seen j i len) names
+
+  abbrev pub after_load_header : ℕ → ℕ → Bool → List ℕ → Core
+  after_load_header j i len names = looked s j (learned (header_seen j i len) names)
+
+  -- loading a content word
+  abbrev pub CanLoadWord : ℕ → ℕ → List ℕ → Type 0
+  CanLoadWord j c names = LiveAt s j (λ v. MayLoadWord v c × MayLearn (loaded_word v c (slice_index s.words (content_at s.size c))) names)
+
+  abbrev pub after_load_word : ℕ → ℕ → List ℕ → Core
+  after_load_word j c names = looked s j (learned (loaded_word (view_at s j) c (slice_index s.words (content_at s.size c))) names)
+
 -- the forms whose births are built: a Flat alone, until there are ropes
 abbrev pub IsBuilt : Form → Type 0
 IsBuilt (Flat wide start fixed) = Unit {0}
@@ -58,28 +100,38 @@ IsBuilt _ = ⊥
 -- where an event may come: a making where there is no view yet, every other where its view is live and its kind's condition holds
 abbrev pub Enabled : Core → Event → Type 0
 Enabled s (Make z agents) = (s.views ≡ []) × IsLawful z × (1 ≤ agents) × (agents ≤ 64)
+Enabled s (Split j give) = CanSplit s j give
+Enabled s (Join j other) = CanJoin s j other
 Enabled s (LoadCounter j k) = LiveAt s j (λ v. Unit {0})
 Enabled s (Claim j k at want) = LiveAt s j (λ v. MayClaim v k at want)
 Enabled s (StoreWord j c n) = LiveAt s j (λ v. HasKey v.own_words c)
 Enabled s (StoreLength j i n) = LiveAt s j (λ v. MayStoreLength v i n)
 Enabled s (Birth j i f) = IsBuilt f × LiveAt s j (λ v. MayBear v i f)
+Enabled s (LoadHeader j i len names) = CanLoadHeader s j i len names.items
+Enabled s (LoadWord j c names) = CanLoadWord s j c names.items
 
 -- the machine after an event
 abbrev pub after : Core → Event → Core
 after s (Make z agents) = record { size = z; agents = agents; words = replicate (word_count z) 0; views = first_view z agents ∷ [] }
+after s (Split j give) = after_split s j give
+after s (Join j other) = after_join s j other
 after s (LoadCounter j k) = looked s j (loaded_counter (view_at s j) k (slice_index s.words (counter_at k)))
 after s (Claim j k at want) = moved s (counter_at k) (exchanged s (counter_at k) at (at + want)) j (claimed (view_at s j) k at want (slice_index s.words (counter_at k)))
 after s (StoreWord j c n) = moved s (content_at s.size c) n j (stored_word (view_at s j) c n)
 after s (StoreLength j i n) = moved s (length_at s.size i) n j (stored_length (view_at s j) i n)
 after s (Birth j i f) = moved s (form_at s.size i) (word_of f) j (born (view_at s j) i f)
+after s (LoadHeader j i len names) = after_load_header s j i len names.items
+after s (LoadWord j c names) = after_load_word s j c names.items
 
--- the word that an event finds, which is the one that stood there before it; a making finds none, and its answer is 0
+-- the word that an event finds, which is the one that stood there before it: for splitting and joining the number in word 0; a making finds none, and its answer is 0
 abbrev pub place_of : HeapSize → Event → ℕ
 place_of z (LoadCounter j k) = counter_at k
 place_of z (Claim j k at want) = counter_at k
 place_of z (StoreWord j c n) = content_at z c
 place_of z (StoreLength j i n) = length_at z i
 place_of z (Birth j i f) = form_at z i
+place_of z (LoadHeader j i len names) = header_at z i len
+place_of z (LoadWord j c names) = content_at z c
 place_of z _ = 0
 
 abbrev pub found : Core → Event → ℕ
@@ -91,6 +143,17 @@ abbrev pub Applied : Core → Event → Core → Result ℕ Refusal → Type 0
 Applied s e t (Ok x) = Enabled s e × (t ≡ after s e) × (x ≡ found s e)
 Applied s e t (Err NotEnabled) = (Enabled s e → ⊥) × (t ≡ s)
 Applied s e t (Err Memory) = t ≡ s
+
+-- the same of the two loads, by the names themselves
+abbrev pub LoadedHeader : Core → ℕ → ℕ → Bool → List ℕ → Core → Result ℕ Refusal → Type 0
+LoadedHeader s j i len names t (Ok x) = CanLoadHeader s j i len names × (t ≡ after_load_header s j i len names) × (x ≡ slice_index s.words (header_at s.size i len))
+LoadedHeader s j i len names t (Err NotEnabled) = (CanLoadHeader s j i len names → ⊥) × (t ≡ s)
+LoadedHeader s j i len names t (Err Memory) = t ≡ s
+
+abbrev pub LoadedWord : Core → ℕ → ℕ → List ℕ → Core → Result ℕ Refusal → Type 0
+LoadedWord s j c names t (Ok x) = CanLoadWord s j c names × (t ≡ after_load_word s j c names) × (x ≡ slice_index s.words (content_at s.size c))
+LoadedWord s j c names t (Err NotEnabled) = (CanLoadWord s j c names → ⊥) × (t ≡ s)
+LoadedWord s j c names t (Err Memory) = t ≡ s
 
 -- every born id stays born and keeps its units
 abbrev pub KeepsUnits : Core → Core → Type 0

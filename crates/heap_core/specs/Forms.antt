@@ -21,6 +21,10 @@ abbrev pub IsSolidForm : Option Form → Type 0
 IsSolidForm None = ⊥
 IsSolidForm (Some f) = IsSolid f
 
+abbrev pub is_thin : Form → Bool
+is_thin (Thin target) = true
+is_thin _ = false
+
 -- the second form may come to stand after the first: Cons, Flat not fixed, Thin; or Sliced, Thin
 abbrev pub is_later : Form → Form → Bool
 is_later (Cons wide left right) (Flat w start false) = true

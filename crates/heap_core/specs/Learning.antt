@@ -1,5 +1,5 @@
 -- Learning: which units of which strings follow from what a view has. It costs nothing when the heap runs.
-use Rattle.std.specs.Prelude.{ℕ, zero, suc, ◌==◌, ◌&&◌, Bool, true, false, if◌then◌else◌, List, [], ◌∷◌, ◌++◌, All, take, drop, unwrap_or, Option, Some, None, IsSome}
+use Rattle.std.specs.Prelude.{ℕ, zero, suc, ◌==◌, ◌&&◌, ◌||◌, Bool, true, false, if◌then◌else◌, List, [], ◌∷◌, ◌++◌, All, take, drop, unwrap_or, Option, Some, None, is_some, IsSome}
 use Rattle.std.specs.Ordering.{nat_cmp}
 use Rattle.std.specs.FinMap.{FinMap, get, insert, contains_key, entries, keys}
 use Rattle.js_units.specs.Lanes.{words_over}
@@ -34,6 +34,10 @@ module _ (v : View) (i : ℕ) where
   by_cons j (Some (Cons wide left right)) = if left == i then split_by true (get v.units j) (get v.lengths left)
       else (if right == i then split_by false (get v.units j) (get v.lengths left) else None)
   by_cons j _ = None
+
+  -- whether the string j tells them by its form
+  abbrev pub tells : ℕ → Option Form → Bool
+  tells j o = is_some (by_thin j o) || is_some (by_cons j o)
 
   -- where i is a Flat whose words are all frozen, they are its span
   abbrev pub by_flat : Option Form → Option ℕ → Option (List ℕ)

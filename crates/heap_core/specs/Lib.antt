@@ -8,6 +8,7 @@ pub mod Claims
 pub mod Births
 pub mod Learning
 pub mod Loads
+pub mod Loading
 pub mod Moves
 pub mod Slots
 pub mod Agents

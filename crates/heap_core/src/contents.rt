@@ -92,7 +92,7 @@ fn solid(size: HeapSize, words: &[u64], id: u32) -> Option<(bool, u32, u32)>
 }
 
 /// The form and the length of a born id.
-fn header(size: HeapSize, words: &[u64], id: u32) -> (Form, u32)
+pub(crate) fn header(size: HeapSize, words: &[u64], id: u32) -> (Form, u32)
     requires stand { AreStanding size words.now }
     requires born { IsBorn size words.now id }
     ensures form { form_of (form size words.now id) ≡ Some result.0 }

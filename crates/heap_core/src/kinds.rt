@@ -9,43 +9,14 @@ ghost use Rattle.heap_core.specs.Maps.{Has, HasKey};
 ghost use Rattle.heap_core.specs.Views.{shown};
 ghost use Rattle.heap_core.specs.Claims.{loaded_counter, MayClaim, won_claim};
 ghost use Rattle.heap_core.specs.Births.{stored_word, MayStoreLength, stored_length, Fits, MayBear, born_with};
-ghost use Rattle.heap_core.specs.Agents.{first_view};
 
-use crate::maps::{History, IdMap};
-use crate::size::{Counter, Counters, HeapSize, MAX};
+use crate::size::{Counter, MAX};
 use crate::view::View;
 use js_header::Form;
 use js_units::{NoMemory, Units, lane, lanes, words_for};
 use std::alloc::Global;
 
 impl View {
-    /// The view of the first agent, which has the whole share.
-    pub(crate) fn first(alloc: Global, size: HeapSize, agents: u32) -> View
-        ensures { result ≡ first_view size agents }
-    {
-        View {
-            sizes: size,
-            agents,
-            live: true,
-            share: agents,
-            used: Counters { ids: 0, words: 0 },
-            low: Counters { ids: 0, words: 0 },
-            own_ids: IdMap::new(alloc),
-            own_words: IdMap::new(alloc),
-            units: IdMap::new(alloc),
-            met: IdMap::new(alloc),
-            forms: IdMap::new(alloc),
-            lengths: IdMap::new(alloc),
-            frozen: IdMap::new(alloc),
-            slots: IdMap::new(alloc),
-            seen: History::new(alloc),
-            mine: History::new(alloc),
-            form_loads: 0,
-            slot_loads: IdMap::new(alloc),
-            giving: 0,
-        }
-    }
-
     /// A load of a counter.
     pub(crate) fn load_counter(&mut self, counter: Counter, found: u32)
         ensures { self.new ≡ loaded_counter self.old counter found }

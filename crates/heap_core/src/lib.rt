@@ -7,9 +7,13 @@
 //! definitions are in `specs/`, in reading order. Nothing here runs in threads.
 #![tactic(auto)]
 
+mod agents;
 mod contents;
 mod event;
 mod kinds;
+mod knowing;
+mod laying;
+mod load;
 mod maps;
 mod moves;
 mod runs;

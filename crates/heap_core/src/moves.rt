@@ -1,19 +1,20 @@
 // The kinds of event over the parts of a machine: whether one may come, and what it does. The
 // parts stand apart, and not in one value, so that only `apply` closes the value again. What can
 // be refused for want of memory comes before the first change.
-ghost use Rattle.std.specs.Prelude.{◌≡◌, ℕ, ◌<◌, ◌≤◌, ◌↔◌, [], ◌∷◌, replicate, IsTrue, OnOk, OnErr};
+ghost use Rattle.std.specs.Prelude.{◌≡◌, ◌≢◌, ℕ, ◌<◌, ◌≤◌, ◌↔◌, [], ◌∷◌, replicate, IsTrue, OnOk, OnErr};
 ghost use Rattle.js_header.specs.declared.form.Form.TheVariants as form;
 ghost use Rattle.heap_core.specs.Layout.{IsLawful, word_count, MAX};
 ghost use Rattle.heap_core.specs.Maps.{Has, HasKey};
 ghost use Rattle.heap_core.specs.Sound.{EachLive};
 ghost use Rattle.heap_core.specs.Core.{core};
-ghost use Rattle.heap_core.specs.Events.{LiveIn, IsCore, Enabled, Applied};
+ghost use Rattle.heap_core.specs.Events.{LiveIn, IsCore, Enabled, Applied, LoadedHeader, LoadedWord, CanLoadHeader, CanLoadWord, header_at};
 ghost use Rattle.heap_core.specs.Claims.{MayClaim};
 ghost use Rattle.heap_core.specs.Births.{MayStoreLength, MayBear};
-ghost use Rattle.heap_core.specs.Agents.{first_view};
+ghost use Rattle.heap_core.specs.Agents.{first_view, MayJoin};
 ghost use Rattle.heap_core.specs.declared.event.Event.TheVariants as event;
 
 use crate::event::{Event, Refusal};
+use crate::load::header_load;
 use crate::size::{Counter, HeapSize};
 use crate::view::View;
 use js_header::{Form, encode};
@@ -28,6 +29,32 @@ pub(crate) fn is_live(views: &[View], view: u32) -> bool
         Some(v) => v.live,
         None => false,
     }
+}
+
+/// Whether the live view may give that much of its share.
+pub(crate) fn may_split(views: &[View], view: u32, give: u32) -> bool
+    ensures { IsTrue result ↔ LiveIn views.now view (λ v. (1 ≤ give) × (give < v.share)) }
+{
+    if !is_live(views, view) {
+        return false;
+    }
+    views[view as usize].may_split(give)
+}
+
+/// Whether the one live view may take over the other one.
+pub(crate) fn may_join(views: &[View], view: u32, other: u32) -> bool
+    ensures { IsTrue result ↔ ((view ≢ other) × LiveIn views.now view (λ v. LiveIn views.now other (λ b. MayJoin v b))) }
+{
+    if view == other {
+        return false;
+    }
+    if !is_live(views, view) {
+        return false;
+    }
+    if !is_live(views, other) {
+        return false;
+    }
+    views[view as usize].may_join(&views[other as usize])
 }
 
 /// Whether the live view may claim on a counter.
@@ -78,6 +105,56 @@ pub(crate) fn may_bear(
     views[view as usize].may_bear(id, wide, start, fixed)
 }
 
+/// Whether the header word may be loaded: the string is known, and the view afterwards justifies
+/// all that the event learns.
+pub(crate) fn may_load_header(
+    size: HeapSize,
+    agents: u32,
+    words: &[u64],
+    views: &[View],
+    view: u32,
+    id: u32,
+    length: bool,
+    names: &[u32],
+) -> bool
+    requires { IsCore (core size agents words.now views.now) }
+    ensures { IsTrue result ↔ CanLoadHeader (core size agents words.now views.now) view id length names.now }
+{
+    if !is_live(views, view) {
+        return false;
+    }
+    if !views[view as usize].is_known(id) {
+        return false;
+    }
+    header_load(size, words, id, length).justifies_all(&views[view as usize], names)
+}
+
+/// Whether the content word may be loaded: it is own or known to be frozen, and the view
+/// afterwards justifies all that the event learns.
+pub(crate) fn may_load_word(
+    size: HeapSize,
+    agents: u32,
+    words: &[u64],
+    views: &[View],
+    view: u32,
+    at: u32,
+    names: &[u32],
+) -> bool
+    requires { IsCore (core size agents words.now views.now) }
+    ensures { IsTrue result ↔ CanLoadWord (core size agents words.now views.now) view at names.now }
+{
+    if !is_live(views, view) {
+        return false;
+    }
+    if !views[view as usize].may_load_word(at) {
+        return false;
+    }
+    let found = words[size.content_place(at)];
+    views[view as usize]
+        .word_load(at, found)
+        .justifies_all(&views[view as usize], names)
+}
+
 /// Whether a heap may be made.
 pub(crate) fn may_make(views: &[View], size: HeapSize, agents: u32) -> bool
     ensures { IsTrue result ↔ ((views.now ≡ []) × IsLawful size × (1 ≤ agents) × (agents ≤ 64)) }
@@ -112,6 +189,56 @@ pub(crate) fn make(
     }
     *words = zeros;
     Ok(())
+}
+
+/// A splitting: the new agent's view goes to the end.
+pub(crate) fn split(
+    alloc: Global,
+    size: HeapSize,
+    agents: u32,
+    words: &[u64],
+    views: &mut Vec<View>,
+    view: u32,
+    give: u32,
+) -> Result<u64, Refusal>
+    requires { IsCore (core size agents words.now views.old.items) }
+    ensures { Applied (core size agents words.now views.old.items) (event.Split view give) (core size agents words.now views.new.items) result }
+{
+    if !may_split(views.as_slice(), view, give) {
+        return Err(Refusal::NotEnabled);
+    }
+    let Ok(right) = views[view as usize].split_off(alloc, give) else {
+        return Err(Refusal::Memory);
+    };
+    if views.push(right).is_err() {
+        return Err(Refusal::Memory);
+    }
+    views[view as usize].give(give);
+    Ok(words[0])
+}
+
+/// A joining: the other agent is spent.
+pub(crate) fn join(
+    alloc: Global,
+    size: HeapSize,
+    agents: u32,
+    words: &[u64],
+    views: &mut [View],
+    view: u32,
+    other: u32,
+) -> Result<u64, Refusal>
+    requires { IsCore (core size agents words.now views.old) }
+    ensures { Applied (core size agents words.now views.old) (event.Join view other) (core size agents words.now views.new) result }
+{
+    if !may_join(views, view, other) {
+        return Err(Refusal::NotEnabled);
+    }
+    let Ok(joined) = views[view as usize].joined(alloc, &views[other as usize]) else {
+        return Err(Refusal::Memory);
+    };
+    views[view as usize] = joined;
+    views[other as usize] = View::spent(alloc);
+    Ok(words[0])
 }
 
 /// A load of a counter.
@@ -248,6 +375,122 @@ pub(crate) fn birth(
     Ok(found)
 }
 
+/// A load of a header word.
+pub(crate) fn load_header(
+    alloc: Global,
+    size: HeapSize,
+    agents: u32,
+    words: &[u64],
+    views: &mut [View],
+    view: u32,
+    id: u32,
+    length: bool,
+    names: &[u32],
+) -> Result<u64, Refusal>
+    requires { IsCore (core size agents words.now views.old) }
+    ensures { LoadedHeader (core size agents words.now views.old) view id length names.now (core size agents words.now views.new) result }
+{
+    if !may_load_header(size, agents, words, views, view, id, length, names) {
+        return Err(Refusal::NotEnabled);
+    }
+    let load = header_load(size, words, id, length);
+    let Ok(seen) = views[view as usize].loaded(alloc, load, names) else {
+        return Err(Refusal::Memory);
+    };
+    views[view as usize] = seen;
+    Ok(words[header_place(size, id, length)])
+}
+
+/// A load of a content word.
+pub(crate) fn load_word(
+    alloc: Global,
+    size: HeapSize,
+    agents: u32,
+    words: &[u64],
+    views: &mut [View],
+    view: u32,
+    at: u32,
+    names: &[u32],
+) -> Result<u64, Refusal>
+    requires { IsCore (core size agents words.now views.old) }
+    ensures { LoadedWord (core size agents words.now views.old) view at names.now (core size agents words.now views.new) result }
+{
+    if !may_load_word(size, agents, words, views, view, at, names) {
+        return Err(Refusal::NotEnabled);
+    }
+    let found = words[size.content_place(at)];
+    let load = views[view as usize].word_load(at, found);
+    let Ok(seen) = views[view as usize].loaded(alloc, load, names) else {
+        return Err(Refusal::Memory);
+    };
+    views[view as usize] = seen;
+    Ok(found)
+}
+
+/// The two loads, with the names as an event has them.
+fn play_load_header(
+    alloc: Global,
+    size: HeapSize,
+    agents: u32,
+    words: &[u64],
+    views: &mut [View],
+    view: u32,
+    id: u32,
+    length: bool,
+    names: &Vec<u32>,
+) -> Result<u64, Refusal>
+    requires { IsCore (core size agents words.now views.old) }
+    ensures { Applied (core size agents words.now views.old) (event.LoadHeader view id length names.now) (core size agents words.now views.new) result }
+{
+    load_header(
+        alloc,
+        size,
+        agents,
+        words,
+        views,
+        view,
+        id,
+        length,
+        names.as_slice(),
+    )
+}
+
+fn play_load_word(
+    alloc: Global,
+    size: HeapSize,
+    agents: u32,
+    words: &[u64],
+    views: &mut [View],
+    view: u32,
+    at: u32,
+    names: &Vec<u32>,
+) -> Result<u64, Refusal>
+    requires { IsCore (core size agents words.now views.old) }
+    ensures { Applied (core size agents words.now views.old) (event.LoadWord view at names.now) (core size agents words.now views.new) result }
+{
+    load_word(
+        alloc,
+        size,
+        agents,
+        words,
+        views,
+        view,
+        at,
+        names.as_slice(),
+    )
+}
+
+/// The place of a header word.
+fn header_place(size: HeapSize, id: u32, length: bool) -> usize
+    requires { IsLawful size × (id < size.ids) }
+    ensures { result ≡ header_at size id length }
+{
+    if length {
+        return size.length_place(id);
+    }
+    size.form_place(id)
+}
+
 /// One event.
 pub(crate) fn step(
     alloc: Global,
@@ -275,6 +518,24 @@ pub(crate) fn step(
             *agents = *new_agents;
             Ok(0)
         }
+        Event::Split { view, give } => split(
+            alloc,
+            *size,
+            *agents,
+            words.as_slice(),
+            views,
+            *view,
+            *give,
+        ),
+        Event::Join { view, other } => join(
+            alloc,
+            *size,
+            *agents,
+            words.as_slice(),
+            views.as_mut_slice(),
+            *view,
+            *other,
+        ),
         Event::LoadCounter { view, counter } => load_counter(
             *size,
             *agents,
@@ -331,5 +592,31 @@ pub(crate) fn step(
             ),
             _ => Err(Refusal::NotEnabled),
         },
+        Event::LoadHeader {
+            view,
+            id,
+            length,
+            learn,
+        } => play_load_header(
+            alloc,
+            *size,
+            *agents,
+            words.as_slice(),
+            views.as_mut_slice(),
+            *view,
+            *id,
+            *length,
+            learn,
+        ),
+        Event::LoadWord { view, at, learn } => play_load_word(
+            alloc,
+            *size,
+            *agents,
+            words.as_slice(),
+            views.as_mut_slice(),
+            *view,
+            *at,
+            learn,
+        ),
     }
 }

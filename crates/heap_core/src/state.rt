@@ -3,7 +3,7 @@ ghost use Rattle.std.specs.Prelude.{◌≡◌, ◌↔◌, List, ℕ, IsTrue, IfO
 ghost use Rattle.heap_core.specs.Layout.{IsBorn};
 ghost use Rattle.heap_core.specs.Contents.{units_of};
 ghost use Rattle.heap_core.specs.Events.{HasNoHeap, IsSoundCore, Enabled, after, found, KeepsUnits, BornBy, HasEntry, RunsAreSound, MadeRunsAreSound, RunsKeepUnits, RunsAreLegal};
-ghost use Rattle.heap_core.specs.Later.{SplittingKeeps, JoiningKeeps, LoadingHeadersKeeps, LoadingWordsKeeps, FlatteningKeeps, ThinningKeeps, LoadingSlotsKeeps, TakingSlotsKeeps, BirthsKeep};
+ghost use Rattle.heap_core.specs.Later.{FlatteningKeeps, ThinningKeeps, LoadingSlotsKeeps, TakingSlotsKeeps, BirthsKeep};
 ghost use Rattle.heap_core.specs.declared.event.Refusal.TheVariants as refusal;
 
 use crate::event::{Event, Refusal};
@@ -98,6 +98,8 @@ pub fn enabled(state: &CoreState, event: &Event) -> bool
     let views = state.views.as_slice();
     match event {
         Event::Make { size, agents } => moves::may_make(views, *size, *agents),
+        Event::Split { view, give } => moves::may_split(views, *view, *give),
+        Event::Join { view, other } => moves::may_join(views, *view, *other),
         Event::LoadCounter { view, counter: _ } => moves::is_live(views, *view),
         Event::Claim {
             view,
@@ -115,6 +117,30 @@ pub fn enabled(state: &CoreState, event: &Event) -> bool
             }
             _ => false,
         },
+        Event::LoadHeader {
+            view,
+            id,
+            length,
+            learn,
+        } => moves::may_load_header(
+            state.size,
+            state.agents,
+            state.words.as_slice(),
+            views,
+            *view,
+            *id,
+            *length,
+            learn.as_slice(),
+        ),
+        Event::LoadWord { view, at, learn } => moves::may_load_word(
+            state.size,
+            state.agents,
+            state.words.as_slice(),
+            views,
+            *view,
+            *at,
+            learn.as_slice(),
+        ),
     }
 }
 
@@ -154,10 +180,6 @@ pub fn every_run()
 /// born id, wherever its condition holds, and so does the birth of any form. The call does
 /// nothing.
 pub fn every_later_kind()
-    ensures splitting { SplittingKeeps }
-    ensures joining { JoiningKeeps }
-    ensures loading_headers { LoadingHeadersKeeps }
-    ensures loading_words { LoadingWordsKeeps }
     ensures flattening { FlatteningKeeps }
     ensures thinning { ThinningKeeps }
     ensures loading_slots { LoadingSlotsKeeps }

@@ -1,20 +1,30 @@
-use Rattle.std.proofs.Common.{◌∙◌, ◌≤◌, ℕ, List, ap, sym, subst}
+use Rattle.std.proofs.Common.{◌≢◌, ◌∙◌, ◌<◌, ◌≤◌, ℕ, List, ap, sym, subst}
 use Rattle.js_header.specs.declared.form.Form.{Form}
 use Rattle.js_header.specs.declared.form.Form.TheVariants.{Flat}
 use Rattle.heap_core.specs.declared.view.View.{View}
-use Rattle.heap_core.specs.declared.event.Event.TheVariants.{LoadCounter, Claim, StoreWord, StoreLength, Birth}
+use Rattle.heap_core.specs.declared.event.Event.TheVariants.{Split, Join, LoadCounter, Claim, StoreWord, StoreLength, Birth, LoadHeader, LoadWord}
 use Rattle.heap_core.specs.Layout.{MAX}
 use Rattle.heap_core.specs.Maps.{Has, HasKey}
 use Rattle.heap_core.specs.Sound.{EachLive}
 use Rattle.heap_core.specs.Core.{core}
+use Rattle.heap_core.specs.Events.{LiveIn, CanLoadHeader, CanLoadWord}
+use Rattle.heap_core.specs.Agents.{MayJoin}
 use Rattle.heap_core.specs.Claims.{MayClaim}
 use Rattle.heap_core.specs.Births.{MayStoreLength, MayBear}
-use Rattle.heap_core.proofs.StateLemmas.{own_lengths, enabled_by, views_by}
+use Rattle.heap_core.proofs.StateLemmas.{Tells, own_lengths, enabled_by, views_by}
 use Rattle.heap_core.proofs.state.enabled.Goals as goal
 
 pub may_bear-requires : goal.may_bear-requires
 may_bear-requires c = subst (λ (vs : List View). EachLive vs (λ _ v. (n : ℕ) → Has v.own_ids c.in-Birth.id n → n ≤ MAX)) (sym c.as_slice-views.ensures.value)
     (own_lengths (core c.state.inside.size c.state.inside.agents c.state.inside.words.items c.state.inside.views.items) c.in-Birth.id c.state.invariant)
+
+pub returns-in-Split : goal.returns-in-Split
+returns-in-Split c = enabled_by (core c.state.inside.size c.state.inside.agents c.state.inside.words.items c.state.inside.views.items) c.args.state.now c.args.event.now (Split c.in-Split.view c.in-Split.give) c.may_split.result c.state.view_is c.in-Split.is
+    (views_by c.as_slice-views.result.now c.state.inside.views.items c.in-Split.view (λ v. (1 ≤ c.in-Split.give) × (c.in-Split.give < v.share)) c.may_split.result c.as_slice-views.ensures.value c.may_split.ensures)
+
+pub returns-in-Join : goal.returns-in-Join
+returns-in-Join c = enabled_by (core c.state.inside.size c.state.inside.agents c.state.inside.words.items c.state.inside.views.items) c.args.state.now c.args.event.now (Join c.in-Join.view c.in-Join.other) c.may_join.result c.state.view_is c.in-Join.is
+    (subst (λ (vs : List View). Tells c.may_join.result ((c.in-Join.view ≢ c.in-Join.other) × LiveIn vs c.in-Join.view (λ v. LiveIn vs c.in-Join.other (λ b. MayJoin v b)))) c.as_slice-views.ensures.value c.may_join.ensures)
 
 pub returns-in-LoadCounter : goal.returns-in-LoadCounter
 returns-in-LoadCounter c = enabled_by (core c.state.inside.size c.state.inside.agents c.state.inside.words.items c.state.inside.views.items) c.args.state.now c.args.event.now (LoadCounter c.in-LoadCounter.view c.in-LoadCounter.counter) c.is_live.result c.state.view_is c.in-LoadCounter.is
@@ -37,3 +47,13 @@ returns-in-Flat c = let t = views_by c.as_slice-views.result.now c.state.inside.
     enabled_by (core c.state.inside.size c.state.inside.agents c.state.inside.words.items c.state.inside.views.items) c.args.state.now c.args.event.now (Birth c.in-Birth.view c.in-Birth.id (Flat c.in-Flat.wide c.in-Flat.start c.in-Flat.fixed)) c.may_bear.result c.state.view_is
     (c.in-Birth.is ∙ ap (λ (f : Form). Birth c.in-Birth.view c.in-Birth.id f) c.in-Flat.is)
     ((λ h. (tt, t.0 h)), (λ h. t.1 h.1))
+
+pub returns-in-LoadHeader : goal.returns-in-LoadHeader
+returns-in-LoadHeader c = enabled_by (core c.state.inside.size c.state.inside.agents c.state.inside.words.items c.state.inside.views.items) c.args.state.now c.args.event.now (LoadHeader c.in-LoadHeader.view c.in-LoadHeader.id c.in-LoadHeader.length c.in-LoadHeader.learn) c.may_load_header.result c.state.view_is c.in-LoadHeader.is
+    (subst (λ (p : List ℕ × List View × List ℕ). Tells c.may_load_header.result (CanLoadHeader (core c.state.inside.size c.state.inside.agents p.0 p.1) c.in-LoadHeader.view c.in-LoadHeader.id c.in-LoadHeader.length p.2))
+    (λ k. (c.as_slice.ensures.value k, c.as_slice-views.ensures.value k, c.as_slice-in-LoadHeader.ensures.value k)) c.may_load_header.ensures)
+
+pub returns-in-LoadWord : goal.returns-in-LoadWord
+returns-in-LoadWord c = enabled_by (core c.state.inside.size c.state.inside.agents c.state.inside.words.items c.state.inside.views.items) c.args.state.now c.args.event.now (LoadWord c.in-LoadWord.view c.in-LoadWord.at c.in-LoadWord.learn) c.may_load_word.result c.state.view_is c.in-LoadWord.is
+    (subst (λ (p : List ℕ × List View × List ℕ). Tells c.may_load_word.result (CanLoadWord (core c.state.inside.size c.state.inside.agents p.0 p.1) c.in-LoadWord.view c.in-LoadWord.at p.2))
+    (λ k. (c.as_slice-in-LoadWord.ensures.value k, c.as_slice-views.ensures.value k, c.as_slice-in-LoadWord-2.ensures.value k)) c.may_load_word.ensures)

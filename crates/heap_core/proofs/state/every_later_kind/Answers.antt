@@ -1,17 +1,5 @@
-use Rattle.heap_core.proofs.LaterKept.{split_kept, join_kept, load_header_kept, load_word_kept, flatten_kept, thin_kept, load_slot_kept, take_slot_kept, birth_kept}
+use Rattle.heap_core.proofs.LaterKept.{flatten_kept, thin_kept, load_slot_kept, take_slot_kept, birth_kept}
 use Rattle.heap_core.proofs.state.every_later_kind.Goals as goal
-
-pub returns-clause-splitting : goal.returns-clause-splitting
-returns-clause-splitting c = split_kept
-
-pub returns-clause-joining : goal.returns-clause-joining
-returns-clause-joining c = join_kept
-
-pub returns-clause-loading_headers : goal.returns-clause-loading_headers
-returns-clause-loading_headers c = load_header_kept
-
-pub returns-clause-loading_words : goal.returns-clause-loading_words
-returns-clause-loading_words c = load_word_kept
 
 pub returns-clause-flattening : goal.returns-clause-flattening
 returns-clause-flattening c = flatten_kept

@@ -1,0 +1,216 @@
+// What a load adds to a view, and which units of strings follow from the view afterwards. The
+// tests take no memory, so that a load can be refused before anything changes.
+ghost use Rattle.std.specs.Prelude.{◌≡◌, ℕ, ◌+◌, ◌<◌, ◌^◌, ◌↔◌, IsTrue, IsSome, Some, is_some};
+ghost use Rattle.std.specs.FinMap.{get, insert, contains_key};
+ghost use Rattle.heap_core.specs.Layout.{IsBorn};
+ghost use Rattle.heap_core.specs.Sound.{AreStanding};
+ghost use Rattle.heap_core.specs.Learning.{tells, by_flat, all_frozen, justified, MayLearn};
+ghost use Rattle.heap_core.specs.Loading.{loaded_by, IsHeaderLoad, HasRoom};
+
+use crate::contents;
+use crate::maps::IdMap;
+use crate::size::HeapSize;
+use crate::view::View;
+use js_header::Form;
+use js_units::words_for;
+
+/// What a load adds to a view: the form or the length of a string, a frozen word, or nothing new,
+/// as a load of an own word does.
+#[derive(Clone, Copy)]
+pub(crate) enum Load {
+    SeenForm { id: u32, form: Form },
+    SeenLength { id: u32, length: u32 },
+    SeenWord { at: u32, word: u64 },
+    Own,
+}
+
+/// What a load of a header word of a born string adds.
+pub(crate) fn header_load(size: HeapSize, words: &[u64], id: u32, length: bool) -> Load
+    requires stand { AreStanding size words.now }
+    requires born { IsBorn size words.now id }
+    ensures { IsHeaderLoad size words.now id length result }
+{
+    let found = contents::header(size, words, id);
+    if length {
+        return Load::SeenLength {
+            id,
+            length: found.1,
+        };
+    }
+    Load::SeenForm { id, form: found.0 }
+}
+
+impl<X: Copy> IdMap<X> {
+    /// What the key has once `value` stands at `at`.
+    fn get_with(&self, key: u32, at: u32, value: X) -> Option<X>
+        ensures { result ≡ get (insert self.now at value) key }
+    {
+        if key == at {
+            return Some(value);
+        }
+        self.get_copy(key)
+    }
+
+    fn get_copy(&self, key: u32) -> Option<X>
+        ensures { result ≡ get self.now key }
+    {
+        match self.get(key) {
+            Some(found) => Some(*found),
+            None => None,
+        }
+    }
+}
+
+impl Load {
+    // The form of a string afterwards.
+    fn form(&self, view: &View, id: u32) -> Option<Form>
+        ensures { result ≡ get (loaded_by view.now self.now).forms id }
+    {
+        match *self {
+            Load::SeenForm { id: at, form } => view.forms.get_with(id, at, form),
+            Load::SeenLength { id: _, length: _ } => view.forms.get_copy(id),
+            Load::SeenWord { at: _, word: _ } => view.forms.get_copy(id),
+            Load::Own => view.forms.get_copy(id),
+        }
+    }
+
+    // The length of a string afterwards.
+    fn length(&self, view: &View, id: u32) -> Option<u32>
+        ensures { result ≡ get (loaded_by view.now self.now).lengths id }
+    {
+        match *self {
+            Load::SeenForm { id: _, form: _ } => view.lengths.get_copy(id),
+            Load::SeenLength { id: at, length } => view.lengths.get_with(id, at, length),
+            Load::SeenWord { at: _, word: _ } => view.lengths.get_copy(id),
+            Load::Own => view.lengths.get_copy(id),
+        }
+    }
+
+    // Whether the view has the word as frozen afterwards.
+    fn is_frozen(&self, view: &View, at: u32) -> bool
+        ensures { result ≡ contains_key (loaded_by view.now self.now).frozen at }
+    {
+        match *self {
+            Load::SeenForm { id: _, form: _ } => view.frozen.contains_key(at),
+            Load::SeenLength { id: _, length: _ } => view.frozen.contains_key(at),
+            Load::SeenWord { at: place, word } => view.frozen.get_with(at, place, word).is_some(),
+            Load::Own => view.frozen.contains_key(at),
+        }
+    }
+
+    // Whether all n words are frozen afterwards.
+    pub(crate) fn are_frozen(&self, view: &View, from: u32, n: u32) -> bool
+        requires { from + n < 2 ^ 32 }
+        ensures { result ≡ all_frozen (loaded_by view.now self.now) from n }
+    {
+        let mut at = from;
+        let mut left = n;
+        'words: while 0 < left {
+            if !self.is_frozen(view, at) {
+                return false;
+            }
+            at += 1;
+            left -= 1;
+        }
+        true
+    }
+
+    // Whether the string `other`, by its form afterwards, tells the units of `id`.
+    fn tells(&self, view: &View, id: u32, other: u32) -> bool
+        ensures { result ≡ tells (loaded_by view.now self.now) id other (get (loaded_by view.now self.now).forms other) }
+    {
+        match self.form(view, other) {
+            Some(form) => self.tells_by(view, id, other, form),
+            None => false,
+        }
+    }
+
+    fn tells_by(&self, view: &View, id: u32, other: u32, form: Form) -> bool
+        ensures { result ≡ tells (loaded_by view.now self.now) id other (Some form) }
+    {
+        match form {
+            Form::Thin { target } => target == id && view.units.contains_key(other),
+            Form::Cons {
+                wide: _,
+                left,
+                right,
+            } => {
+                (left == id || right == id)
+                    && view.units.contains_key(other)
+                    && self.length(view, left).is_some()
+            }
+            Form::Unborn => false,
+            Form::Flat {
+                wide: _,
+                start: _,
+                fixed: _,
+            } => false,
+            Form::Sliced {
+                wide: _,
+                parent: _,
+                offset: _,
+            } => false,
+        }
+    }
+
+    // Whether any string tells them.
+    fn any_tells(&self, view: &View, id: u32) -> bool
+        ensures { IsTrue result ↔ ((j : ℕ) × IsTrue (tells (loaded_by view.now self.now) id j (get (loaded_by view.now self.now).forms j))) }
+    {
+        for (other, _form) in view.forms.iter() {
+            if self.tells(view, id, *other) {
+                return true;
+            }
+        }
+        match *self {
+            Load::SeenForm { id: at, form: _ } => self.tells(view, id, at),
+            Load::SeenLength { id: _, length: _ } => false,
+            Load::SeenWord { at: _, word: _ } => false,
+            Load::Own => false,
+        }
+    }
+
+    // Whether its own form does, as a Flat over frozen words.
+    fn is_shown(&self, view: &View, id: u32) -> bool
+        requires { HasRoom (loaded_by view.now self.now) }
+        ensures { result ≡ is_some (by_flat (loaded_by view.now self.now) id (get (loaded_by view.now self.now).forms id) (get (loaded_by view.now self.now).lengths id)) }
+    {
+        match self.form(view, id) {
+            Some(form) => match form {
+                Form::Flat {
+                    wide,
+                    start,
+                    fixed: _,
+                } => match self.length(view, id) {
+                    Some(n) => self.are_frozen(view, start, words_for(n, wide)),
+                    None => false,
+                },
+                _ => false,
+            },
+            None => false,
+        }
+    }
+
+    // Whether the units of a string follow from the view afterwards.
+    fn justifies(&self, view: &View, id: u32) -> bool
+        requires { HasRoom (loaded_by view.now self.now) }
+        ensures { IsTrue result ↔ IsSome (justified (loaded_by view.now self.now) id) }
+    {
+        self.any_tells(view, id) || self.is_shown(view, id)
+    }
+
+    /// Whether the units of all these strings follow from the view afterwards.
+    pub(crate) fn justifies_all(&self, view: &View, names: &[u32]) -> bool
+        requires { HasRoom (loaded_by view.now self.now) }
+        ensures { IsTrue result ↔ MayLearn (loaded_by view.now self.now) names.now }
+    {
+        let mut k = 0;
+        'names: while k < names.len() {
+            if !self.justifies(view, names[k]) {
+                return false;
+            }
+            k += 1;
+        }
+        true
+    }
+}
