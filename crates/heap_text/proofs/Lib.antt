@@ -6,3 +6,4 @@ pub mod Going
 pub mod Bearing
 pub mod Pieces
 pub mod Answered
+pub mod Sharing

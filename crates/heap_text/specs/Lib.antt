@@ -3,3 +3,4 @@ pub mod Texts
 pub mod Sources
 pub mod Written
 pub mod Joins
+pub mod Turns

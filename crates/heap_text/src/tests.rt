@@ -1,11 +1,14 @@
 ghost use Rattle.std.specs.Prelude.{◌≡◌, ℕ, List, ◌≤◌, ◌<◌, length};
 ghost use Rattle.heap_core.specs.Maps.{Has, HasKey};
-ghost use Rattle.heap_table.specs.Agents.{Belongs, view_of};
+ghost use Rattle.heap_table.specs.Agents.{Belongs, share_of, view_of};
 ghost use Rattle.heap_text.specs.Texts.{Continues, Reads};
+ghost use Rattle.heap_text.specs.Turns.{GoesOn};
 
-use crate::{JsStr, Text};
+use crate::{JoinFault, JsStr, Text, TextFull};
 use heap_core::HeapSize;
-use heap_table::Heap;
+use heap_table::{CounterFull, Heap, MakeFault};
+use std::alloc::Global;
+use std::thread::{Threads, join_mut};
 
 // Whether the string has these units, read one by one.
 fn reads(text: &mut Text, s: JsStr, want: &[u16]) -> bool
@@ -83,5 +86,194 @@ fn strings_of_each_length(rt: HostRuntime) {
     for n in 0..14 {
         assert!(rt; round_trip(&mut text, &narrow[..n]), "{n} units");
         assert!(rt; round_trip(&mut text, &wide[..n]), "{n} wide units");
+    }
+}
+
+// The string joined with itself, where it reads as wanted.
+fn twice(text: &mut Text, s: JsStr, want: &[u16]) -> Option<u32>
+    requires text { Belongs text.old.agent text.old.heap.now }
+    requires known { HasKey (view_of text.old.agent).units s.id }
+    ensures text { Belongs text.new.agent text.new.heap.now }
+    ensures heap { text.new.heap ≡ text.old.heap }
+    ensures continues { Continues (view_of text.old.agent) (view_of text.new.agent) }
+{
+    let Ok(joined) = text.concat(s, s) else {
+        return None;
+    };
+    if !reads(text, joined, want) {
+        return None;
+    }
+    Some(joined.id)
+}
+
+// The same, as what a thread does.
+fn turn(text: &mut Text, s: JsStr, want: &[u16]) -> Option<u32>
+    requires text { Belongs text.old.agent text.old.heap.now }
+    requires known { HasKey (view_of text.old.agent).units s.id }
+    ensures heap { text.new.heap ≡ text.old.heap }
+    ensures goes_on { GoesOn (view_of text.old.agent) text.new.agent text.new.heap.now }
+{
+    twice(text, s, want)
+}
+
+fn are_one_and_two(a: Option<u32>, b: Option<u32>) -> bool {
+    matches!((a, b), (Some(1), Some(2)) | (Some(2), Some(1)))
+}
+
+// Two agents join the string with itself at once, each in a thread: ids 1 and 2 in one order or
+// the other.
+fn twice_at_once(rt: &impl Threads, left: &mut Text, right: &mut Text, s: JsStr) -> bool
+    requires left { Belongs left.old.agent left.old.heap.now }
+    requires right { Belongs right.old.agent right.old.heap.now }
+    requires known_left { HasKey (view_of left.old.agent).units s.id }
+    requires known_right { HasKey (view_of right.old.agent).units s.id }
+    ensures heaps { (left.new.heap ≡ left.old.heap) × (right.new.heap ≡ right.old.heap) }
+    ensures left { GoesOn (view_of left.old.agent) left.new.agent left.new.heap.now }
+    ensures right { GoesOn (view_of right.old.agent) right.new.agent right.new.heap.now }
+{
+    let want = [97, 98, 99, 97, 98, 99];
+    let (a, b) = join_mut(
+        rt,
+        &mut || turn(left, s, want.as_slice()),
+        &mut || turn(right, s, want.as_slice()),
+    );
+    are_one_and_two(a, b)
+}
+
+// The agent is split, the two join the string with itself at once, and they become one agent again.
+fn split_and_joined(rt: &impl Threads, left: &mut Text, s: JsStr) -> bool
+    requires text { Belongs left.old.agent left.old.heap.now }
+    requires known { HasKey (view_of left.old.agent).units s.id }
+    requires two { share_of left.old.agent ≡ 2 }
+    ensures text { Belongs left.new.agent left.new.heap.now }
+    ensures heap { left.new.heap ≡ left.old.heap }
+    ensures share { (view_of left.new.agent).share ≡ (view_of left.old.agent).share }
+    ensures agents { (view_of left.new.agent).agents ≡ (view_of left.old.agent).agents }
+{
+    let agent = left.agent.split(left.heap, 1);
+    let mut right = Text::new(left.heap, agent);
+    let both = twice_at_once(rt, left, &mut right, s);
+    let Text { heap: _, agent } = right;
+    left.agent.join(left.heap, agent);
+    both
+}
+
+// abc is made once and joined with itself by two agents; together they used three ids and three
+// words, and six more words are too many.
+fn shares_a_heap(rt: &impl Threads, alloc: Global) -> bool {
+    let size = HeapSize {
+        ids: 8,
+        words: 8,
+        slots: 1,
+    };
+    let Ok((heap, agent)) = Heap::make(alloc, size, 2) else {
+        return false;
+    };
+    let mut text = Text::new(&heap, agent);
+    let Ok(abc) = text.make_flat([97, 98, 99].as_slice()) else {
+        return false;
+    };
+    if !split_and_joined(rt, &mut text, abc) {
+        return false;
+    }
+    if text.agent.totals(&heap) != (3, 3) {
+        return false;
+    }
+    let full = CounterFull {
+        at: 3,
+        want: 6,
+        end: 8,
+    };
+    if text.make_flat([97; 41].as_slice()) != Err(TextFull::Words(full)) {
+        return false;
+    }
+    abc.id == 0
+}
+
+#[test]
+fn two_agents_share_a_heap(rt: HostRuntime) {
+    assert!(rt; shares_a_heap(&rt, rt.alloc()));
+    let size = HeapSize {
+        ids: 8,
+        words: 8,
+        slots: 1,
+    };
+    match Heap::make(rt.alloc(), size, 65) {
+        Ok(_) => panic!(rt; "65 agents"),
+        Err(fault) => assert!(rt; fault == MakeFault::Size),
+    }
+}
+
+#[test]
+fn a_thousand_heaps_are_shared(rt: HostRuntime) {
+    for round in 0..1000 {
+        assert!(rt; shares_a_heap(&rt, rt.alloc()), "round {round}");
+    }
+}
+
+// A call that may want more ids or words than there are left.
+#[derive(Clone, Copy)]
+enum Call {
+    Flat,
+    Join,
+    Cut,
+}
+
+// What is left for another call, once a string of these units is made, is too little: why.
+fn refusal(text: &mut Text, units: &[u16], call: Call) -> Option<TextFull>
+    requires text { Belongs text.old.agent text.old.heap.now }
+    requires short { length units.now ≤ 1000 }
+{
+    let n = units.len() as u32;
+    let Ok(s) = text.make_flat(units) else {
+        return None;
+    };
+    let Ok(()) = text.settle(s) else {
+        return None;
+    };
+    match call {
+        Call::Flat => text.make_flat(units).err(),
+        Call::Cut => text.slice(s, 0, n / 2).err(),
+        Call::Join => match text.concat(s, s) {
+            Err(JoinFault::Full(full)) => Some(full),
+            _ => None,
+        },
+    }
+}
+
+// A heap of so many ids and words, the string made there, the call, and its refusal.
+#[test]
+fn refusals(rt: HostRuntime) {
+    let ids = TextFull::Ids(CounterFull {
+        at: 1,
+        want: 1,
+        end: 1,
+    });
+    let words = |at, want, end| TextFull::Words(CounterFull { at, want, end });
+    let narrow = [97; 17];
+    let wide = [256; 8];
+    for (ids, words, units, call, want) in [
+        (1, 100, &narrow[..8], Call::Flat, ids),
+        (1, 100, &narrow[..8], Call::Join, ids),
+        (1, 100, &narrow[..8], Call::Cut, ids),
+        (8, 1, &narrow[..8], Call::Flat, words(1, 1, 1)),
+        (8, 2, &narrow[..8], Call::Join, words(1, 2, 2)),
+        (8, 2, &narrow[..16], Call::Cut, words(2, 1, 2)),
+        (8, 5, &narrow[..17], Call::Flat, words(3, 3, 5)),
+        (8, 5, &wide[..], Call::Join, words(2, 4, 5)),
+    ] {
+        let size = HeapSize {
+            ids,
+            words,
+            slots: 1,
+        };
+        let Ok((heap, agent)) = Heap::make(rt.alloc(), size, 1) else {
+            panic!(rt; "no heap");
+        };
+        let mut text = Text::new(&heap, agent);
+        assert!(rt;
+            refusal(&mut text, units, call) == Some(want),
+            "{ids} ids, {words} words"
+        );
     }
 }

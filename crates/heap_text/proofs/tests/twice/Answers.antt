@@ -1,0 +1,7 @@
+use Rattle.heap_core.specs.declared.view.View.{View}
+use Rattle.heap_core.proofs.MapLemmas.{has_key, key_of}
+use Rattle.heap_text.proofs.tests.twice.Goals as goal
+
+pub reads-requires-clause-known : goal.reads-requires-clause-known
+reads-requires-clause-known c = let v : View = c.args.text.now.agent.seat.me.0 in let p = has_key v.units c.args.s.id c.requires.known in
+    key_of c.concat.new.self.agent.seat.me.0.units c.in-Ok.joined.id _ (c.in-Ok.ensures.units p.0 p.0 p.1 p.1)
