@@ -1,0 +1,159 @@
+// What is timed: making flat strings, and reading units.
+ghost use Rattle.std.specs.Prelude.{◌≡◌, ℕ, List, length};
+ghost use Rattle.heap_core.specs.Maps.{Has};
+ghost use Rattle.heap_core.specs.Views.{IsSettled};
+ghost use Rattle.heap_table.specs.Agents.{Belongs, view_of};
+
+use heap_core::HeapSize;
+use heap_table::Heap;
+use heap_text::{JsStr, Text};
+use std::alloc::Global;
+
+/// What is done as often as the count says, on the heap or with the plain lists beside it.
+#[derive(Clone, Copy)]
+pub enum Measure {
+    /// A flat string of 64 units is made.
+    Make,
+    /// A unit of a flat string is read.
+    Read,
+    /// A list of 64 units is copied and kept.
+    Copy,
+    /// A unit of a list is read.
+    Index,
+    /// A heap of so many content words, a sixteenth as many ids and a quarter of these slots is made.
+    Heap,
+    /// A list of as many zeros as that heap has words is made.
+    Zeros,
+}
+
+/// The heap has no room for so many strings, or there is no memory for it.
+pub struct Refusal;
+
+// The units of each string: 64, so that one takes 8 content words.
+const UNITS: [u16; 64] = [97; 64];
+
+/// Does it, and answers how many were made, or the sum of the units that were read.
+pub fn run(alloc: Global, measure: Measure, count: u32) -> Result<u64, Refusal> {
+    match measure {
+        Measure::Make => on_heap(alloc, count.max(1), count, true),
+        Measure::Read => on_heap(alloc, 1, count, false),
+        Measure::Copy => copy_lists(alloc, count),
+        Measure::Index => read_list(alloc, count),
+        Measure::Heap => make_heap(alloc, count),
+        Measure::Zeros => make_zeros(alloc, count),
+    }
+}
+
+// Strings made on a heap that has room for them, or the units of one read.
+fn on_heap(alloc: Global, strings: u32, count: u32, making: bool) -> Result<u64, Refusal> {
+    let Some(words) = strings.checked_mul(8) else {
+        return Err(Refusal);
+    };
+    let size = HeapSize {
+        ids: strings,
+        words,
+        slots: 1,
+    };
+    let Ok((heap, agent)) = Heap::make(alloc, size, 1) else {
+        return Err(Refusal);
+    };
+    let mut text = Text::new(&heap, agent);
+    if making {
+        make_strings(&mut text, count)
+    } else {
+        read_string(&mut text, count)
+    }
+}
+
+fn copy_lists(alloc: Global, count: u32) -> Result<u64, Refusal> {
+    let mut lists = Vec::new(alloc);
+    for _turn in 0..count {
+        let Ok(list) = Vec::from_slice(alloc, UNITS.as_slice()) else {
+            return Err(Refusal);
+        };
+        if lists.push(list).is_err() {
+            return Err(Refusal);
+        }
+    }
+    Ok(lists.len() as u64)
+}
+
+fn read_list(alloc: Global, count: u32) -> Result<u64, Refusal> {
+    let Ok(list) = Vec::from_slice(alloc, UNITS.as_slice()) else {
+        return Err(Refusal);
+    };
+    let mut sum = 0u64;
+    for i in 0..count {
+        let Some(unit) = list.get((i % 64) as usize) else {
+            return Err(Refusal);
+        };
+        sum = sum.wrapping_add(u64::from(*unit));
+    }
+    Ok(sum)
+}
+
+// The size of a heap with so many content words.
+fn size_of(words: u32) -> HeapSize {
+    HeapSize {
+        ids: (words / 16).max(1),
+        words,
+        slots: (words / 64).max(1),
+    }
+}
+
+fn make_heap(alloc: Global, words: u32) -> Result<u64, Refusal> {
+    match Heap::make(alloc, size_of(words), 1) {
+        Ok(_) => Ok(1),
+        Err(_) => Err(Refusal),
+    }
+}
+
+fn make_zeros(alloc: Global, words: u32) -> Result<u64, Refusal> {
+    let HeapSize { ids, words, slots } = size_of(words);
+    let all = 2 + u64::from(slots) + 2 * u64::from(ids) + u64::from(words);
+    match Vec::from_elem(alloc, 0u64, all as usize) {
+        Ok(_) => Ok(1),
+        Err(_) => Err(Refusal),
+    }
+}
+
+fn make_strings(text: &mut Text, count: u32) -> Result<u64, Refusal>
+    requires text { Belongs text.old.agent text.old.heap.now }
+{
+    let units = UNITS;
+    let mut made = 0;
+    for i in 0..count {
+        let Ok(_) = text.make_flat(units.as_slice()) else {
+            return Err(Refusal);
+        };
+        made = i + 1;
+    }
+    Ok(u64::from(made))
+}
+
+fn read_string(text: &mut Text, count: u32) -> Result<u64, Refusal>
+    requires text { Belongs text.old.agent text.old.heap.now }
+{
+    let units = UNITS;
+    let Ok(s) = text.make_flat(units.as_slice()) else {
+        return Err(Refusal);
+    };
+    let Ok(()) = text.settle(s) else {
+        return Err(Refusal);
+    };
+    Ok(read_units(text, s, count))
+}
+
+// The sum of so many of the string's units, in turn.
+fn read_units(text: &mut Text, s: JsStr, count: u32) -> u64
+    requires text { Belongs text.old.agent text.old.heap.now }
+    requires settled { IsSettled (view_of text.old.agent) s.id }
+    requires known { (us : List ℕ) × Has (view_of text.old.agent).units s.id us × (length us ≡ 64) }
+{
+    let mut sum = 0u64;
+    for i in 0..count {
+        let unit = text.unit_at(s, i % 64);
+        sum = sum.wrapping_add(u64::from(unit));
+    }
+    sum
+}
