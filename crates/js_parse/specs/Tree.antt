@@ -3,6 +3,7 @@
 use Rattle.std.specs.Prelude.{ℕ, Bool, List, [], ◌∷◌, map}
 use Rattle.js_parse.specs.declared.tree.Op.{Op}
 use Rattle.js_parse.specs.declared.tree.Method.{Method}
+use Rattle.js_parse.specs.declared.tree.Builtin.{Builtin}
 use Rattle.js_parse.specs.declared.tree.Expr.{Expr, fold-Expr}
 use Rattle.js_parse.specs.declared.tree.Link.{Link}
 use Rattle.js_parse.specs.declared.tree.PostStep.{PostStep, fold-PostStep}
@@ -23,6 +24,7 @@ mutual
     unary : (at : ℕ) (minus : Bool) (of : ExprTree) → ExprTree
     chain : (first : ExprTree) (rest : Links) → ExprTree
     post : (of : ExprTree) (steps : Steps) → ExprTree
+    builtin : (at : ℕ) (which : Builtin) (args : Exprs) → ExprTree
 
   pub data Links : Type 0 where
     no_links : Links
@@ -75,6 +77,7 @@ expr_layer Expr-F.Infinity = infinity
 expr_layer (Expr-F.Unary at minus of) = unary at minus of.value
 expr_layer (Expr-F.Chain first rest) = chain first.value (links rest.items)
 expr_layer (Expr-F.Post of ss) = post of.value (steps ss.items)
+expr_layer (Expr-F.Builtin at which args) = builtin at which (exprs args.items)
 
 abbrev pub step_layer : PostStep-F ExprTree StepTree LinkTree → StepTree
 step_layer PostStep-F.Length = of_length

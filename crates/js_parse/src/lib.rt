@@ -17,7 +17,7 @@ mod tree;
 
 pub use laws::{no_refused_script, one_refusal, one_script};
 pub use parser::{ParseFault, Role, parse};
-pub use tree::{Expr, Link, Method, Name, Names, Op, PostStep, Script, Stmt};
+pub use tree::{Builtin, Expr, Link, Method, Name, Names, Op, PostStep, Script, Stmt};
 
 #[cfg(test)]
 mod tests;

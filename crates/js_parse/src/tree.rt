@@ -8,8 +8,8 @@ use std::marker::Model;
 /// A script: its literals, its statements, and the names that it declares at its top.
 ///
 /// `literals` has one entry for each string token, in the order of the text, without the
-/// directive. In the whole tree an `at` is a byte offset in the file: that of the operator, or of
-/// the method's word.
+/// directive. In the whole tree an `at` is a byte offset in the file: that of the operator, of the
+/// method's word, or of the first word of a built-in call.
 #[derive(Drop)]
 pub struct Script {
     pub literals: Vec<Units>,
@@ -38,6 +38,7 @@ pub enum Expr {
     Unary { at: u32, minus: bool, of: Box<Expr> },
     Chain { first: Box<Expr>, rest: Vec<Link> },
     Post { of: Box<Expr>, steps: Vec<PostStep> },
+    Builtin { at: u32, which: Builtin, args: Vec<Expr> },
 }
 
 /// An operator of a chain with its right side. The links of one level group from the left.
@@ -72,7 +73,33 @@ pub enum Op {
 #[derive(Clone, Copy, Debug, PartialEq, Eq)]
 pub enum Method {
     At,
+    CharAt,
+    CharCodeAt,
+    CodePointAt,
+    Concat,
+    EndsWith,
+    Includes,
+    IndexOf,
+    IsWellFormed,
+    LastIndexOf,
+    PadEnd,
+    PadStart,
+    Repeat,
     Slice,
+    StartsWith,
+    Substr,
+    Substring,
+    ToWellFormed,
+    Trim,
+    TrimEnd,
+    TrimStart,
+}
+
+/// A built-in function that is called by its name: `String.fromCharCode`, `String.fromCodePoint`.
+#[derive(Clone, Copy, Debug, PartialEq, Eq)]
+pub enum Builtin {
+    FromCharCode,
+    FromCodePoint,
 }
 
 /// A name. Contracts see it as the list of its bytes.
