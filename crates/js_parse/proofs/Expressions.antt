@@ -6,17 +6,22 @@ use Rattle.js_parse.specs.Tree.{ExprTree, LinkTree, StepTree}
 use Rattle.js_parse.specs.Lang.{Lang, One, Then, Mapped, Either, Many, end, more, Never, only_if}
 use Rattle.js_parse.specs.Reader.{Got, Reader, ◌>>=◌, wrong, map_by, and_then, take_or, one_of, heads, is_some, choose, all_of, read_if}
 use Rattle.js_parse.specs.Grammar
-use Rattle.js_parse.specs.Grammar.{simple, opening, closing, comma, point, length_word, method, sign, sum_op, first_of, second_of, list_of, none_of, call_of, post_of, unary_of, link_of, chain_of, Which, Whole, Operand, has_room, inside, within_room}
-use Rattle.js_parse.specs.Reading.{read_parens, read_item, read_items, read_args_rest, read_args, read_primary, read_call, read_step, read_post, read_signed, read_unary, read_link, read_chain, read_sum, read_at, inner, step_at, unary_at, args_at}
+use Rattle.js_parse.specs.Grammar.{simple, opening, closing, comma, point, length_word, method, string_word, from_word, sign, sum_op, first_of, second_of, list_of, none_of, call_of, pair_of, builtin_of, post_of, unary_of, link_of, chain_of, Which, Whole, Operand, has_room, inside, within_room}
+use Rattle.js_parse.specs.Reading.{read_parens, read_item, read_items, read_args_rest, read_args, read_string_member, read_string_call, read_enclosed, read_primary, read_call, read_step, read_post, read_signed, read_unary, read_link, read_chain, read_sum, read_at, inner, step_at, unary_at, args_at}
 use Rattle.js_parse.proofs.Lawful.{IsLawful, then_lawful, one_lawful, map_lawful, choose_lawful, only_lawful, loop_lawful}
 use Rattle.js_parse.proofs.Loops.{IsEating, lawful_eats}
-use Rattle.js_parse.proofs.Stops.{stops, stops_more, always_stops, level_of, sum_op_level, closing_level, comma_level, no_sum_op, no_point, simple_no_closing, opening_no_closing, sign_no_closing, simple_no_sign, opening_no_sign, opening_no_simple, method_no_length, closing_no_comma, Without, one_without, then_without, either_without, only_without, without_heads, one_heads, mapped_heads, then_heads, one_stops, then_stops, then_holds}
+use Rattle.js_parse.proofs.Stops.{stops, stops_more, always_stops, level_of, sum_op_level, closing_level, comma_level, no_sum_op, no_point, simple_no_closing, opening_no_closing, sign_no_closing, simple_no_sign, opening_no_sign, opening_no_simple, string_no_closing, string_no_sign, string_no_simple, opening_no_string, method_no_length, closing_no_comma, Without, one_without, then_without, either_without, only_without, without_heads, one_heads, mapped_heads, then_heads, one_stops, then_stops, then_holds}
 
 -- what is known of an expression and an operand where one more is open, where there is room for it
 pub record Inner (room : Bool) (E U : Lang ExprTree) (e u : Reader ExprTree) : Type 0 where
   pub whole : room ≡ true → IsLawful E (stops 1) e
   pub operand : room ≡ true → IsLawful U (stops 2) u
   pub unclosed : room ≡ true → Without E closing
+
+-- no such token begins a primary of several tokens
+record Opens {B : Type 0} (v : Token → Option B) : Type 0 where
+  parenthesis : (t : Token) (x : Unit {0}) → opening t ≡ Some x → is_some (v t) ≡ false
+  string : (t : Token) (x : ℕ) → string_word t ≡ Some x → is_some (v t) ≡ false
 
 module _ (room : Bool) (E U : Lang ExprTree) (e u : Reader ExprTree) (i : Inner room E U e u) where
   -- ( E )
@@ -71,20 +76,41 @@ module _ (room : Bool) (E U : Lang ExprTree) (e u : Reader ExprTree) (i : Inner 
       (without_heads closing (Then first_of (Grammar.items E) (One closing)) (then_without closing first_of (Grammar.items E) (One closing) (then_without closing list_of E (Many (Grammar.next_item E)) (i.unclosed r)))))
       (λ b y rest h s. always_stops (b ++ rest))
 
+  -- String . Member Args
+
+  string_member_lawful : IsLawful Grammar.string_member (stops 3) read_string_member
+  string_member_lawful = then_lawful second_of (One point) (One from_word) (stops 3) (stops 3) (one_of point) (one_of from_word) (one_lawful point (stops 3)) (one_lawful from_word (stops 3)) (λ b y rest h s. always_stops (b ++ rest))
+
+  string_call_lawful : room ≡ true → IsLawful (Grammar.string_call E) (stops 3) (read_string_call e)
+  string_call_lawful r =
+      then_lawful builtin_of (One string_word) (Then pair_of Grammar.string_member (Grammar.args E)) (stops 3) (stops 3) (one_of string_word) (and_then pair_of read_string_member (read_args e)) (one_lawful string_word (stops 3))
+      (then_lawful pair_of Grammar.string_member (Grammar.args E) (stops 3) (stops 3) read_string_member (read_args e) string_member_lawful (args_lawful r) (λ b y rest h s. always_stops (b ++ rest)))
+      (λ b y rest h s. always_stops (b ++ rest))
+
   -- Primary
 
-  parens_without : {B : Type 0} (v : Token → Option B) → ((t : Token) (x : Unit {0}) → opening t ≡ Some x → is_some (v t) ≡ false) → Without (only_if room (Grammar.parens E)) v
-  parens_without v h = only_without v room (Grammar.parens E) (λ r. then_without v second_of (One opening) (Then first_of E (One closing)) (one_without v opening h))
+  enclosed_lawful : room ≡ true → IsLawful (Grammar.enclosed E) (stops 3) (read_enclosed e)
+  enclosed_lawful r =
+      choose_lawful (heads string_word) (Grammar.string_call E) (Grammar.parens E) (stops 3) (read_string_call e) (read_parens e)
+      (string_call_lawful r) (parens_lawful r)
+      (λ ts x rest h. then_heads string_word builtin_of (Then pair_of Grammar.string_member (Grammar.args E)) ts x rest h)
+      (without_heads string_word (Grammar.parens E) (then_without string_word second_of (One opening) (Then first_of E (One closing)) (one_without string_word opening opening_no_string)))
 
-  primary_without : {B : Type 0} (v : Token → Option B) → ((t : Token) (x : ExprTree) → simple t ≡ Some x → is_some (v t) ≡ false) → ((t : Token) (x : Unit {0}) → opening t ≡ Some x → is_some (v t) ≡ false) → Without (Grammar.primary room E) v
-  primary_without v s o = either_without v (One simple) (only_if room (Grammar.parens E)) (one_without v simple s) (parens_without v o)
+  enclosed_without : {B : Type 0} (v : Token → Option B) → Opens v → Without (only_if room (Grammar.enclosed E)) v
+  enclosed_without v o = only_without v room (Grammar.enclosed E) (λ r.
+      either_without v (Grammar.string_call E) (Grammar.parens E)
+      (then_without v builtin_of (One string_word) (Then pair_of Grammar.string_member (Grammar.args E)) (one_without v string_word o.string))
+      (then_without v second_of (One opening) (Then first_of E (One closing)) (one_without v opening o.parenthesis)))
+
+  primary_without : {B : Type 0} (v : Token → Option B) → ((t : Token) (x : ExprTree) → simple t ≡ Some x → is_some (v t) ≡ false) → Opens v → Without (Grammar.primary room E) v
+  primary_without v s o = either_without v (One simple) (only_if room (Grammar.enclosed E)) (one_without v simple s) (enclosed_without v o)
 
   primary_lawful : IsLawful (Grammar.primary room E) (stops 3) (read_primary room e)
   primary_lawful =
-      choose_lawful (heads simple) (One simple) (only_if room (Grammar.parens E)) (stops 3) (one_of simple) (read_if room (read_parens e))
-      (one_lawful simple (stops 3)) (only_lawful room (Grammar.parens E) (stops 3) (read_parens e) parens_lawful)
+      choose_lawful (heads simple) (One simple) (only_if room (Grammar.enclosed E)) (stops 3) (one_of simple) (read_if room (read_enclosed e))
+      (one_lawful simple (stops 3)) (only_lawful room (Grammar.enclosed E) (stops 3) (read_enclosed e) enclosed_lawful)
       (λ ts x rest h. one_heads simple ts x rest h)
-      (without_heads simple (only_if room (Grammar.parens E)) (parens_without simple opening_no_simple))
+      (without_heads simple (only_if room (Grammar.enclosed E)) (enclosed_without simple (record { parenthesis = opening_no_simple; string = string_no_simple })))
 
   -- Step
 
@@ -118,7 +144,7 @@ module _ (room : Bool) (E U : Lang ExprTree) (e u : Reader ExprTree) (i : Inner 
       }))
       (λ b y rest h s. always_stops (b ++ rest))
 
-  post_without : {B : Type 0} (v : Token → Option B) → ((t : Token) (x : ExprTree) → simple t ≡ Some x → is_some (v t) ≡ false) → ((t : Token) (x : Unit {0}) → opening t ≡ Some x → is_some (v t) ≡ false) → Without (Grammar.post room E) v
+  post_without : {B : Type 0} (v : Token → Option B) → ((t : Token) (x : ExprTree) → simple t ≡ Some x → is_some (v t) ≡ false) → Opens v → Without (Grammar.post room E) v
   post_without v s o = then_without v post_of (Grammar.primary room E) (Many (Grammar.step room E)) (primary_without v s o)
 
   -- Unary
@@ -135,13 +161,13 @@ module _ (room : Bool) (E U : Lang ExprTree) (e u : Reader ExprTree) (i : Inner 
       choose_lawful (heads sign) (only_if room (Grammar.signed U)) (Grammar.post room E) (stops 2) (read_if room (read_signed u)) (read_post room e)
       (only_lawful room (Grammar.signed U) (stops 2) (read_signed u) signed_lawful) post_lawful
       (signed_heads room)
-      (without_heads sign (Grammar.post room E) (post_without sign simple_no_sign opening_no_sign))
+      (without_heads sign (Grammar.post room E) (post_without sign simple_no_sign (record { parenthesis = opening_no_sign; string = string_no_sign })))
 
   pub unary_unclosed : Without (Grammar.unary room E U) closing
   unary_unclosed =
       either_without closing (only_if room (Grammar.signed U)) (Grammar.post room E)
       (only_without closing room (Grammar.signed U) (λ r. then_without closing unary_of (One sign) U (one_without closing sign sign_no_closing)))
-      (post_without closing simple_no_closing opening_no_closing)
+      (post_without closing simple_no_closing (record { parenthesis = opening_no_closing; string = string_no_closing }))
 
 -- L { o L }
 module _ (o : Token → Option (ℕ × Op)) (k k' : ℕ) (of : (t : Token) (x : ℕ × Op) → o t ≡ Some x → level_of t ≡ k) (ends : (s : List Token) → stops k s ≡ true → heads o s ≡ false) (lt : nat_lt k k' ≡ true) (le : k ≤ k') (L : Lang ExprTree) (r : Reader ExprTree) (l : IsLawful L (stops k') r) where

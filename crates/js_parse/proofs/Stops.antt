@@ -10,7 +10,7 @@ use Rattle.js_parse.specs.declared.tree.Method.{Method}
 use Rattle.js_parse.specs.Tree.{ExprTree}
 use Rattle.js_parse.specs.Lang.{Lang, One, one, Then, both, Mapped, mapped, Either, left, right, only_if}
 use Rattle.js_parse.specs.Reader.{heads, is_some}
-use Rattle.js_parse.specs.Grammar.{simple, opening, closing, comma, point, length_word, method, sign, sum_op}
+use Rattle.js_parse.specs.Grammar.{simple, opening, closing, comma, point, length_word, method, string_word, sign, sum_op}
 
 -- an operator has the level of its chain, and a point the one above
 abbrev pub level_of : Token → ℕ
@@ -91,6 +91,22 @@ opening_no_sign _ x e = cc
 pub opening_no_simple : (t : Token) (x : Unit {0}) → opening t ≡ Some x → is_some (simple t) ≡ false
 opening_no_simple (token.Mark m at) x e = refl
 opening_no_simple _ x e = cc
+
+pub string_no_closing : (t : Token) (x : ℕ) → string_word t ≡ Some x → is_some (closing t) ≡ false
+string_no_closing (token.Mark m at) x e = cc
+string_no_closing _ x e = refl
+
+pub string_no_sign : (t : Token) (x : ℕ) → string_word t ≡ Some x → is_some (sign t) ≡ false
+string_no_sign (token.Mark m at) x e = cc
+string_no_sign _ x e = refl
+
+pub string_no_simple : (t : Token) (x : ℕ) → string_word t ≡ Some x → is_some (simple t) ≡ false
+string_no_simple (token.Word word.String at) x e = refl
+string_no_simple _ x e = cc
+
+pub opening_no_string : (t : Token) (x : Unit {0}) → opening t ≡ Some x → is_some (string_word t) ≡ false
+opening_no_string (token.Mark m at) x e = refl
+opening_no_string _ x e = cc
 
 pub method_no_length : (t : Token) (x : ℕ × Method) → method t ≡ Some x → is_some (length_word t) ≡ false
 method_no_length (token.Word (word.Method m) at) x e = refl

@@ -1,13 +1,14 @@
 -- What the tree of each recursive node is.
 use Rattle.std.proofs.Common.{◌≡◌, ℕ, Bool, ap, sym, ◌∙◌, refl, List, [], ◌∷◌, map, Box, Vec, Global}
 use Rattle.js_parse.specs.declared.tree.Method.{Method}
+use Rattle.js_parse.specs.declared.tree.Builtin.{Builtin}
 use Rattle.js_parse.specs.declared.tree.Expr.{Expr, fold-roll-Expr}
 use Rattle.js_parse.specs.declared.tree.Link.{Link, fold-Link, fold_out-Link}
 use Rattle.js_parse.specs.declared.tree.PostStep.{PostStep, fold-roll-PostStep}
 use Rattle.js_parse.specs.declared.tree.Expr.TheOpen.{Expr-F, PostStep-F}
-use Rattle.js_parse.specs.declared.tree.Expr.TheViews.{Chain, rolls-Chain, Unary, rolls-Unary, Post, rolls-Post}
+use Rattle.js_parse.specs.declared.tree.Expr.TheViews.{Chain, rolls-Chain, Unary, rolls-Unary, Post, rolls-Post, Builtin as BuiltinCall, rolls-Builtin}
 use Rattle.js_parse.specs.declared.tree.Expr.TheViews.{Call, rolls-Call}
-use Rattle.js_parse.specs.Tree.{ExprTree, StepTree, LinkTree, chain, unary, post, of_call, links, expr_layer, step_layer, link_layer, expr_tree, step_tree, link_tree, links_tree, steps_tree, exprs_tree}
+use Rattle.js_parse.specs.Tree.{ExprTree, StepTree, LinkTree, chain, unary, post, builtin, of_call, links, expr_layer, step_layer, link_layer, expr_tree, step_tree, link_tree, links_tree, steps_tree, exprs_tree}
 
 link_is : (l : Link) → fold-Link ExprTree StepTree LinkTree expr_layer step_layer link_layer l ≡ link_tree l
 link_is l = fold_out-Link ExprTree StepTree LinkTree expr_layer step_layer link_layer l
@@ -36,3 +37,8 @@ pub tree_of_call : (at : ℕ) (method : Method) (args : Vec Expr Global) → ste
 tree_of_call at method args =
     ap step_tree (sym (rolls-Call at method args))
     ∙ fold-roll-PostStep ExprTree StepTree LinkTree expr_layer step_layer link_layer (PostStep-F.Call at method args)
+
+pub tree_of_builtin : (at : ℕ) (which : Builtin) (args : Vec Expr Global) → expr_tree (BuiltinCall at which args) ≡ builtin at which (exprs_tree args.items)
+tree_of_builtin at which args =
+    ap expr_tree (sym (rolls-Builtin at which args))
+    ∙ fold-roll-Expr ExprTree StepTree LinkTree expr_layer step_layer link_layer (Expr-F.Builtin at which args)

@@ -9,6 +9,8 @@ use Rattle.js_parse.specs.declared.parser.Role.TheVariants.{Prelude, Main}
 use Rattle.js_parse.specs.declared.tree.Op.{Op}
 use Rattle.js_parse.specs.declared.tree.Op.TheVariants as op
 use Rattle.js_parse.specs.declared.tree.Method.{Method}
+use Rattle.js_parse.specs.declared.tree.Builtin.{Builtin}
+use Rattle.js_parse.specs.declared.tree.Builtin.TheVariants as builtin
 use Rattle.js_parse.specs.Lang.{Lang, One, Then, Mapped, Either, Many, Never, only_if}
 use Rattle.js_parse.specs.Tree as tree
 use Rattle.js_parse.specs.Tree.{ExprTree, LinkTree, StepTree, StmtTree, links, steps, exprs}
@@ -60,6 +62,17 @@ abbrev pub method : Token → Option (ℕ × Method)
 method (token.Word (word.Method m) at) = Some (at, m)
 method _ = None
 
+-- the word String: its offset
+abbrev pub string_word : Token → Option ℕ
+string_word (token.Word word.String at) = Some at
+string_word _ = None
+
+-- what stands behind String and a point
+abbrev pub from_word : Token → Option Builtin
+from_word (token.Word word.FromCharCode at) = Some builtin.FromCharCode
+from_word (token.Word word.FromCodePoint at) = Some builtin.FromCodePoint
+from_word _ = None
+
 -- a sign: its offset, and whether it is a minus
 abbrev pub sign : Token → Option (ℕ × Bool)
 sign (token.Mark mark.Minus at) = Some (at, true)
@@ -87,6 +100,13 @@ none_of x = []
 
 abbrev pub call_of : ℕ × Method → List ExprTree → StepTree
 call_of m ts = tree.of_call m.0 m.1 (exprs ts)
+
+abbrev pub pair_of : {A B : Type 0} → A → B → A × B
+pair_of x y = (x, y)
+
+-- a built-in function, at an offset, with its arguments
+abbrev pub builtin_of : ℕ → Builtin × List ExprTree → ExprTree
+builtin_of at c = tree.builtin at c.0 (exprs c.1)
 
 -- without a step it is what it is of
 abbrev pub post_of : ExprTree → List StepTree → ExprTree
@@ -129,9 +149,21 @@ args_rest E = Either (Mapped none_of (One closing)) (Then first_of (items E) (On
 abbrev pub args : Lang ExprTree → Lang (List ExprTree)
 args E = Then second_of (One opening) (args_rest E)
 
--- Text | Number | undefined | null | true | false | NaN | Infinity | ( E )
+-- . fromCharCode | . fromCodePoint
+abbrev pub string_member : Lang Builtin
+string_member = Then second_of (One point) (One from_word)
+
+-- String . fromCharCode Args | String . fromCodePoint Args
+abbrev pub string_call : Lang ExprTree → Lang ExprTree
+string_call E = Then builtin_of (One string_word) (Then pair_of string_member (args E))
+
+-- what parentheses are a part of
+abbrev pub enclosed : Lang ExprTree → Lang ExprTree
+enclosed E = Either (string_call E) (parens E)
+
+-- Text | Number | undefined | null | true | false | NaN | Infinity | ( E ) | String . fromCharCode Args | String . fromCodePoint Args
 abbrev pub primary : Bool → Lang ExprTree → Lang ExprTree
-primary room E = Either (One simple) (only_if room (parens E))
+primary room E = Either (One simple) (only_if room (enclosed E))
 
 -- Method Args
 abbrev pub call : Lang ExprTree → Lang StepTree

@@ -3,9 +3,10 @@ use Rattle.std.specs.Prelude.{ℕ, zero, suc, Bool, true, false, List, Option}
 use Rattle.js_parse.specs.declared.token.Token.{Token}
 use Rattle.js_parse.specs.declared.parser.Role.{Role}
 use Rattle.js_parse.specs.declared.tree.Op.{Op}
+use Rattle.js_parse.specs.declared.tree.Builtin.{Builtin}
 use Rattle.js_parse.specs.Tree.{ExprTree, LinkTree, StepTree, StmtTree}
 use Rattle.js_parse.specs.Reader.{Reader, wrong, map_by, and_then, one_of, heads, choose, all_of, read_if, at_end}
-use Rattle.js_parse.specs.Grammar.{simple, opening, closing, comma, point, semi, print_word, length_word, method, sign, sum_op, first_of, second_of, list_of, none_of, call_of, post_of, unary_of, link_of, chain_of, print_of, Which, Whole, Operand, has_room, prints}
+use Rattle.js_parse.specs.Grammar.{simple, opening, closing, comma, point, semi, print_word, length_word, method, string_word, from_word, sign, sum_op, first_of, second_of, list_of, none_of, call_of, pair_of, builtin_of, post_of, unary_of, link_of, chain_of, print_of, Which, Whole, Operand, has_room, prints}
 
 abbrev pub read_parens : Reader ExprTree → Reader ExprTree
 read_parens e = and_then second_of (one_of opening) (and_then first_of e (one_of closing))
@@ -22,8 +23,17 @@ read_args_rest e = choose (heads closing) (map_by none_of (one_of closing)) (and
 abbrev pub read_args : Reader ExprTree → Reader (List ExprTree)
 read_args e = and_then second_of (one_of opening) (read_args_rest e)
 
+abbrev pub read_string_member : Reader Builtin
+read_string_member = and_then second_of (one_of point) (one_of from_word)
+
+abbrev pub read_string_call : Reader ExprTree → Reader ExprTree
+read_string_call e = and_then builtin_of (one_of string_word) (and_then pair_of read_string_member (read_args e))
+
+abbrev pub read_enclosed : Reader ExprTree → Reader ExprTree
+read_enclosed e = choose (heads string_word) (read_string_call e) (read_parens e)
+
 abbrev pub read_primary : Bool → Reader ExprTree → Reader ExprTree
-read_primary room e = choose (heads simple) (one_of simple) (read_if room (read_parens e))
+read_primary room e = choose (heads simple) (one_of simple) (read_if room (read_enclosed e))
 
 abbrev pub read_call : Reader ExprTree → Reader StepTree
 read_call e = and_then call_of (one_of method) (read_args e)
@@ -65,6 +75,9 @@ inner (suc n) w = read_at n w
 
 unfoldable pub primary_at : ℕ → Reader ExprTree
 primary_at n = read_primary (has_room n) (inner n Whole)
+
+unfoldable pub string_call_at : ℕ → Reader ExprTree
+string_call_at n = read_string_call (inner n Whole)
 
 unfoldable pub args_at : ℕ → Reader (List ExprTree)
 args_at n = read_args (inner n Whole)

@@ -1,31 +1,67 @@
 -- The tokens of the grammar, and how they come from those of the text.
-use Rattle.std.specs.Prelude.{◌≡◌, ◌⊎◌, ℕ, ◌+◌, List, [], ◌∷◌, ◌++◌, length, codes, if◌then◌else◌}
+use Rattle.std.specs.Prelude.{◌≡◌, ◌⊎◌, ℕ, ◌+◌, List, [], ◌∷◌, ◌++◌, length, codes, if◌then◌else◌, Option, Some, None}
 use Rattle.std.specs.Str.{bytes_eq}
 use Rattle.js_lex.specs.declared.token.Token.{Token as Lexed}
 use Rattle.js_lex.specs.declared.token.TokenKind.{TokenKind}
 use Rattle.js_lex.specs.declared.token.TokenKind.TheVariants as kinds
 use Rattle.js_lex.specs.declared.token.Mark.TheVariants.{Semicolon}
 use Rattle.js_lex.specs.Spans.{slice}
+use Rattle.js_parse.specs.declared.tree.Method.{Method}
 use Rattle.js_parse.specs.declared.tree.Method.TheVariants as method
 use Rattle.js_parse.specs.declared.token.Word.{Word}
 use Rattle.js_parse.specs.declared.token.Word.TheVariants as word
 use Rattle.js_parse.specs.declared.token.Token.{Token}
 use Rattle.js_parse.specs.declared.token.Token.TheVariants as token
 
--- a word by its letters
-abbrev pub word_of : List ℕ → Word
-word_of letters =
+-- the method of this name, if there is one
+abbrev pub method_of : List ℕ → Option Method
+method_of letters =
+    if bytes_eq letters (codes "at") then Some method.At
+    else if bytes_eq letters (codes "charAt") then Some method.CharAt
+    else if bytes_eq letters (codes "charCodeAt") then Some method.CharCodeAt
+    else if bytes_eq letters (codes "codePointAt") then Some method.CodePointAt
+    else if bytes_eq letters (codes "concat") then Some method.Concat
+    else if bytes_eq letters (codes "endsWith") then Some method.EndsWith
+    else if bytes_eq letters (codes "includes") then Some method.Includes
+    else if bytes_eq letters (codes "indexOf") then Some method.IndexOf
+    else if bytes_eq letters (codes "isWellFormed") then Some method.IsWellFormed
+    else if bytes_eq letters (codes "lastIndexOf") then Some method.LastIndexOf
+    else if bytes_eq letters (codes "padEnd") then Some method.PadEnd
+    else if bytes_eq letters (codes "padStart") then Some method.PadStart
+    else if bytes_eq letters (codes "repeat") then Some method.Repeat
+    else if bytes_eq letters (codes "slice") then Some method.Slice
+    else if bytes_eq letters (codes "startsWith") then Some method.StartsWith
+    else if bytes_eq letters (codes "substr") then Some method.Substr
+    else if bytes_eq letters (codes "substring") then Some method.Substring
+    else if bytes_eq letters (codes "toWellFormed") then Some method.ToWellFormed
+    else if bytes_eq letters (codes "trim") then Some method.Trim
+    else if bytes_eq letters (codes "trimEnd") then Some method.TrimEnd
+    else if bytes_eq letters (codes "trimStart") then Some method.TrimStart
+    else None
+
+-- a word that is no method
+abbrev pub plain_word : List ℕ → Word
+plain_word letters =
     if bytes_eq letters (codes "print") then word.Print
     else if bytes_eq letters (codes "length") then word.Length
-    else if bytes_eq letters (codes "at") then word.Method method.At
-    else if bytes_eq letters (codes "slice") then word.Method method.Slice
     else if bytes_eq letters (codes "undefined") then word.Undefined
     else if bytes_eq letters (codes "null") then word.Null
     else if bytes_eq letters (codes "true") then word.True
     else if bytes_eq letters (codes "false") then word.False
     else if bytes_eq letters (codes "NaN") then word.NaN
     else if bytes_eq letters (codes "Infinity") then word.Infinity
+    else if bytes_eq letters (codes "String") then word.String
+    else if bytes_eq letters (codes "fromCharCode") then word.FromCharCode
+    else if bytes_eq letters (codes "fromCodePoint") then word.FromCodePoint
     else word.Other
+
+abbrev pub method_or : Word → Option Method → Word
+method_or w None = w
+method_or w (Some m) = word.Method m
+
+-- a word by its letters
+abbrev pub word_of : List ℕ → Word
+word_of letters = method_or (plain_word letters) (method_of letters)
 
 -- a token with this source text, after so many texts, at an offset
 abbrev pub token_of : List ℕ → ℕ → ℕ → TokenKind → Token

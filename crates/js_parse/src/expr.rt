@@ -1,14 +1,14 @@
 // From tokens to the tree of an expression.
 ghost use Rattle.std.specs.Prelude.{◌≡◌, ◌<◌, map};
 ghost use Rattle.js_parse.specs.Tree.{expr_tree, step_tree};
-ghost use Rattle.js_parse.specs.Reading.{args_at, primary_at, step_at, post_at, unary_at, expression_at};
+ghost use Rattle.js_parse.specs.Reading.{args_at, string_call_at, primary_at, step_at, post_at, unary_at, expression_at};
 ghost use Rattle.js_parse.specs.Gives.{Gives};
 
 use crate::look::{
-    REFUSED, begins_step, close, closing, comma, length_word, method, opening, point, sign, simple,
-    sum_op,
+    REFUSED, begins_step, begins_string, close, closing, comma, length_word, method, opening, point,
+    sign, simple, string_member, string_word, sum_op,
 };
-use crate::node::{call, chain, link, post, signed};
+use crate::node::{builtin, call, chain, link, post, signed};
 use crate::parser::ParseFault;
 use crate::token::Token;
 use crate::tree::{Expr, PostStep};
@@ -41,9 +41,23 @@ pub(crate) fn args(
     Ok((items, rest))
 }
 
-// Text | Number | undefined | null | true | false | NaN | Infinity | ( Expr )
+// String . fromCharCode Args | String . fromCodePoint Args
 #[cycle(expr)]
-#[tactic(auto, using(crate::proofs::Rooms::room_for, crate::proofs::Rooms::no_room_for, crate::proofs::Rooms::inner_whole), unfolding(crate::specs::Reading::primary_at))]
+#[tactic(auto, unfolding(crate::specs::Reading::string_call_at, crate::specs::Reading::args_at))]
+fn string_call(alloc: Global, tokens: &[Token], room: u32) -> Result<(Expr, &[Token]), ParseFault>
+    requires { 0 < room }
+    ensures { Gives (λ found. expr_tree found.0) (λ found. found.1.now) result (string_call_at room tokens.now) }
+{
+    let (at, rest) = string_word(tokens)?;
+    let (which, rest) = string_member(rest)?;
+    let (args, rest) = args(alloc, rest, room)?;
+    Ok((builtin(at, which, args), rest))
+}
+
+// Text | Number | undefined | null | true | false | NaN | Infinity | ( Expr )
+// | String . fromCharCode Args | String . fromCodePoint Args
+#[cycle(expr)]
+#[tactic(auto, using(crate::proofs::Rooms::room_for, crate::proofs::Rooms::no_room_for, crate::proofs::Rooms::inner_whole), unfolding(crate::specs::Reading::primary_at, crate::specs::Reading::string_call_at))]
 fn primary(alloc: Global, tokens: &[Token], room: u32) -> Result<(Expr, &[Token]), ParseFault>
     ensures { Gives (λ found. expr_tree found.0) (λ found. found.1.now) result (primary_at room tokens.now) }
 {
@@ -52,6 +66,9 @@ fn primary(alloc: Global, tokens: &[Token], room: u32) -> Result<(Expr, &[Token]
     }
     if room == 0 {
         return Err(REFUSED);
+    }
+    if begins_string(tokens) {
+        return string_call(alloc, tokens, room);
     }
     let rest = opening(tokens)?;
     let (inside, rest) = expression(alloc, rest, room - 1)?;

@@ -2,12 +2,13 @@
 ghost use Rattle.std.specs.Prelude.{◌≡◌, [], ◌∷◌, MatchOption, false};
 ghost use Rattle.js_parse.specs.Tree.{expr_tree, of_length};
 ghost use Rattle.js_parse.specs.Reader.{Got, one_of, heads};
-ghost use Rattle.js_parse.specs.Grammar.{simple, opening, closing, comma, point, semi, print_word, method, sign, sum_op, length_word};
+ghost use Rattle.js_parse.specs.Grammar.{simple, opening, closing, comma, point, semi, print_word, method, sign, sum_op, length_word, string_word, from_word};
+ghost use Rattle.js_parse.specs.Reading.{read_string_member};
 ghost use Rattle.js_parse.specs.Gives.{Gives};
 
 use crate::parser::ParseFault;
 use crate::token::{Token, Word};
-use crate::tree::{Expr, Method, Op};
+use crate::tree::{Builtin, Expr, Method, Op};
 use js_lex::Mark;
 
 pub(crate) const REFUSED: ParseFault = ParseFault::NotInProfile { at: 0 };
@@ -130,6 +131,40 @@ pub(crate) fn method(tokens: &[Token]) -> Result<((u32, Method), &[Token]), Pars
         Some((Token::Word(Word::Method(method), at), rest)) => Ok(((at, method), rest)),
         _ => Err(REFUSED),
     }
+}
+
+pub(crate) fn begins_string(tokens: &[Token]) -> bool
+    ensures { result ≡ heads string_word tokens.now }
+{
+    matches!(next(tokens), Some((Token::Word(Word::String, _), _)))
+}
+
+/// The word `String`: its offset.
+pub(crate) fn string_word(tokens: &[Token]) -> Result<(u32, &[Token]), ParseFault>
+    ensures { Gives (λ found. found.0) (λ found. found.1.now) result (one_of string_word tokens.now) }
+{
+    match next(tokens) {
+        Some((Token::Word(Word::String, at), rest)) => Ok((at, rest)),
+        _ => Err(REFUSED),
+    }
+}
+
+fn from_word(tokens: &[Token]) -> Result<(Builtin, &[Token]), ParseFault>
+    ensures { Gives (λ found. found.0) (λ found. found.1.now) result (one_of from_word tokens.now) }
+{
+    match next(tokens) {
+        Some((Token::Word(Word::FromCharCode, _), rest)) => Ok((Builtin::FromCharCode, rest)),
+        Some((Token::Word(Word::FromCodePoint, _), rest)) => Ok((Builtin::FromCodePoint, rest)),
+        _ => Err(REFUSED),
+    }
+}
+
+/// `. fromCharCode | . fromCodePoint`
+pub(crate) fn string_member(tokens: &[Token]) -> Result<(Builtin, &[Token]), ParseFault>
+    ensures { Gives (λ found. found.0) (λ found. found.1.now) result (read_string_member tokens.now) }
+{
+    let rest = point(tokens)?;
+    from_word(rest)
 }
 
 /// A sign: its offset, and whether it is a minus.

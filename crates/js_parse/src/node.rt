@@ -1,9 +1,9 @@
 // The nodes of the tree.
 ghost use Rattle.std.specs.Prelude.{◌≡◌, map, IfOk};
 ghost use Rattle.js_parse.specs.Tree.{expr_tree, link_tree, step_tree, stmt_tree};
-ghost use Rattle.js_parse.specs.Grammar.{call_of, post_of, unary_of, link_of, chain_of, print_of};
+ghost use Rattle.js_parse.specs.Grammar.{call_of, builtin_of, post_of, unary_of, link_of, chain_of, print_of};
 
-use crate::tree::{Expr, Link, Method, Op, PostStep, Stmt};
+use crate::tree::{Builtin, Expr, Link, Method, Op, PostStep, Stmt};
 use std::alloc::{AllocError, Global};
 
 pub(crate) fn link(op: (u32, Op), right: Expr) -> Link
@@ -24,6 +24,12 @@ pub(crate) fn call(method: (u32, Method), args: Vec<Expr>) -> PostStep
         method: method.1,
         args,
     }
+}
+
+pub(crate) fn builtin(at: u32, which: Builtin, args: Vec<Expr>) -> Expr
+    ensures { expr_tree result ≡ builtin_of at (which, map expr_tree args.items) }
+{
+    Expr::Builtin { at, which, args }
 }
 
 pub(crate) fn signed(alloc: Global, sign: (u32, bool), of: Expr) -> Result<Expr, AllocError>

@@ -3,7 +3,7 @@ ghost use Rattle.std.specs.Prelude.{◌≡◌, ◌≤◌, ◌∷◌, ◌++◌, [
 ghost use Rattle.std.specs.Vec.Iter.{into_iter_items, into_iter_len};
 ghost use Rattle.js_lex.specs.Spans.{slice};
 ghost use Rattle.js_lex.specs.Tokens.{LexFaultOf};
-ghost use Rattle.js_parse.specs.Token.{word_of, token_of, text_of, tokens_of, texts_of, IsUseStrict};
+ghost use Rattle.js_parse.specs.Token.{method_of, plain_word, word_of, token_of, text_of, tokens_of, texts_of, IsUseStrict};
 ghost use Rattle.js_parse.specs.Gives.{OnRefusal, Within, HasDirective, IsAfterDirective, Reads, IsLexical, lex_fault};
 
 use crate::parser::ParseFault;
@@ -25,6 +25,9 @@ pub enum Word {
     False,
     NaN,
     Infinity,
+    String,
+    FromCharCode,
+    FromCodePoint,
     Other,
 }
 
@@ -38,17 +41,64 @@ pub enum Token {
     Mark(Mark, u32),
 }
 
-fn word_named(letters: &[u8]) -> Word
-    ensures { result ≡ word_of letters.now }
+fn method_named(letters: &[u8]) -> Option<Method>
+    ensures { result ≡ method_of letters.now }
+{
+    if letters == b"at".as_slice() {
+        Some(Method::At)
+    } else if letters == b"charAt".as_slice() {
+        Some(Method::CharAt)
+    } else if letters == b"charCodeAt".as_slice() {
+        Some(Method::CharCodeAt)
+    } else if letters == b"codePointAt".as_slice() {
+        Some(Method::CodePointAt)
+    } else if letters == b"concat".as_slice() {
+        Some(Method::Concat)
+    } else if letters == b"endsWith".as_slice() {
+        Some(Method::EndsWith)
+    } else if letters == b"includes".as_slice() {
+        Some(Method::Includes)
+    } else if letters == b"indexOf".as_slice() {
+        Some(Method::IndexOf)
+    } else if letters == b"isWellFormed".as_slice() {
+        Some(Method::IsWellFormed)
+    } else if letters == b"lastIndexOf".as_slice() {
+        Some(Method::LastIndexOf)
+    } else if letters == b"padEnd".as_slice() {
+        Some(Method::PadEnd)
+    } else if letters == b"padStart".as_slice() {
+        Some(Method::PadStart)
+    } else if letters == b"repeat".as_slice() {
+        Some(Method::Repeat)
+    } else if letters == b"slice".as_slice() {
+        Some(Method::Slice)
+    } else if letters == b"startsWith".as_slice() {
+        Some(Method::StartsWith)
+    } else if letters == b"substr".as_slice() {
+        Some(Method::Substr)
+    } else if letters == b"substring".as_slice() {
+        Some(Method::Substring)
+    } else if letters == b"toWellFormed".as_slice() {
+        Some(Method::ToWellFormed)
+    } else if letters == b"trim".as_slice() {
+        Some(Method::Trim)
+    } else if letters == b"trimEnd".as_slice() {
+        Some(Method::TrimEnd)
+    } else if letters == b"trimStart".as_slice() {
+        Some(Method::TrimStart)
+    } else {
+        None
+    }
+}
+
+// A word that is no method.
+fn plain_word(letters: &[u8]) -> Word
+    ensures { result ≡ plain_word letters.now }
 {
     if letters == b"print".as_slice() {
         Word::Print
     } else if letters == b"length".as_slice() {
         Word::Length
-    } else if letters == b"at".as_slice() {
-        Word::Method(Method::At)
-    } else if letters == b"slice".as_slice() {
-        Word::Method(Method::Slice)
     } else if letters == b"undefined".as_slice() {
         Word::Undefined
     } else if letters == b"null".as_slice() {
@@ -61,8 +111,23 @@ fn word_named(letters: &[u8]) -> Word
         Word::NaN
     } else if letters == b"Infinity".as_slice() {
         Word::Infinity
+    } else if letters == b"String".as_slice() {
+        Word::String
+    } else if letters == b"fromCharCode".as_slice() {
+        Word::FromCharCode
+    } else if letters == b"fromCodePoint".as_slice() {
+        Word::FromCodePoint
     } else {
         Word::Other
+    }
+}
+
+fn word_named(letters: &[u8]) -> Word
+    ensures { result ≡ word_of letters.now }
+{
+    match method_named(letters) {
+        Some(method) => Word::Method(method),
+        None => plain_word(letters),
     }
 }
 

@@ -12,17 +12,20 @@ decreases-args l = 8 * l.room
 abbrev pub decreases-step : goal.decreases-step
 decreases-step l = 8 * l.room + 1
 
+abbrev pub decreases-string_call : goal.decreases-string_call
+decreases-string_call l = 8 * l.room + 1
+
 abbrev pub decreases-primary : goal.decreases-primary
-decreases-primary l = 8 * l.room + 1
+decreases-primary l = 8 * l.room + 2
 
 abbrev pub decreases-postfix : goal.decreases-postfix
-decreases-postfix l = 8 * l.room + 2
+decreases-postfix l = 8 * l.room + 3
 
 abbrev pub decreases-unary : goal.decreases-unary
-decreases-unary l = 8 * l.room + 3
+decreases-unary l = 8 * l.room + 4
 
 abbrev pub decreases-expression : goal.decreases-expression
-decreases-expression l = 8 * l.room + 4
+decreases-expression l = 8 * l.room + 5
 
 abbrev pub invariant-args-loop-after : goal.invariant-args-loop-after
 invariant-args-loop-after l = with_front (map expr_tree l.items.items) (all_of (heads comma) (read_item (inner l.room Whole)) l.rest) ≡ with_front (map expr_tree l.initial.items.items) (all_of (heads comma) (read_item (inner l.room Whole)) l.initial.rest)
