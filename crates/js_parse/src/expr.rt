@@ -5,8 +5,8 @@ ghost use Rattle.js_parse.specs.Reading.{args_at, string_call_at, primary_at, st
 ghost use Rattle.js_parse.specs.Gives.{Gives};
 
 use crate::look::{
-    REFUSED, begins_step, begins_string, close, closing, comma, length_word, method, opening, point,
-    sign, simple, string_member, string_word, sum_op,
+    REFUSED, begins_step, begins_string, close, closing, comma, length_word, method, opening,
+    point, sign, simple, string_member, string_word, sum_op,
 };
 use crate::node::{builtin, call, chain, link, post, signed};
 use crate::parser::ParseFault;

@@ -3,10 +3,17 @@ use super::*;
 use js_lex::LexFault;
 use std::test::Fail;
 
-fn is_script(rt: &HostRuntime, bytes: &[u8]) -> bool {
+fn script_of(rt: &HostRuntime, bytes: &[u8]) -> Option<Script> {
     let alloc = rt.alloc();
     let outer = Names::new(alloc);
-    bytes.len() <= 1_048_576 && parse(alloc, bytes, Role::Main, &outer).is_ok()
+    if bytes.len() > 1_048_576 {
+        return None;
+    }
+    parse(alloc, bytes, Role::Main, &outer).ok()
+}
+
+fn is_script(rt: &HostRuntime, bytes: &[u8]) -> bool {
+    script_of(rt, bytes).is_some()
 }
 
 fn is_refused(rt: &HostRuntime, bytes: &[u8]) -> bool {
@@ -23,7 +30,7 @@ fn is_refused(rt: &HostRuntime, bytes: &[u8]) -> bool {
 
 #[test]
 fn scripts_and_others(rt: HostRuntime) -> Result<(), Fail> {
-    let scripts: [&[u8]; 16] = [
+    let scripts: [&[u8]; 21] = [
         b"",
         b"\xEF\xBB\xBF // a comment\n /* another */ \t",
         b"'use strict';",
@@ -40,11 +47,16 @@ fn scripts_and_others(rt: HostRuntime) -> Result<(), Fail> {
         b"print('abc'.at());",
         b"print(1 .length);",
         b"print('use strict');",
+        b"print(String.fromCharCode());",
+        b"print(String . fromCodePoint ( 1 , - 2 ) . length);",
+        b"print(-String.fromCharCode(97) + String.fromCodePoint(98));",
+        b"print('a'.padStart(String.fromCharCode(1).codePointAt(0), 'b').trim().trimEnd());",
+        b"print('a'.concat('b', 'c', 'd').lastIndexOf('b', ('c' + 'd').indexOf('c')));",
     ];
     for bytes in scripts {
         assert!(rt; is_script(&rt, bytes));
     }
-    let others: [&[u8]; 25] = [
+    let others: [&[u8]; 43] = [
         b"let",
         b"print(name);",
         b"print('a')",
@@ -70,6 +82,24 @@ fn scripts_and_others(rt: HostRuntime) -> Result<(), Fail> {
         b"print(()); ",
         b"print(1));",
         b";",
+        b"print(trim);",
+        b"print(trim('a'));",
+        b"print('a'.trim);",
+        b"print('a' trim());",
+        b"print('a'.Trim());",
+        b"print('a'.trimLeft());",
+        b"print('a'.charAt(0,));",
+        b"print('a'.repeat(2).repeat);",
+        b"print(String);",
+        b"print(String.at(1));",
+        b"print(String.fromCharCode);",
+        b"print(String fromCharCode(1));",
+        b"print(String.fromCharCode 1);",
+        b"print(String.fromCharcode(1));",
+        b"print(string.fromCharCode(1));",
+        b"print(fromCodePoint(1));",
+        b"print('a'.fromCodePoint(1));",
+        b"print('a'.String.fromCodePoint(1));",
     ];
     for bytes in others {
         assert!(rt; is_refused(&rt, bytes));
@@ -96,31 +126,136 @@ fn lexical_faults_come_first(rt: HostRuntime) -> Result<(), Fail> {
     Ok(())
 }
 
+// print(, then so many times what opens, 1, as many times what closes, and );
+fn nested(rt: &HostRuntime, open: &str, close: &str, times: u32) -> Result<bool, Fail> {
+    let mut text = Vec::new(rt.alloc());
+    text.extend_from_slice(b"print(")?;
+    for _ in 0..times {
+        text.extend_from_slice(open.as_bytes())?;
+    }
+    text.extend_from_slice(b"1")?;
+    for _ in 0..times {
+        text.extend_from_slice(close.as_bytes())?;
+    }
+    text.extend_from_slice(b");")?;
+    Ok(is_script(rt, &text))
+}
+
 #[test]
 fn two_hundred_may_be_open(rt: HostRuntime) -> Result<(), Fail> {
-    let alloc = rt.alloc();
-    for (signs, taken) in [(199_u32, true), (200, false)] {
-        let mut text = Vec::new(alloc);
-        text.extend_from_slice(b"print(")?;
-        for _ in 0..signs {
-            text.extend_from_slice(b"- ")?;
+    let kinds = [
+        ("- ", "", 199_u32),
+        ("(", ")", 199),
+        ("-(", ")", 99),
+        ("''.at(", ")", 199),
+        ("''.substring(0, -", ")", 99),
+        ("String.fromCharCode(", ")", 199),
+        ("1 + String.fromCodePoint(1, ", ")", 199),
+    ];
+    for (open, close, most) in kinds {
+        assert!(rt; nested(&rt, open, close, most)?);
+        assert!(rt; !nested(&rt, open, close, most + 1)?);
+    }
+    Ok(())
+}
+
+// The first argument of the first statement.
+fn first_argument(script: &Script) -> Option<&Expr> {
+    match script.body.first() {
+        Some(Stmt::Print { args }) => args.first(),
+        None => None,
+    }
+}
+
+#[test]
+fn each_word_is_its_method(rt: HostRuntime) -> Result<(), Fail> {
+    let words = [
+        ("at", Method::At),
+        ("charAt", Method::CharAt),
+        ("charCodeAt", Method::CharCodeAt),
+        ("codePointAt", Method::CodePointAt),
+        ("concat", Method::Concat),
+        ("endsWith", Method::EndsWith),
+        ("includes", Method::Includes),
+        ("indexOf", Method::IndexOf),
+        ("isWellFormed", Method::IsWellFormed),
+        ("lastIndexOf", Method::LastIndexOf),
+        ("padEnd", Method::PadEnd),
+        ("padStart", Method::PadStart),
+        ("repeat", Method::Repeat),
+        ("slice", Method::Slice),
+        ("startsWith", Method::StartsWith),
+        ("substr", Method::Substr),
+        ("substring", Method::Substring),
+        ("toWellFormed", Method::ToWellFormed),
+        ("trim", Method::Trim),
+        ("trimEnd", Method::TrimEnd),
+        ("trimStart", Method::TrimStart),
+    ];
+    for (word, expected) in words {
+        let mut text = Vec::new(rt.alloc());
+        text.extend_from_slice(b"print('a' . ")?;
+        text.extend_from_slice(word.as_bytes())?;
+        text.extend_from_slice(b"(1, 2));")?;
+        let Some(script) = script_of(&rt, &text) else {
+            assert!(rt; false);
+            continue;
+        };
+        let Some(Expr::Post { of, steps }) = first_argument(&script) else {
+            assert!(rt; false);
+            continue;
+        };
+        assert!(rt; matches!(**of, Expr::Literal { number: 0 }));
+        assert_eq!(rt; steps.len(), 1);
+        match steps.first() {
+            Some(PostStep::Call { at, method, args }) => {
+                assert_eq!(rt; *at, 12);
+                assert_eq!(rt; *method, expected);
+                assert_eq!(rt; args.len(), 2);
+            }
+            _ => assert!(rt; false),
         }
-        text.extend_from_slice(b"1);")?;
-        assert_eq!(rt; is_script(&rt, &text), taken);
+    }
+    Ok(())
+}
+
+#[test]
+fn each_built_in_call_is_its_function(rt: HostRuntime) -> Result<(), Fail> {
+    let calls = [
+        ("print(String.fromCharCode());", 6, Builtin::FromCharCode, 0),
+        (
+            "print( String . fromCharCode(1, 2));",
+            7,
+            Builtin::FromCharCode,
+            2,
+        ),
+        (
+            "print(String.fromCodePoint(1));",
+            6,
+            Builtin::FromCodePoint,
+            1,
+        ),
+    ];
+    for (text, from, expected, count) in calls {
+        let Some(script) = script_of(&rt, text.as_bytes()) else {
+            assert!(rt; false);
+            continue;
+        };
+        match first_argument(&script) {
+            Some(Expr::Builtin { at, which, args }) => {
+                assert_eq!(rt; *at, from);
+                assert_eq!(rt; *which, expected);
+                assert_eq!(rt; args.len(), count);
+            }
+            _ => assert!(rt; false),
+        }
     }
     Ok(())
 }
 
 #[test]
 fn literals_are_numbered_without_the_directive(rt: HostRuntime) -> Result<(), Fail> {
-    let alloc = rt.alloc();
-    let outer = Names::new(alloc);
-    let Ok(script) = parse(
-        alloc,
-        b"'use strict'; print('a' - 'b'.length);",
-        Role::Main,
-        &outer,
-    ) else {
+    let Some(script) = script_of(&rt, b"'use strict'; print('a' - 'b'.length);") else {
         assert!(rt; false);
         return Ok(());
     };
@@ -128,17 +263,14 @@ fn literals_are_numbered_without_the_directive(rt: HostRuntime) -> Result<(), Fa
     assert_eq!(rt; script.literals[0].as_slice(), [97].as_slice());
     assert_eq!(rt; script.literals[1].as_slice(), [98].as_slice());
     assert_eq!(rt; script.body.len(), 1);
-    match script.body.first() {
-        Some(Stmt::Print { args }) => match args.first() {
-            Some(Expr::Chain { first, rest }) => {
-                assert!(rt; matches!(**first, Expr::Literal { number: 0 }));
-                assert_eq!(rt; rest.len(), 1);
-                assert_eq!(rt; rest[0].at, 24);
-                assert_eq!(rt; rest[0].op, Op::Minus);
-            }
-            _ => assert!(rt; false),
-        },
-        None => assert!(rt; false),
+    match first_argument(&script) {
+        Some(Expr::Chain { first, rest }) => {
+            assert!(rt; matches!(**first, Expr::Literal { number: 0 }));
+            assert_eq!(rt; rest.len(), 1);
+            assert_eq!(rt; rest[0].at, 24);
+            assert_eq!(rt; rest[0].op, Op::Minus);
+        }
+        _ => assert!(rt; false),
     }
     Ok(())
 }

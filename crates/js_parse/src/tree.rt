@@ -28,17 +28,37 @@ pub enum Stmt {
 #[cycle(tree)]
 #[derive(Drop)]
 pub enum Expr {
-    Literal { number: u32 },
-    Number { value: u64 },
+    Literal {
+        number: u32,
+    },
+    Number {
+        value: u64,
+    },
     Undefined,
     Null,
-    Bool { value: bool },
+    Bool {
+        value: bool,
+    },
     NaN,
     Infinity,
-    Unary { at: u32, minus: bool, of: Box<Expr> },
-    Chain { first: Box<Expr>, rest: Vec<Link> },
-    Post { of: Box<Expr>, steps: Vec<PostStep> },
-    Builtin { at: u32, which: Builtin, args: Vec<Expr> },
+    Unary {
+        at: u32,
+        minus: bool,
+        of: Box<Expr>,
+    },
+    Chain {
+        first: Box<Expr>,
+        rest: Vec<Link>,
+    },
+    Post {
+        of: Box<Expr>,
+        steps: Vec<PostStep>,
+    },
+    Builtin {
+        at: u32,
+        which: Builtin,
+        args: Vec<Expr>,
+    },
 }
 
 /// An operator of a chain with its right side. The links of one level group from the left.
