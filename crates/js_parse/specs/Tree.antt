@@ -34,6 +34,7 @@ mutual
     no_steps : Steps
     length_step : (rest : Steps) → Steps
     call_step : (at : ℕ) (method : Method) (args : Exprs) (rest : Steps) → Steps
+    index_step : (at : ℕ) (index : ExprTree) (rest : Steps) → Steps
 
   pub data Exprs : Type 0 where
     no_exprs : Exprs
@@ -48,6 +49,7 @@ pub record LinkTree : Type 0 where
 pub data StepTree : Type 0 where
   of_length : StepTree
   of_call : (at : ℕ) (method : Method) (args : Exprs) → StepTree
+  of_index : (at : ℕ) (index : ExprTree) → StepTree
 
 abbrev pub links : List LinkTree → Links
 links [] = no_links
@@ -56,6 +58,7 @@ links (l ∷ ls) = link l.at l.op l.right (links ls)
 abbrev pub with_step : StepTree → Steps → Steps
 with_step of_length rest = length_step rest
 with_step (of_call at method args) rest = call_step at method args rest
+with_step (of_index at index) rest = index_step at index rest
 
 abbrev pub steps : List StepTree → Steps
 steps [] = no_steps
@@ -82,6 +85,7 @@ expr_layer (Expr-F.Builtin at which args) = builtin at which (exprs args.items)
 abbrev pub step_layer : PostStep-F ExprTree StepTree LinkTree → StepTree
 step_layer PostStep-F.Length = of_length
 step_layer (PostStep-F.Call at method args) = of_call at method (exprs args.items)
+step_layer (PostStep-F.Index at index) = of_index at index
 
 abbrev pub link_layer : Link-F ExprTree StepTree LinkTree → LinkTree
 link_layer l = record { at = l.at; op = l.op; right = l.right }

@@ -9,7 +9,7 @@ use std::marker::Model;
 ///
 /// `literals` has one entry for each string token, in the order of the text, without the
 /// directive. In the whole tree an `at` is a byte offset in the file: that of the operator, of the
-/// method's word, or of the first word of a built-in call.
+/// method's word, of the `[`, or of the first word of a built-in call.
 #[derive(Drop)]
 pub struct Script {
     pub literals: Vec<Units>,
@@ -70,7 +70,7 @@ pub struct Link {
     pub right: Expr,
 }
 
-/// A member or a call behind an expression.
+/// A member, a call or an index behind an expression.
 #[cycle(tree)]
 #[derive(Drop)]
 pub enum PostStep {
@@ -79,6 +79,10 @@ pub enum PostStep {
         at: u32,
         method: Method,
         args: Vec<Expr>,
+    },
+    Index {
+        at: u32,
+        index: Expr,
     },
 }
 
@@ -89,7 +93,7 @@ pub enum Op {
     Minus,
 }
 
-/// A method of `String.prototype`.
+/// A method of `String.prototype`, or `join` of `Array.prototype`.
 #[derive(Clone, Copy, Debug, PartialEq, Eq)]
 pub enum Method {
     At,
@@ -101,11 +105,15 @@ pub enum Method {
     Includes,
     IndexOf,
     IsWellFormed,
+    Join,
     LastIndexOf,
     PadEnd,
     PadStart,
     Repeat,
+    Replace,
+    ReplaceAll,
     Slice,
+    Split,
     StartsWith,
     Substr,
     Substring,
@@ -115,11 +123,13 @@ pub enum Method {
     TrimStart,
 }
 
-/// A built-in function that is called by its name: `String.fromCharCode`, `String.fromCodePoint`.
+/// A built-in function that is called by its name: `String.fromCharCode`, `String.fromCodePoint`,
+/// and `JSON.stringify` with its one argument.
 #[derive(Clone, Copy, Debug, PartialEq, Eq)]
 pub enum Builtin {
     FromCharCode,
     FromCodePoint,
+    Stringify,
 }
 
 /// A name. Contracts see it as the list of its bytes.
