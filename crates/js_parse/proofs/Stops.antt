@@ -10,13 +10,15 @@ use Rattle.js_parse.specs.declared.tree.Method.{Method}
 use Rattle.js_parse.specs.Tree.{ExprTree}
 use Rattle.js_parse.specs.Lang.{Lang, One, one, Then, both, Mapped, mapped, Either, left, right, only_if}
 use Rattle.js_parse.specs.Reader.{heads, is_some}
-use Rattle.js_parse.specs.Grammar.{simple, opening, closing, comma, point, length_word, method, string_word, sign, sum_op}
+use Rattle.js_parse.specs.Grammar.{simple, opening, closing, open_bracket, close_bracket, comma, point, length_word, method, string_word, json_word, sign, sum_op}
+use Rattle.js_parse.specs.Reading.{step_mark}
 
--- an operator has the level of its chain, and a point the one above
+-- an operator has the level of its chain, and what begins a step the one above
 abbrev pub level_of : Token → ℕ
 level_of (token.Mark mark.Plus at) = 1
 level_of (token.Mark mark.Minus at) = 1
 level_of (token.Mark mark.Point at) = 2
+level_of (token.Mark mark.OpenBracket at) = 2
 level_of _ = 0
 
 -- what follows goes on with nothing of this level or a higher one
@@ -37,6 +39,7 @@ always_stops [] = refl
 always_stops (token.Mark mark.Plus at ∷ s) = refl
 always_stops (token.Mark mark.Minus at ∷ s) = refl
 always_stops (token.Mark mark.Point at ∷ s) = refl
+always_stops (token.Mark mark.OpenBracket at ∷ s) = refl
 always_stops (_ ∷ s) = refl
 
 pub sum_op_level : (t : Token) (x : ℕ × Op) → sum_op t ≡ Some x → level_of t ≡ 1
@@ -48,6 +51,10 @@ pub closing_level : (t : Token) (x : Unit {0}) → closing t ≡ Some x → leve
 closing_level (token.Mark mark.CloseParen at) x e = refl
 closing_level _ x e = cc
 
+pub close_bracket_level : (t : Token) (x : Unit {0}) → close_bracket t ≡ Some x → level_of t ≡ 0
+close_bracket_level (token.Mark mark.CloseBracket at) x e = refl
+close_bracket_level _ x e = cc
+
 pub comma_level : (t : Token) (x : Unit {0}) → comma t ≡ Some x → level_of t ≡ 0
 comma_level (token.Mark mark.Comma at) x e = refl
 comma_level _ x e = cc
@@ -58,10 +65,23 @@ no_sum_op (token.Mark mark.Plus at ∷ s) e = cc
 no_sum_op (token.Mark mark.Minus at ∷ s) e = cc
 no_sum_op (_ ∷ s) e = refl
 
-pub no_point : (s : List Token) → stops 2 s ≡ true → heads point s ≡ false
-no_point [] e = refl
-no_point (token.Mark mark.Point at ∷ s) e = cc
-no_point (_ ∷ s) e = refl
+pub no_step : (s : List Token) → stops 2 s ≡ true → heads step_mark s ≡ false
+no_step [] e = refl
+no_step (token.Mark mark.Point at ∷ s) e = cc
+no_step (token.Mark mark.OpenBracket at ∷ s) e = cc
+no_step (_ ∷ s) e = refl
+
+pub point_begins : (s : List Token) → heads point s ≡ true → heads step_mark s ≡ true
+point_begins [] e = cc
+point_begins (token.Mark mark.Point at ∷ s) e = refl
+point_begins (token.Mark mark.OpenBracket at ∷ s) e = refl
+point_begins (_ ∷ s) e = cc
+
+pub bracket_begins : (s : List Token) → heads open_bracket s ≡ true → heads step_mark s ≡ true
+bracket_begins [] e = cc
+bracket_begins (token.Mark mark.Point at ∷ s) e = refl
+bracket_begins (token.Mark mark.OpenBracket at ∷ s) e = refl
+bracket_begins (_ ∷ s) e = cc
 
 -- the first token has no such value
 abbrev pub Lacks : {A : Type 0} → (Token → Option A) → List Token → Type 0
@@ -103,6 +123,30 @@ string_no_sign _ x e = refl
 pub string_no_simple : (t : Token) (x : ℕ) → string_word t ≡ Some x → is_some (simple t) ≡ false
 string_no_simple (token.Word word.String at) x e = refl
 string_no_simple _ x e = cc
+
+pub json_no_closing : (t : Token) (x : ℕ) → json_word t ≡ Some x → is_some (closing t) ≡ false
+json_no_closing (token.Mark m at) x e = cc
+json_no_closing _ x e = refl
+
+pub json_no_sign : (t : Token) (x : ℕ) → json_word t ≡ Some x → is_some (sign t) ≡ false
+json_no_sign (token.Mark m at) x e = cc
+json_no_sign _ x e = refl
+
+pub json_no_simple : (t : Token) (x : ℕ) → json_word t ≡ Some x → is_some (simple t) ≡ false
+json_no_simple (token.Word word.Json at) x e = refl
+json_no_simple _ x e = cc
+
+pub json_no_string : (t : Token) (x : ℕ) → json_word t ≡ Some x → is_some (string_word t) ≡ false
+json_no_string (token.Word word.Json at) x e = refl
+json_no_string _ x e = cc
+
+pub opening_no_json : (t : Token) (x : Unit {0}) → opening t ≡ Some x → is_some (json_word t) ≡ false
+opening_no_json (token.Mark m at) x e = refl
+opening_no_json _ x e = cc
+
+pub point_no_bracket : (t : Token) (x : Unit {0}) → point t ≡ Some x → is_some (open_bracket t) ≡ false
+point_no_bracket (token.Mark mark.Point at) x e = refl
+point_no_bracket _ x e = cc
 
 pub opening_no_string : (t : Token) (x : Unit {0}) → opening t ≡ Some x → is_some (string_word t) ≡ false
 opening_no_string (token.Mark m at) x e = refl

@@ -10,8 +10,8 @@ use Rattle.js_parse.specs.declared.tree.Link.{Link}
 use Rattle.js_parse.specs.declared.tree.PostStep.{PostStep}
 use Rattle.js_parse.specs.Tree.{ExprTree, LinkTree, StepTree, expr_tree, link_tree, step_tree}
 use Rattle.js_parse.specs.Reader.{Answer, Got, Bad, Reader, ◌>>=◌, and_then, one_of, heads, all_of}
-use Rattle.js_parse.specs.Grammar.{opening, closing, comma, point, sign, sum_op, second_of, link_of, chain_of, post_of, unary_of, Whole, Operand}
-use Rattle.js_parse.specs.Reading.{read_item, read_link, inner, primary_at, args_at, step_at, post_at, unary_at, expression_at}
+use Rattle.js_parse.specs.Grammar.{opening, closing, open_bracket, comma, sign, sum_op, second_of, link_of, chain_of, post_of, unary_of, Whole, Operand}
+use Rattle.js_parse.specs.Reading.{read_item, read_link, step_mark, inner, primary_at, args_at, member_at, step_at, post_at, unary_at, expression_at}
 use Rattle.js_parse.specs.Gives.{Fails}
 use Rattle.js_parse.proofs.Loops.{with_front, goes_on, fails_on, ends_on, head_of}
 use Rattle.js_parse.proofs.Expressions.{item_eats, step_eats, link_eats}
@@ -58,28 +58,34 @@ link_kept n s after rest o x xs ys l all e h w v inv =
 
 -- posts
 
-post_is : (n : ℕ) (s : List Token) → post_at n s ≡ (primary_at n s >>= λ x rest. all_of (heads point) (step_at n) rest >>= λ xs rest'. Got (post_of x xs) rest')
+post_is : (n : ℕ) (s : List Token) → post_at n s ≡ (primary_at n s >>= λ x rest. all_of (heads step_mark) (step_at n) rest >>= λ xs rest'. Got (post_of x xs) rest')
 unfolding post_at primary_at step_at
 post_is n s = refl
 
 pub post_first : (n : ℕ) (s : List Token) (fault : ParseFault) → Fails fault (primary_at n s ≡ Bad) → Fails fault (post_at n s ≡ Bad)
 post_first n s fault h = handed_on fault (primary_at n s ≡ Bad) (post_at n s ≡ Bad) (λ b. post_is n s ∙ rw b refl) h
 
-module _ (n : ℕ) (s rest0 : List Token) (first : ExprTree) (got : primary_at n s ≡ Got first rest0) (ls : List StepTree) (rest : List Token) (inv : with_front ls (all_of (heads point) (step_at n) rest) ≡ all_of (heads point) (step_at n) rest0) where
-  pub post_step : heads point rest ≡ true → (fault : ParseFault) → Fails fault (step_at n rest ≡ Bad) → Fails fault (post_at n s ≡ Bad)
+module _ (n : ℕ) (s rest0 : List Token) (first : ExprTree) (got : primary_at n s ≡ Got first rest0) (ls : List StepTree) (rest : List Token) (inv : with_front ls (all_of (heads step_mark) (step_at n) rest) ≡ all_of (heads step_mark) (step_at n) rest0) where
+  pub post_step : heads step_mark rest ≡ true → (fault : ParseFault) → Fails fault (step_at n rest ≡ Bad) → Fails fault (post_at n s ≡ Bad)
   post_step b fault h = handed_on fault (step_at n rest ≡ Bad) (post_at n s ≡ Bad) (λ bad.
-      post_is n s ∙ rw (got, fails_on (heads point) refl (step_at n) (step_eats n) ls rest (all_of (heads point) (step_at n) rest0) b bad inv) refl) h
+      post_is n s ∙ rw (got, fails_on (heads step_mark) refl (step_at n) (step_eats n) ls rest (all_of (heads step_mark) (step_at n) rest0) b bad inv) refl) h
 
-  pub post_done : heads point rest ≡ false → (t : ExprTree) → t ≡ post_of first ls → post_at n s ≡ Got t rest
-  post_done b t e = post_is n s ∙ rw (got, ends_on (heads point) refl (step_at n) (step_eats n) ls rest (all_of (heads point) (step_at n) rest0) b inv) (ap (λ t. Got t rest) (sym e))
+  pub post_done : heads step_mark rest ≡ false → (t : ExprTree) → t ≡ post_of first ls → post_at n s ≡ Got t rest
+  post_done b t e = post_is n s ∙ rw (got, ends_on (heads step_mark) refl (step_at n) (step_eats n) ls rest (all_of (heads step_mark) (step_at n) rest0) b inv) (ap (λ t. Got t rest) (sym e))
 
 pub step_smaller : (n : ℕ) (s rest : List Token) (x : StepTree) → step_at n s ≡ Got x rest → length rest < length s
 step_smaller n s rest x h = (step_eats n).less s x rest h
 
-pub step_kept : (n : ℕ) (s rest : List Token) (xs ys : List PostStep) (l : PostStep) (all : Answer (List StepTree)) → heads point s ≡ true → step_at n s ≡ Got (step_tree l) rest → ys ≡ xs ++ l ∷ [] → with_front (map step_tree xs) (all_of (heads point) (step_at n) s) ≡ all → with_front (map step_tree ys) (all_of (heads point) (step_at n) rest) ≡ all
+pub step_kept : (n : ℕ) (s rest : List Token) (xs ys : List PostStep) (l : PostStep) (all : Answer (List StepTree)) → heads step_mark s ≡ true → step_at n s ≡ Got (step_tree l) rest → ys ≡ xs ++ l ∷ [] → with_front (map step_tree xs) (all_of (heads step_mark) (step_at n) s) ≡ all → with_front (map step_tree ys) (all_of (heads step_mark) (step_at n) rest) ≡ all
 step_kept n s rest xs ys l all b h e inv =
     let front : map step_tree ys ≡ map step_tree xs ++ step_tree l ∷ [] = ap (map step_tree) e ∙ map_push step_tree xs l in
-    subst (λ f. with_front f (all_of (heads point) (step_at n) rest) ≡ all) (sym front) (goes_on (heads point) refl (step_at n) (step_eats n) (map step_tree xs) s (step_tree l) rest all b h inv)
+    subst (λ f. with_front f (all_of (heads step_mark) (step_at n) rest) ≡ all) (sym front) (goes_on (heads step_mark) refl (step_at n) (step_eats n) (map step_tree xs) s (step_tree l) rest all b h inv)
+
+-- . length | . Method Args | [ E ]
+
+pub step_plain : (n : ℕ) (s : List Token) → heads open_bracket s ≡ false → step_at n s ≡ member_at n s
+unfolding step_at member_at
+step_plain n s h = rw h refl
 
 -- operands
 

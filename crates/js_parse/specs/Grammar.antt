@@ -37,6 +37,15 @@ abbrev pub closing : Token → Option (Unit {0})
 closing (token.Mark mark.CloseParen at) = Some tt
 closing _ = None
 
+-- the mark [ : its offset
+abbrev pub open_bracket : Token → Option ℕ
+open_bracket (token.Mark mark.OpenBracket at) = Some at
+open_bracket _ = None
+
+abbrev pub close_bracket : Token → Option (Unit {0})
+close_bracket (token.Mark mark.CloseBracket at) = Some tt
+close_bracket _ = None
+
 abbrev pub comma : Token → Option (Unit {0})
 comma (token.Mark mark.Comma at) = Some tt
 comma _ = None
@@ -73,6 +82,16 @@ from_word (token.Word word.FromCharCode at) = Some builtin.FromCharCode
 from_word (token.Word word.FromCodePoint at) = Some builtin.FromCodePoint
 from_word _ = None
 
+-- the word JSON: its offset
+abbrev pub json_word : Token → Option ℕ
+json_word (token.Word word.Json at) = Some at
+json_word _ = None
+
+-- what stands behind JSON and a point
+abbrev pub stringify_word : Token → Option Builtin
+stringify_word (token.Word word.Stringify at) = Some builtin.Stringify
+stringify_word _ = None
+
 -- a sign: its offset, and whether it is a minus
 abbrev pub sign : Token → Option (ℕ × Bool)
 sign (token.Mark mark.Minus at) = Some (at, true)
@@ -97,6 +116,12 @@ list_of x xs = x ∷ xs
 
 abbrev pub none_of : {A B : Type 0} → A → List B
 none_of x = []
+
+abbrev pub single_of : {A : Type 0} → A → List A
+single_of x = x ∷ []
+
+abbrev pub index_of : ℕ → ExprTree → StepTree
+index_of at t = tree.of_index at t
 
 abbrev pub call_of : ℕ × Method → List ExprTree → StepTree
 call_of m ts = tree.of_call m.0 m.1 (exprs ts)
@@ -149,19 +174,24 @@ args_rest E = Either (Mapped none_of (One closing)) (Then first_of (items E) (On
 abbrev pub args : Lang ExprTree → Lang (List ExprTree)
 args E = Then second_of (One opening) (args_rest E)
 
--- . fromCharCode | . fromCodePoint
-abbrev pub string_member : Lang Builtin
-string_member = Then second_of (One point) (One from_word)
+-- . word
+abbrev pub behind_point : (Token → Option Builtin) → Lang Builtin
+behind_point v = Then second_of (One point) (One v)
 
 -- String . fromCharCode Args | String . fromCodePoint Args
 abbrev pub string_call : Lang ExprTree → Lang ExprTree
-string_call E = Then builtin_of (One string_word) (Then pair_of string_member (args E))
+string_call E = Then builtin_of (One string_word) (Then pair_of (behind_point from_word) (args E))
+
+-- JSON . stringify ( E )
+abbrev pub json_call : Lang ExprTree → Lang ExprTree
+json_call E = Then builtin_of (One json_word) (Then pair_of (behind_point stringify_word) (Mapped single_of (parens E)))
 
 -- what parentheses are a part of
 abbrev pub enclosed : Lang ExprTree → Lang ExprTree
-enclosed E = Either (string_call E) (parens E)
+enclosed E = Either (string_call E) (Either (json_call E) (parens E))
 
--- Text | Number | undefined | null | true | false | NaN | Infinity | ( E ) | String . fromCharCode Args | String . fromCodePoint Args
+-- Text | Number | undefined | null | true | false | NaN | Infinity | ( E )
+-- | String . fromCharCode Args | String . fromCodePoint Args | JSON . stringify ( E )
 abbrev pub primary : Bool → Lang ExprTree → Lang ExprTree
 primary room E = Either (One simple) (only_if room (enclosed E))
 
@@ -170,8 +200,16 @@ abbrev pub call : Lang ExprTree → Lang StepTree
 call E = Then call_of (One method) (args E)
 
 -- . length | . Method Args
+abbrev pub member : Bool → Lang ExprTree → Lang StepTree
+member room E = Then second_of (One point) (Either (One length_word) (only_if room (call E)))
+
+-- [ E ]
+abbrev pub index : Lang ExprTree → Lang StepTree
+index E = Then index_of (One open_bracket) (Then first_of E (One close_bracket))
+
+-- . length | . Method Args | [ E ]
 abbrev pub step : Bool → Lang ExprTree → Lang StepTree
-step room E = Then second_of (One point) (Either (One length_word) (only_if room (call E)))
+step room E = Either (only_if room (index E)) (member room E)
 
 -- Primary { Step }
 abbrev pub post : Bool → Lang ExprTree → Lang ExprTree

@@ -1,12 +1,14 @@
 -- Reading each production from the front. The public contracts don't speak of it.
-use Rattle.std.specs.Prelude.{ℕ, zero, suc, Bool, true, false, List, Option}
+use Rattle.std.specs.Prelude.{ℕ, zero, suc, Bool, true, false, List, Option, Some, None}
+use Rattle.js_lex.specs.declared.token.Mark.TheVariants as mark
 use Rattle.js_parse.specs.declared.token.Token.{Token}
+use Rattle.js_parse.specs.declared.token.Token.TheVariants as token
 use Rattle.js_parse.specs.declared.parser.Role.{Role}
 use Rattle.js_parse.specs.declared.tree.Op.{Op}
 use Rattle.js_parse.specs.declared.tree.Builtin.{Builtin}
 use Rattle.js_parse.specs.Tree.{ExprTree, LinkTree, StepTree, StmtTree}
 use Rattle.js_parse.specs.Reader.{Reader, wrong, map_by, and_then, one_of, heads, choose, all_of, read_if, at_end}
-use Rattle.js_parse.specs.Grammar.{simple, opening, closing, comma, point, semi, print_word, length_word, method, string_word, from_word, sign, sum_op, first_of, second_of, list_of, none_of, call_of, pair_of, builtin_of, post_of, unary_of, link_of, chain_of, print_of, Which, Whole, Operand, has_room, prints}
+use Rattle.js_parse.specs.Grammar.{simple, opening, closing, open_bracket, close_bracket, comma, point, semi, print_word, length_word, method, string_word, from_word, json_word, stringify_word, sign, sum_op, first_of, second_of, list_of, none_of, single_of, index_of, call_of, pair_of, builtin_of, post_of, unary_of, link_of, chain_of, print_of, Which, Whole, Operand, has_room, prints}
 
 abbrev pub read_parens : Reader ExprTree → Reader ExprTree
 read_parens e = and_then second_of (one_of opening) (and_then first_of e (one_of closing))
@@ -23,14 +25,17 @@ read_args_rest e = choose (heads closing) (map_by none_of (one_of closing)) (and
 abbrev pub read_args : Reader ExprTree → Reader (List ExprTree)
 read_args e = and_then second_of (one_of opening) (read_args_rest e)
 
-abbrev pub read_string_member : Reader Builtin
-read_string_member = and_then second_of (one_of point) (one_of from_word)
+abbrev pub read_behind_point : (Token → Option Builtin) → Reader Builtin
+read_behind_point v = and_then second_of (one_of point) (one_of v)
 
 abbrev pub read_string_call : Reader ExprTree → Reader ExprTree
-read_string_call e = and_then builtin_of (one_of string_word) (and_then pair_of read_string_member (read_args e))
+read_string_call e = and_then builtin_of (one_of string_word) (and_then pair_of (read_behind_point from_word) (read_args e))
+
+abbrev pub read_json_call : Reader ExprTree → Reader ExprTree
+read_json_call e = and_then builtin_of (one_of json_word) (and_then pair_of (read_behind_point stringify_word) (map_by single_of (read_parens e)))
 
 abbrev pub read_enclosed : Reader ExprTree → Reader ExprTree
-read_enclosed e = choose (heads string_word) (read_string_call e) (read_parens e)
+read_enclosed e = choose (heads string_word) (read_string_call e) (choose (heads json_word) (read_json_call e) (read_parens e))
 
 abbrev pub read_primary : Bool → Reader ExprTree → Reader ExprTree
 read_primary room e = choose (heads simple) (one_of simple) (read_if room (read_enclosed e))
@@ -38,11 +43,23 @@ read_primary room e = choose (heads simple) (one_of simple) (read_if room (read_
 abbrev pub read_call : Reader ExprTree → Reader StepTree
 read_call e = and_then call_of (one_of method) (read_args e)
 
+abbrev pub read_member : Bool → Reader ExprTree → Reader StepTree
+read_member room e = and_then second_of (one_of point) (choose (heads length_word) (one_of length_word) (read_if room (read_call e)))
+
+abbrev pub read_index : Reader ExprTree → Reader StepTree
+read_index e = and_then index_of (one_of open_bracket) (and_then first_of e (one_of close_bracket))
+
 abbrev pub read_step : Bool → Reader ExprTree → Reader StepTree
-read_step room e = and_then second_of (one_of point) (choose (heads length_word) (one_of length_word) (read_if room (read_call e)))
+read_step room e = choose (heads open_bracket) (read_if room (read_index e)) (read_member room e)
+
+-- a token that begins a step
+abbrev pub step_mark : Token → Option (Unit {0})
+step_mark (token.Mark mark.Point at) = Some tt
+step_mark (token.Mark mark.OpenBracket at) = Some tt
+step_mark _ = None
 
 abbrev pub read_post : Bool → Reader ExprTree → Reader ExprTree
-read_post room e = and_then post_of (read_primary room e) (all_of (heads point) (read_step room e))
+read_post room e = and_then post_of (read_primary room e) (all_of (heads step_mark) (read_step room e))
 
 abbrev pub read_signed : Reader ExprTree → Reader ExprTree
 read_signed u = and_then unary_of (one_of sign) u
@@ -73,11 +90,20 @@ abbrev pub inner : ℕ → Which → Reader ExprTree
 inner zero w = wrong
 inner (suc n) w = read_at n w
 
+unfoldable pub parens_at : ℕ → Reader ExprTree
+parens_at n = read_parens (inner n Whole)
+
 unfoldable pub primary_at : ℕ → Reader ExprTree
 primary_at n = read_primary (has_room n) (inner n Whole)
 
 unfoldable pub string_call_at : ℕ → Reader ExprTree
 string_call_at n = read_string_call (inner n Whole)
+
+unfoldable pub json_call_at : ℕ → Reader ExprTree
+json_call_at n = read_json_call (inner n Whole)
+
+unfoldable pub member_at : ℕ → Reader StepTree
+member_at n = read_member (has_room n) (inner n Whole)
 
 unfoldable pub args_at : ℕ → Reader (List ExprTree)
 args_at n = read_args (inner n Whole)

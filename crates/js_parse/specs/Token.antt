@@ -25,11 +25,15 @@ method_of letters =
     else if bytes_eq letters (codes "includes") then Some method.Includes
     else if bytes_eq letters (codes "indexOf") then Some method.IndexOf
     else if bytes_eq letters (codes "isWellFormed") then Some method.IsWellFormed
+    else if bytes_eq letters (codes "join") then Some method.Join
     else if bytes_eq letters (codes "lastIndexOf") then Some method.LastIndexOf
     else if bytes_eq letters (codes "padEnd") then Some method.PadEnd
     else if bytes_eq letters (codes "padStart") then Some method.PadStart
     else if bytes_eq letters (codes "repeat") then Some method.Repeat
+    else if bytes_eq letters (codes "replace") then Some method.Replace
+    else if bytes_eq letters (codes "replaceAll") then Some method.ReplaceAll
     else if bytes_eq letters (codes "slice") then Some method.Slice
+    else if bytes_eq letters (codes "split") then Some method.Split
     else if bytes_eq letters (codes "startsWith") then Some method.StartsWith
     else if bytes_eq letters (codes "substr") then Some method.Substr
     else if bytes_eq letters (codes "substring") then Some method.Substring
@@ -53,6 +57,8 @@ plain_word letters =
     else if bytes_eq letters (codes "String") then word.String
     else if bytes_eq letters (codes "fromCharCode") then word.FromCharCode
     else if bytes_eq letters (codes "fromCodePoint") then word.FromCodePoint
+    else if bytes_eq letters (codes "JSON") then word.Json
+    else if bytes_eq letters (codes "stringify") then word.Stringify
     else word.Other
 
 abbrev pub method_or : Word → Option Method → Word

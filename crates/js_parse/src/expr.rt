@@ -1,14 +1,15 @@
 // From tokens to the tree of an expression.
 ghost use Rattle.std.specs.Prelude.{◌≡◌, ◌<◌, map};
 ghost use Rattle.js_parse.specs.Tree.{expr_tree, step_tree};
-ghost use Rattle.js_parse.specs.Reading.{args_at, string_call_at, primary_at, step_at, post_at, unary_at, expression_at};
+ghost use Rattle.js_parse.specs.Reading.{args_at, parens_at, string_call_at, json_call_at, primary_at, member_at, step_at, post_at, unary_at, expression_at};
 ghost use Rattle.js_parse.specs.Gives.{Gives};
 
 use crate::look::{
-    REFUSED, begins_step, begins_string, close, closing, comma, length_word, method, opening,
-    point, sign, simple, string_member, string_word, sum_op,
+    REFUSED, begins_json, begins_step, begins_string, close, close_bracket, closing, comma,
+    json_member, json_word, length_word, method, open_bracket, opening, point, sign, simple,
+    string_member, string_word, sum_op,
 };
-use crate::node::{builtin, call, chain, link, post, signed};
+use crate::node::{builtin, call, chain, index, link, post, signed};
 use crate::parser::ParseFault;
 use crate::token::Token;
 use crate::tree::{Expr, PostStep};
@@ -41,6 +42,19 @@ pub(crate) fn args(
     Ok((items, rest))
 }
 
+// ( Expr )
+#[cycle(expr)]
+#[tactic(auto, using(crate::proofs::Rooms::inner_whole), unfolding(crate::specs::Reading::parens_at))]
+fn parens(alloc: Global, tokens: &[Token], room: u32) -> Result<(Expr, &[Token]), ParseFault>
+    requires { 0 < room }
+    ensures { Gives (λ found. expr_tree found.0) (λ found. found.1.now) result (parens_at room tokens.now) }
+{
+    let rest = opening(tokens)?;
+    let (inside, rest) = expression(alloc, rest, room - 1)?;
+    let rest = close(rest)?;
+    Ok((inside, rest))
+}
+
 // String . fromCharCode Args | String . fromCodePoint Args
 #[cycle(expr)]
 #[tactic(auto, unfolding(crate::specs::Reading::string_call_at, crate::specs::Reading::args_at))]
@@ -54,10 +68,25 @@ fn string_call(alloc: Global, tokens: &[Token], room: u32) -> Result<(Expr, &[To
     Ok((builtin(at, which, args), rest))
 }
 
-// Text | Number | undefined | null | true | false | NaN | Infinity | ( Expr )
-// | String . fromCharCode Args | String . fromCodePoint Args
+// JSON . stringify ( Expr )
 #[cycle(expr)]
-#[tactic(auto, using(crate::proofs::Rooms::room_for, crate::proofs::Rooms::no_room_for, crate::proofs::Rooms::inner_whole), unfolding(crate::specs::Reading::primary_at, crate::specs::Reading::string_call_at))]
+#[tactic(auto, unfolding(crate::specs::Reading::json_call_at, crate::specs::Reading::parens_at))]
+fn json_call(alloc: Global, tokens: &[Token], room: u32) -> Result<(Expr, &[Token]), ParseFault>
+    requires { 0 < room }
+    ensures { Gives (λ found. expr_tree found.0) (λ found. found.1.now) result (json_call_at room tokens.now) }
+{
+    let (at, rest) = json_word(tokens)?;
+    let (which, rest) = json_member(rest)?;
+    let (argument, rest) = parens(alloc, rest, room)?;
+    let mut args = Vec::new(alloc);
+    args.push(argument)?;
+    Ok((builtin(at, which, args), rest))
+}
+
+// Text | Number | undefined | null | true | false | NaN | Infinity | ( Expr )
+// | String . fromCharCode Args | String . fromCodePoint Args | JSON . stringify ( Expr )
+#[cycle(expr)]
+#[tactic(auto, using(crate::proofs::Rooms::room_for, crate::proofs::Rooms::no_room_for), unfolding(crate::specs::Reading::primary_at, crate::specs::Reading::string_call_at, crate::specs::Reading::json_call_at, crate::specs::Reading::parens_at))]
 fn primary(alloc: Global, tokens: &[Token], room: u32) -> Result<(Expr, &[Token]), ParseFault>
     ensures { Gives (λ found. expr_tree found.0) (λ found. found.1.now) result (primary_at room tokens.now) }
 {
@@ -70,17 +99,17 @@ fn primary(alloc: Global, tokens: &[Token], room: u32) -> Result<(Expr, &[Token]
     if begins_string(tokens) {
         return string_call(alloc, tokens, room);
     }
-    let rest = opening(tokens)?;
-    let (inside, rest) = expression(alloc, rest, room - 1)?;
-    let rest = close(rest)?;
-    Ok((inside, rest))
+    if begins_json(tokens) {
+        return json_call(alloc, tokens, room);
+    }
+    parens(alloc, tokens, room)
 }
 
 // . length | . Method Args
 #[cycle(expr)]
-#[tactic(auto, using(crate::proofs::Rooms::room_for, crate::proofs::Rooms::no_room_for), unfolding(crate::specs::Reading::step_at, crate::specs::Reading::args_at))]
-fn step(alloc: Global, tokens: &[Token], room: u32) -> Result<(PostStep, &[Token]), ParseFault>
-    ensures { Gives (λ found. step_tree found.0) (λ found. found.1.now) result (step_at room tokens.now) }
+#[tactic(auto, using(crate::proofs::Rooms::room_for, crate::proofs::Rooms::no_room_for), unfolding(crate::specs::Reading::member_at, crate::specs::Reading::args_at))]
+fn member(alloc: Global, tokens: &[Token], room: u32) -> Result<(PostStep, &[Token]), ParseFault>
+    ensures { Gives (λ found. step_tree found.0) (λ found. found.1.now) result (member_at room tokens.now) }
 {
     let rest = point(tokens)?;
     if let Some(after) = length_word(rest) {
@@ -92,6 +121,23 @@ fn step(alloc: Global, tokens: &[Token], room: u32) -> Result<(PostStep, &[Token
     let (method, rest) = method(rest)?;
     let (args, rest) = args(alloc, rest, room)?;
     Ok((call(method, args), rest))
+}
+
+// . length | . Method Args | [ Expr ]
+#[cycle(expr)]
+#[tactic(auto, using(crate::proofs::Rooms::room_for, crate::proofs::Rooms::no_room_for, crate::proofs::Rooms::inner_whole), unfolding(crate::specs::Reading::step_at))]
+fn step(alloc: Global, tokens: &[Token], room: u32) -> Result<(PostStep, &[Token]), ParseFault>
+    ensures { Gives (λ found. step_tree found.0) (λ found. found.1.now) result (step_at room tokens.now) }
+{
+    let Some((at, rest)) = open_bracket(tokens) else {
+        return member(alloc, tokens, room);
+    };
+    if room == 0 {
+        return Err(REFUSED);
+    }
+    let (inside, rest) = expression(alloc, rest, room - 1)?;
+    let rest = close_bracket(rest)?;
+    Ok((index(at, inside), rest))
 }
 
 // Primary { Step }

@@ -1,10 +1,10 @@
 //! Reads the text of a script into its tree.
 //!
 //! [`parse`] is the one reader. The language of today has statements `print ( [ Expr { , Expr } ] ) ;`
-//! over all literals, with `+`, `-`, parentheses, `.length`, the methods of strings but `join`,
-//! `replace`, `replaceAll` and `split`, and the calls of `String.fromCharCode` and
-//! `String.fromCodePoint`, and may begin with the directive `'use strict' ;`. At most 200 may be
-//! open at once: parentheses, and signs whose operand isn't finished.
+//! over all literals, with `+`, `-`, parentheses, `.length`, indexing, all methods, and the calls of
+//! `String.fromCharCode`, `String.fromCodePoint` and `JSON.stringify`, and may begin with the
+//! directive `'use strict' ;`. At most 200 may be open at once: parentheses, brackets, and signs
+//! whose operand isn't finished.
 #![tactic(auto)]
 
 mod expr;

@@ -2,8 +2,8 @@
 ghost use Rattle.std.specs.Prelude.{◌≡◌, [], ◌∷◌, MatchOption, false};
 ghost use Rattle.js_parse.specs.Tree.{expr_tree, of_length};
 ghost use Rattle.js_parse.specs.Reader.{Got, one_of, heads};
-ghost use Rattle.js_parse.specs.Grammar.{simple, opening, closing, comma, point, semi, print_word, method, sign, sum_op, length_word, string_word, from_word};
-ghost use Rattle.js_parse.specs.Reading.{read_string_member};
+ghost use Rattle.js_parse.specs.Grammar.{simple, opening, closing, comma, point, semi, print_word, method, sign, sum_op, length_word, open_bracket, close_bracket, string_word, from_word, json_word, stringify_word};
+ghost use Rattle.js_parse.specs.Reading.{read_behind_point, step_mark};
 ghost use Rattle.js_parse.specs.Gives.{Gives};
 
 use crate::parser::ParseFault;
@@ -76,9 +76,31 @@ pub(crate) fn comma(tokens: &[Token]) -> Option<&[Token]>
 }
 
 pub(crate) fn begins_step(tokens: &[Token]) -> bool
-    ensures { result ≡ heads point tokens.now }
+    ensures { result ≡ heads step_mark tokens.now }
 {
-    matches!(next(tokens), Some((Token::Mark(Mark::Point, _), _)))
+    matches!(
+        next(tokens),
+        Some((Token::Mark(Mark::Point | Mark::OpenBracket, _), _))
+    )
+}
+
+/// The mark `[`: its offset.
+pub(crate) fn open_bracket(tokens: &[Token]) -> Option<(u32, &[Token])>
+    ensures { MatchOption result (heads open_bracket tokens.now ≡ false) (λ found. one_of open_bracket tokens.now ≡ Got found.0 found.1.now) }
+{
+    match next(tokens) {
+        Some((Token::Mark(Mark::OpenBracket, at), rest)) => Some((at, rest)),
+        _ => None,
+    }
+}
+
+pub(crate) fn close_bracket(tokens: &[Token]) -> Result<&[Token], ParseFault>
+    ensures { Gives (λ _. tt) (λ rest. rest.now) result (one_of close_bracket tokens.now) }
+{
+    match next(tokens) {
+        Some((Token::Mark(Mark::CloseBracket, _), rest)) => Ok(rest),
+        _ => Err(REFUSED),
+    }
 }
 
 pub(crate) fn point(tokens: &[Token]) -> Result<&[Token], ParseFault>
@@ -161,10 +183,43 @@ fn from_word(tokens: &[Token]) -> Result<(Builtin, &[Token]), ParseFault>
 
 /// `. fromCharCode | . fromCodePoint`
 pub(crate) fn string_member(tokens: &[Token]) -> Result<(Builtin, &[Token]), ParseFault>
-    ensures { Gives (λ found. found.0) (λ found. found.1.now) result (read_string_member tokens.now) }
+    ensures { Gives (λ found. found.0) (λ found. found.1.now) result (read_behind_point from_word tokens.now) }
 {
     let rest = point(tokens)?;
     from_word(rest)
+}
+
+pub(crate) fn begins_json(tokens: &[Token]) -> bool
+    ensures { result ≡ heads json_word tokens.now }
+{
+    matches!(next(tokens), Some((Token::Word(Word::Json, _), _)))
+}
+
+/// The word `JSON`: its offset.
+pub(crate) fn json_word(tokens: &[Token]) -> Result<(u32, &[Token]), ParseFault>
+    ensures { Gives (λ found. found.0) (λ found. found.1.now) result (one_of json_word tokens.now) }
+{
+    match next(tokens) {
+        Some((Token::Word(Word::Json, at), rest)) => Ok((at, rest)),
+        _ => Err(REFUSED),
+    }
+}
+
+fn stringify_word(tokens: &[Token]) -> Result<(Builtin, &[Token]), ParseFault>
+    ensures { Gives (λ found. found.0) (λ found. found.1.now) result (one_of stringify_word tokens.now) }
+{
+    match next(tokens) {
+        Some((Token::Word(Word::Stringify, _), rest)) => Ok((Builtin::Stringify, rest)),
+        _ => Err(REFUSED),
+    }
+}
+
+/// `. stringify`
+pub(crate) fn json_member(tokens: &[Token]) -> Result<(Builtin, &[Token]), ParseFault>
+    ensures { Gives (λ found. found.0) (λ found. found.1.now) result (read_behind_point stringify_word tokens.now) }
+{
+    let rest = point(tokens)?;
+    stringify_word(rest)
 }
 
 /// A sign: its offset, and whether it is a minus.

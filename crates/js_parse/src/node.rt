@@ -1,7 +1,7 @@
 // The nodes of the tree.
 ghost use Rattle.std.specs.Prelude.{◌≡◌, map, IfOk};
 ghost use Rattle.js_parse.specs.Tree.{expr_tree, link_tree, step_tree, stmt_tree};
-ghost use Rattle.js_parse.specs.Grammar.{call_of, builtin_of, post_of, unary_of, link_of, chain_of, print_of};
+ghost use Rattle.js_parse.specs.Grammar.{call_of, index_of, builtin_of, post_of, unary_of, link_of, chain_of, print_of};
 
 use crate::tree::{Builtin, Expr, Link, Method, Op, PostStep, Stmt};
 use std::alloc::{AllocError, Global};
@@ -24,6 +24,12 @@ pub(crate) fn call(method: (u32, Method), args: Vec<Expr>) -> PostStep
         method: method.1,
         args,
     }
+}
+
+pub(crate) fn index(at: u32, index: Expr) -> PostStep
+    ensures { step_tree result ≡ index_of at (expr_tree index) }
+{
+    PostStep::Index { at, index }
 }
 
 pub(crate) fn builtin(at: u32, which: Builtin, args: Vec<Expr>) -> Expr

@@ -30,7 +30,7 @@ fn is_refused(rt: &HostRuntime, bytes: &[u8]) -> bool {
 
 #[test]
 fn scripts_and_others(rt: HostRuntime) -> Result<(), Fail> {
-    let scripts: [&[u8]; 21] = [
+    let scripts: [&[u8]; 28] = [
         b"",
         b"\xEF\xBB\xBF // a comment\n /* another */ \t",
         b"'use strict';",
@@ -52,11 +52,18 @@ fn scripts_and_others(rt: HostRuntime) -> Result<(), Fail> {
         b"print(-String.fromCharCode(97) + String.fromCodePoint(98));",
         b"print('a'.padStart(String.fromCharCode(1).codePointAt(0), 'b').trim().trimEnd());",
         b"print('a'.concat('b', 'c', 'd').lastIndexOf('b', ('c' + 'd').indexOf('c')));",
+        b"print('a'[0]);",
+        b"print('a' [ 'b'.length - 1 ] [0].length);",
+        b"print('a,b'.split(',')[1].split('')[0].length);",
+        b"print(1[2], undefined[null], (1)[('a')[0]]);",
+        b"print(JSON.stringify('a'));",
+        b"print(JSON . stringify ( ('a,b'.split(',')) )[0]);",
+        b"print('a-b'.replaceAll('-', JSON.stringify(String.fromCharCode(1)[0])).replace('a', '$&'));",
     ];
     for bytes in scripts {
         assert!(rt; is_script(&rt, bytes));
     }
-    let others: [&[u8]; 43] = [
+    let others: [&[u8]; 59] = [
         b"let",
         b"print(name);",
         b"print('a')",
@@ -72,7 +79,6 @@ fn scripts_and_others(rt: HostRuntime) -> Result<(), Fail> {
         b"print('a'.at);",
         b"print('a'.length());",
         b"print('a'.length length);",
-        b"print('a'[0]);",
         b"print(! true);",
         b"print('a'); x",
         b"'use strict'",
@@ -100,6 +106,23 @@ fn scripts_and_others(rt: HostRuntime) -> Result<(), Fail> {
         b"print(fromCodePoint(1));",
         b"print('a'.fromCodePoint(1));",
         b"print('a'.String.fromCodePoint(1));",
+        b"print('a'[]);",
+        b"print('a'[0);",
+        b"print('a'0]);",
+        b"print('a'[0, 1]);",
+        b"print('a'[0]]);",
+        b"print('a'.[0]);",
+        b"print([0]);",
+        b"print(String['fromCharCode'](1));",
+        b"print('a'['length']());",
+        b"print(JSON);",
+        b"print(JSON.stringify);",
+        b"print(JSON.stringify());",
+        b"print(JSON.stringify(1, 2));",
+        b"print(JSON.parse('1'));",
+        b"print(JSON.fromCharCode(1));",
+        b"print(String.stringify(1));",
+        b"print('a'.stringify(1));",
     ];
     for bytes in others {
         assert!(rt; is_refused(&rt, bytes));
@@ -150,6 +173,10 @@ fn two_hundred_may_be_open(rt: HostRuntime) -> Result<(), Fail> {
         ("''.at(", ")", 199),
         ("''.substring(0, -", ")", 99),
         ("String.fromCharCode(", ")", 199),
+        ("''[", "]", 199),
+        ("JSON.stringify(", ")", 199),
+        ("-''[(", ")]", 66),
+        ("'a'.split('')[1 + ", "]", 199),
         ("1 + String.fromCodePoint(1, ", ")", 199),
     ];
     for (open, close, most) in kinds {
@@ -179,11 +206,15 @@ fn each_word_is_its_method(rt: HostRuntime) -> Result<(), Fail> {
         ("includes", Method::Includes),
         ("indexOf", Method::IndexOf),
         ("isWellFormed", Method::IsWellFormed),
+        ("join", Method::Join),
         ("lastIndexOf", Method::LastIndexOf),
         ("padEnd", Method::PadEnd),
         ("padStart", Method::PadStart),
         ("repeat", Method::Repeat),
+        ("replace", Method::Replace),
+        ("replaceAll", Method::ReplaceAll),
         ("slice", Method::Slice),
+        ("split", Method::Split),
         ("startsWith", Method::StartsWith),
         ("substr", Method::Substr),
         ("substring", Method::Substring),
@@ -220,30 +251,59 @@ fn each_word_is_its_method(rt: HostRuntime) -> Result<(), Fail> {
 }
 
 #[test]
+fn an_index_is_a_step(rt: HostRuntime) -> Result<(), Fail> {
+    let Some(script) = script_of(&rt, b"print('a'.length [1 + 2].at(3)[true]);") else {
+        assert!(rt; false);
+        return Ok(());
+    };
+    let Some(Expr::Post { steps, .. }) = first_argument(&script) else {
+        assert!(rt; false);
+        return Ok(());
+    };
+    assert_eq!(rt; steps.len(), 4);
+    assert!(rt; matches!(steps[0], PostStep::Length));
+    match &steps[1] {
+        PostStep::Index { at, index } => {
+            assert_eq!(rt; *at, 17);
+            assert!(rt; matches!(index, Expr::Chain { .. }));
+        }
+        _ => assert!(rt; false),
+    }
+    assert!(rt; matches!(steps[2], PostStep::Call { at: 25, .. }));
+    match &steps[3] {
+        PostStep::Index { at, index } => {
+            assert_eq!(rt; *at, 30);
+            assert!(rt; matches!(index, Expr::Bool { value: true }));
+        }
+        _ => assert!(rt; false),
+    }
+    Ok(())
+}
+
+#[test]
 fn each_built_in_call_is_its_function(rt: HostRuntime) -> Result<(), Fail> {
     let calls = [
-        ("print(String.fromCharCode());", 6, Builtin::FromCharCode, 0),
+        ("print(String.fromCharCode());", Builtin::FromCharCode, 0),
         (
-            "print( String . fromCharCode(1, 2));",
-            7,
+            "print(String.fromCharCode(1, 2));",
             Builtin::FromCharCode,
             2,
         ),
         (
-            "print(String.fromCodePoint(1));",
-            6,
+            "print(String . fromCodePoint(1));",
             Builtin::FromCodePoint,
             1,
         ),
+        ("print(JSON.stringify('a'));", Builtin::Stringify, 1),
     ];
-    for (text, from, expected, count) in calls {
+    for (text, expected, count) in calls {
         let Some(script) = script_of(&rt, text.as_bytes()) else {
             assert!(rt; false);
             continue;
         };
         match first_argument(&script) {
             Some(Expr::Builtin { at, which, args }) => {
-                assert_eq!(rt; *at, from);
+                assert_eq!(rt; *at, 6);
                 assert_eq!(rt; *which, expected);
                 assert_eq!(rt; args.len(), count);
             }

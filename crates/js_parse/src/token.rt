@@ -28,6 +28,8 @@ pub enum Word {
     String,
     FromCharCode,
     FromCodePoint,
+    Json,
+    Stringify,
     Other,
 }
 
@@ -62,6 +64,8 @@ fn method_named(letters: &[u8]) -> Option<Method>
         Some(Method::IndexOf)
     } else if letters == b"isWellFormed".as_slice() {
         Some(Method::IsWellFormed)
+    } else if letters == b"join".as_slice() {
+        Some(Method::Join)
     } else if letters == b"lastIndexOf".as_slice() {
         Some(Method::LastIndexOf)
     } else if letters == b"padEnd".as_slice() {
@@ -70,8 +74,14 @@ fn method_named(letters: &[u8]) -> Option<Method>
         Some(Method::PadStart)
     } else if letters == b"repeat".as_slice() {
         Some(Method::Repeat)
+    } else if letters == b"replace".as_slice() {
+        Some(Method::Replace)
+    } else if letters == b"replaceAll".as_slice() {
+        Some(Method::ReplaceAll)
     } else if letters == b"slice".as_slice() {
         Some(Method::Slice)
+    } else if letters == b"split".as_slice() {
+        Some(Method::Split)
     } else if letters == b"startsWith".as_slice() {
         Some(Method::StartsWith)
     } else if letters == b"substr".as_slice() {
@@ -117,6 +127,10 @@ fn plain_word(letters: &[u8]) -> Word
         Word::FromCharCode
     } else if letters == b"fromCodePoint".as_slice() {
         Word::FromCodePoint
+    } else if letters == b"JSON".as_slice() {
+        Word::Json
+    } else if letters == b"stringify".as_slice() {
+        Word::Stringify
     } else {
         Word::Other
     }

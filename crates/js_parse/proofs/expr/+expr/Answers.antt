@@ -2,7 +2,7 @@ use Rattle.std.proofs.Common.{rules, ◌≡◌, ◌∙◌, [], ◌∷◌, ◌++�
 use Rattle.std.proofs.lemmas.Result.{err_from_is_err_and}
 use Rattle.js_parse.specs.Tree.{expr_tree, step_tree, link_tree}
 use Rattle.js_parse.specs.Grammar.{chain_of, post_of}
-use Rattle.js_parse.proofs.Turns.{sum_first, sum_right, sum_done, link_smaller, link_kept, post_first, post_step, post_done, step_smaller, step_kept, unary_plain, args_close, args_done, item_smaller, item_kept}
+use Rattle.js_parse.proofs.Turns.{sum_first, sum_right, sum_done, link_smaller, link_kept, post_first, post_step, post_done, step_smaller, step_kept, step_plain, unary_plain, args_close, args_done, item_smaller, item_kept}
 use Rattle.js_parse.proofs.expr.+expr.Goals as goal
 
 pub expression-returns-in_err-first : goal.expression-returns-in_err-first
@@ -47,6 +47,9 @@ postfix-loop-rest-preserved t c =
 pub postfix-returns : goal.postfix-returns
 postfix-returns t c =
     post_done c.args.room c.args.tokens.now c.in_ok-of.rest.now _ c.in_ok-of.ensures _ c.loop-rest.rest.now c.loop-rest.invariant.0 (search rules) _ (c.in_ok-tree.ensures ∙ ap (λ f. post_of (expr_tree f) (map step_tree c.loop-rest.steps.items)) c.loop-rest.invariant.1)
+
+pub step-returns-in_default : goal.step-returns-in_default
+step-returns-in_default t c = rw (step_plain c.args.room c.args.tokens.now c.in_default.ensures) c.member.ensures
 
 pub unary-returns-in_default : goal.unary-returns-in_default
 unary-returns-in_default t c = rw (unary_plain c.args.room c.args.tokens.now c.in_default.ensures) c.postfix.ensures
