@@ -1,8 +1,11 @@
 -- What holds of a reader for a language, and of readers put together.
-use Rattle.std.proofs.Common.{◌≡◌, ℕ, zero, suc, ◌<◌, ◌≤◌, List, [], ◌∷◌, ◌++◌, length, Bool, true, false, cond, Option, Some, None, refl, sym, ap, ◌∙◌, subst, arith, append_assoc, length-append}
+use Rattle.std.proofs.Common.{◌≡◌, ℕ, zero, suc, ◌+◌, ◌<◌, ◌≤◌, List, [], ◌∷◌, ◌++◌, length, Bool, true, false, cond, Option, Some, None, ◌⊎◌, inl, inr, refl, sym, ap, ◌∙◌, subst, arith, append_assoc, length-append}
 use Rattle.js_parse.specs.declared.token.Token.{Token}
-use Rattle.js_parse.specs.Lang.{Lang, One, one, Then, both, Mapped, mapped, Either, left, right, Many, end, more, only_if}
-use Rattle.js_parse.specs.Reader.{Answer, Got, Bad, Reader, ◌>>=◌, map_by, and_then, take_or, one_of, choose, read_if, loop, all_of}
+use Rattle.js_parse.specs.declared.token.Token.TheVariants as token
+use Rattle.js_parse.specs.declared.token.Kind.{Kind}
+use Rattle.js_parse.specs.declared.token.Kind.TheVariants.{Unexpected, NotInProfile, TooDeep}
+use Rattle.js_parse.specs.Lang.{Lang, One, one, Then, both, Mapped, mapped, Either, left, right, Many, end, more, Never}
+use Rattle.js_parse.specs.Reader.{Answer, Got, Bad, Reader, ◌>>=◌, kind_of, wrong, too_deep, map_by, and_then, take_or, one_of, opens, choose, loop, all_of}
 
 -- the front of the tokens spells the value
 pub record Front {A : Type 0} (L : Lang A) (s : List Token) (x : A) (rest : List Token) : Type 0 where
@@ -10,10 +13,42 @@ pub record Front {A : Type 0} (L : Lang A) (s : List Token) (x : A) (rest : List
   pub whole : s ≡ front ++ rest
   pub spells : L front x
 
--- r reads L: what it gives is spelled, and what is spelled before tokens that end it is given
-pub record IsLawful {A : Type 0} (L : Lang A) (stops : List Token → Bool) (r : Reader A) : Type 0 where
+-- what stands before the rest begins what the language has
+pub record Begins {A : Type 0} (L : Lang A) (s rest : List Token) : Type 0 where
+  pub front : List Token
+  pub more : List Token
+  pub value : A
+  pub whole : s ≡ front ++ rest
+  pub spells : L (front ++ more) value
+
+-- what stands up to the rest's first token begins what the language has
+pub record BeginsWith {A : Type 0} (L : Lang A) (s rest : List Token) : Type 0 where
+  pub front : List Token
+  pub token : Token
+  pub after : List Token
+  pub more : List Token
+  pub value : A
+  pub whole : s ≡ front ++ rest
+  pub there : rest ≡ token ∷ after
+  pub spells : L (front ++ token ∷ more) value
+
+-- the kind of a fault other than want of room is that of the first token that is left
+abbrev pub IsRight : Kind → List Token → Type 0
+IsRight k rest = (k ≡ TooDeep) ⊎ (wrong {A = Unit {0}} rest ≡ Bad k rest)
+
+-- r reads L; where it fails, what stands before begins V, and where there is no room, what stands up to there begins D
+pub record IsLawful {A : Type 0} (L V D : Lang A) (stops : List Token → Bool) (r : Reader A) : Type 0 where
   pub sound : (s : List Token) (x : A) (rest : List Token) → r s ≡ Got x rest → Front L s x rest
   pub complete : (ts : List Token) (x : A) (rest : List Token) → L ts x → stops rest ≡ true → r (ts ++ rest) ≡ Got x rest
+  pub viable : (s : List Token) (k : Kind) (rest : List Token) → r s ≡ Bad k rest → Begins V s rest
+  pub deep : (s : List Token) (rest : List Token) → r s ≡ Bad TooDeep rest → BeginsWith D s rest
+  pub kinds : (s : List Token) (k : Kind) (rest : List Token) → r s ≡ Bad k rest → IsRight k rest
+
+-- a language has a value
+pub record Holds {A : Type 0} (L : Lang A) : Type 0 where
+  pub tokens : List Token
+  pub value : A
+  pub spells : L tokens value
 
 -- one after the other
 
@@ -29,16 +64,32 @@ pub parts : {A B C : Type 0} (f : A → B → C) (r : Reader A) (q : Reader B) (
 parts f r q s z rest e = go (r s) refl e
   where
     last : (x : _) (between : List Token) → r s ≡ Got x between → (b : Answer _) → q between ≡ b → (b >>= λ y rest'. Got (f x y) rest') ≡ Got z rest → Parts f r q s z rest
-    last x between ea Bad eb h = cc
+    last x between ea (Bad k t) eb h = cc
     last x between ea (Got y t) eb h =
         record { first = x; second = y; between = between; got_first = ea; got_second = eb ∙ cc; value = cc }
 
     go : (a : Answer _) → r s ≡ a → (a >>= λ x rest. q rest >>= λ y rest'. Got (f x y) rest') ≡ Got z rest → Parts f r q s z rest
-    go Bad ea h = cc
+    go (Bad k t) ea h = cc
     go (Got x between) ea h = last x between ea (q between) refl h
 
-module _ {A B C : Type 0} (f : A → B → C) (L : Lang A) (M : Lang B) (stop_r stop_q : List Token → Bool) (r : Reader A) (q : Reader B) where
-  then_sound : IsLawful L stop_r r → IsLawful M stop_q q → (s : List Token) (z : C) (rest : List Token) → and_then f r q s ≡ Got z rest → Front (Then f L M) s z rest
+-- where two readers, one after the other, fail
+pub data Fails {A B : Type 0} (r : Reader A) (q : Reader B) (s : List Token) (k : Kind) (rest : List Token) : Type 0 where
+  at_first : r s ≡ Bad k rest → Fails r q s k rest
+  at_second : (x : A) (between : List Token) → r s ≡ Got x between → q between ≡ Bad k rest → Fails r q s k rest
+
+pub fails : {A B C : Type 0} (f : A → B → C) (r : Reader A) (q : Reader B) (s : List Token) (k : Kind) (rest : List Token) → and_then f r q s ≡ Bad k rest → Fails r q s k rest
+fails f r q s k rest e = go (r s) refl e
+  where
+    last : (x : _) (between : List Token) → r s ≡ Got x between → (b : Answer _) → q between ≡ b → (b >>= λ y rest'. Got (f x y) rest') ≡ Bad k rest → Fails r q s k rest
+    last x between ea (Bad k' t) eb h = at_second x between ea (eb ∙ cc)
+    last x between ea (Got y t) eb h = cc
+
+    go : (a : Answer _) → r s ≡ a → (a >>= λ x rest. q rest >>= λ y rest'. Got (f x y) rest') ≡ Bad k rest → Fails r q s k rest
+    go (Bad k' t) ea h = at_first (ea ∙ cc)
+    go (Got x between) ea h = last x between ea (q between) refl h
+
+module _ {A B C : Type 0} (f : A → B → C) (L D : Lang A) (M E : Lang B) (stop_r stop_q : List Token → Bool) (r : Reader A) (q : Reader B) where
+  then_sound : IsLawful L L D stop_r r → IsLawful M M E stop_q q → (s : List Token) (z : C) (rest : List Token) → and_then f r q s ≡ Got z rest → Front (Then f L M) s z rest
   then_sound lr lq s z rest e =
       let p = parts f r q s z rest e in
       let a = lr.sound s p.first p.between p.got_first in
@@ -46,24 +97,63 @@ module _ {A B C : Type 0} (f : A → B → C) (L : Lang A) (M : Lang B) (stop_r 
       let w : s ≡ (a.front ++ b.front) ++ rest = a.whole ∙ ap (λ t. a.front ++ t) b.whole ∙ sym (append_assoc a.front b.front rest) in
       record { front = a.front ++ b.front; whole = w; spells = subst (λ v. Then f L M (a.front ++ b.front) v) p.value (both a.front b.front p.first p.second a.spells b.spells) }
 
-  then_complete : IsLawful L stop_r r → IsLawful M stop_q q → ((b : List Token) (y : B) (rest : List Token) → M b y → stop_q rest ≡ true → stop_r (b ++ rest) ≡ true) → (ts : List Token) (z : C) (rest : List Token) → Then f L M ts z → stop_q rest ≡ true → and_then f r q (ts ++ rest) ≡ Got z rest
+  then_complete : IsLawful L L D stop_r r → IsLawful M M E stop_q q → ((b : List Token) (y : B) (rest : List Token) → M b y → stop_q rest ≡ true → stop_r (b ++ rest) ≡ true) → (ts : List Token) (z : C) (rest : List Token) → Then f L M ts z → stop_q rest ≡ true → and_then f r q (ts ++ rest) ≡ Got z rest
   then_complete lr lq follows _ _ rest (both a b x y ha hb) h =
       rw (append_assoc a b rest, lr.complete a x (b ++ rest) ha (follows b y rest hb h), lq.complete b y rest hb h) refl
 
-  pub then_lawful : IsLawful L stop_r r → IsLawful M stop_q q → ((b : List Token) (y : B) (rest : List Token) → M b y → stop_q rest ≡ true → stop_r (b ++ rest) ≡ true) → IsLawful (Then f L M) stop_q (and_then f r q)
-  then_lawful lr lq follows = record {
+  then_viable : IsLawful L L D stop_r r → IsLawful M M E stop_q q → Holds M → (s : List Token) (k : Kind) (rest : List Token) → and_then f r q s ≡ Bad k rest → Begins (Then f L M) s rest
+  then_viable lr lq some s k rest e = go (fails f r q s k rest e)
+    where
+      go : Fails r q s k rest → Begins (Then f L M) s rest
+      go (at_first h) =
+          let a = lr.viable s k rest h in
+          record { front = a.front; more = a.more ++ some.tokens; value = f a.value some.value; whole = a.whole; spells = subst (λ ts. Then f L M ts (f a.value some.value)) (append_assoc a.front a.more some.tokens) (both (a.front ++ a.more) some.tokens a.value some.value a.spells some.spells) }
+      go (at_second x between h g) =
+          let a = lr.sound s x between h in
+          let b = lq.viable between k rest g in
+          record { front = a.front ++ b.front; more = b.more; value = f x b.value; whole = a.whole ∙ ap (λ t. a.front ++ t) b.whole ∙ sym (append_assoc a.front b.front rest); spells = subst (λ ts. Then f L M ts (f x b.value)) (sym (append_assoc a.front b.front b.more)) (both a.front (b.front ++ b.more) x b.value a.spells b.spells) }
+
+  then_deep : IsLawful L L D stop_r r → IsLawful M M E stop_q q → ((ts : List Token) (x : A) → L ts x → D ts x) → Holds E → (s rest : List Token) → and_then f r q s ≡ Bad TooDeep rest → BeginsWith (Then f D E) s rest
+  then_deep lr lq wider some s rest e = go (fails f r q s TooDeep rest e)
+    where
+      go : Fails r q s TooDeep rest → BeginsWith (Then f D E) s rest
+      go (at_first h) =
+          let a = lr.deep s rest h in
+          record { front = a.front; token = a.token; after = a.after; more = a.more ++ some.tokens; value = f a.value some.value; whole = a.whole; there = a.there; spells = subst (λ ts. Then f D E ts (f a.value some.value)) (append_assoc a.front (a.token ∷ a.more) some.tokens) (both (a.front ++ a.token ∷ a.more) some.tokens a.value some.value a.spells some.spells) }
+      go (at_second x between h g) =
+          let a = lr.sound s x between h in
+          let b = lq.deep between rest g in
+          record { front = a.front ++ b.front; token = b.token; after = b.after; more = b.more; value = f x b.value; whole = a.whole ∙ ap (λ t. a.front ++ t) b.whole ∙ sym (append_assoc a.front b.front rest); there = b.there; spells = subst (λ ts. Then f D E ts (f x b.value)) (sym (append_assoc a.front b.front (b.token ∷ b.more))) (both a.front (b.front ++ b.token ∷ b.more) x b.value (wider a.front x a.spells) b.spells) }
+
+  kind_of_failure : IsLawful L L D stop_r r → IsLawful M M E stop_q q → (s : List Token) (k : Kind) (rest : List Token) → Fails r q s k rest → IsRight k rest
+  kind_of_failure lr lq s k rest (at_first h) = lr.kinds s k rest h
+  kind_of_failure lr lq s k rest (at_second x between h g) = lq.kinds between k rest g
+
+  pub then_lawful : IsLawful L L D stop_r r → IsLawful M M E stop_q q → ((b : List Token) (y : B) (rest : List Token) → M b y → stop_q rest ≡ true → stop_r (b ++ rest) ≡ true) → Holds M → ((ts : List Token) (x : A) → L ts x → D ts x) → Holds E → IsLawful (Then f L M) (Then f L M) (Then f D E) stop_q (and_then f r q)
+  then_lawful lr lq follows some wider some_e = record {
     sound = then_sound lr lq;
     complete = then_complete lr lq follows;
+    viable = then_viable lr lq some;
+    deep = then_deep lr lq wider some_e;
+    kinds = λ s k rest e. kind_of_failure lr lq s k rest (fails f r q s k rest e);
   }
 
 -- one token
+
+abbrev pub IsFinal : Kind → Type 0
+IsFinal TooDeep = ⊥
+IsFinal _ = Unit {0}
+
+pub final_kind : (t : Token) → kind_of t ≡ TooDeep → ⊥
+final_kind (token.Word w at) e = cc
+final_kind _ e = cc
 
 module _ {A : Type 0} (value : Token → Option A) where
   one_sound : (s : List Token) (x : A) (rest : List Token) → one_of value s ≡ Got x rest → Front (One value) s x rest
   one_sound [] x rest e = cc
   one_sound (t ∷ tail) x rest e = go (value t) refl e
     where
-      go : (o : Option A) → value t ≡ o → take_or o tail ≡ Got x rest → Front (One value) (t ∷ tail) x rest
+      go : (o : Option A) → value t ≡ o → take_or o t tail ≡ Got x rest → Front (One value) (t ∷ tail) x rest
       go None h e = cc
       go (Some y) h e =
           let same : y ≡ x = cc in
@@ -71,69 +161,117 @@ module _ {A : Type 0} (value : Token → Option A) where
           record { front = t ∷ []; whole = ap (λ m. t ∷ m) same_rest; spells = one t x (h ∙ ap Some same) }
 
   one_complete : (ts : List Token) (x : A) (rest : List Token) → One value ts x → one_of value (ts ++ rest) ≡ Got x rest
-  one_complete _ _ rest (one t x h) = ap (λ o. take_or o rest) h
+  one_complete _ _ rest (one t x h) = ap (λ o. take_or o t rest) h
 
-  pub one_lawful : (stops : List Token → Bool) → IsLawful (One value) stops (one_of value)
-  one_lawful stops = record {
+  one_bad : (s : List Token) (k : Kind) (rest : List Token) → one_of value s ≡ Bad k rest → (s ≡ rest) × (k ≡ TooDeep → ⊥)
+  one_bad [] k rest e = let h : Unexpected ≡ k = cc in (cc, λ d. let g : Unexpected ≡ TooDeep = h ∙ d in cc)
+  one_bad (t ∷ tail) k rest e = go (value t) e
+    where
+      go : (o : Option A) → take_or o t tail ≡ Bad k rest → (t ∷ tail ≡ rest) × (k ≡ TooDeep → ⊥)
+      go None e = let h : kind_of t ≡ k = cc in (cc, λ d. final_kind t (h ∙ d))
+      go (Some y) e = cc
+
+  one_kind : (s : List Token) (k : Kind) (rest : List Token) → one_of value s ≡ Bad k rest → IsRight k rest
+  one_kind [] k rest e = let a : Unexpected ≡ k = cc in let b : [] ≡ rest = cc in inr (subst (λ q. wrong {A = Unit {0}} q ≡ Bad k q) b (ap (λ k. Bad k []) a))
+  one_kind (t ∷ tail) k rest e = go (value t) e
+    where
+      go : (o : Option A) → take_or o t tail ≡ Bad k rest → IsRight k rest
+      go None e = let a : kind_of t ≡ k = cc in let b : t ∷ tail ≡ rest = cc in inr (subst (λ q. wrong {A = Unit {0}} q ≡ Bad k q) b (ap (λ k. Bad k (t ∷ tail)) a))
+      go (Some y) e = cc
+
+  pub one_lawful : (D : Lang A) (stops : List Token → Bool) → Holds (One value) → IsLawful (One value) (One value) D stops (one_of value)
+  one_lawful D stops some = record {
     sound = one_sound;
     complete = λ ts x rest h _. one_complete ts x rest h;
+    viable = λ s k rest e. record { front = []; more = some.tokens; value = some.value; whole = (one_bad s k rest e).0; spells = some.spells };
+    deep = λ s rest e. absurd ((one_bad s TooDeep rest e).1 refl);
+    kinds = one_kind;
   }
 
 -- another value
 
-module _ {A B : Type 0} (f : A → B) (L : Lang A) (stops : List Token → Bool) (r : Reader A) (l : IsLawful L stops r) where
-  map_got : (s : List Token) (y : B) (rest : List Token) → map_by f r s ≡ Got y rest → (x : A) × (r s ≡ Got x rest) × (f x ≡ y)
+module _ {A B : Type 0} (f : A → B) (r : Reader A) where
+  pub map_got : (s : List Token) (y : B) (rest : List Token) → map_by f r s ≡ Got y rest → (x : A) × (r s ≡ Got x rest) × (f x ≡ y)
   map_got s y rest e = go (r s) refl e
     where
       go : (a : Answer A) → r s ≡ a → (a >>= λ x rest. Got (f x) rest) ≡ Got y rest → (x : A) × (r s ≡ Got x rest) × (f x ≡ y)
       go (Got x t) ea h = (x, ea ∙ cc, cc)
-      go Bad ea h = cc
+      go (Bad k t) ea h = cc
 
-  map_complete : (ts : List Token) (y : B) (rest : List Token) → Mapped f L ts y → stops rest ≡ true → map_by f r (ts ++ rest) ≡ Got y rest
-  map_complete _ _ rest (mapped a x h) e = rw (l.complete a x rest h e) refl
+  pub map_bad : (s : List Token) (k : Kind) (rest : List Token) → map_by f r s ≡ Bad k rest → r s ≡ Bad k rest
+  map_bad s k rest e = go (r s) refl e
+    where
+      go : (a : Answer A) → r s ≡ a → (a >>= λ x rest. Got (f x) rest) ≡ Bad k rest → r s ≡ Bad k rest
+      go (Got x t) ea h = cc
+      go (Bad k' t) ea h = ea ∙ cc
 
-  pub map_lawful : IsLawful (Mapped f L) stops (map_by f r)
-  map_lawful = record {
+module _ {A B : Type 0} (f : A → B) (L V D : Lang A) (stops : List Token → Bool) (r : Reader A) where
+  map_complete : IsLawful L V D stops r → (ts : List Token) (y : B) (rest : List Token) → Mapped f L ts y → stops rest ≡ true → map_by f r (ts ++ rest) ≡ Got y rest
+  map_complete l _ _ rest (mapped a x h) e = rw (l.complete a x rest h e) refl
+
+  pub map_lawful : IsLawful L V D stops r → IsLawful (Mapped f L) (Mapped f V) (Mapped f D) stops (map_by f r)
+  map_lawful l = record {
     sound = λ s y rest e.
-        let m = map_got s y rest e in
+        let m = map_got f r s y rest e in
         let a = l.sound s m.0 rest m.1 in
         record { front = a.front; whole = a.whole; spells = subst (λ v. Mapped f L a.front v) m.2 (mapped a.front m.0 a.spells) };
-    complete = map_complete;
+    complete = map_complete l;
+    viable = λ s k rest e.
+        let a = l.viable s k rest (map_bad f r s k rest e) in
+        record { front = a.front; more = a.more; value = f a.value; whole = a.whole; spells = mapped (a.front ++ a.more) a.value a.spells };
+    deep = λ s rest e.
+        let a = l.deep s rest (map_bad f r s TooDeep rest e) in
+        record { front = a.front; token = a.token; after = a.after; more = a.more; value = f a.value; whole = a.whole; there = a.there; spells = mapped (a.front ++ a.token ∷ a.more) a.value a.spells };
+    kinds = λ s k rest e. l.kinds s k rest (map_bad f r s k rest e);
   }
 
 -- either
 
-module _ {A : Type 0} (starts : List Token → Bool) (L M : Lang A) (stops : List Token → Bool) (r q : Reader A) where
-  choose_complete : IsLawful L stops r → IsLawful M stops q → ((ts : List Token) (x : A) (rest : List Token) → L ts x → starts (ts ++ rest) ≡ true) → ((ts : List Token) (x : A) (rest : List Token) → M ts x → starts (ts ++ rest) ≡ false) → (ts : List Token) (x : A) (rest : List Token) → Either L M ts x → stops rest ≡ true → choose starts r q (ts ++ rest) ≡ Got x rest
+module _ {A : Type 0} (starts : List Token → Bool) (L M D E V : Lang A) (stops : List Token → Bool) (r q : Reader A) where
+  choose_complete : IsLawful L V D stops r → IsLawful M V E stops q → ((ts : List Token) (x : A) (rest : List Token) → L ts x → starts (ts ++ rest) ≡ true) → ((ts : List Token) (x : A) (rest : List Token) → M ts x → stops rest ≡ true → starts (ts ++ rest) ≡ false) → (ts : List Token) (x : A) (rest : List Token) → Either L M ts x → stops rest ≡ true → choose starts r q (ts ++ rest) ≡ Got x rest
   choose_complete lr lq hit miss _ _ rest (left a x h) e = rw (hit a x rest h, lr.complete a x rest h e) refl
-  choose_complete lr lq hit miss _ _ rest (right a x h) e = rw (miss a x rest h, lq.complete a x rest h e) refl
+  choose_complete lr lq hit miss _ _ rest (right a x h) e = rw (miss a x rest h e, lq.complete a x rest h e) refl
 
-  choose_sound : IsLawful L stops r → IsLawful M stops q → (s : List Token) (x : A) (rest : List Token) → choose starts r q s ≡ Got x rest → Front (Either L M) s x rest
+  choose_sound : IsLawful L V D stops r → IsLawful M V E stops q → (s : List Token) (x : A) (rest : List Token) → choose starts r q s ≡ Got x rest → Front (Either L M) s x rest
   choose_sound lr lq s x rest e = go (starts s) e
     where
       go : (b : Bool) → cond b (r s) (q s) ≡ Got x rest → Front (Either L M) s x rest
       go true e = let a = lr.sound s x rest e in record { front = a.front; whole = a.whole; spells = left a.front x a.spells }
       go false e = let a = lq.sound s x rest e in record { front = a.front; whole = a.whole; spells = right a.front x a.spells }
 
-  -- the first begins with what is tested, and the second doesn't
-  pub choose_lawful : IsLawful L stops r → IsLawful M stops q → ((ts : List Token) (x : A) (rest : List Token) → L ts x → starts (ts ++ rest) ≡ true) → ((ts : List Token) (x : A) (rest : List Token) → M ts x → starts (ts ++ rest) ≡ false) → IsLawful (Either L M) stops (choose starts r q)
+  choose_viable : IsLawful L V D stops r → IsLawful M V E stops q → (s : List Token) (k : Kind) (rest : List Token) → choose starts r q s ≡ Bad k rest → Begins V s rest
+  choose_viable lr lq s k rest e = go (starts s) e
+    where
+      go : (b : Bool) → cond b (r s) (q s) ≡ Bad k rest → Begins V s rest
+      go true e = let a = lr.viable s k rest e in record { front = a.front; more = a.more; value = a.value; whole = a.whole; spells = a.spells }
+      go false e = let a = lq.viable s k rest e in record { front = a.front; more = a.more; value = a.value; whole = a.whole; spells = a.spells }
+
+  choose_deep : IsLawful L V D stops r → IsLawful M V E stops q → (s rest : List Token) → choose starts r q s ≡ Bad TooDeep rest → BeginsWith (Either D E) s rest
+  choose_deep lr lq s rest e = go (starts s) e
+    where
+      go : (b : Bool) → cond b (r s) (q s) ≡ Bad TooDeep rest → BeginsWith (Either D E) s rest
+      go true e = let a = lr.deep s rest e in record { front = a.front; token = a.token; after = a.after; more = a.more; value = a.value; whole = a.whole; there = a.there; spells = left (a.front ++ a.token ∷ a.more) a.value a.spells }
+      go false e = let a = lq.deep s rest e in record { front = a.front; token = a.token; after = a.after; more = a.more; value = a.value; whole = a.whole; there = a.there; spells = right (a.front ++ a.token ∷ a.more) a.value a.spells }
+
+  choose_kind : IsLawful L V D stops r → IsLawful M V E stops q → (s : List Token) (k : Kind) (rest : List Token) → choose starts r q s ≡ Bad k rest → IsRight k rest
+  choose_kind lr lq s k rest e = go (starts s) e
+    where
+      go : (b : Bool) → cond b (r s) (q s) ≡ Bad k rest → IsRight k rest
+      go true e = lr.kinds s k rest e
+      go false e = lq.kinds s k rest e
+
+  pub choose_lawful : IsLawful L V D stops r → IsLawful M V E stops q → ((ts : List Token) (x : A) (rest : List Token) → L ts x → starts (ts ++ rest) ≡ true) → ((ts : List Token) (x : A) (rest : List Token) → M ts x → stops rest ≡ true → starts (ts ++ rest) ≡ false) → IsLawful (Either L M) V (Either D E) stops (choose starts r q)
   choose_lawful lr lq hit miss = record {
     sound = choose_sound lr lq;
     complete = choose_complete lr lq hit miss;
+    viable = choose_viable lr lq;
+    deep = choose_deep lr lq;
+    kinds = choose_kind lr lq;
   }
-
--- only where there is leave to
-
-pub only_lawful : {A : Type 0} (leave : Bool) (L : Lang A) (stops : List Token → Bool) (r : Reader A) → (leave ≡ true → IsLawful L stops r) → IsLawful (only_if leave L) stops (read_if leave r)
-only_lawful true L stops r l = l refl
-only_lawful false L stops r l = record {
-  sound = λ s x rest e. cc;
-  complete = λ ts x rest h _. absurd h;
-}
 
 -- any number of times
 
-module _ {A : Type 0} (starts : List Token → Bool) (L : Lang A) (stop_item stops : List Token → Bool) (r : Reader A) (l : IsLawful L stop_item r) where
+module _ {A : Type 0} (starts : List Token → Bool) (L D : Lang A) (stop_item stops : List Token → Bool) (r : Reader A) (l : IsLawful L L D stop_item r) where
   loop_sound : (n : ℕ) (s : List Token) (xs : List A) (rest : List Token) → loop starts r n s ≡ Got xs rest → Front (Many L) s xs rest
   loop_sound zero s xs rest e = let same : [] ≡ xs = cc in record { front = []; whole = cc; spells = subst (λ v. Many L [] v) same end }
   loop_sound (suc n) s xs rest e = go (loop_sound n) (starts s) e
@@ -148,6 +286,40 @@ module _ {A : Type 0} (starts : List Token → Bool) (L : Lang A) (stop_item sto
           let a = l.sound s p.first p.between p.got_first in
           let b = ih p.between p.second rest p.got_second in
           record { front = a.front ++ b.front; whole = a.whole ∙ ap (λ t. a.front ++ t) b.whole ∙ sym (append_assoc a.front b.front rest); spells = subst (λ v. Many L (a.front ++ b.front) v) p.value (more a.front b.front p.first p.second a.spells b.spells) }
+
+  loop_viable : (n : ℕ) (s : List Token) (k : Kind) (rest : List Token) → loop starts r n s ≡ Bad k rest → Begins (Many L) s rest
+  loop_viable zero s k rest e = cc
+  loop_viable (suc n) s k rest e = go (loop_viable n) (starts s) e
+    where
+      failed : ((s : List Token) (k : Kind) (rest : List Token) → loop starts r n s ≡ Bad k rest → Begins (Many L) s rest) → Fails r (loop starts r n) s k rest → Begins (Many L) s rest
+      failed ih (at_first h) =
+          let a = l.viable s k rest h in
+          record { front = a.front; more = a.more ++ []; value = a.value ∷ []; whole = a.whole; spells = subst (λ ts. Many L ts (a.value ∷ [])) (append_assoc a.front a.more []) (more (a.front ++ a.more) [] a.value [] a.spells end) }
+      failed ih (at_second x between h g) =
+          let a = l.sound s x between h in
+          let b = ih between k rest g in
+          record { front = a.front ++ b.front; more = b.more; value = x ∷ b.value; whole = a.whole ∙ ap (λ t. a.front ++ t) b.whole ∙ sym (append_assoc a.front b.front rest); spells = subst (λ ts. Many L ts (x ∷ b.value)) (sym (append_assoc a.front b.front b.more)) (more a.front (b.front ++ b.more) x b.value a.spells b.spells) }
+
+      go : ((s : List Token) (k : Kind) (rest : List Token) → loop starts r n s ≡ Bad k rest → Begins (Many L) s rest) → (b : Bool) → cond b (r s >>= λ x rest. loop starts r n rest >>= λ xs rest'. Got (x ∷ xs) rest') (Got [] s) ≡ Bad k rest → Begins (Many L) s rest
+      go ih false e = cc
+      go ih true e = failed ih (fails (λ x xs. x ∷ xs) r (loop starts r n) s k rest e)
+
+  loop_deep : ((ts : List Token) (x : A) → L ts x → D ts x) → (n : ℕ) (s : List Token) (rest : List Token) → loop starts r n s ≡ Bad TooDeep rest → BeginsWith (Many D) s rest
+  loop_deep wider zero s rest e = cc
+  loop_deep wider (suc n) s rest e = go (loop_deep wider n) (starts s) e
+    where
+      failed : ((s : List Token) (rest : List Token) → loop starts r n s ≡ Bad TooDeep rest → BeginsWith (Many D) s rest) → Fails r (loop starts r n) s TooDeep rest → BeginsWith (Many D) s rest
+      failed ih (at_first h) =
+          let a = l.deep s rest h in
+          record { front = a.front; token = a.token; after = a.after; more = a.more ++ []; value = a.value ∷ []; whole = a.whole; there = a.there; spells = subst (λ ts. Many D ts (a.value ∷ [])) (append_assoc a.front (a.token ∷ a.more) []) (more (a.front ++ a.token ∷ a.more) [] a.value [] a.spells end) }
+      failed ih (at_second x between h g) =
+          let a = l.sound s x between h in
+          let b = ih between rest g in
+          record { front = a.front ++ b.front; token = b.token; after = b.after; more = b.more; value = x ∷ b.value; whole = a.whole ∙ ap (λ t. a.front ++ t) b.whole ∙ sym (append_assoc a.front b.front rest); there = b.there; spells = subst (λ ts. Many D ts (x ∷ b.value)) (sym (append_assoc a.front b.front (b.token ∷ b.more))) (more a.front (b.front ++ b.token ∷ b.more) x b.value (wider a.front x a.spells) b.spells) }
+
+      go : ((s : List Token) (rest : List Token) → loop starts r n s ≡ Bad TooDeep rest → BeginsWith (Many D) s rest) → (b : Bool) → cond b (r s >>= λ x rest. loop starts r n rest >>= λ xs rest'. Got (x ∷ xs) rest') (Got [] s) ≡ Bad TooDeep rest → BeginsWith (Many D) s rest
+      go ih false e = cc
+      go ih true e = failed ih (fails (λ x xs. x ∷ xs) r (loop starts r n) s TooDeep rest e)
 
   -- the items are not empty and begin as items do, and what follows an item ends it
   pub record IsLoop : Type 0 where
@@ -170,8 +342,83 @@ module _ {A : Type 0} (starts : List Token → Bool) (L : Lang A) (stop_item sto
       let le' : length b ≤ n = omega (arith, length-append a b) in
       rw (append_assoc a b rest, h.begins a x (b ++ rest) ha, l.complete a x (b ++ rest) ha (after_item h b xs rest hb e), loop_complete h b xs rest n hb le' e) refl
 
-  pub loop_lawful : IsLoop → IsLawful (Many L) stops (all_of starts r)
-  loop_lawful h = record {
+  loop_kind : (n : ℕ) (s : List Token) (k : Kind) (rest : List Token) → loop starts r n s ≡ Bad k rest → IsRight k rest
+  loop_kind zero s k rest e = cc
+  loop_kind (suc n) s k rest e = go (loop_kind n) (starts s) e
+    where
+      failed : ((s : List Token) (k : Kind) (rest : List Token) → loop starts r n s ≡ Bad k rest → IsRight k rest) → Fails r (loop starts r n) s k rest → IsRight k rest
+      failed ih (at_first h) = l.kinds s k rest h
+      failed ih (at_second x between h g) = ih between k rest g
+
+      go : ((s : List Token) (k : Kind) (rest : List Token) → loop starts r n s ≡ Bad k rest → IsRight k rest) → (b : Bool) → cond b (r s >>= λ x rest. loop starts r n rest >>= λ xs rest'. Got (x ∷ xs) rest') (Got [] s) ≡ Bad k rest → IsRight k rest
+      go ih false e = cc
+      go ih true e = failed ih (fails (λ x xs. x ∷ xs) r (loop starts r n) s k rest e)
+
+  pub loop_lawful : IsLoop → ((ts : List Token) (x : A) → L ts x → D ts x) → IsLawful (Many L) (Many L) (Many D) stops (all_of starts r)
+  loop_lawful h wider = record {
     sound = λ s xs rest e. loop_sound (length s) s xs rest e;
     complete = λ ts xs rest m e. loop_complete h ts xs rest (length (ts ++ rest)) m (omega (arith, length-append ts rest)) e;
+    viable = λ s k rest e. loop_viable (length s) s k rest e;
+    deep = λ s rest e. loop_deep wider (length s) s rest e;
+    kinds = λ s k rest e. loop_kind (length s) s k rest e;
   }
+
+-- the same for a wider language
+
+pub within : {A : Type 0} (L V W D : Lang A) (stops : List Token → Bool) (r : Reader A) → ((ts : List Token) (x : A) → V ts x → W ts x) → IsLawful L V D stops r → IsLawful L W D stops r
+within L V W D stops r wider l = record {
+  sound = l.sound;
+  complete = l.complete;
+  deep = l.deep;
+  kinds = l.kinds;
+  viable = λ s k rest e. let a = l.viable s k rest e in record { front = a.front; more = a.more; value = a.value; whole = a.whole; spells = wider (a.front ++ a.more) a.value a.spells };
+}
+
+module _ {A : Type 0} (V D : Lang A) (stops : List Token → Bool) where
+  -- where there is no room for what begins so
+  pub no_room_lawful : (L : Lang A) (starts : List Token → Bool) → ((ts : List Token) (x : A) → L ts x → ⊥) → Holds V → ((t : Token) (after : List Token) → starts (t ∷ after) ≡ true → (more : List Token) × (x : A) × D (t ∷ more) x) → starts [] ≡ false → (r : Reader A) → IsLawful L V D stops (opens false starts r)
+  no_room_lawful L starts none some deeper at_end r = record {
+    sound = λ s x rest e. absurd (sound_of s x rest (starts s) e);
+    complete = λ ts x rest h e. absurd (none ts x h);
+    viable = λ s k rest e. record { front = []; more = some.tokens; value = some.value; whole = whole_of s k rest (starts s) e; spells = some.spells };
+    deep = λ s rest e. deep_of s rest (starts s) refl e;
+    kinds = λ s k rest e. kind_of_it s k rest (starts s) e;
+  }
+    where
+      wrong_got : (s : List Token) (x : A) (rest : List Token) → wrong s ≡ Got x rest → ⊥
+      wrong_got [] x rest e = cc
+      wrong_got (t ∷ s) x rest e = cc
+
+      wrong_bad : (s : List Token) (k : Kind) (rest : List Token) → wrong {A = A} s ≡ Bad k rest → s ≡ rest
+      wrong_bad [] k rest e = cc
+      wrong_bad (t ∷ s) k rest e = cc
+
+      wrong_deep : (s rest : List Token) → wrong {A = A} s ≡ Bad TooDeep rest → ⊥
+      wrong_deep [] rest e = let h : Unexpected ≡ TooDeep = cc in cc
+      wrong_deep (t ∷ s) rest e = final_kind t (cc)
+
+      wrong_kind : (s : List Token) (k : Kind) (rest : List Token) → wrong {A = A} s ≡ Bad k rest → IsRight k rest
+      wrong_kind [] k rest e = let a : Unexpected ≡ k = cc in let b : [] ≡ rest = cc in inr (subst (λ q. wrong {A = Unit {0}} q ≡ Bad k q) b (ap (λ k. Bad k []) a))
+      wrong_kind (t ∷ tail) k rest e = let a : kind_of t ≡ k = cc in let b : t ∷ tail ≡ rest = cc in inr (subst (λ q. wrong {A = Unit {0}} q ≡ Bad k q) b (ap (λ k. Bad k (t ∷ tail)) a))
+
+      kind_of_it : (s : List Token) (k : Kind) (rest : List Token) (b : Bool) → cond b (too_deep {A = A} s) (wrong s) ≡ Bad k rest → IsRight k rest
+      kind_of_it s k rest true e = let a : TooDeep ≡ k = cc in inl (sym a)
+      kind_of_it s k rest false e = wrong_kind s k rest e
+
+      sound_of : (s : List Token) (x : A) (rest : List Token) (b : Bool) → cond b (too_deep s) (wrong s) ≡ Got x rest → ⊥
+      sound_of s x rest true e = cc
+      sound_of s x rest false e = wrong_got s x rest e
+
+      whole_of : (s : List Token) (k : Kind) (rest : List Token) (b : Bool) → cond b (too_deep {A = A} s) (wrong s) ≡ Bad k rest → s ≡ rest
+      whole_of s k rest true e = cc
+      whole_of s k rest false e = wrong_bad s k rest e
+
+      head_of : (s rest : List Token) → starts s ≡ true → s ≡ rest → BeginsWith D s rest
+      head_of [] rest h e = let x : true ≡ false = sym h ∙ at_end in cc
+      head_of (t ∷ s) rest h e =
+          let d = deeper t s h in
+          record { front = []; token = t; after = s; more = d.0; value = d.1; whole = e; there = sym e; spells = d.2 }
+
+      deep_of : (s rest : List Token) (b : Bool) → starts s ≡ b → cond b (too_deep {A = A} s) (wrong s) ≡ Bad TooDeep rest → BeginsWith D s rest
+      deep_of s rest true h e = let w : s ≡ rest = cc in head_of s rest h w
+      deep_of s rest false h e = absurd (wrong_deep s rest e)

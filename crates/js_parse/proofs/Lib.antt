@@ -1,5 +1,7 @@
 pub mod Trees
 pub mod Lawful
+pub mod Wider
+pub mod Local
 pub mod Loops
 pub mod Stops
 pub mod Expressions

@@ -3,11 +3,12 @@ use Rattle.std.specs.Prelude.{ℕ, zero, suc, Bool, true, false, List, Option, S
 use Rattle.js_lex.specs.declared.token.Mark.TheVariants as mark
 use Rattle.js_parse.specs.declared.token.Token.{Token}
 use Rattle.js_parse.specs.declared.token.Token.TheVariants as token
+use Rattle.js_parse.specs.declared.token.Word.TheVariants as word
 use Rattle.js_parse.specs.declared.parser.Role.{Role}
 use Rattle.js_parse.specs.declared.tree.Op.{Op}
 use Rattle.js_parse.specs.declared.tree.Builtin.{Builtin}
 use Rattle.js_parse.specs.Tree.{ExprTree, LinkTree, StepTree, StmtTree}
-use Rattle.js_parse.specs.Reader.{Reader, wrong, map_by, and_then, one_of, heads, choose, all_of, read_if, at_end}
+use Rattle.js_parse.specs.Reader.{Reader, wrong, map_by, and_then, one_of, heads, choose, all_of, opens, read_if, at_end}
 use Rattle.js_parse.specs.Grammar.{simple, opening, closing, open_bracket, close_bracket, comma, point, semi, print_word, length_word, method, string_word, from_word, json_word, stringify_word, sign, sum_op, first_of, second_of, list_of, none_of, single_of, index_of, call_of, pair_of, builtin_of, post_of, unary_of, link_of, chain_of, print_of, Which, Whole, Operand, has_room, prints}
 
 abbrev pub read_parens : Reader ExprTree → Reader ExprTree
@@ -37,20 +38,27 @@ read_json_call e = and_then builtin_of (one_of json_word) (and_then pair_of (rea
 abbrev pub read_enclosed : Reader ExprTree → Reader ExprTree
 read_enclosed e = choose (heads string_word) (read_string_call e) (choose (heads json_word) (read_json_call e) (read_parens e))
 
+-- a token that begins what parentheses are a part of
+abbrev pub enclosed_mark : Token → Option (Unit {0})
+enclosed_mark (token.Word word.String at) = Some tt
+enclosed_mark (token.Word word.Json at) = Some tt
+enclosed_mark (token.Mark mark.OpenParen at) = Some tt
+enclosed_mark _ = None
+
 abbrev pub read_primary : Bool → Reader ExprTree → Reader ExprTree
-read_primary room e = choose (heads simple) (one_of simple) (read_if room (read_enclosed e))
+read_primary room e = choose (heads simple) (one_of simple) (opens room (heads enclosed_mark) (read_enclosed e))
 
 abbrev pub read_call : Reader ExprTree → Reader StepTree
 read_call e = and_then call_of (one_of method) (read_args e)
 
 abbrev pub read_member : Bool → Reader ExprTree → Reader StepTree
-read_member room e = and_then second_of (one_of point) (choose (heads length_word) (one_of length_word) (read_if room (read_call e)))
+read_member room e = and_then second_of (one_of point) (choose (heads length_word) (one_of length_word) (opens room (heads method) (read_call e)))
 
 abbrev pub read_index : Reader ExprTree → Reader StepTree
 read_index e = and_then index_of (one_of open_bracket) (and_then first_of e (one_of close_bracket))
 
 abbrev pub read_step : Bool → Reader ExprTree → Reader StepTree
-read_step room e = choose (heads open_bracket) (read_if room (read_index e)) (read_member room e)
+read_step room e = choose (heads open_bracket) (opens room (heads open_bracket) (read_index e)) (read_member room e)
 
 -- a token that begins a step
 abbrev pub step_mark : Token → Option (Unit {0})
@@ -65,7 +73,7 @@ abbrev pub read_signed : Reader ExprTree → Reader ExprTree
 read_signed u = and_then unary_of (one_of sign) u
 
 abbrev pub read_unary : Bool → Reader ExprTree → Reader ExprTree → Reader ExprTree
-read_unary room e u = choose (heads sign) (read_if room (read_signed u)) (read_post room e)
+read_unary room e u = choose (heads sign) (opens room (heads sign) (read_signed u)) (read_post room e)
 
 abbrev pub read_link : (Token → Option (ℕ × Op)) → Reader ExprTree → Reader LinkTree
 read_link o r = and_then link_of (one_of o) r
@@ -126,7 +134,7 @@ abbrev pub read_print : Reader (List ExprTree) → Reader StmtTree
 read_print a = and_then second_of (one_of print_word) (and_then print_of a (one_of semi))
 
 unfoldable pub statement_at : ℕ → Role → Reader StmtTree
-statement_at n role = read_if (prints role) (read_if (has_room n) (read_print (args_at n)))
+statement_at n role = read_if (prints role) (opens (has_room n) (heads print_word) (read_print (args_at n)))
 
 unfoldable pub statements_at : ℕ → Role → Reader (List StmtTree)
 statements_at n role = and_then first_of (all_of (heads print_word) (statement_at n role)) at_end

@@ -43,6 +43,15 @@ pub enum Token {
     Mark(Mark, u32),
 }
 
+/// What is wrong with a token that can't stand where it stands: a word, another token, or one that
+/// would open too much.
+#[derive(Clone, Copy, Debug, PartialEq, Eq)]
+pub enum Kind {
+    Unexpected,
+    NotInProfile,
+    TooDeep,
+}
+
 fn method_named(letters: &[u8]) -> Option<Method>
     ensures { result ≡ method_of letters.now }
 {
