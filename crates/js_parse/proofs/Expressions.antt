@@ -543,7 +543,7 @@ bottom = record {
     operand_zero = right (zero_token ∷ []) zero_tree (both (zero_token ∷ []) [] zero_tree [] (left (zero_token ∷ []) zero_tree (one zero_token zero_tree refl)) end)
 
 -- each level, over the ones below
-level_inner : (n : ℕ) → Inner true (within_room n Whole) (within_room n Operand) (within_room (suc n) Whole) (within_room (suc n) Operand) (read_at n Whole) (read_at n Operand)
+pub level_inner : (n : ℕ) → Inner true (within_room n Whole) (within_room n Operand) (within_room (suc n) Whole) (within_room (suc n) Operand) (read_at n Whole) (read_at n Operand)
 level_inner zero = next_inner false Never Never (within_room 0 Whole) (within_room 0 Operand) wrong wrong bottom
 level_inner (suc n) = next_inner true (within_room n Whole) (within_room n Operand) (within_room (suc n) Whole) (within_room (suc n) Operand) (read_at n Whole) (read_at n Operand) (level_inner n)
 

@@ -2,6 +2,7 @@ pub mod Trees
 pub mod Lawful
 pub mod Wider
 pub mod Local
+pub mod Locality
 pub mod Loops
 pub mod Stops
 pub mod Expressions

@@ -4,6 +4,7 @@ use Rattle.js_parse.specs.declared.token.Token.{Token}
 use Rattle.js_parse.specs.declared.token.Kind.{Kind}
 use Rattle.js_parse.specs.declared.token.Kind.TheVariants.{Unexpected, NotInProfile, TooDeep}
 use Rattle.js_parse.specs.Reader.{Answer, Got, Bad, Reader, ◌>>=◌, kind_of, wrong, too_deep, map_by, and_then, take_or, one_of, choose, loop, all_of}
+use Rattle.js_parse.proofs.Loops.{IsEating}
 use Rattle.js_parse.proofs.Lawful.{IsFinal, final_kind, Parts, parts, Fails, at_first, at_second, fails, map_got, map_bad}
 
 -- the same first token, or none
@@ -121,10 +122,6 @@ module _ (P : Kind → Type 0) {A : Type 0} (starts : List Token → Bool) (r r'
       bad_of : (s : List Token) (k : Kind) (rest : List Token) → P k → (b : Bool) → starts s ≡ b → cond b (r s) (q s) ≡ Bad k rest → Stands (choose starts r' q') (λ v. Bad k v) s rest
       bad_of s k rest d true h e = let a = lr.bad s k rest d e in record { front = a.front; whole = a.whole; always = λ v m. rw (moved s a.front rest v true h a.whole m) (a.always v m) }
       bad_of s k rest d false h e = let a = lq.bad s k rest d e in record { front = a.front; whole = a.whole; always = λ v m. rw (moved s a.front rest v false h a.whole m) (a.always v m) }
-
--- what a reader takes is something
-pub record IsEating {A : Type 0} (r : Reader A) : Type 0 where
-  pub less : (s : List Token) (x : A) (rest : List Token) → r s ≡ Got x rest → length rest < length s
 
 module _ (P : Kind → Type 0) {A : Type 0} (starts : List Token → Bool) (r r' : Reader A) (t : IsTest starts) (none : starts [] ≡ false) (lr : IsLocal P r r') (eats : IsEating r) where
   Turn : (b : Bool) → ℕ → List Token → Answer (List A)
