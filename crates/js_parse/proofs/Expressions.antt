@@ -37,39 +37,42 @@ close_token = token.Mark mark.CloseParen 0
 abbrev pub HasZero : Lang ExprTree → Type 0
 HasZero L = L (zero_token ∷ []) zero_tree
 
-holds_zero : (L : Lang ExprTree) → HasZero L → Holds L
+pub holds_zero : (L : Lang ExprTree) → HasZero L → Holds L
 holds_zero L h = record { tokens = zero_token ∷ []; value = zero_tree; spells = h }
 
-holds_one : {A : Type 0} (v : Token → Option A) (t : Token) (x : A) → v t ≡ Some x → Holds (One v)
+pub holds_one : {A : Type 0} (v : Token → Option A) (t : Token) (x : A) → v t ≡ Some x → Holds (One v)
 holds_one v t x e = record { tokens = t ∷ []; value = x; spells = one t x e }
 
-holds_many : {A : Type 0} (L : Lang A) → Holds (Many L)
+pub holds_many : {A : Type 0} (L : Lang A) → Holds (Many L)
 holds_many L = record { tokens = []; value = []; spells = end }
 
-holds_then : {A B C : Type 0} (f : A → B → C) (L : Lang A) (M : Lang B) → Holds L → Holds M → Holds (Then f L M)
+pub holds_then : {A B C : Type 0} (f : A → B → C) (L : Lang A) (M : Lang B) → Holds L → Holds M → Holds (Then f L M)
 holds_then f L M l m = record { tokens = l.tokens ++ m.tokens; value = f l.value m.value; spells = both l.tokens m.tokens l.value m.value l.spells m.spells }
 
-holds_mapped : {A B : Type 0} (f : A → B) (L : Lang A) → Holds L → Holds (Mapped f L)
+pub holds_mapped : {A B : Type 0} (f : A → B) (L : Lang A) → Holds L → Holds (Mapped f L)
 holds_mapped f L l = record { tokens = l.tokens; value = f l.value; spells = mapped l.tokens l.value l.spells }
 
-holds_left : {A : Type 0} (L M : Lang A) → Holds L → Holds (Either L M)
+pub holds_left : {A : Type 0} (L M : Lang A) → Holds L → Holds (Either L M)
 holds_left L M l = record { tokens = l.tokens; value = l.value; spells = left l.tokens l.value l.spells }
 
-holds_right : {A : Type 0} (L M : Lang A) → Holds M → Holds (Either L M)
+pub holds_right : {A : Type 0} (L M : Lang A) → Holds M → Holds (Either L M)
 holds_right L M m = record { tokens = m.tokens; value = m.value; spells = right m.tokens m.value m.spells }
 
 -- where there is room the law of what is read, and else a fault at the first token
-opens_lawful : {A B : Type 0} (room : Bool) (L V D : Lang A) (stops : List Token → Bool) (v : Token → Option B) (r : Reader A) → (room ≡ true → IsLawful L V D stops r) → Holds V → ((t : Token) (y : B) → v t ≡ Some y → (tail : List Token) × (x : A) × D (t ∷ tail) x) → IsLawful (only_if room L) V D stops (opens room (heads v) r)
+pub opens_lawful : {A B : Type 0} (room : Bool) (L V D : Lang A) (stops : List Token → Bool) (v : Token → Option B) (r : Reader A) → (room ≡ true → IsLawful L V D stops r) → Holds V → ((t : Token) (y : B) → v t ≡ Some y → (tail : List Token) × (x : A) × D (t ∷ tail) x) → IsLawful (only_if room L) V D stops (opens room (heads v) r)
 opens_lawful true L V D stops v r l some deeper = l refl
 opens_lawful false L V D stops v r l some deeper =
     no_room_lawful V D stops (only_if false L) (heads v) (λ ts x h. h) some (λ t after h. let y = some_of (v t) h in deeper t y.0 y.1) refl r
 
-only_wider : {A : Type 0} (leave : Bool) (L M : Lang A) → IsIn L M → IsIn (only_if leave L) M
+pub only_wider : {A : Type 0} (leave : Bool) (L M : Lang A) → IsIn L M → IsIn (only_if leave L) M
 only_wider true L M l = l
 only_wider false L M l = record { at = λ ts x h. absurd h }
 
 only_in : {A : Type 0} (leave : Bool) (L : Lang A) → leave ≡ true → (ts : List Token) (x : A) → L ts x → only_if leave L ts x
 only_in leave L e ts x h = subst (λ b. only_if b L ts x) (sym e) h
+
+pub any_args : (L : Lang ExprTree) → Holds (Grammar.args L)
+any_args L = holds_then second_of (One opening) (Grammar.args_rest L) (holds_one opening open_token tt refl) (holds_left (Mapped none_of (One closing)) (Then first_of (Grammar.items L) (One closing)) (holds_mapped none_of (One closing) (holds_one closing close_token tt refl)))
 
 -- what is known of an expression and an operand where one more is open: E and U have the room, F and G one more
 pub record Inner (room : Bool) (E U F G : Lang ExprTree) (e u : Reader ExprTree) : Type 0 where

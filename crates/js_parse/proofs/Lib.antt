@@ -3,6 +3,7 @@ pub mod Lawful
 pub mod Wider
 pub mod Local
 pub mod Locality
+pub mod Whole
 pub mod Loops
 pub mod Stops
 pub mod Expressions

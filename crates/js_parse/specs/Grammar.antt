@@ -273,6 +273,19 @@ statement n role = only_if (prints role) (only_if (has_room n) (print_line (insi
 abbrev pub Statements : ℕ → Role → Lang (List StmtTree)
 Statements n role = Many (statement n role)
 
+-- a first text that is spelled as the directive
+abbrev pub directive : Token → Option (Unit {0})
+directive token.Directive = Some tt
+directive _ = None
+
+-- Directive ;
+abbrev pub directed : Lang (Unit {0})
+directed = Then second_of (One directive) (One semi)
+
+-- [ Directive ; ] { Statement }
+abbrev pub Script : ℕ → Role → Lang (List StmtTree)
+Script n role = Either (Then second_of directed (Statements n role)) (Statements n role)
+
 -- so many may be open
 unfoldable pub most : ℕ
 most = 200

@@ -18,6 +18,10 @@ pub data Then {A B C : Type 0} (f : A → B → C) (L : Lang A) (M : Lang B) : L
 pub data Mapped {A B : Type 0} (f : A → B) (L : Lang A) : List Token → B → Type 0 where
   mapped : (a : List Token) (x : A) → L a x → Mapped f L a (f x)
 
+-- nothing
+pub data Nothing {A : Type 0} (y : A) : List Token → A → Type 0 where
+  nothing : (x : A) → y ≡ x → Nothing y [] x
+
 -- either
 pub data Either {A : Type 0} (L M : Lang A) : List Token → A → Type 0 where
   left : (a : List Token) (x : A) → L a x → Either L M a x

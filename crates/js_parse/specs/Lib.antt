@@ -3,6 +3,7 @@ pub mod Token
 pub mod Lang
 pub mod Grammar
 pub mod Spells
+pub mod Refused
 pub mod Reader
 pub mod Reading
 pub mod Gives

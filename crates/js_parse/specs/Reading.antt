@@ -9,7 +9,7 @@ use Rattle.js_parse.specs.declared.tree.Op.{Op}
 use Rattle.js_parse.specs.declared.tree.Builtin.{Builtin}
 use Rattle.js_parse.specs.Tree.{ExprTree, LinkTree, StepTree, StmtTree}
 use Rattle.js_parse.specs.Reader.{Reader, wrong, map_by, and_then, one_of, heads, choose, all_of, opens, read_if, at_end}
-use Rattle.js_parse.specs.Grammar.{simple, opening, closing, open_bracket, close_bracket, comma, point, semi, print_word, length_word, method, string_word, from_word, json_word, stringify_word, sign, sum_op, first_of, second_of, list_of, none_of, single_of, index_of, call_of, pair_of, builtin_of, post_of, unary_of, link_of, chain_of, print_of, Which, Whole, Operand, has_room, prints}
+use Rattle.js_parse.specs.Grammar.{simple, directive, opening, closing, open_bracket, close_bracket, comma, point, semi, print_word, length_word, method, string_word, from_word, json_word, stringify_word, sign, sum_op, first_of, second_of, list_of, none_of, single_of, index_of, call_of, pair_of, builtin_of, post_of, unary_of, link_of, chain_of, print_of, Which, Whole, Operand, has_room, prints}
 
 abbrev pub read_parens : Reader ExprTree → Reader ExprTree
 read_parens e = and_then second_of (one_of opening) (and_then first_of e (one_of closing))
@@ -136,5 +136,15 @@ read_print a = and_then second_of (one_of print_word) (and_then print_of a (one_
 unfoldable pub statement_at : ℕ → Role → Reader StmtTree
 statement_at n role = read_if (prints role) (opens (has_room n) (heads print_word) (read_print (args_at n)))
 
-unfoldable pub statements_at : ℕ → Role → Reader (List StmtTree)
-statements_at n role = and_then first_of (all_of (heads print_word) (statement_at n role)) at_end
+abbrev pub read_statements : ℕ → Role → Reader (List StmtTree)
+read_statements n role = all_of (heads print_word) (statement_at n role)
+
+abbrev pub read_directed : Reader (Unit {0})
+read_directed = and_then second_of (one_of directive) (one_of semi)
+
+abbrev pub read_script : ℕ → Role → Reader (List StmtTree)
+read_script n role = choose (heads directive) (and_then second_of read_directed (read_statements n role)) (read_statements n role)
+
+-- a script, and nothing after it
+unfoldable pub script_at : ℕ → Role → Reader (List StmtTree)
+script_at n role = and_then first_of (read_script n role) at_end

@@ -37,6 +37,7 @@ pub enum Word {
 /// and a word or a mark with the offset of its first byte.
 #[derive(Clone, Copy, Debug, PartialEq, Eq)]
 pub enum Token {
+    Directive,
     Text(u32),
     Number(u64),
     Word(Word, u32),
