@@ -8,6 +8,7 @@ pub mod Loops
 pub mod Stops
 pub mod Expressions
 pub mod Rooms
+pub mod Eats
 pub mod Turns
 pub mod Classes
 pub mod Statements

@@ -47,9 +47,9 @@ module _ {A : Type 0} (starts : List Token → Bool) (none : starts [] ≡ false
   pub goes_on : (front : List A) (s : List Token) (x : A) (rest : List Token) (all : Answer (List A)) → starts s ≡ true → item s ≡ Got x rest → with_front front (all_of starts item s) ≡ all → with_front (front ++ x ∷ []) (all_of starts item rest) ≡ all
   goes_on front s x rest all h e i = sym (step_of_loop front s x rest h e) ∙ i
 
-  pub fails_on : (front : List A) (s : List Token) (all : Answer (List A)) (k : Kind) (rest : List Token) → starts s ≡ true → item s ≡ Bad k rest → with_front front (all_of starts item s) ≡ all → all ≡ Bad k rest
-  fails_on front [] all k rest h e i = let q : true ≡ false = sym h ∙ none in cc
-  fails_on front (t ∷ s) all k rest h e i = sym i ∙ rw (h, e) refl
+  pub fails_on : (front : List A) (s : List Token) (k : Kind) (rest : List Token) (all : Answer (List A)) → starts s ≡ true → item s ≡ Bad k rest → with_front front (all_of starts item s) ≡ all → all ≡ Bad k rest
+  fails_on front [] k rest all h e i = let q : true ≡ false = sym h ∙ none in cc
+  fails_on front (t ∷ s) k rest all h e i = sym i ∙ rw (h, e) refl
 
   pub ends_on : (front : List A) (s : List Token) (all : Answer (List A)) → starts s ≡ false → with_front front (all_of starts item s) ≡ all → all ≡ Got front s
   ends_on front [] all h i = sym i ∙ ap (λ l. Got l []) (append-nil front)

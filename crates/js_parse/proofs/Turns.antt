@@ -2,8 +2,9 @@
 use Rattle.std.proofs.Common.{◌≡◌, ℕ, ◌-◌, ◌<◌, List, [], ◌∷◌, ◌++◌, length, map, Bool, true, false, refl, sym, ap, ◌∙◌, subst}
 use Rattle.std.proofs.lemmas.List.{map_push}
 use Rattle.js_parse.specs.declared.token.Token.{Token}
-use Rattle.js_parse.specs.declared.parser.ParseFault.{ParseFault}
-use Rattle.js_parse.specs.declared.parser.ParseFault.TheVariants.{Memory, NotInProfile, Lex}
+use Rattle.js_parse.specs.declared.token.Kind.{Kind}
+use Rattle.js_parse.specs.declared.fault.Fault.{Fault}
+use Rattle.js_parse.specs.declared.fault.Fault.TheVariants as fault
 use Rattle.js_parse.specs.declared.tree.Op.{Op}
 use Rattle.js_parse.specs.declared.tree.Expr.{Expr}
 use Rattle.js_parse.specs.declared.tree.Link.{Link}
@@ -14,20 +15,19 @@ use Rattle.js_parse.specs.Grammar.{opening, closing, open_bracket, comma, sign, 
 use Rattle.js_parse.specs.Reading.{read_item, read_link, step_mark, inner, primary_at, args_at, member_at, step_at, post_at, unary_at, expression_at}
 use Rattle.js_parse.specs.Gives.{Fails}
 use Rattle.js_parse.proofs.Loops.{with_front, goes_on, fails_on, ends_on, head_of}
-use Rattle.js_parse.proofs.Expressions.{item_eats, step_eats, link_eats}
+use Rattle.js_parse.proofs.Eats.{item_eats, step_eats, link_eats}
 use Rattle.js_parse.proofs.Rooms.{room_for, inner_whole, inner_operand}
 
 -- a fault is handed on
-pub handed_on : (fault : ParseFault) (P Q : Type 0) → (P → Q) → Fails fault P → Fails fault Q
-handed_on Memory P Q f h = tt
-handed_on (Lex fault) P Q f h = h
-handed_on (NotInProfile at) P Q f h = (h.0, f h.1)
+pub handed_on : {A B : Type 0} (e : Fault) (a : Answer A) (b : Answer B) → ((k : Kind) (rest : List Token) → a ≡ Bad k rest → b ≡ Bad k rest) → Fails e a → Fails e b
+handed_on fault.Memory a b f h = tt
+handed_on (fault.At k left) a b f h = (h.0, f k h.0 h.1, h.2)
 
 pub both_got : {A B C : Type 0} (f : A → B → C) (r : Reader A) (q : Reader B) (s between rest : List Token) (x : A) (y : B) → r s ≡ Got x between → q between ≡ Got y rest → and_then f r q s ≡ Got (f x y) rest
 both_got f r q s between rest x y e h = rw (e, h) refl
 
-pub both_bad : {A B C : Type 0} (f : A → B → C) (r : Reader A) (q : Reader B) (s between : List Token) (x : A) → r s ≡ Got x between → q between ≡ Bad → and_then f r q s ≡ Bad
-both_bad f r q s between x e h = rw (e, h) refl
+pub both_bad : {A B C : Type 0} (f : A → B → C) (r : Reader A) (q : Reader B) (s between rest : List Token) (x : A) (k : Kind) → r s ≡ Got x between → q between ≡ Bad k rest → and_then f r q s ≡ Bad k rest
+both_bad f r q s between rest x k e h = rw (e, h) refl
 
 -- chains
 
@@ -35,14 +35,14 @@ sum_is : (n : ℕ) (s : List Token) → expression_at n s ≡ (unary_at n s >>= 
 unfolding expression_at unary_at
 sum_is n s = refl
 
-pub sum_first : (n : ℕ) (s : List Token) (fault : ParseFault) → Fails fault (unary_at n s ≡ Bad) → Fails fault (expression_at n s ≡ Bad)
-sum_first n s fault h = handed_on fault (unary_at n s ≡ Bad) (expression_at n s ≡ Bad) (λ b. sum_is n s ∙ rw b refl) h
+pub sum_first : (n : ℕ) (s : List Token) (fault : Fault) → Fails fault (unary_at n s) → Fails fault (expression_at n s)
+sum_first n s fault h = handed_on fault (unary_at n s) (expression_at n s) (λ k r b. sum_is n s ∙ rw b refl) h
 
 module _ (n : ℕ) (s rest0 : List Token) (first : ExprTree) (got : unary_at n s ≡ Got first rest0) (ls : List LinkTree) (rest : List Token) (inv : with_front ls (all_of (heads sum_op) (read_link sum_op (unary_at n)) rest) ≡ all_of (heads sum_op) (read_link sum_op (unary_at n)) rest0) where
-  pub sum_right : (o : ℕ × Op) (after : List Token) (fault : ParseFault) → one_of sum_op rest ≡ Got o after → Fails fault (unary_at n after ≡ Bad) → Fails fault (expression_at n s ≡ Bad)
-  sum_right o after fault e h = handed_on fault (unary_at n after ≡ Bad) (expression_at n s ≡ Bad) (λ b.
-      let bad = both_bad link_of (one_of sum_op) (unary_at n) rest after o e b in
-      sum_is n s ∙ rw (got, fails_on (heads sum_op) refl (read_link sum_op (unary_at n)) (link_eats n) ls rest (all_of (heads sum_op) (read_link sum_op (unary_at n)) rest0) (head_of sum_op rest o after e) bad inv) refl) h
+  pub sum_right : (o : ℕ × Op) (after : List Token) (fault : Fault) → one_of sum_op rest ≡ Got o after → Fails fault (unary_at n after) → Fails fault (expression_at n s)
+  sum_right o after fault e h = handed_on fault (unary_at n after) (expression_at n s) (λ k r b.
+      let bad = both_bad link_of (one_of sum_op) (unary_at n) rest after r o k e b in
+      sum_is n s ∙ rw (got, fails_on (heads sum_op) refl (read_link sum_op (unary_at n)) (link_eats n) ls rest k r (all_of (heads sum_op) (read_link sum_op (unary_at n)) rest0) (head_of sum_op rest o after e) bad inv) refl) h
 
   pub sum_done : heads sum_op rest ≡ false → (t : ExprTree) → t ≡ chain_of first ls → expression_at n s ≡ Got t rest
   sum_done h t e = sum_is n s ∙ rw (got, ends_on (heads sum_op) refl (read_link sum_op (unary_at n)) (link_eats n) ls rest (all_of (heads sum_op) (read_link sum_op (unary_at n)) rest0) h inv) (ap (λ t. Got t rest) (sym e))
@@ -62,13 +62,13 @@ post_is : (n : ℕ) (s : List Token) → post_at n s ≡ (primary_at n s >>= λ 
 unfolding post_at primary_at step_at
 post_is n s = refl
 
-pub post_first : (n : ℕ) (s : List Token) (fault : ParseFault) → Fails fault (primary_at n s ≡ Bad) → Fails fault (post_at n s ≡ Bad)
-post_first n s fault h = handed_on fault (primary_at n s ≡ Bad) (post_at n s ≡ Bad) (λ b. post_is n s ∙ rw b refl) h
+pub post_first : (n : ℕ) (s : List Token) (fault : Fault) → Fails fault (primary_at n s) → Fails fault (post_at n s)
+post_first n s fault h = handed_on fault (primary_at n s) (post_at n s) (λ k r b. post_is n s ∙ rw b refl) h
 
 module _ (n : ℕ) (s rest0 : List Token) (first : ExprTree) (got : primary_at n s ≡ Got first rest0) (ls : List StepTree) (rest : List Token) (inv : with_front ls (all_of (heads step_mark) (step_at n) rest) ≡ all_of (heads step_mark) (step_at n) rest0) where
-  pub post_step : heads step_mark rest ≡ true → (fault : ParseFault) → Fails fault (step_at n rest ≡ Bad) → Fails fault (post_at n s ≡ Bad)
-  post_step b fault h = handed_on fault (step_at n rest ≡ Bad) (post_at n s ≡ Bad) (λ bad.
-      post_is n s ∙ rw (got, fails_on (heads step_mark) refl (step_at n) (step_eats n) ls rest (all_of (heads step_mark) (step_at n) rest0) b bad inv) refl) h
+  pub post_step : heads step_mark rest ≡ true → (fault : Fault) → Fails fault (step_at n rest) → Fails fault (post_at n s)
+  post_step b fault h = handed_on fault (step_at n rest) (post_at n s) (λ k r bad.
+      post_is n s ∙ rw (got, fails_on (heads step_mark) refl (step_at n) (step_eats n) ls rest k r (all_of (heads step_mark) (step_at n) rest0) b bad inv) refl) h
 
   pub post_done : heads step_mark rest ≡ false → (t : ExprTree) → t ≡ post_of first ls → post_at n s ≡ Got t rest
   post_done b t e = post_is n s ∙ rw (got, ends_on (heads step_mark) refl (step_at n) (step_eats n) ls rest (all_of (heads step_mark) (step_at n) rest0) b inv) (ap (λ t. Got t rest) (sym e))
@@ -105,7 +105,7 @@ unary_done n s rest rest' o x t h e g w = go (unary_at (n - 1)) (inner_operand n
 module _ (n : ℕ) (h : 0 < n) (s rest r0 : List Token) (y : Unit {0}) (first : ExprTree) (o : one_of opening s ≡ Got y rest) (c : heads closing rest ≡ false) (g : expression_at (n - 1) rest ≡ Got first r0) where
   bind_got : {A : Type 0} (a : Answer A) → (a >>= λ x r. Got x r) ≡ a
   bind_got (Got x r) = refl
-  bind_got Bad = refl
+  bind_got (Bad k r) = refl
 
   args_from : args_at n s ≡ ((all_of (heads comma) (read_item (inner n Whole)) r0 >>= λ xs r. Got (first ∷ xs) r) >>= λ xs r. one_of closing r >>= λ _ r'. Got xs r')
   unfolding args_at
@@ -120,7 +120,7 @@ module _ (n : ℕ) (h : 0 < n) (s rest r0 : List Token) (y : Unit {0}) (first : 
 
     front_bind : (a : Answer (List ExprTree)) → with_front (first ∷ []) a ≡ (a >>= λ xs r. Got (first ∷ xs) r)
     front_bind (Got xs r) = refl
-    front_bind Bad = refl
+    front_bind (Bad k r) = refl
 
     module _ (m : heads comma r1 ≡ false) where
       args_read : args_at n s ≡ (one_of closing r1 >>= λ _ r'. Got ls r')
@@ -128,8 +128,8 @@ module _ (n : ℕ) (h : 0 < n) (s rest r0 : List Token) (y : Unit {0}) (first : 
           let all = ends_on (heads comma) refl (read_item (inner n Whole)) (item_eats n) ls r1 (with_front (first ∷ []) (all_of (heads comma) (read_item (inner n Whole)) r0)) m so_far in
           args_from ∙ rw (sym (front_bind (all_of (heads comma) (read_item (inner n Whole)) r0)) ∙ all) refl
 
-      pub args_close : (fault : ParseFault) → Fails fault (one_of closing r1 ≡ Bad) → Fails fault (args_at n s ≡ Bad)
-      args_close fault f = handed_on fault (one_of closing r1 ≡ Bad) (args_at n s ≡ Bad) (λ bad. args_read ∙ rw bad refl) f
+      pub args_close : (fault : Fault) → Fails fault (one_of closing r1) → Fails fault (args_at n s)
+      args_close fault f = handed_on fault (one_of closing r1) (args_at n s) (λ k r bad. args_read ∙ rw bad refl) f
 
       pub args_done : (r2 : List Token) (z : Unit {0}) → one_of closing r1 ≡ Got z r2 → args_at n s ≡ Got ls r2
       args_done r2 z q = args_read ∙ rw q refl

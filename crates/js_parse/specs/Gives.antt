@@ -7,25 +7,28 @@ use Rattle.js_lex.specs.declared.token.LexFault.{LexFault}
 use Rattle.js_lex.specs.declared.token.LexFault.TheVariants as lexical
 use Rattle.js_lex.specs.Tokens.{TokensOf}
 use Rattle.js_parse.specs.declared.token.Token.{Token}
+use Rattle.js_parse.specs.declared.fault.Fault.{Fault}
+use Rattle.js_parse.specs.declared.fault.Fault.TheVariants as fault
 use Rattle.js_parse.specs.declared.parser.ParseFault.{ParseFault}
 use Rattle.js_parse.specs.declared.parser.ParseFault.TheVariants.{Memory, NotInProfile, Lex}
 use Rattle.js_parse.specs.Token.{IsUseStrict, Directed, tokens_of, texts_of}
 use Rattle.js_parse.specs.Reader.{Answer, Got, Bad}
 
--- the fault is for this reason, unless memory ran out
-abbrev pub Fails : ParseFault → Type 0 → Type 0
-Fails Memory P = ⊤
-Fails (Lex fault) P = ⊥
-Fails (NotInProfile at) P = (at ≡ 0) × P
+-- the fault, unless memory ran out
+abbrev pub Fails : {A : Type 0} → Fault → Answer A → Type 0
+Fails fault.Memory answer = ⊤
+Fails {A = A} (fault.At kind left) answer = (rest : List Token) × (answer ≡ Bad kind rest) × (length rest ≡ left)
 
 abbrev pub OnRefusal : {X : Type 0} → Result X ParseFault → Type 0 → Type 0
 OnRefusal (Ok x) P = ⊤
-OnRefusal (Err fault) P = Fails fault P
+OnRefusal (Err Memory) P = ⊤
+OnRefusal (Err (Lex fault)) P = ⊥
+OnRefusal (Err (NotInProfile at)) P = (at ≡ 0) × P
 
 -- what was returned, seen by view and rest, is the answer, unless memory ran out
-abbrev pub Gives : {X A : Type 0} → (X → A) → (X → List Token) → Result X ParseFault → Answer A → Type 0
+abbrev pub Gives : {X A : Type 0} → (X → A) → (X → List Token) → Result X Fault → Answer A → Type 0
 Gives view rest (Ok x) answer = answer ≡ Got (view x) (rest x)
-Gives view rest (Err fault) answer = Fails fault (answer ≡ Bad)
+Gives view rest (Err e) answer = Fails e answer
 
 -- each token's span lies within the bytes
 abbrev pub Within : List ℕ → List Lexed → Type 0

@@ -4,13 +4,13 @@ ghost use Rattle.js_parse.specs.Tree.{expr_tree, step_tree};
 ghost use Rattle.js_parse.specs.Reading.{args_at, parens_at, string_call_at, json_call_at, primary_at, member_at, step_at, post_at, unary_at, expression_at};
 ghost use Rattle.js_parse.specs.Gives.{Gives};
 
+use crate::fault::{Fault, refused, too_deep};
 use crate::look::{
-    REFUSED, begins_json, begins_step, begins_string, close, close_bracket, closing, comma,
+    begins_enclosed, begins_json, begins_method, begins_step, begins_string, close, close_bracket, closing, comma,
     json_member, json_word, length_word, method, open_bracket, opening, point, sign, simple,
     string_member, string_word, sum_op,
 };
 use crate::node::{builtin, call, chain, index, link, post, signed};
-use crate::parser::ParseFault;
 use crate::token::Token;
 use crate::tree::{Expr, PostStep};
 use std::alloc::Global;
@@ -22,7 +22,7 @@ pub(crate) fn args(
     alloc: Global,
     tokens: &[Token],
     room: u32,
-) -> Result<(Vec<Expr>, &[Token]), ParseFault>
+) -> Result<(Vec<Expr>, &[Token]), Fault>
     requires { 0 < room }
     ensures { Gives (λ found. map expr_tree found.0.items) (λ found. found.1.now) result (args_at room tokens.now) }
 {
@@ -45,7 +45,7 @@ pub(crate) fn args(
 // ( Expr )
 #[cycle(expr)]
 #[tactic(auto, using(crate::proofs::Rooms::inner_whole), unfolding(crate::specs::Reading::parens_at))]
-fn parens(alloc: Global, tokens: &[Token], room: u32) -> Result<(Expr, &[Token]), ParseFault>
+fn parens(alloc: Global, tokens: &[Token], room: u32) -> Result<(Expr, &[Token]), Fault>
     requires { 0 < room }
     ensures { Gives (λ found. expr_tree found.0) (λ found. found.1.now) result (parens_at room tokens.now) }
 {
@@ -58,7 +58,7 @@ fn parens(alloc: Global, tokens: &[Token], room: u32) -> Result<(Expr, &[Token])
 // String . fromCharCode Args | String . fromCodePoint Args
 #[cycle(expr)]
 #[tactic(auto, unfolding(crate::specs::Reading::string_call_at, crate::specs::Reading::args_at))]
-fn string_call(alloc: Global, tokens: &[Token], room: u32) -> Result<(Expr, &[Token]), ParseFault>
+fn string_call(alloc: Global, tokens: &[Token], room: u32) -> Result<(Expr, &[Token]), Fault>
     requires { 0 < room }
     ensures { Gives (λ found. expr_tree found.0) (λ found. found.1.now) result (string_call_at room tokens.now) }
 {
@@ -71,7 +71,7 @@ fn string_call(alloc: Global, tokens: &[Token], room: u32) -> Result<(Expr, &[To
 // JSON . stringify ( Expr )
 #[cycle(expr)]
 #[tactic(auto, unfolding(crate::specs::Reading::json_call_at, crate::specs::Reading::parens_at))]
-fn json_call(alloc: Global, tokens: &[Token], room: u32) -> Result<(Expr, &[Token]), ParseFault>
+fn json_call(alloc: Global, tokens: &[Token], room: u32) -> Result<(Expr, &[Token]), Fault>
     requires { 0 < room }
     ensures { Gives (λ found. expr_tree found.0) (λ found. found.1.now) result (json_call_at room tokens.now) }
 {
@@ -87,14 +87,17 @@ fn json_call(alloc: Global, tokens: &[Token], room: u32) -> Result<(Expr, &[Toke
 // | String . fromCharCode Args | String . fromCodePoint Args | JSON . stringify ( Expr )
 #[cycle(expr)]
 #[tactic(auto, using(crate::proofs::Rooms::room_for, crate::proofs::Rooms::no_room_for), unfolding(crate::specs::Reading::primary_at, crate::specs::Reading::string_call_at, crate::specs::Reading::json_call_at, crate::specs::Reading::parens_at))]
-fn primary(alloc: Global, tokens: &[Token], room: u32) -> Result<(Expr, &[Token]), ParseFault>
+fn primary(alloc: Global, tokens: &[Token], room: u32) -> Result<(Expr, &[Token]), Fault>
     ensures { Gives (λ found. expr_tree found.0) (λ found. found.1.now) result (primary_at room tokens.now) }
 {
     if let Some(found) = simple(tokens) {
         return Ok(found);
     }
     if room == 0 {
-        return Err(REFUSED);
+        if begins_enclosed(tokens) {
+            return Err(too_deep(tokens));
+        }
+        return Err(refused(tokens));
     }
     if begins_string(tokens) {
         return string_call(alloc, tokens, room);
@@ -108,7 +111,7 @@ fn primary(alloc: Global, tokens: &[Token], room: u32) -> Result<(Expr, &[Token]
 // . length | . Method Args
 #[cycle(expr)]
 #[tactic(auto, using(crate::proofs::Rooms::room_for, crate::proofs::Rooms::no_room_for), unfolding(crate::specs::Reading::member_at, crate::specs::Reading::args_at))]
-fn member(alloc: Global, tokens: &[Token], room: u32) -> Result<(PostStep, &[Token]), ParseFault>
+fn member(alloc: Global, tokens: &[Token], room: u32) -> Result<(PostStep, &[Token]), Fault>
     ensures { Gives (λ found. step_tree found.0) (λ found. found.1.now) result (member_at room tokens.now) }
 {
     let rest = point(tokens)?;
@@ -116,7 +119,10 @@ fn member(alloc: Global, tokens: &[Token], room: u32) -> Result<(PostStep, &[Tok
         return Ok((PostStep::Length, after));
     }
     if room == 0 {
-        return Err(REFUSED);
+        if begins_method(rest) {
+            return Err(too_deep(rest));
+        }
+        return Err(refused(rest));
     }
     let (method, rest) = method(rest)?;
     let (args, rest) = args(alloc, rest, room)?;
@@ -126,14 +132,14 @@ fn member(alloc: Global, tokens: &[Token], room: u32) -> Result<(PostStep, &[Tok
 // . length | . Method Args | [ Expr ]
 #[cycle(expr)]
 #[tactic(auto, using(crate::proofs::Rooms::room_for, crate::proofs::Rooms::no_room_for, crate::proofs::Rooms::inner_whole), unfolding(crate::specs::Reading::step_at))]
-fn step(alloc: Global, tokens: &[Token], room: u32) -> Result<(PostStep, &[Token]), ParseFault>
+fn step(alloc: Global, tokens: &[Token], room: u32) -> Result<(PostStep, &[Token]), Fault>
     ensures { Gives (λ found. step_tree found.0) (λ found. found.1.now) result (step_at room tokens.now) }
 {
     let Some((at, rest)) = open_bracket(tokens) else {
         return member(alloc, tokens, room);
     };
     if room == 0 {
-        return Err(REFUSED);
+        return Err(too_deep(tokens));
     }
     let (inside, rest) = expression(alloc, rest, room - 1)?;
     let rest = close_bracket(rest)?;
@@ -143,7 +149,7 @@ fn step(alloc: Global, tokens: &[Token], room: u32) -> Result<(PostStep, &[Token
 // Primary { Step }
 #[cycle(expr)]
 #[tactic(auto, unfolding(crate::specs::Reading::post_at))]
-fn postfix(alloc: Global, tokens: &[Token], room: u32) -> Result<(Expr, &[Token]), ParseFault>
+fn postfix(alloc: Global, tokens: &[Token], room: u32) -> Result<(Expr, &[Token]), Fault>
     ensures { Gives (λ found. expr_tree found.0) (λ found. found.1.now) result (post_at room tokens.now) }
 {
     let (of, mut rest) = primary(alloc, tokens, room)?;
@@ -160,14 +166,14 @@ fn postfix(alloc: Global, tokens: &[Token], room: u32) -> Result<(Expr, &[Token]
 // - Unary | Post
 #[cycle(expr)]
 #[tactic(auto, using(crate::proofs::Rooms::room_for, crate::proofs::Rooms::no_room_for, crate::proofs::Rooms::inner_operand), unfolding(crate::specs::Reading::unary_at))]
-fn unary(alloc: Global, tokens: &[Token], room: u32) -> Result<(Expr, &[Token]), ParseFault>
+fn unary(alloc: Global, tokens: &[Token], room: u32) -> Result<(Expr, &[Token]), Fault>
     ensures { Gives (λ found. expr_tree found.0) (λ found. found.1.now) result (unary_at room tokens.now) }
 {
     let Some((sign, rest)) = sign(tokens) else {
         return postfix(alloc, tokens, room);
     };
     if room == 0 {
-        return Err(REFUSED);
+        return Err(too_deep(tokens));
     }
     let (of, rest) = unary(alloc, rest, room - 1)?;
     let tree = signed(alloc, sign, of)?;
@@ -176,7 +182,7 @@ fn unary(alloc: Global, tokens: &[Token], room: u32) -> Result<(Expr, &[Token]),
 
 // Unary { (+|-) Unary }
 #[cycle(expr)]
-fn expression(alloc: Global, tokens: &[Token], room: u32) -> Result<(Expr, &[Token]), ParseFault>
+fn expression(alloc: Global, tokens: &[Token], room: u32) -> Result<(Expr, &[Token]), Fault>
     ensures { Gives (λ found. expr_tree found.0) (λ found. found.1.now) result (expression_at room tokens.now) }
 {
     let (first, mut rest) = unary(alloc, tokens, room)?;

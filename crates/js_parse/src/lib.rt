@@ -8,6 +8,7 @@
 #![tactic(auto)]
 
 mod expr;
+mod fault;
 mod laws;
 mod look;
 mod node;

@@ -3,15 +3,13 @@ ghost use Rattle.std.specs.Prelude.{◌≡◌, [], ◌∷◌, MatchOption, false
 ghost use Rattle.js_parse.specs.Tree.{expr_tree, of_length};
 ghost use Rattle.js_parse.specs.Reader.{Got, one_of, heads};
 ghost use Rattle.js_parse.specs.Grammar.{simple, opening, closing, comma, point, semi, print_word, method, sign, sum_op, length_word, open_bracket, close_bracket, string_word, from_word, json_word, stringify_word};
-ghost use Rattle.js_parse.specs.Reading.{read_behind_point, step_mark};
+ghost use Rattle.js_parse.specs.Reading.{read_behind_point, step_mark, enclosed_mark};
 ghost use Rattle.js_parse.specs.Gives.{Gives};
 
-use crate::parser::ParseFault;
+use crate::fault::{Fault, refused};
 use crate::token::{Token, Word};
 use crate::tree::{Builtin, Expr, Method, Op};
 use js_lex::Mark;
-
-pub(crate) const REFUSED: ParseFault = ParseFault::NotInProfile { at: 0 };
 
 pub(crate) fn next(tokens: &[Token]) -> Option<(Token, &[Token])>
     ensures { MatchOption result (tokens.now ≡ []) (λ found. tokens.now ≡ found.0 ∷ found.1.now) }
@@ -39,21 +37,21 @@ pub(crate) fn simple(tokens: &[Token]) -> Option<(Expr, &[Token])>
     }
 }
 
-pub(crate) fn opening(tokens: &[Token]) -> Result<&[Token], ParseFault>
+pub(crate) fn opening(tokens: &[Token]) -> Result<&[Token], Fault>
     ensures { Gives (λ _. tt) (λ rest. rest.now) result (one_of opening tokens.now) }
 {
     match next(tokens) {
         Some((Token::Mark(Mark::OpenParen, _), rest)) => Ok(rest),
-        _ => Err(REFUSED),
+        _ => Err(refused(tokens)),
     }
 }
 
-pub(crate) fn close(tokens: &[Token]) -> Result<&[Token], ParseFault>
+pub(crate) fn close(tokens: &[Token]) -> Result<&[Token], Fault>
     ensures { Gives (λ _. tt) (λ rest. rest.now) result (one_of closing tokens.now) }
 {
     match next(tokens) {
         Some((Token::Mark(Mark::CloseParen, _), rest)) => Ok(rest),
-        _ => Err(REFUSED),
+        _ => Err(refused(tokens)),
     }
 }
 
@@ -94,30 +92,30 @@ pub(crate) fn open_bracket(tokens: &[Token]) -> Option<(u32, &[Token])>
     }
 }
 
-pub(crate) fn close_bracket(tokens: &[Token]) -> Result<&[Token], ParseFault>
+pub(crate) fn close_bracket(tokens: &[Token]) -> Result<&[Token], Fault>
     ensures { Gives (λ _. tt) (λ rest. rest.now) result (one_of close_bracket tokens.now) }
 {
     match next(tokens) {
         Some((Token::Mark(Mark::CloseBracket, _), rest)) => Ok(rest),
-        _ => Err(REFUSED),
+        _ => Err(refused(tokens)),
     }
 }
 
-pub(crate) fn point(tokens: &[Token]) -> Result<&[Token], ParseFault>
+pub(crate) fn point(tokens: &[Token]) -> Result<&[Token], Fault>
     ensures { Gives (λ _. tt) (λ rest. rest.now) result (one_of point tokens.now) }
 {
     match next(tokens) {
         Some((Token::Mark(Mark::Point, _), rest)) => Ok(rest),
-        _ => Err(REFUSED),
+        _ => Err(refused(tokens)),
     }
 }
 
-pub(crate) fn semi(tokens: &[Token]) -> Result<&[Token], ParseFault>
+pub(crate) fn semi(tokens: &[Token]) -> Result<&[Token], Fault>
     ensures { Gives (λ _. tt) (λ rest. rest.now) result (one_of semi tokens.now) }
 {
     match next(tokens) {
         Some((Token::Mark(Mark::Semicolon, _), rest)) => Ok(rest),
-        _ => Err(REFUSED),
+        _ => Err(refused(tokens)),
     }
 }
 
@@ -127,12 +125,12 @@ pub(crate) fn begins_print(tokens: &[Token]) -> bool
     matches!(next(tokens), Some((Token::Word(Word::Print, _), _)))
 }
 
-pub(crate) fn print_word(tokens: &[Token]) -> Result<&[Token], ParseFault>
+pub(crate) fn print_word(tokens: &[Token]) -> Result<&[Token], Fault>
     ensures { Gives (λ _. tt) (λ rest. rest.now) result (one_of print_word tokens.now) }
 {
     match next(tokens) {
         Some((Token::Word(Word::Print, _), rest)) => Ok(rest),
-        _ => Err(REFUSED),
+        _ => Err(refused(tokens)),
     }
 }
 
@@ -145,13 +143,31 @@ pub(crate) fn length_word(tokens: &[Token]) -> Option<&[Token]>
     }
 }
 
+pub(crate) fn begins_enclosed(tokens: &[Token]) -> bool
+    ensures { result ≡ heads enclosed_mark tokens.now }
+{
+    matches!(
+        next(tokens),
+        Some((
+            Token::Word(Word::String | Word::Json, _) | Token::Mark(Mark::OpenParen, _),
+            _
+        ))
+    )
+}
+
+pub(crate) fn begins_method(tokens: &[Token]) -> bool
+    ensures { result ≡ heads method tokens.now }
+{
+    matches!(next(tokens), Some((Token::Word(Word::Method(_), _), _)))
+}
+
 /// A method with its offset.
-pub(crate) fn method(tokens: &[Token]) -> Result<((u32, Method), &[Token]), ParseFault>
+pub(crate) fn method(tokens: &[Token]) -> Result<((u32, Method), &[Token]), Fault>
     ensures { Gives (λ found. (found.0.0, found.0.1)) (λ found. found.1.now) result (one_of method tokens.now) }
 {
     match next(tokens) {
         Some((Token::Word(Word::Method(method), at), rest)) => Ok(((at, method), rest)),
-        _ => Err(REFUSED),
+        _ => Err(refused(tokens)),
     }
 }
 
@@ -162,27 +178,27 @@ pub(crate) fn begins_string(tokens: &[Token]) -> bool
 }
 
 /// The word `String`: its offset.
-pub(crate) fn string_word(tokens: &[Token]) -> Result<(u32, &[Token]), ParseFault>
+pub(crate) fn string_word(tokens: &[Token]) -> Result<(u32, &[Token]), Fault>
     ensures { Gives (λ found. found.0) (λ found. found.1.now) result (one_of string_word tokens.now) }
 {
     match next(tokens) {
         Some((Token::Word(Word::String, at), rest)) => Ok((at, rest)),
-        _ => Err(REFUSED),
+        _ => Err(refused(tokens)),
     }
 }
 
-fn from_word(tokens: &[Token]) -> Result<(Builtin, &[Token]), ParseFault>
+fn from_word(tokens: &[Token]) -> Result<(Builtin, &[Token]), Fault>
     ensures { Gives (λ found. found.0) (λ found. found.1.now) result (one_of from_word tokens.now) }
 {
     match next(tokens) {
         Some((Token::Word(Word::FromCharCode, _), rest)) => Ok((Builtin::FromCharCode, rest)),
         Some((Token::Word(Word::FromCodePoint, _), rest)) => Ok((Builtin::FromCodePoint, rest)),
-        _ => Err(REFUSED),
+        _ => Err(refused(tokens)),
     }
 }
 
 /// `. fromCharCode | . fromCodePoint`
-pub(crate) fn string_member(tokens: &[Token]) -> Result<(Builtin, &[Token]), ParseFault>
+pub(crate) fn string_member(tokens: &[Token]) -> Result<(Builtin, &[Token]), Fault>
     ensures { Gives (λ found. found.0) (λ found. found.1.now) result (read_behind_point from_word tokens.now) }
 {
     let rest = point(tokens)?;
@@ -196,26 +212,26 @@ pub(crate) fn begins_json(tokens: &[Token]) -> bool
 }
 
 /// The word `JSON`: its offset.
-pub(crate) fn json_word(tokens: &[Token]) -> Result<(u32, &[Token]), ParseFault>
+pub(crate) fn json_word(tokens: &[Token]) -> Result<(u32, &[Token]), Fault>
     ensures { Gives (λ found. found.0) (λ found. found.1.now) result (one_of json_word tokens.now) }
 {
     match next(tokens) {
         Some((Token::Word(Word::Json, at), rest)) => Ok((at, rest)),
-        _ => Err(REFUSED),
+        _ => Err(refused(tokens)),
     }
 }
 
-fn stringify_word(tokens: &[Token]) -> Result<(Builtin, &[Token]), ParseFault>
+fn stringify_word(tokens: &[Token]) -> Result<(Builtin, &[Token]), Fault>
     ensures { Gives (λ found. found.0) (λ found. found.1.now) result (one_of stringify_word tokens.now) }
 {
     match next(tokens) {
         Some((Token::Word(Word::Stringify, _), rest)) => Ok((Builtin::Stringify, rest)),
-        _ => Err(REFUSED),
+        _ => Err(refused(tokens)),
     }
 }
 
 /// `. stringify`
-pub(crate) fn json_member(tokens: &[Token]) -> Result<(Builtin, &[Token]), ParseFault>
+pub(crate) fn json_member(tokens: &[Token]) -> Result<(Builtin, &[Token]), Fault>
     ensures { Gives (λ found. found.0) (λ found. found.1.now) result (read_behind_point stringify_word tokens.now) }
 {
     let rest = point(tokens)?;

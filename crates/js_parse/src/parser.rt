@@ -4,6 +4,7 @@ ghost use Rattle.js_parse.specs.declared.parser.ParseFault.TheVariants.{Memory};
 ghost use Rattle.js_parse.specs.Tree.{Tree, tree_of};
 ghost use Rattle.js_parse.specs.Spells.{Spells, Refused, IsOrMemory, Refuses};
 
+use crate::fault::Fault;
 use crate::statement::statements;
 use crate::token::tokens;
 use crate::tree::{Names, Script};
@@ -62,7 +63,11 @@ pub fn parse(alloc: Global, bytes: &[u8], role: Role, outer: &Names) -> Result<S
     ensures refused { Refuses result (λ fault. Refused role outer.now bytes.now fault) }
 {
     let (tokens, literals) = tokens(alloc, bytes)?;
-    let body = statements(alloc, &tokens, role)?;
+    let body = match statements(alloc, &tokens, role) {
+        Ok(body) => body,
+        Err(Fault::Memory) => return Err(ParseFault::Memory),
+        Err(Fault::At { .. }) => return Err(ParseFault::NotInProfile { at: 0 }),
+    };
     Ok(Script {
         literals,
         body,

@@ -2,13 +2,14 @@
 ghost use Rattle.std.specs.Prelude.{◌≡◌, [], map};
 ghost use Rattle.js_parse.specs.Tree.{stmt_tree};
 ghost use Rattle.js_parse.specs.Grammar.{most};
-ghost use Rattle.js_parse.specs.Reading.{statement_at, statements_at};
+ghost use Rattle.js_parse.specs.Reading.{statement_at, script_at};
 ghost use Rattle.js_parse.specs.Gives.{Gives};
 
 use crate::expr::args;
-use crate::look::{REFUSED, begins_print, print_word, semi};
+use crate::fault::{Fault, refused, too_deep};
+use crate::look::{begins_print, print_word, semi};
 use crate::node::print;
-use crate::parser::{ParseFault, Role};
+use crate::parser::Role;
 use crate::token::Token;
 use crate::tree::Stmt;
 use std::alloc::Global;
@@ -27,11 +28,17 @@ fn statement(
     tokens: &[Token],
     room: u32,
     role: Role,
-) -> Result<(Stmt, &[Token]), ParseFault>
+) -> Result<(Stmt, &[Token]), Fault>
     ensures { Gives (λ found. stmt_tree found.0) (λ found. found.1.now) result (statement_at room role tokens.now) }
 {
-    if role == Role::Prelude || room == 0 {
-        return Err(REFUSED);
+    if role == Role::Prelude {
+        return Err(refused(tokens));
+    }
+    if room == 0 {
+        if begins_print(tokens) {
+            return Err(too_deep(tokens));
+        }
+        return Err(refused(tokens));
     }
     let rest = print_word(tokens)?;
     let (args, rest) = args(alloc, rest, room)?;
@@ -46,8 +53,8 @@ fn all_statements(
     tokens: &[Token],
     room: u32,
     role: Role,
-) -> Result<Vec<Stmt>, ParseFault>
-    ensures { Gives (λ body. map stmt_tree body.items) (λ _. []) result (statements_at room role tokens.now) }
+) -> Result<Vec<Stmt>, Fault>
+    ensures { Gives (λ body. map stmt_tree body.items) (λ _. []) result (script_at room role tokens.now) }
 {
     let mut body = Vec::new(alloc);
     let mut rest = tokens;
@@ -57,7 +64,7 @@ fn all_statements(
         rest = after;
     }
     if !rest.is_empty() {
-        return Err(REFUSED);
+        return Err(refused(rest));
     }
     Ok(body)
 }
@@ -67,8 +74,8 @@ pub(crate) fn statements(
     alloc: Global,
     tokens: &[Token],
     role: Role,
-) -> Result<Vec<Stmt>, ParseFault>
-    ensures { Gives (λ body. map stmt_tree body.items) (λ _. []) result (statements_at most role tokens.now) }
+) -> Result<Vec<Stmt>, Fault>
+    ensures { Gives (λ body. map stmt_tree body.items) (λ _. []) result (script_at most role tokens.now) }
 {
     all_statements(alloc, tokens, limit(), role)
 }

@@ -1,4 +1,4 @@
-use Rattle.js_parse.proofs.Whole as a
+use Rattle.js_parse.proofs.Turns as a
 use Rattle.js_parse.proofs.laws.one_script.Goals as goal
 
 pub returns : goal.returns
