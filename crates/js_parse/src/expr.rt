@@ -6,9 +6,9 @@ ghost use Rattle.js_parse.specs.Gives.{Gives};
 
 use crate::fault::{Fault, refused, too_deep};
 use crate::look::{
-    begins_enclosed, begins_json, begins_method, begins_step, begins_string, close, close_bracket, closing, comma,
-    json_member, json_word, length_word, method, open_bracket, opening, point, sign, simple,
-    string_member, string_word, sum_op,
+    begins_enclosed, begins_json, begins_method, begins_step, begins_string, close, close_bracket,
+    closing, comma, json_member, json_word, length_word, method, open_bracket, opening, point,
+    sign, simple, string_member, string_word, sum_op,
 };
 use crate::node::{builtin, call, chain, index, link, post, signed};
 use crate::token::Token;

@@ -70,11 +70,7 @@ fn all_statements(
 }
 
 /// Statements to the end of the tokens, with at most 200 open.
-pub(crate) fn statements(
-    alloc: Global,
-    tokens: &[Token],
-    role: Role,
-) -> Result<Vec<Stmt>, Fault>
+pub(crate) fn statements(alloc: Global, tokens: &[Token], role: Role) -> Result<Vec<Stmt>, Fault>
     ensures { Gives (λ body. map stmt_tree body.items) (λ _. []) result (script_at most role tokens.now) }
 {
     all_statements(alloc, tokens, limit(), role)
