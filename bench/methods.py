@@ -9,10 +9,9 @@ node is installed its time for the same script is printed beside it, less that o
 
 import os
 import shutil
-import sys
 import tempfile
 
-from speed import PROGRAM, seconds
+from speed import PROGRAM, asked, seconds
 
 SMALL = (100_000, 1_000_000)
 LARGE = (1_000_000, 10_000_000)
@@ -68,9 +67,7 @@ def measure(folder, name, sizes, base, call, node):
 
 
 def main():
-    if not os.access(PROGRAM, os.X_OK):
-        sys.exit("the program isn't built: run tools/jsstr demo/hello.js")
-    wanted = sys.argv[1] if len(sys.argv) > 1 else ""
+    wanted = asked()
     with tempfile.TemporaryDirectory() as folder:
         node = node_words(folder)
         for name, sizes, base, call in METHODS:

@@ -75,10 +75,15 @@ def measure(folder, name, text_of, status, start):
     print(f"{name}: 16 times the bytes take {spent[SIZES[-1]] / spent[SIZES[0]]:.1f} times as long")
 
 
-def main():
+def asked():
+    """The word of the command line, empty where there is none; ends where the program isn't built."""
     if not os.access(PROGRAM, os.X_OK):
         sys.exit("the program isn't built: run tools/jsstr demo/hello.js")
-    wanted = sys.argv[1] if len(sys.argv) > 1 else ""
+    return sys.argv[1] if len(sys.argv) > 1 else ""
+
+
+def main():
+    wanted = asked()
     with tempfile.TemporaryDirectory() as folder:
         empty = os.path.join(folder, "empty.js")
         with open(empty, "w", encoding="ascii"):
