@@ -11,7 +11,7 @@ use Rattle.js_eval.specs.Building.{joined_text, one_joined, concat_call}
 use Rattle.js_eval.specs.Seen.{seen, IsFine, all_seen, AllFine}
 use Rattle.js_eval.specs.Does.{Does, GivesText}
 use Rattle.js_eval.proofs.Compose.{did_bind, did_stop}
-use Rattle.js_json.proofs.Joining.{drop_at, every_at}
+use Rattle.js_texts.proofs.Lists.{drop_at, every_at}
 use Rattle.js_eval.proofs.Still.{seen_still}
 
 module _ {F R : Type 0} (name : R → ℕ) where

@@ -19,7 +19,7 @@ use Rattle.js_eval.specs.declared.value.Value.TheVariants.{Text}
 use Rattle.js_eval.specs.Cutting.{within}
 use Rattle.js_eval.specs.Building.{joined_text}
 use Rattle.std.specs.Prelude.{nat_le, if◌then◌else◌, true, false, length}
-use Rattle.js_json.specs.Texts.{full_only}
+use Rattle.js_texts.specs.Texts.{full_only}
 use Rattle.js_eval.specs.Ran.{Interns, Ran, NextShut, Cut, Did}
 use Rattle.js_eval.specs.Does.{Does}
 

@@ -6,9 +6,9 @@ use Rattle.js_store.proofs.Laws.{step_refl}
 use Rattle.js_eval.specs.declared.value.Stop.{Stop}
 use Rattle.js_eval.specs.declared.value.Stop.TheVariants.{Store}
 use Rattle.js_eval.specs.Outcome.{Out, gave, ended, after, bind, each, ledger_of}
-use Rattle.js_json.specs.Texts.{Every}
+use Rattle.js_texts.specs.Texts.{Every}
 use Rattle.js_eval.specs.Ran.{Did}
-use Rattle.js_json.proofs.Joining.{drop_at, every_map}
+use Rattle.js_texts.proofs.Lists.{drop_at, every_map}
 use Rattle.js_eval.proofs.Compose.{did_bind, did_stop, cut_of_memory}
 use Rattle.js_eval.proofs.Still.{map_same}
 

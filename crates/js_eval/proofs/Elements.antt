@@ -3,8 +3,8 @@ use Rattle.std.proofs.Common.{arith, ◌≡◌, ℕ, ◌+◌, ◌*◌, ◌≤◌
 use Rattle.js_store.specs.State.{State, Grows, text}
 use Rattle.js_store.specs.Rows.{settle_words}
 use Rattle.js_store.proofs.Laws.{settle_words_most}
-use Rattle.js_json.specs.Texts.{texts, AllKnown, settle_most}
-use Rattle.js_json.proofs.Joining.{texts_still}
+use Rattle.js_texts.specs.Texts.{texts, AllKnown, settle_most}
+use Rattle.js_texts.proofs.Lists.{texts_still}
 use Rattle.js_replace.specs.Use.{settling}
 use Rattle.js_eval.specs.declared.value.Value.{Value}
 use Rattle.js_eval.specs.declared.value.Stop.{Stop}

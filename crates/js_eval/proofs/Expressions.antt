@@ -18,7 +18,7 @@ use Rattle.js_eval.specs.Expression.{Scope, expr_out, links_out, link_out, steps
 use Rattle.js_eval.specs.Seen.{seen, IsFine, all_seen, AllFine, ScopeFine, scope_of}
 use Rattle.js_eval.specs.Ran.{Did}
 use Rattle.js_eval.specs.Does.{Does, GivesAll}
-use Rattle.js_json.proofs.Joining.{drop_at}
+use Rattle.js_texts.proofs.Lists.{drop_at}
 use Rattle.js_eval.proofs.Compose.{did_bind, did_stop}
 use Rattle.js_eval.proofs.Each.{bind_same}
 use Rattle.js_eval.proofs.Still.{seen_still, scope_still}

@@ -16,14 +16,14 @@ use Rattle.js_eval.specs.declared.env.Scope.{Scope as CodeScope}
 use Rattle.js_eval.specs.Outcome.{Val, Ledger, Out, gave, ended, threw, unsupported, after, bind, each, ledger_of, some_parts, parts_ids, parts_words}
 use Rattle.js_eval.specs.Conversions.{to_string, all_text_units}
 use Rattle.js_eval.specs.Expression.{Bound, Scope, exprs_out}
-use Rattle.js_json.specs.Texts.{AllKnown, texts as texts_seen, full_only, settle_most}
+use Rattle.js_texts.specs.Texts.{AllKnown, texts as texts_seen, full_only, settle_most}
 use Rattle.js_json.specs.Printing.{line}
 use Rattle.js_eval.specs.Script.{Flow, then_flow, go_on, line_out, print_out, printed, with_bindings, stmt_flow, stmts_flow, literal_out, with_literals}
 use Rattle.js_eval.specs.Seen.{AllFine, EnvFine, all_seen, ScopeFine, bindings_of, scope_of}
 use Rattle.js_eval.specs.Ran.{Ran, Cut, Did}
 use Rattle.js_eval.specs.Does.{WroteSome, Wrote, Leaves, Went, GivesTexts, GivesAll, string_words}
 use Rattle.js_eval.proofs.Compose.{did_after, cut_after, cut_more, cut_of_full, ran_of_step}
-use Rattle.js_json.proofs.Joining.{drop_at}
+use Rattle.js_texts.proofs.Lists.{drop_at}
 use Rattle.js_eval.proofs.Still.{scope_still, bindings_still}
 
 one_after : (x y z : List ℕ) (us vs : List (List ℕ)) → y ≡ x ++ concat us → z ≡ y ++ concat vs → z ≡ x ++ concat (us ++ vs)

@@ -13,7 +13,7 @@ use Rattle.js_eval.specs.declared.value.Stop.{Stop}
 use Rattle.js_eval.specs.declared.value.Stop.TheVariants.{Threw}
 use Rattle.js_eval.specs.Outcome.{Val, Out, gave, ended, each}
 use Rattle.js_eval.specs.Building.{from_ids, from_words, number_out, units_of, made, from_codes}
-use Rattle.js_json.specs.Texts.{Every}
+use Rattle.js_texts.specs.Texts.{Every}
 use Rattle.js_eval.specs.Seen.{seen, IsFine, IsFor}
 use Rattle.js_eval.specs.Ran.{Did}
 use Rattle.js_eval.specs.Does.{Does, GivesNumbers}

@@ -8,7 +8,7 @@ use Rattle.js_store.specs.declared.faults.StoreFault.{StoreFault}
 use Rattle.js_store.specs.declared.faults.MethodFault.TheVariants.{Store as MethodStore}
 use Rattle.js_store.specs.Answers.{full_part}
 use Rattle.js_store.proofs.Laws.{known_has, text_still}
-use Rattle.js_json.specs.Texts.{texts, AllKnown}
+use Rattle.js_texts.specs.Texts.{texts, AllKnown}
 use Rattle.js_replace.specs.Parts.{parts}
 use Rattle.js_replace.specs.Use.{settling, copies}
 use Rattle.js_eval.specs.declared.value.Value.{Value}

@@ -7,7 +7,7 @@ use Rattle.js_json.specs.Quoting.{is_escaped, unicode_escape, escaped, letter_of
 use Rattle.js_store.specs.State.{State, IsKnown, text}
 use Rattle.js_store.specs.Rows.{settle_words, wide_words}
 use Rattle.js_store.proofs.Laws.{known_has, step_refl, settle_words_most}
-use Rattle.js_json.specs.Texts.{texts, settle_most}
+use Rattle.js_texts.specs.Texts.{texts, settle_most}
 use Rattle.js_eval.specs.declared.value.Value.{Value}
 use Rattle.js_eval.specs.declared.value.Value.TheVariants.{Text}
 use Rattle.js_eval.specs.declared.value.Stop.{Stop}

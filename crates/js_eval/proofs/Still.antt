@@ -9,8 +9,8 @@ use Rattle.js_eval.specs.declared.value.Value.TheVariants.{Undefined, Null, Bool
 use Rattle.js_eval.specs.declared.env.Binding.{Binding}
 use Rattle.js_eval.specs.declared.env.Scope.{Scope as CodeScope}
 use Rattle.js_eval.specs.Outcome.{text, list}
-use Rattle.js_json.specs.Texts.{Every}
-use Rattle.js_json.proofs.Joining.{every_map, texts_still, all_known_still}
+use Rattle.js_texts.specs.Texts.{Every}
+use Rattle.js_texts.proofs.Lists.{every_map, texts_still, all_known_still}
 use Rattle.js_eval.specs.Seen.{seen, IsFine, all_seen, AllFine, bound_of, bindings_of, EnvFine, ScopeFine, scope_of}
 
 pub map_same : {A B : Type 0} {P : A → Type 0} {f g : A → B} → ((x : A) → P x → f x ≡ g x) → (xs : List A) → Every P xs → map f xs ≡ map g xs

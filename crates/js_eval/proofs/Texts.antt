@@ -8,8 +8,8 @@ use Rattle.js_eval.specs.declared.value.Stop.{Stop}
 use Rattle.js_eval.specs.Outcome.{Val, bind}
 use Rattle.js_eval.specs.Conversions.{to_string, text_units}
 use Rattle.js_eval.specs.Operators.{joined, joined_strings}
-use Rattle.js_json.proofs.Joining.{every_at, drop_at, settle_still}
-use Rattle.js_json.specs.Texts.{AllKnown, settle_most}
+use Rattle.js_texts.proofs.Lists.{every_at, drop_at, settle_still}
+use Rattle.js_texts.specs.Texts.{AllKnown, settle_most}
 use Rattle.js_eval.specs.Seen.{seen, IsFine, all_seen, AllFine}
 use Rattle.js_eval.specs.Does.{Does, GivesText, string_words}
 use Rattle.js_eval.proofs.Compose.{did_bind, did_stop}

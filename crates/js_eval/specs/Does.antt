@@ -13,7 +13,7 @@ use Rattle.js_eval.specs.declared.value.Stop.TheVariants.{Threw, Unsupported, St
 use Rattle.js_eval.specs.Outcome.{Val, Out}
 use Rattle.js_eval.specs.Conversions.{text_units}
 use Rattle.js_eval.specs.Expression.{Bound}
-use Rattle.js_json.specs.Texts.{texts as texts_seen, AllKnown, Every, full_only}
+use Rattle.js_texts.specs.Texts.{texts as texts_seen, AllKnown, Every, full_only}
 use Rattle.js_eval.specs.Script.{Flow}
 use Rattle.js_eval.specs.Seen.{seen, IsFine, all_seen, AllFine, IsFor}
 use Rattle.js_eval.specs.Ran.{Did}

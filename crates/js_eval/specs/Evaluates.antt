@@ -9,7 +9,7 @@ use Rattle.js_eval.specs.declared.value.End.{End}
 use Rattle.js_eval.specs.declared.value.End.TheVariants.{Done, Threw, Unsupported, Full, Memory}
 use Rattle.js_eval.specs.Outcome.{Out, gave, ended, threw, unsupported, ledger_of}
 use Rattle.js_eval.specs.Expression.{Bound}
-use Rattle.js_json.specs.Texts.{full_only}
+use Rattle.js_texts.specs.Texts.{full_only}
 use Rattle.js_eval.specs.Script.{Flow}
 use Rattle.js_eval.specs.Ran.{Interns, InternsSome}
 use Rattle.js_eval.specs.Does.{WroteSome}

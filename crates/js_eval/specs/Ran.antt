@@ -5,7 +5,7 @@ use Rattle.js_store.specs.Faults.{Honest, ids_wanted, words_wanted}
 use Rattle.js_store.specs.declared.faults.FullReport.TheVariants.{Slots}
 use Rattle.js_store.specs.declared.faults.StoreFault.{StoreFault}
 use Rattle.js_store.specs.declared.faults.StoreFault.TheVariants.{Full, Memory}
-use Rattle.js_json.specs.Texts.{full_only}
+use Rattle.js_texts.specs.Texts.{full_only}
 use Rattle.js_eval.specs.declared.value.Stop.{Stop}
 use Rattle.js_eval.specs.declared.value.Stop.TheVariants.{Threw, Unsupported, Store}
 use Rattle.js_eval.specs.Outcome.{Ledger, Out, gave, ended, threw, unsupported, ledger_of}

@@ -4,7 +4,7 @@ use Rattle.js_number.specs.declared.Num.{Num}
 use Rattle.js_number.specs.Places.{IsLawful}
 use Rattle.js_store.specs.State.{State, IsKnown, text as units_of}
 use Rattle.js_methods.specs.Building.{is_code_point}
-use Rattle.js_json.specs.Texts.{Every, AllKnown, texts as texts_seen}
+use Rattle.js_texts.specs.Texts.{Every, AllKnown, texts as texts_seen}
 use Rattle.js_eval.specs.declared.builtins.Codes.{Codes}
 use Rattle.js_eval.specs.declared.builtins.Codes.TheVariants.{CharCodes, CodePoints}
 use Rattle.js_eval.specs.declared.value.Value.{Value}

@@ -3,7 +3,7 @@
 ghost use Rattle.std.specs.Prelude.{◌≡◌, ℕ, ◌+◌, ◌≤◌, ◌∷◌, [], length, slice_get, IfOk, IfSome};
 ghost use Rattle.js_number.specs.Places.{IsLawful};
 ghost use Rattle.js_store.specs.State.{Grows, IsKnown, text};
-ghost use Rattle.js_json.specs.Texts.{texts as texts_seen, AllKnown};
+ghost use Rattle.js_texts.specs.Texts.{texts as texts_seen, AllKnown};
 ghost use Rattle.js_eval.specs.Conversions.{list_units, all_units, first_text_units};
 ghost use Rattle.js_eval.specs.Arguments.{first_of};
 ghost use Rattle.js_eval.specs.Arrays.{as_number, indexed_text, indexed_list, indexed_other, indexed, separator_of, joined_with, join_call, list_call};

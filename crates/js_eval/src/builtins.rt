@@ -8,7 +8,7 @@ ghost use Rattle.js_methods.specs.Building.{is_code_point, code_units_of};
 ghost use Rattle.js_eval.specs.Outcome.{Val, each};
 ghost use Rattle.js_eval.specs.Building.{number_in, number_out, units_of, made as made_out, from_codes as from_codes_out};
 ghost use Rattle.js_eval.specs.Members.{built};
-ghost use Rattle.js_json.specs.Texts.{Every};
+ghost use Rattle.js_texts.specs.Texts.{Every};
 ghost use Rattle.js_eval.specs.Seen.{seen, IsFine, all_seen, AllFine, IsFor};
 ghost use Rattle.js_eval.specs.Does.{Does, GivesNumber, GivesNumbers};
 

@@ -9,7 +9,7 @@ ghost use Rattle.js_replace.specs.Use.{made_words};
 ghost use Rattle.js_store.specs.Rows.{wide_words, settle_words};
 ghost use Rattle.js_eval.specs.Outcome.{each};
 ghost use Rattle.js_eval.specs.Conversions.{spelled, to_string, is_text, to_number, to_boolean, number_truth, list_string, comma_joined, text_units};
-ghost use Rattle.js_json.specs.Texts.{texts as texts_seen, AllKnown, settle_most};
+ghost use Rattle.js_texts.specs.Texts.{texts as texts_seen, AllKnown, settle_most};
 ghost use Rattle.js_eval.specs.Seen.{seen, IsFine, all_seen, AllFine};
 ghost use Rattle.js_eval.specs.Does.{GivesText, GivesTexts, string_words};
 
@@ -61,7 +61,7 @@ fn list_text<S: Strings>(alloc: Global, store: &mut S, list: &[S::Ref]) -> Resul
 }
 
 /// The strings joined by commas.
-#[tactic(auto, using(js_json::proofs::Joining::texts_still, js_json::proofs::Joining::settle_still))]
+#[tactic(auto, using(js_texts::proofs::Lists::texts_still, js_texts::proofs::Lists::settle_still))]
 pub fn joined_by_commas<S: Strings>(
     alloc: Global,
     store: &mut S,

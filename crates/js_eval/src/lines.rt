@@ -1,7 +1,7 @@
 // The lines that scripts print.
 ghost use Rattle.std.specs.Prelude.{◌≡◌, ◌++◌, [], OnOk, OnErr};
 ghost use Rattle.js_store.specs.Faults.{Step, NeverSlots};
-ghost use Rattle.js_json.specs.Texts.{texts as texts_seen, AllKnown, settle_most, full_fault_of};
+ghost use Rattle.js_texts.specs.Texts.{texts as texts_seen, AllKnown, settle_most, full_fault_of};
 ghost use Rattle.js_json.specs.Printing.{line};
 
 use js_store::{StoreFault, Strings};

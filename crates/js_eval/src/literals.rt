@@ -3,7 +3,7 @@ ghost use Rattle.std.specs.Prelude.{◌≡◌, [], slice_get, IfOk};
 ghost use Rattle.js_store.specs.State.{Grows, IsKnown, text};
 ghost use Rattle.js_eval.specs.Outcome.{each};
 ghost use Rattle.js_eval.specs.Reading.{maybe_text};
-ghost use Rattle.js_json.specs.Texts.{AllKnown};
+ghost use Rattle.js_texts.specs.Texts.{AllKnown};
 ghost use Rattle.js_eval.specs.Script.{literal_out};
 ghost use Rattle.js_eval.specs.Seen.{seen, IsFine, ScopeFine, scope_of, IsWritten};
 ghost use Rattle.js_eval.specs.Does.{GivesText, GivesTexts};

@@ -3,7 +3,7 @@ ghost use Rattle.std.specs.Prelude.{◌≡◌, length, IfOk};
 ghost use Rattle.js_number.specs.Places.{IsLawful};
 ghost use Rattle.js_store.specs.State.{Grows, IsKnown, text};
 ghost use Rattle.js_json.specs.Quoting.{quoted};
-ghost use Rattle.js_json.specs.Texts.{texts, AllKnown};
+ghost use Rattle.js_texts.specs.Texts.{texts, AllKnown};
 ghost use Rattle.js_eval.specs.Arguments.{first_of};
 ghost use Rattle.js_eval.specs.Cutting.{limited};
 ghost use Rattle.js_eval.specs.Quoting.{whole_or_null, as_text, list_json, stringify_call};

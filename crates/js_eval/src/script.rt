@@ -4,7 +4,7 @@ ghost use Rattle.js_store.specs.State.{Grows};
 ghost use Rattle.js_parse.specs.Tree;
 ghost use Rattle.js_parse.specs.Tree.{exprs_tree, stmt_tree, stmts_tree, tree_of};
 ghost use Rattle.js_eval.specs.Expression.{Bound};
-ghost use Rattle.js_json.specs.Texts.{AllKnown};
+ghost use Rattle.js_texts.specs.Texts.{AllKnown};
 ghost use Rattle.js_eval.specs.Script.{line_out, print_out, printed, stmt_flow, stmts_flow, meaning};
 ghost use Rattle.js_eval.specs.Seen.{all_seen, AllFine, EnvFine, ScopeFine, bindings_of, scope_of};
 ghost use Rattle.js_eval.specs.Does.{Went};

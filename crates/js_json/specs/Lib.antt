@@ -1,3 +1,3 @@
-pub mod Texts
+pub mod Joined
 pub mod Quoting
 pub mod Printing

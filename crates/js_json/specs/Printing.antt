@@ -1,7 +1,7 @@
 -- The bytes of a printed line.
 use Rattle.std.specs.Prelude.{ℕ, List}
 use Rattle.js_units.specs.Text.{utf8}
-use Rattle.js_json.specs.Texts.{rest_of, joined}
+use Rattle.js_json.specs.Joined.{rest_of, joined}
 
 abbrev pub line_rest : List (List ℕ) → List ℕ
 line_rest us = rest_of utf8 32 10 us

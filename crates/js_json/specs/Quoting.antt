@@ -1,7 +1,7 @@
 -- Strings as JSON text (ECMA-262, "QuoteJSONString", "SerializeJSONArray").
 use Rattle.std.specs.Prelude.{ℕ, ◌+◌, ◌/◌, ◌%◌, Bool, nat_lt, ◌||◌, ◌==◌, if◌then◌else◌, List, [], ◌∷◌, ◌++◌, Option, Some, None}
 use Rattle.std.specs.List.{flat_map}
-use Rattle.js_json.specs.Texts.{rest_of, joined}
+use Rattle.js_json.specs.Joined.{rest_of, joined}
 use Rattle.js_units.specs.Text.{is_lead, is_trail, points, utf16_of}
 
 -- the letter that stands behind a backslash for a code point, where there is one ("JSON Single Character Escape Sequences")

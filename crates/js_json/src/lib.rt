@@ -10,12 +10,10 @@ mod escapes;
 mod lists;
 mod printing;
 mod quoting;
-mod reading;
 
 pub use lists::stringify_list;
 pub use printing::print_line;
 pub use quoting::quote;
-pub use reading::read;
 
 #[cfg(test)]
 mod tests;

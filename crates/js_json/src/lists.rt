@@ -5,10 +5,10 @@ ghost use Rattle.js_store.specs.Rows.{flat_words, settle_words};
 ghost use Rattle.js_store.specs.Faults.{Step, NeverSlots};
 ghost use Rattle.js_store.specs.Answers.{ThrowsLong, full_of};
 ghost use Rattle.js_json.specs.Quoting.{quoted, elements, list_rest, list_text};
-ghost use Rattle.js_json.specs.Texts.{texts, AllKnown, settle_most, full_fault_of};
+ghost use Rattle.js_texts.specs.Texts.{texts, AllKnown, settle_most, full_fault_of};
 
 use crate::escapes::{push_quoted, quoted_len};
-use crate::reading::read;
+use js_texts::read;
 use js_store::{Cause, MethodFault, StoreFault, Strings};
 use js_units::Units;
 use std::alloc::Global;
@@ -16,7 +16,7 @@ use std::alloc::Global;
 /// The array of the strings: a bracket at both ends, each string as `quote` has it, and a comma
 /// between two ("SerializeJSONArray"). The length is found before anything of that size is made,
 /// so that each string is read twice.
-#[tactic(auto, using(crate::proofs::Joining::texts_still, crate::proofs::Joining::all_known_still, crate::proofs::Joining::settle_still))]
+#[tactic(auto, using(js_texts::proofs::Lists::texts_still, js_texts::proofs::Lists::all_known_still, js_texts::proofs::Lists::settle_still))]
 pub fn stringify_list<S: Strings>(
     alloc: Global,
     store: &mut S,

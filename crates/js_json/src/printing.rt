@@ -6,9 +6,9 @@ ghost use Rattle.js_store.specs.Faults.{Step, NeverSlots};
 ghost use Rattle.js_store.specs.Rows.{settle_words};
 ghost use Rattle.js_json.specs.Printing.{line, line_rest};
 ghost use Rattle.js_json.specs.Printing;
-ghost use Rattle.js_json.specs.Texts.{texts, AllKnown, settle_most, full_fault_of};
+ghost use Rattle.js_texts.specs.Texts.{texts, AllKnown, settle_most, full_fault_of};
 
-use crate::reading::read;
+use js_texts::read;
 use js_store::{StoreFault, Strings};
 use js_units::append_utf8;
 use std::alloc::Global;

@@ -7,7 +7,7 @@ ghost use Rattle.js_store.specs.Answers.{ThrowsLong, full_of};
 ghost use Rattle.js_json.specs.Quoting.{quoted};
 
 use crate::escapes::{push_quoted, quoted_len};
-use crate::reading::read;
+use js_texts::read;
 use js_store::{Cause, MethodFault, Strings};
 use js_units::Units;
 use std::alloc::Global;

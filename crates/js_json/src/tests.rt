@@ -2,7 +2,7 @@
 ghost use Rattle.std.specs.Prelude.{◌≤◌, length};
 
 use crate::{print_line, quote, stringify_list};
-use js_methods::copied;
+use js_texts::copied;
 use js_store::{MethodFault, Strings};
 use js_units::append_utf8;
 use plain_store::PlainStore;

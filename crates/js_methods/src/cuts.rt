@@ -140,21 +140,3 @@ pub(crate) fn joined<S: Strings>(store: &mut S, a: S::Ref, b: S::Ref) -> Result<
         },
     }
 }
-
-/// A copy of the units of a settled string.
-pub fn copied<S: Strings>(alloc: Global, store: &mut S, s: S::Ref) -> Result<Units, NoMemory>
-    requires known { IsKnown (S.state store.old) (S.number s) }
-    requires settled { IsSettled (S.state store.old) (S.number s) }
-    ensures value { IfOk result (λ u. u ≡ text (S.state store.old) (S.number s)) }
-    ensures step { Step (S.state store.old) (S.state store.new) None 0 0 }
-    ensures history { (S.state store.new).history ≡ (S.state store.old).history }
-{
-    let len = store.len(s);
-    let mut units = Units::new(alloc);
-    units.reserve(len as usize)?;
-    for i in 0..len {
-        let unit = store.unit_at(s, i);
-        units.push(unit)?;
-    }
-    Ok(units)
-}

@@ -9,8 +9,8 @@ use Rattle.js_store.specs.Faults.{Step}
 use Rattle.js_store.specs.declared.faults.StoreFault.{StoreFault}
 use Rattle.js_store.proofs.Laws.{step_after, has_text, has_known}
 use Rattle.js_search.specs.Places.{first}
-use Rattle.js_json.specs.Texts.{texts, AllKnown}
-use Rattle.js_json.proofs.Joining.{drop_at, texts_still, all_known_still}
+use Rattle.js_texts.specs.Texts.{texts, AllKnown}
+use Rattle.js_texts.proofs.Lists.{drop_at, texts_still, all_known_still}
 use Rattle.js_replace.specs.Matches.{first_matches, and_on, matches, InOrder}
 use Rattle.js_replace.specs.Parts.{pieces, singles, all_parts, parts}
 use Rattle.js_replace.specs.Use.{copies}

@@ -1,8 +1,8 @@
 -- Strings with a separator between two.
 use Rattle.std.proofs.Common.{arith, ◌≡◌, ℕ, ◌+◌, ◌-◌, ◌<◌, List, [], ◌∷◌, ◌++◌, ap, sym, ◌∙◌, append_assoc, length-append, length, get_or, drop}
 use Rattle.js_store.specs.State.{State, Grows, text}
-use Rattle.js_json.specs.Texts.{AllKnown, texts}
-use Rattle.js_json.proofs.Joining.{drop_at, texts_still}
+use Rattle.js_texts.specs.Texts.{AllKnown, texts}
+use Rattle.js_texts.proofs.Lists.{drop_at, texts_still}
 use Rattle.js_replace.specs.Joined.{joined, with_each}
 
 pub joined_length : (sep : List ℕ) (us : List (List ℕ)) → length (joined sep us) ≡ length (with_each sep us) - length sep

@@ -3,18 +3,18 @@ ghost use Rattle.std.specs.Prelude.{◌≡◌, ◌+◌, ◌++◌, length, IfOk, 
 ghost use Rattle.js_store.specs.State.{Has, IsKnown, IsSettled, text as text_of};
 ghost use Rattle.js_store.specs.Faults.{Step, NeverSlots};
 ghost use Rattle.js_store.specs.Answers.{ThrowsLong, full_of};
-ghost use Rattle.js_json.specs.Texts.{texts, AllKnown, settle_most, full_fault_of};
+ghost use Rattle.js_texts.specs.Texts.{texts, AllKnown, settle_most, full_fault_of};
 ghost use Rattle.js_replace.specs.Joined.{joined, with_each};
 ghost use Rattle.js_replace.specs.Use.{settling, made_words};
 
 use crate::making::made;
-use js_json::read;
+use js_texts::read;
 use js_store::{Cause, MethodFault, StoreFault, Strings};
 use js_units::Units;
 use std::alloc::Global;
 
 /// The strings of the list with the separator between two ("Array.prototype.join").
-#[tactic(auto, using(js_json::proofs::Joining::texts_still, js_json::proofs::Joining::all_known_still, js_json::proofs::Joining::settle_still))]
+#[tactic(auto, using(js_texts::proofs::Lists::texts_still, js_texts::proofs::Lists::all_known_still, js_texts::proofs::Lists::settle_still))]
 pub fn join<S: Strings>(
     alloc: Global,
     store: &mut S,
@@ -57,7 +57,7 @@ fn joined_len<S: Strings>(store: &mut S, parts: &[S::Ref], sep: S::Ref) -> u128
     len.saturating_sub(size)
 }
 
-#[tactic(auto, using(js_json::proofs::Joining::texts_still, js_json::proofs::Joining::all_known_still, js_json::proofs::Joining::settle_still))]
+#[tactic(auto, using(js_texts::proofs::Lists::texts_still, js_texts::proofs::Lists::all_known_still, js_texts::proofs::Lists::settle_still))]
 fn joined_units<S: Strings>(
     alloc: Global,
     store: &mut S,

@@ -10,7 +10,7 @@ ghost use Rattle.js_replace.specs.Use.{settling, made_words};
 use crate::making::made;
 use crate::matching::places;
 use crate::pieces::{Shape, push_substituted};
-use js_methods::copied;
+use js_texts::copied;
 use js_store::{Cause, MethodFault, StoreFault, Strings};
 use js_units::{NoMemory, Units};
 use std::alloc::Global;

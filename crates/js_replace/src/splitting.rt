@@ -5,7 +5,7 @@ ghost use Rattle.js_store.specs.State.{IsKnown, IsSettled, text};
 ghost use Rattle.js_store.specs.Faults.{Step, NeverSlots};
 ghost use Rattle.js_store.specs.Rows.{copy_words};
 ghost use Rattle.js_store.specs.Answers.{NeverThrows, full_of};
-ghost use Rattle.js_json.specs.Texts.{texts, AllKnown, full_fault_of};
+ghost use Rattle.js_texts.specs.Texts.{texts, AllKnown, full_fault_of};
 ghost use Rattle.js_replace.specs.Matches.{InOrder};
 ghost use Rattle.js_replace.specs.Parts;
 ghost use Rattle.js_replace.specs.Parts.{pieces};

@@ -1,6 +1,6 @@
 use Rattle.std.proofs.Common.{arith, ◌+◌, length}
 use Rattle.js_store.specs.State.{text}
-use Rattle.js_json.specs.Texts.{texts, settle_most}
+use Rattle.js_texts.specs.Texts.{texts, settle_most}
 use Rattle.js_replace.specs.Joined.{joined}
 use Rattle.js_replace.specs.Use.{settling}
 use Rattle.js_eval.proofs.Made.{parts_given, parts_cut, parts_thrown}

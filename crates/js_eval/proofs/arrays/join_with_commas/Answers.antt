@@ -1,6 +1,6 @@
 use Rattle.std.proofs.Common.{arith, ◌+◌, length}
 use Rattle.js_store.proofs.Laws.{step_within}
-use Rattle.js_json.specs.Texts.{texts, settle_most}
+use Rattle.js_texts.specs.Texts.{texts, settle_most}
 use Rattle.js_eval.specs.Conversions.{comma_joined}
 use Rattle.js_eval.proofs.Made.{parts_given, parts_cut, parts_thrown}
 use Rattle.js_eval.proofs.Elements.{commas_fit}

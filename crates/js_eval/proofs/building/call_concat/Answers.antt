@@ -2,7 +2,7 @@ use Rattle.std.proofs.Common.{Err}
 use Rattle.std.proofs.Math.ListN.{drop_of_length-le}
 use Rattle.std.proofs.lemmas.Result.{err_from_is_err_and}
 use Rattle.js_store.proofs.Laws.{grows_trans}
-use Rattle.js_json.proofs.Joining.{every_map}
+use Rattle.js_texts.proofs.Lists.{every_map}
 use Rattle.js_eval.proofs.Calls.{concat_turn, concat_halt}
 use Rattle.js_eval.proofs.Still.{fine_still}
 use Rattle.js_eval.proofs.building.call_concat.Goals as goal

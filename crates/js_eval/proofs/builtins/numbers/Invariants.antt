@@ -3,7 +3,7 @@ use Rattle.js_number.specs.declared.Num.{Num}
 use Rattle.js_eval.specs.declared.value.Stop.{Stop}
 use Rattle.js_eval.specs.Outcome.{each}
 use Rattle.js_eval.specs.Building.{number_out}
-use Rattle.js_json.specs.Texts.{Every}
+use Rattle.js_texts.specs.Texts.{Every}
 use Rattle.js_eval.specs.Seen.{seen, all_seen, IsFor}
 use Rattle.js_eval.specs.Ran.{Did}
 use Rattle.js_eval.specs.Does.{GivesNumbers}

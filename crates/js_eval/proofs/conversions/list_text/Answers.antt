@@ -1,4 +1,4 @@
-use Rattle.js_json.specs.Texts.{texts, settle_most}
+use Rattle.js_texts.specs.Texts.{texts, settle_most}
 use Rattle.js_eval.proofs.Quoted.{settle_few}
 use Rattle.js_eval.proofs.ListTexts.{list_given, list_cut, list_thrown}
 use Rattle.js_eval.proofs.conversions.list_text.Goals as goal

@@ -9,7 +9,7 @@ use Rattle.js_eval.specs.Outcome.{Out}
 use Rattle.js_eval.specs.Conversions.{to_string}
 use Rattle.js_eval.specs.Seen.{seen}
 use Rattle.js_eval.specs.Does.{GivesTexts}
-use Rattle.js_json.proofs.Joining.{every_map}
+use Rattle.js_texts.proofs.Lists.{every_map}
 use Rattle.js_eval.proofs.Compose.{ran_free}
 use Rattle.js_eval.proofs.Each.{each_turn, each_halt, each_full, each_map, fine_turn}
 use Rattle.js_eval.proofs.Still.{fine_still}

@@ -3,7 +3,7 @@ use Rattle.js_store.specs.State.{State, Grows}
 use Rattle.js_eval.specs.declared.value.Stop.{Stop}
 use Rattle.js_eval.specs.Outcome.{each}
 use Rattle.js_eval.specs.Conversions.{to_string}
-use Rattle.js_json.specs.Texts.{texts as texts_seen, AllKnown, settle_most}
+use Rattle.js_texts.specs.Texts.{texts as texts_seen, AllKnown, settle_most}
 use Rattle.js_eval.specs.Seen.{seen, all_seen, AllFine}
 use Rattle.js_eval.specs.Does.{GivesTexts, string_words}
 use Rattle.js_eval.proofs.conversions.texts.Given as goal

@@ -2,7 +2,7 @@ use Rattle.std.proofs.Common.{arith, ◌+◌, ◌*◌, length}
 use Rattle.js_store.specs.Rows.{flat_words}
 use Rattle.js_store.proofs.Laws.{flat_words_most}
 use Rattle.js_json.specs.Quoting.{list_text}
-use Rattle.js_json.specs.Texts.{texts, settle_most}
+use Rattle.js_texts.specs.Texts.{texts, settle_most}
 use Rattle.js_eval.specs.Outcome.{parts_ids, parts_words}
 use Rattle.js_eval.specs.Conversions.{list_units}
 use Rattle.js_eval.proofs.Compose.{within_full, within_given, within_thrown}

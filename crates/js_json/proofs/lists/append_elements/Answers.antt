@@ -1,7 +1,8 @@
 use Rattle.std.proofs.Common.{arith}
 use Rattle.js_json.specs.Quoting.{quoted}
 use Rattle.js_store.proofs.Laws.{step_after}
-use Rattle.js_json.proofs.Joining.{joined_turn, on_ok_map, rest_is, settle_front}
+use Rattle.js_texts.proofs.Lists.{on_ok_map, rest_is, settle_front}
+use Rattle.js_json.proofs.Joining.{joined_turn}
 use Rattle.js_json.proofs.lists.append_elements.Goals as goal
 
 pub returns-in_ok-append_quoted-in-len1-up-clause-added : goal.returns-in_ok-append_quoted-in-len1-up-clause-added

@@ -2,8 +2,9 @@ use Rattle.std.proofs.Common.{arith, ◌++◌, ◌∷◌, ap, sym, ◌∙◌, dr
 use Rattle.js_store.specs.State.{IsKnown, text as text_of}
 use Rattle.js_store.proofs.Laws.{grows_trans, known_still, text_still}
 use Rattle.js_json.specs.Quoting.{quoted, list_rest}
-use Rattle.js_json.specs.Texts.{texts}
-use Rattle.js_json.proofs.Joining.{every_at, every_map, rest_front, settle_front, text_turn}
+use Rattle.js_texts.specs.Texts.{texts}
+use Rattle.js_texts.proofs.Lists.{every_at, every_map, settle_front}
+use Rattle.js_json.proofs.Joining.{rest_front, text_turn}
 use Rattle.js_json.proofs.lists.append_rest.Goals as goal
 
 pub loop-s-preserved : goal.loop-s-preserved

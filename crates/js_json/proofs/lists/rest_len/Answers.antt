@@ -2,7 +2,8 @@ use Rattle.std.proofs.Common.{arith, ap, ◌∙◌, length}
 use Rattle.js_store.specs.State.{IsKnown, text as text_of}
 use Rattle.js_store.proofs.Laws.{grows_trans, known_still, text_still, known_has}
 use Rattle.js_json.specs.Quoting.{quoted}
-use Rattle.js_json.proofs.Joining.{every_at, every_map, rest_length, settle_front}
+use Rattle.js_texts.proofs.Lists.{every_at, every_map, settle_front}
+use Rattle.js_json.proofs.Joining.{rest_length}
 use Rattle.js_json.proofs.lists.rest_len.Goals as goal
 
 pub loop-s-preserved : goal.loop-s-preserved

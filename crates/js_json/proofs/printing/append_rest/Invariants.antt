@@ -1,7 +1,7 @@
 use Rattle.std.proofs.Common.{◌≡◌, ◌+◌, ◌≤◌, ◌++◌, drop}
 use Rattle.js_store.specs.State.{Grows}
 use Rattle.js_json.specs.Printing.{line_rest}
-use Rattle.js_json.specs.Texts.{texts, AllKnown, settle_most}
+use Rattle.js_texts.specs.Texts.{texts, AllKnown, settle_most}
 use Rattle.js_json.proofs.printing.append_rest.Given as goal
 
 -- what was used and what is left to settle; the line so far and what is left of it

@@ -1,6 +1,6 @@
 use Rattle.std.proofs.Common.{arith}
 use Rattle.js_store.proofs.Laws.{step_after}
-use Rattle.js_json.proofs.Joining.{on_ok_map, rest_is, settle_front}
+use Rattle.js_texts.proofs.Lists.{on_ok_map, rest_is, settle_front}
 use Rattle.js_replace.proofs.Separators.{joined_turn}
 use Rattle.js_replace.proofs.joining.append_joined.Goals as goal
 

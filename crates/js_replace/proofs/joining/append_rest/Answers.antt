@@ -1,8 +1,8 @@
 use Rattle.std.proofs.Common.{arith, ◌++◌, ap, sym, ◌∙◌, drop, ◌+◌}
 use Rattle.js_store.specs.State.{IsKnown, text as text_of}
 use Rattle.js_store.proofs.Laws.{grows_trans, known_still, text_still}
-use Rattle.js_json.specs.Texts.{texts}
-use Rattle.js_json.proofs.Joining.{every_at, every_map, settle_front}
+use Rattle.js_texts.specs.Texts.{texts}
+use Rattle.js_texts.proofs.Lists.{every_at, every_map, settle_front}
 use Rattle.js_replace.specs.Joined.{with_each}
 use Rattle.js_replace.proofs.Separators.{each_front, each_turn}
 use Rattle.js_replace.proofs.joining.append_rest.Goals as goal

@@ -1,6 +1,6 @@
 use Rattle.std.proofs.Common.{◌≡◌, ◌+◌, ◌≤◌, ◌++◌, drop}
 use Rattle.js_store.specs.State.{Grows}
-use Rattle.js_json.specs.Texts.{texts, AllKnown, settle_most}
+use Rattle.js_texts.specs.Texts.{texts, AllKnown, settle_most}
 use Rattle.js_replace.specs.Joined.{with_each}
 use Rattle.js_replace.proofs.joining.append_rest.Given as goal
 

@@ -1,7 +1,7 @@
 use Rattle.std.proofs.Common.{arith, ap, ◌∙◌, length}
 use Rattle.js_store.specs.State.{IsKnown, text as text_of}
 use Rattle.js_store.proofs.Laws.{step_trans, known_still, text_still}
-use Rattle.js_json.proofs.Joining.{every_at, every_map}
+use Rattle.js_texts.proofs.Lists.{every_at, every_map}
 use Rattle.js_replace.proofs.Separators.{each_length}
 use Rattle.js_replace.proofs.joining.joined_len.Goals as goal
 

@@ -2,7 +2,7 @@ use Rattle.std.proofs.Common.{◌≡◌, ◌+◌, ◌*◌, ◌≤◌, drop, leng
 use Rattle.js_store.specs.State.{text as text_of}
 use Rattle.js_store.specs.Faults.{Step}
 use Rattle.std.specs.Prelude.{None}
-use Rattle.js_json.specs.Texts.{texts, AllKnown}
+use Rattle.js_texts.specs.Texts.{texts, AllKnown}
 use Rattle.js_replace.specs.Joined.{with_each}
 use Rattle.js_replace.proofs.joining.joined_len.Given as goal
 

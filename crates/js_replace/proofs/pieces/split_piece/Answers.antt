@@ -1,5 +1,5 @@
 use Rattle.std.proofs.Common.{sym, take, drop, length, ◌-◌}
-use Rattle.js_json.proofs.Joining.{rest_is}
+use Rattle.js_texts.proofs.Lists.{rest_is}
 use Rattle.js_replace.specs.Pieces.{piece_text}
 use Rattle.js_replace.proofs.Templates.{plain_left, reference_left}
 use Rattle.js_replace.proofs.pieces.split_piece.Goals as goal

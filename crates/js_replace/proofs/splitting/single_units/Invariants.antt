@@ -2,7 +2,7 @@ use Rattle.std.proofs.Common.{◌≡◌, ◌-◌, ◌++◌, length, take, drop}
 use Rattle.std.specs.Prelude.{None}
 use Rattle.js_store.specs.State.{text}
 use Rattle.js_store.specs.Faults.{Step}
-use Rattle.js_json.specs.Texts.{texts, AllKnown}
+use Rattle.js_texts.specs.Texts.{texts, AllKnown}
 use Rattle.js_replace.specs.Parts.{singles}
 use Rattle.js_replace.specs.Use.{copies}
 use Rattle.js_replace.proofs.splitting.single_units.Given as goal

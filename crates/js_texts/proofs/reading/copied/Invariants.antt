@@ -2,7 +2,7 @@ use Rattle.std.proofs.Common.{◌≡◌, take}
 use Rattle.std.specs.Prelude.{None}
 use Rattle.js_store.specs.State.{text}
 use Rattle.js_store.specs.Faults.{Step}
-use Rattle.js_methods.proofs.cuts.copied.Given as goal
+use Rattle.js_texts.proofs.reading.copied.Given as goal
 
 abbrev pub invariant-loop-i : goal.invariant-loop-i
 invariant-loop-i g l =

@@ -1,5 +1,5 @@
 -- Several strings of a store, one after another.
-use Rattle.std.specs.Prelude.{ℕ, ◌+◌, List, [], ◌∷◌, ◌++◌, map, length, Option, None, Some, Result, Ok, Err}
+use Rattle.std.specs.Prelude.{ℕ, ◌+◌, List, [], ◌∷◌, map, length, Option, None, Some, Result, Ok, Err}
 use Rattle.js_store.specs.State.{State, IsKnown, text}
 use Rattle.js_store.specs.Rows.{settle_words}
 use Rattle.js_store.specs.declared.faults.StoreFault.{StoreFault}
@@ -29,13 +29,3 @@ full_only Memory = None
 abbrev pub full_fault_of : {R : Type 0} → Result R StoreFault → Option StoreFault
 full_fault_of (Ok r) = None
 full_fault_of (Err f) = full_only f
-
--- texts by f, with a unit before each, and one behind all
-abbrev pub rest_of : (List ℕ → List ℕ) → ℕ → ℕ → List (List ℕ) → List ℕ
-rest_of f sep end [] = end ∷ []
-rest_of f sep end (u ∷ us) = sep ∷ f u ++ rest_of f sep end us
-
--- texts by f, with a unit between two, and one behind all
-abbrev pub joined : (List ℕ → List ℕ) → ℕ → ℕ → List (List ℕ) → List ℕ
-joined f sep end [] = end ∷ []
-joined f sep end (u ∷ us) = f u ++ rest_of f sep end us
