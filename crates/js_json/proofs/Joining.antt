@@ -48,6 +48,17 @@ pub on_ok_map : (P Q : Type 0) (r : Result (Unit {0}) StoreFault) → (P → Q) 
 on_ok_map P Q (Ok u) f p = f p
 on_ok_map P Q (Err e) f p = tt
 
+-- what stands in front stays there over two calls
+pub kept_trans : (a b c : List ℕ) → take (length a) b ≡ a → take (length b) c ≡ b → take (length a) c ≡ a
+kept_trans [] b c h k = refl
+kept_trans (x ∷ a) [] c h k = cc
+kept_trans (x ∷ a) (y ∷ b) [] h k = cc
+kept_trans (x ∷ a) (y ∷ b) (z ∷ c) h k =
+    let p : take (length a) b ≡ a = cc in
+    let q : take (length b) c ≡ b = cc in
+    let r : take (length a) c ≡ a = kept_trans a b c p q in
+    cc
+
 module _ {F R : Type 0} (name : R → ℕ) where
   pub settle_still : (a b : State F) (rs : List R) → Grows a b → AllKnown a name rs → settle_most b name rs ≤ settle_most a name rs
   settle_still a b [] g h = omega arith

@@ -4,7 +4,7 @@ use Rattle.js_store.specs.State.{IsKnown, text}
 use Rattle.js_store.proofs.Laws.{grows_trans, known_still, text_still}
 use Rattle.js_json.specs.Printing.{line_rest}
 use Rattle.js_json.specs.Texts.{texts}
-use Rattle.js_json.proofs.Joining.{every_at, every_map, rest_front, settle_front, text_turn}
+use Rattle.js_json.proofs.Joining.{every_at, every_map, kept_trans, rest_front, settle_front, text_turn}
 use Rattle.js_json.proofs.printing.append_rest.Goals as goal
 
 pub loop-s-preserved : goal.loop-s-preserved
@@ -36,4 +36,10 @@ loop-s-preserved g c =
           ∙ ap (λ t. c.loop-s.line.items ++ (32 ∷ utf8 t ++ line_rest (texts a number (drop (k + 1) rest)))) same
           ∙ ap (λ w. c.loop-s.line.items ++ w) (sym (rest_front utf8 32 10 number a rest k r c.loop-s-test.true c.s-item.is))
           ∙ i.bytes;
+      kept =
+          let start = c.args.line.now.items in
+          let turn = c.loop-s.line.items in
+          let space = c.push_byte.new.line.items in
+          let whole = c.append_string.new.line.items in
+          kept_trans start space whole (kept_trans start turn space i.kept c.in_ok-push_byte.ensures.kept) e.kept;
     }
