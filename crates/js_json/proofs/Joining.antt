@@ -1,10 +1,21 @@
 -- Texts between separators, one after another.
-use Rattle.std.proofs.Common.{arith, ◌≡◌, ℕ, ◌+◌, ◌<◌, List, [], ◌∷◌, ◌++◌, ap, sym, ◌∙◌, append_assoc, length-append, length, get_or, drop}
+use Rattle.std.proofs.Common.{arith, ◌≡◌, ℕ, ◌+◌, ◌<◌, List, [], ◌∷◌, ◌++◌, refl, ap, sym, ◌∙◌, append_assoc, length-append, length, get_or, take, drop}
 use Rattle.js_store.specs.State.{State, Grows, text}
 use Rattle.js_store.proofs.Laws.{text_still}
 use Rattle.js_texts.specs.Texts.{AllKnown, texts}
 use Rattle.js_texts.proofs.Lists.{drop_at, every_drop, map_same}
 use Rattle.js_json.specs.Joined.{rest_of, joined}
+
+-- what stands in front stays there over two calls
+pub kept_trans : (a b c : List ℕ) → take (length a) b ≡ a → take (length b) c ≡ b → take (length a) c ≡ a
+kept_trans [] b c h k = refl
+kept_trans (x ∷ a) [] c h k = cc
+kept_trans (x ∷ a) (y ∷ b) [] h k = cc
+kept_trans (x ∷ a) (y ∷ b) (z ∷ c) h k =
+    let p : take (length a) b ≡ a = cc in
+    let q : take (length b) c ≡ b = cc in
+    let r : take (length a) c ≡ a = kept_trans a b c p q in
+    cc
 
 module _ (f : List ℕ → List ℕ) (sep end : ℕ) where
   -- a separator and a text, in front of what is left

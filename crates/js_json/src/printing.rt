@@ -1,16 +1,16 @@
 // The lines that scripts print.
-ghost use Rattle.std.specs.Prelude.{◌≡◌, ◌++◌, ◌∷◌, [], length, OnOk, OnErr, IfOk, IfErr};
+ghost use Rattle.std.specs.Prelude.{◌≡◌, ◌+◌, ◌≤◌, ◌++◌, ◌∷◌, [], drop, length, take, vec_capacity, vec_len, None, OnOk, OnErr, IfErr};
 ghost use Rattle.js_units.specs.Text.{utf8};
-ghost use Rattle.js_store.specs.State.{IsKnown, text};
+ghost use Rattle.js_store.specs.State.{IsKnown, IsSettled, text};
 ghost use Rattle.js_store.specs.Faults.{Step, NeverSlots};
 ghost use Rattle.js_store.specs.Rows.{settle_words};
 ghost use Rattle.js_json.specs.Printing.{line, line_rest};
 ghost use Rattle.js_json.specs.Printing;
 ghost use Rattle.js_texts.specs.Texts.{texts, AllKnown, settle_most, full_fault_of};
 
-use js_texts::read;
+use js_texts::copied;
 use js_store::{StoreFault, Strings};
-use js_units::append_utf8;
+use js_units::{NoMemory, append_utf8};
 use std::alloc::Global;
 
 /// Adds the line of some strings to `out`, whole or not at all: the UTF-8 of each with U+FFFD for
@@ -29,36 +29,14 @@ pub fn print_line<S: Strings>(
     ensures slots { NeverSlots (full_fault_of result) }
     ensures history { (S.state store.new).history ≡ (S.state store.old).history }
 {
-    let line = line_of(alloc, store, parts)?;
-    add(out, &line)
-}
-
-// Adds bytes at the end, all or none.
-fn add(out: &mut Vec<u8>, bytes: &[u8]) -> Result<(), StoreFault>
-    ensures added { OnOk result (out.new.items ≡ out.old.items ++ bytes.now) }
-    ensures unchanged { OnErr result (out.new.items ≡ out.old.items) }
-    ensures fault { IfErr result (λ f. f ≡ StoreFault.Memory) }
-{
-    match out.extend_from_slice(bytes) {
+    let before = out.len();
+    match append_line(alloc, store, parts, out) {
         Ok(()) => Ok(()),
-        Err(_) => Err(StoreFault::Memory),
+        Err(fault) => {
+            out.truncate(before);
+            Err(fault)
+        }
     }
-}
-
-fn line_of<S: Strings>(
-    alloc: Global,
-    store: &mut S,
-    parts: &[S::Ref],
-) -> Result<Vec<u8>, StoreFault>
-    requires { AllKnown (S.state store.old) S.number parts.now }
-    ensures value { IfOk result (λ v. v.items ≡ line (texts (S.state store.old) S.number parts.now)) }
-    ensures step { Step (S.state store.old) (S.state store.new) (full_fault_of result) 0 (settle_most (S.state store.old) S.number parts.now) }
-    ensures slots { NeverSlots (full_fault_of result) }
-    ensures history { (S.state store.new).history ≡ (S.state store.old).history }
-{
-    let mut line = Vec::new(alloc);
-    append_line(alloc, store, parts, &mut line)?;
-    Ok(line)
 }
 
 fn append_line<S: Strings>(
@@ -69,6 +47,7 @@ fn append_line<S: Strings>(
 ) -> Result<(), StoreFault>
     requires { AllKnown (S.state store.old) S.number parts.now }
     ensures added { OnOk result (line.new.items ≡ line.old.items ++ Printing.line (texts (S.state store.old) S.number parts.now)) }
+    ensures kept { take (length line.old.items) line.new.items ≡ line.old.items }
     ensures step { Step (S.state store.old) (S.state store.new) (full_fault_of result) 0 (settle_most (S.state store.old) S.number parts.now) }
     ensures slots { NeverSlots (full_fault_of result) }
     ensures history { (S.state store.new).history ≡ (S.state store.old).history }
@@ -91,6 +70,7 @@ fn append_rest<S: Strings>(
 ) -> Result<(), StoreFault>
     requires { AllKnown (S.state store.old) S.number rest.now }
     ensures added { OnOk result (line.new.items ≡ line.old.items ++ line_rest (texts (S.state store.old) S.number rest.now)) }
+    ensures kept { take (length line.old.items) line.new.items ≡ line.old.items }
     ensures step { Step (S.state store.old) (S.state store.new) (full_fault_of result) 0 (settle_most (S.state store.old) S.number rest.now) }
     ensures slots { NeverSlots (full_fault_of result) }
     ensures history { (S.state store.new).history ≡ (S.state store.old).history }
@@ -111,30 +91,83 @@ fn append_string<S: Strings>(
 ) -> Result<(), StoreFault>
     requires { IsKnown (S.state store.old) (S.number s) }
     ensures added { OnOk result (line.new.items ≡ line.old.items ++ utf8 (text (S.state store.old) (S.number s))) }
+    ensures kept { take (length line.old.items) line.new.items ≡ line.old.items }
     ensures step { Step (S.state store.old) (S.state store.new) (full_fault_of result) 0 (settle_words ((S.state store.old).settled (S.number s)) (length (text (S.state store.old) (S.number s)))) }
     ensures slots { NeverSlots (full_fault_of result) }
     ensures history { (S.state store.new).history ≡ (S.state store.old).history }
 {
-    let units = read(alloc, store, s)?;
-    append_units(units.as_slice(), line)
+    store.settle(s)?;
+    Ok(append_settled(alloc, store, s, line)?)
 }
 
-// Adds the UTF-8 of units, and has room for one more byte where they are ASCII.
-fn append_units(units: &[u16], line: &mut Vec<u8>) -> Result<(), StoreFault>
-    ensures added { OnOk result (line.new.items ≡ line.old.items ++ utf8 units.now) }
-    ensures fault { IfErr result (λ f. f ≡ StoreFault.Memory) }
+// Adds the UTF-8 of a settled string, and has room for one more byte where its units are ASCII.
+fn append_settled<S: Strings>(
+    alloc: Global,
+    store: &mut S,
+    s: S::Ref,
+    line: &mut Vec<u8>,
+) -> Result<(), NoMemory>
+    requires known { IsKnown (S.state store.old) (S.number s) }
+    requires settled { IsSettled (S.state store.old) (S.number s) }
+    ensures added { OnOk result (line.new.items ≡ line.old.items ++ utf8 (text (S.state store.old) (S.number s))) }
+    ensures kept { take (length line.old.items) line.new.items ≡ line.old.items }
+    ensures step { Step (S.state store.old) (S.state store.new) None 0 0 }
+    ensures history { (S.state store.new).history ≡ (S.state store.old).history }
 {
-    if line.reserve(units.len().saturating_add(1)).is_err() {
-        return Err(StoreFault::Memory);
+    let len = store.len(s);
+    line.reserve(len as usize + 1)?;
+    let ascii = push_ascii(store, s, len, line);
+    if ascii == len {
+        return Ok(());
     }
-    match append_utf8(units, line) {
-        Ok(()) => Ok(()),
-        Err(_) => Err(StoreFault::Memory),
+    append_behind(alloc, store, s, ascii, line)
+}
+
+// Adds the ASCII units in front of a settled string, a byte each, and answers how many they are.
+fn push_ascii<S: Strings>(store: &mut S, s: S::Ref, len: u32, line: &mut Vec<u8>) -> u32
+    requires known { IsKnown (S.state store.old) (S.number s) }
+    requires settled { IsSettled (S.state store.old) (S.number s) }
+    requires len { len ≡ length (text (S.state store.old) (S.number s)) }
+    requires room { vec_len line.old + len ≤ vec_capacity line.old }
+    ensures bound { result ≤ len }
+    ensures added { line.new.items ++ utf8 (drop result (text (S.state store.old) (S.number s))) ≡ line.old.items ++ utf8 (text (S.state store.old) (S.number s)) }
+    ensures kept { take (length line.old.items) line.new.items ≡ line.old.items }
+    ensures step { Step (S.state store.old) (S.state store.new) None 0 0 }
+    ensures history { (S.state store.new).history ≡ (S.state store.old).history }
+{
+    for i in 0..len {
+        let unit = store.unit_at(s, i);
+        if unit >= 0x80 {
+            return i;
+        }
+        line.push_reserved(unit as u8);
     }
+    len
+}
+
+// Adds the UTF-8 of the units of a settled string from place `from` on.
+fn append_behind<S: Strings>(
+    alloc: Global,
+    store: &mut S,
+    s: S::Ref,
+    from: u32,
+    line: &mut Vec<u8>,
+) -> Result<(), NoMemory>
+    requires known { IsKnown (S.state store.old) (S.number s) }
+    requires settled { IsSettled (S.state store.old) (S.number s) }
+    requires within { from ≤ length (text (S.state store.old) (S.number s)) }
+    ensures added { OnOk result (line.new.items ≡ line.old.items ++ utf8 (drop from (text (S.state store.old) (S.number s)))) }
+    ensures unchanged { OnErr result (line.new.items ≡ line.old.items) }
+    ensures step { Step (S.state store.old) (S.state store.new) None 0 0 }
+    ensures history { (S.state store.new).history ≡ (S.state store.old).history }
+{
+    let units = copied(alloc, store, s)?;
+    append_utf8(&units.as_slice()[from as usize..], line)
 }
 
 fn push_byte(line: &mut Vec<u8>, byte: u8) -> Result<(), StoreFault>
     ensures added { OnOk result (line.new.items ≡ line.old.items ++ byte ∷ []) }
+    ensures kept { take (length line.old.items) line.new.items ≡ line.old.items }
     ensures fault { IfErr result (λ f. f ≡ StoreFault.Memory) }
 {
     match line.push(byte) {

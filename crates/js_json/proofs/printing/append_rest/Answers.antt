@@ -1,11 +1,12 @@
 use Rattle.std.proofs.Common.{arith, ◌++◌, ◌∷◌, ap, sym, ◌∙◌, drop, ◌+◌}
+use Rattle.std.proofs.lemmas.Result.{err_from_is_err_and}
 use Rattle.js_units.specs.Text.{utf8}
 use Rattle.js_store.specs.State.{IsKnown, text}
 use Rattle.js_store.proofs.Laws.{grows_trans, known_still, text_still}
 use Rattle.js_json.specs.Printing.{line_rest}
 use Rattle.js_texts.specs.Texts.{texts}
 use Rattle.js_texts.proofs.Lists.{every_at, every_map, settle_front}
-use Rattle.js_json.proofs.Joining.{rest_front, text_turn}
+use Rattle.js_json.proofs.Joining.{kept_trans, rest_front, text_turn}
 use Rattle.js_json.proofs.printing.append_rest.Goals as goal
 
 pub loop-s-preserved : goal.loop-s-preserved
@@ -37,4 +38,29 @@ loop-s-preserved g c =
           ∙ ap (λ t. c.loop-s.line.items ++ (32 ∷ utf8 t ++ line_rest (texts a number (drop (k + 1) rest)))) same
           ∙ ap (λ w. c.loop-s.line.items ++ w) (sym (rest_front utf8 32 10 number a rest k r c.loop-s-test.true c.s-item.is))
           ∙ i.bytes;
+      kept =
+          let start = c.args.line.now.items in
+          let turn = c.loop-s.line.items in
+          let space = c.push_byte.new.line.items in
+          let whole = c.append_string.new.line.items in
+          kept_trans start space whole (kept_trans start turn space i.kept c.in_ok-push_byte.ensures.kept) e.kept;
     }
+
+pub returns-in_err-append_string-clause-step : goal.returns-in_err-append_string-clause-step
+returns-in_err-append_string-clause-step g c =
+    let state = g.S.Strings.state in
+    let number = g.S.Strings.number in
+    let i = c.loop-s.invariant in
+    let e = c.in_err-append_string.ensures.step in
+    let p = err_from_is_err_and c.from_residual-in_err-append_string.result c.from_residual-in_err-append_string.ensures.1 in
+    let front = settle_front number (state c.loop-s.store) (state c.append_string.new.store) c.args.rest.now c.loop-s.s-index c.s-item.result c.loop-s-test.true c.s-item.is e.grows i.known in
+    let before = i.words in
+    let done = i.ids in
+    let words = e.within_words in
+    let ids = e.within_ids in
+    rw (p.1, p.2) (record {
+      grows = grows_trans i.grows e.grows;
+      honest = e.honest;
+      within_ids = omega (arith, done, ids);
+      within_words = omega (arith, front, before, words);
+    })
