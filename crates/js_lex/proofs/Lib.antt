@@ -7,5 +7,6 @@ pub mod Moves
 pub mod Steps
 pub mod Runs
 pub mod Spans
+pub mod NextToken
 pub mod Texts
 pub mod SomeAnswer
