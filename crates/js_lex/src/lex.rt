@@ -1,5 +1,5 @@
 // The tokens of a script.
-ghost use Rattle.std.specs.Prelude.{◌≡◌, ◌≤◌, ◌⊎◌, List, length, IfOk, IfErr, ◌++◌, ℕ, ◌+◌, ◌<◌, ◌^◌, ⊤, MatchOption, slice_index_or, encode_utf8_all, IsUtf8};
+ghost use Rattle.std.specs.Prelude.{◌≡◌, ◌≤◌, ◌⊎◌, List, length, IfOk, IfErr, ◌++◌, ℕ, ◌+◌, ◌<◌, ◌^◌, IfSome, slice_index_or, encode_utf8_all, IsUtf8};
 ghost use Rattle.std.specs.List.{All};
 ghost use Rattle.js_literal.specs.Place.{StandsAt};
 ghost use Rattle.js_lex.specs.Spans.{InOrder, IsSpelled, IsWithin, slice};
@@ -34,7 +34,7 @@ pub fn next_token(alloc: Global, text: &str, at: u32) -> Result<Option<Token>, L
     requires size { length text.now < 2 ^ 32 }
     requires cut { IsCharBoundary text.now at }
     ensures given { GivesToken text.now at result }
-    ensures goes_on { IfOk result (λ found. MatchOption found ⊤ (λ t. GoesOn text.now at t)) }
+    ensures goes_on { IfOk result (λ found. IfSome found (λ t. GoesOn text.now at t)) }
     ensures fault { IfErr result (λ e. (e ≡ Memory) ⊎ Fails text.now at e) }
 {
     let mut from = at;

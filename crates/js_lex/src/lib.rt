@@ -17,9 +17,7 @@ mod mark;
 mod step;
 mod token;
 
-pub use lex::{
-    next_token, one_answer, source_text, span_text, spans_in_order, token_text, tokens,
-};
+pub use lex::{next_token, one_answer, source_text, span_text, spans_in_order, token_text, tokens};
 pub use token::{LexFault, Mark, Token, TokenKind};
 
 #[cfg(test)]
