@@ -8,5 +8,6 @@ pub mod Steps
 pub mod Runs
 pub mod Spans
 pub mod NextToken
+pub mod OneNext
 pub mod Texts
 pub mod SomeAnswer

@@ -1,8 +1,8 @@
 -- What the next token says of the lists and the faults from a place on.
-use Rattle.std.proofs.Common.{◌≡◌, ℕ, ◌<◌, ◌≤◌, List, [], ◌∷◌, refl, sym, ap, ◌∙◌, subst, arith, ◌⊎◌, inl, inr, Ok, Err, Option, Some, None}
+use Rattle.std.proofs.Common.{◌≡◌, ℕ, ◌≤◌, List, [], ◌∷◌, subst, arith, ◌⊎◌, inl, inr}
 use Rattle.std.specs.Prelude.{IsUtf8}
 use Rattle.js_lex.specs.Tokens.{End, Skip, TokenOf, Fault, ElementAt, Lexes, done, skip, token, Fails, fault, skip_on, token_on, token_at}
-use Rattle.js_lex.specs.Next.{Separates, nothing, more, IsNextToken, IsNextFault, GivesToken, GoesOn}
+use Rattle.js_lex.specs.Next.{Separates, nothing, more, IsNextToken, GoesOn}
 use Rattle.js_lex.specs.declared.token.Token.{Token}
 use Rattle.js_lex.specs.declared.token.LexFault.{LexFault}
 use Rattle.js_lex.specs.declared.token.LexFault.TheVariants as faults

@@ -1,6 +1,5 @@
 -- The lexer's loop.
-use Rattle.std.proofs.Common.{◌≡◌, ℕ, List, [], ◌∷◌, ◌++◌, sym, ap, ◌∙◌, subst, append_assoc, ◌⊎◌, inl, inr, Ok, Err}
-use Rattle.std.proofs.lemmas.List.{append-nil}
+use Rattle.std.proofs.Common.{◌≡◌, ℕ, List, [], ◌++◌, sym, subst, ◌⊎◌, inl, inr, Ok, Err}
 use Rattle.js_lex.specs.Tokens.{Lexes, Fails, LexFaultOf, no_text, in_text}
 use Rattle.js_lex.specs.declared.token.Token.{Token}
 use Rattle.js_lex.specs.declared.token.LexFault.{LexFault}

@@ -1,5 +1,5 @@
 // The tokens of a script.
-ghost use Rattle.std.specs.Prelude.{◌≡◌, ◌≤◌, ◌⊎◌, List, length, IfOk, IfErr, ◌++◌, ℕ, ◌+◌, ◌<◌, ◌^◌, IfSome, slice_index_or, encode_utf8_all, IsUtf8};
+ghost use Rattle.std.specs.Prelude.{◌≡◌, ◌≤◌, ◌⊎◌, List, length, IfOk, IfErr, ◌++◌, ℕ, ◌+◌, ◌<◌, ◌^◌, IfSome, slice_index_or, encode_utf8_all, IsUtf8, Result, Err, Option};
 ghost use Rattle.std.specs.List.{All};
 ghost use Rattle.js_literal.specs.Place.{StandsAt};
 ghost use Rattle.js_lex.specs.Spans.{InOrder, IsSpelled, IsWithin, slice};
@@ -14,7 +14,7 @@ use crate::step::{Next, step};
 use crate::token::{LexFault, Token};
 use std::alloc::Global;
 
-/// The text that the bytes are, or the fault that they are none.
+/// The bytes as a text. They are one where they are well-formed UTF-8.
 pub fn source_text(bytes: &[u8]) -> Result<&str, LexFault>
     requires size { length bytes.now < 2 ^ 32 }
     ensures text { IfOk result (λ text. (text.now ≡ bytes.now) × IsUtf8 bytes.now) }
@@ -28,8 +28,8 @@ pub fn source_text(bytes: &[u8]) -> Result<&str, LexFault>
     }
 }
 
-/// The first token from a place on, or `None` where only blanks and comments are left. A fault is
-/// told where no token stands before it.
+/// The first token from a place on; `None` where only blanks and comments are left. The token
+/// behind it is the first from its `to` on. A fault is told only where no token stands before it.
 pub fn next_token(alloc: Global, text: &str, at: u32) -> Result<Option<Token>, LexFault>
     requires size { length text.now < 2 ^ 32 }
     requires cut { IsCharBoundary text.now at }
@@ -103,6 +103,11 @@ pub fn one_answer()
     ensures one_fault { (bytes : List ℕ) (f e : LexFault) → LexFaultOf bytes f → LexFaultOf bytes e → f ≡ e }
     ensures not_both { (bytes : List ℕ) (ts : List Token) (f : LexFault) → TokensOf bytes ts → LexFaultOf bytes f → ⊥ }
     ensures some_answer { (bytes : List ℕ) → ((ts : List Token) × TokensOf bytes ts) ⊎ ((f : LexFault) × LexFaultOf bytes f) }
+{}
+
+/// From a place on, one thing comes next: two answers are the same, unless one is want of memory.
+pub fn one_next()
+    ensures { (text : List ℕ) (at : ℕ) (r s : Result (Option Token) LexFault) → IsUtf8 text → GivesToken text at r → GivesToken text at s → (r ≡ s) ⊎ ((r ≡ Err Memory) ⊎ (s ≡ Err Memory)) }
 {}
 
 /// The spans of a text's tokens lie in order, each with a byte at least, within the text.
