@@ -7,5 +7,7 @@ pub mod Moves
 pub mod Steps
 pub mod Runs
 pub mod Spans
+pub mod NextToken
+pub mod OneNext
 pub mod Texts
 pub mod SomeAnswer

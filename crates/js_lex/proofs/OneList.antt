@@ -9,7 +9,7 @@ use Rattle.js_lex.specs.declared.token.LexFault.TheVariants as faults
 use Rattle.js_lex.proofs.Lookaheads.{one_element}
 
 -- how a list of tokens begins
-abbrev After : List ℕ → ℕ → List Token → Element → Type 0
+abbrev pub After : List ℕ → ℕ → List Token → Element → Type 0
 After text at ts End = ts ≡ []
 After text at ts (Skip mid) = Lexes text mid ts
 After text at ts (TokenOf k mid) = (us : List Token) × (ts ≡ token_at k at mid ∷ us) × Lexes text mid us
@@ -32,7 +32,7 @@ failed text _ _ (skip_on at mid f h t) = (Skip mid, h, t)
 failed text _ _ (token_on at mid k f h t) = (TokenOf k mid, h, t)
 
 -- what begins by another move begins by this one
-after_same : (text : List ℕ) (at : ℕ) (ts : List Token) (m : Element) → IsUtf8 text → ElementAt text at m → Lexes text at ts → After text at ts m
+pub after_same : (text : List ℕ) (at : ℕ) (ts : List Token) (m : Element) → IsUtf8 text → ElementAt text at m → Lexes text at ts → After text at ts m
 after_same text at ts m u h g = let b = begun text at ts g in subst (After text at ts) (one_element text at (b.0) m u (b.1) h) (b.2)
 
 then_same : (text : List ℕ) (at : ℕ) (f : LexFault) (m : Element) → IsUtf8 text → ElementAt text at m → Fails text at f → Then text at f m

@@ -1,25 +1,50 @@
 // The tokens of a script.
-ghost use Rattle.std.specs.Prelude.{◌≡◌, ◌≤◌, ◌⊎◌, List, length, IfOk, IfErr, OnOk, ◌++◌, ◌∷◌, [], ℕ, ◌+◌, ◌<◌, slice_index_or, encode_utf8_all, IsUtf8};
+ghost use Rattle.std.specs.Prelude.{◌≡◌, ◌≤◌, ◌⊎◌, List, length, IfOk, IfErr, ◌++◌, ℕ, ◌+◌, ◌<◌, ◌^◌, IfSome, slice_index_or, encode_utf8_all, IsUtf8, Result, Err, Option};
 ghost use Rattle.std.specs.List.{All};
 ghost use Rattle.js_literal.specs.Place.{StandsAt};
 ghost use Rattle.js_lex.specs.Spans.{InOrder, IsSpelled, IsWithin, slice};
-ghost use Rattle.js_lex.specs.Tokens.{TokensOf, LexFaultOf, Lexes, Fails, token_at};
+ghost use Rattle.std.specs.Str.{IsCharBoundary};
+ghost use Rattle.js_lex.specs.Tokens.{TokensOf, LexFaultOf, Lexes, Fails};
+ghost use Rattle.js_lex.specs.Next.{GivesToken, GoesOn};
 ghost use Rattle.js_lex.specs.declared.token.LexFault.{LexFault};
 ghost use Rattle.js_lex.specs.declared.token.LexFault.TheVariants.{Memory};
 ghost use Rattle.js_lex.specs.declared.token.Token.{Token};
 
 use crate::step::{Next, step};
-use crate::token::{LexFault, Token, TokenKind};
+use crate::token::{LexFault, Token};
 use std::alloc::Global;
 
-/// Adds a token at the end.
-fn add(tokens: &mut Vec<Token>, kind: TokenKind, from: u32, to: u32) -> Result<(), LexFault>
-    ensures ok { OnOk result (tokens.new.items ≡ tokens.old.items ++ token_at kind from to ∷ []) }
-    ensures err { IfErr result (λ e. e ≡ Memory) }
+/// The bytes as a text. They are one where they are well-formed UTF-8.
+pub fn source_text(bytes: &[u8]) -> Result<&str, LexFault>
+    requires size { length bytes.now < 2 ^ 32 }
+    ensures text { IfOk result (λ text. (text.now ≡ bytes.now) × IsUtf8 bytes.now) }
+    ensures fault { IfErr result (λ e. (IsUtf8 bytes.now → ⊥) × LexFaultOf bytes.now e) }
 {
-    match tokens.push(Token { kind, from, to }) {
-        Ok(()) => Ok(()),
-        Err(_) => Err(LexFault::Memory),
+    match std::str::from_utf8(bytes) {
+        Ok(text) => Ok(text),
+        Err(error) => Err(LexFault::NotUtf8 {
+            at: error.valid_up_to() as u32,
+        }),
+    }
+}
+
+/// The first token from a place on; `None` where only blanks and comments are left. The token
+/// behind it is the first from its `to` on. A fault is told only where no token stands before it.
+pub fn next_token(alloc: Global, text: &str, at: u32) -> Result<Option<Token>, LexFault>
+    requires size { length text.now < 2 ^ 32 }
+    requires cut { IsCharBoundary text.now at }
+    ensures given { GivesToken text.now at result }
+    ensures goes_on { IfOk result (λ found. IfSome found (λ t. GoesOn text.now at t)) }
+    ensures fault { IfErr result (λ e. (e ≡ Memory) ⊎ Fails text.now at e) }
+{
+    let mut from = at;
+    'separators: loop {
+        match step(alloc, text, from) {
+            Ok(Next::End) => return Ok(None),
+            Ok(Next::Skip(end)) => from = end,
+            Ok(Next::Token(kind, to)) => return Ok(Some(Token { kind, from, to })),
+            Err(fault) => return Err(fault),
+        }
     }
 }
 
@@ -31,14 +56,15 @@ fn scan(alloc: Global, text: &str) -> Result<Vec<Token>, LexFault>
 {
     let mut tokens = Vec::new(alloc);
     let mut at: u32 = 0;
-    'elements: loop {
-        match step(alloc, text, at) {
-            Ok(Next::End) => return Ok(tokens),
-            Ok(Next::Skip(end)) => at = end,
-            Ok(Next::Token(kind, end)) => {
-                add(&mut tokens, kind, at, end)?;
-                at = end;
+    'tokens: loop {
+        match next_token(alloc, text, at) {
+            Ok(Some(token)) => {
+                at = token.to;
+                if tokens.push(token).is_err() {
+                    return Err(LexFault::Memory);
+                }
             }
+            Ok(None) => return Ok(tokens),
             Err(fault) => return Err(fault),
         }
     }
@@ -50,11 +76,9 @@ fn read(alloc: Global, bytes: &[u8]) -> Result<Vec<Token>, LexFault>
     ensures ok { IfOk result (λ v. TokensOf bytes.now v.items) }
     ensures err { IfErr result (λ e. (e ≡ Memory) ⊎ LexFaultOf bytes.now e) }
 {
-    match std::str::from_utf8(bytes) {
+    match source_text(bytes) {
         Ok(text) => scan(alloc, text),
-        Err(error) => Err(LexFault::NotUtf8 {
-            at: error.valid_up_to() as u32,
-        }),
+        Err(fault) => Err(fault),
     }
 }
 
@@ -79,6 +103,11 @@ pub fn one_answer()
     ensures one_fault { (bytes : List ℕ) (f e : LexFault) → LexFaultOf bytes f → LexFaultOf bytes e → f ≡ e }
     ensures not_both { (bytes : List ℕ) (ts : List Token) (f : LexFault) → TokensOf bytes ts → LexFaultOf bytes f → ⊥ }
     ensures some_answer { (bytes : List ℕ) → ((ts : List Token) × TokensOf bytes ts) ⊎ ((f : LexFault) × LexFaultOf bytes f) }
+{}
+
+/// From a place on, one thing comes next: two answers are the same, unless one is want of memory.
+pub fn one_next()
+    ensures { (text : List ℕ) (at : ℕ) (r s : Result (Option Token) LexFault) → IsUtf8 text → GivesToken text at r → GivesToken text at s → (r ≡ s) ⊎ ((r ≡ Err Memory) ⊎ (s ≡ Err Memory)) }
 {}
 
 /// The spans of a text's tokens lie in order, each with a byte at least, within the text.

@@ -1,5 +1,5 @@
 // Tokens and faults of short scripts, by the tables of the lexical grammar.
-use crate::{LexFault, Token, TokenKind, tokens};
+use crate::{LexFault, Token, TokenKind, next_token, source_text, tokens};
 use js_literal::{LiteralFault, NumberFault};
 use std::alloc::Global;
 use std::fmt;
@@ -110,6 +110,60 @@ fn tokens_and_spans(rt: HostRuntime) -> Result<(), Fail> {
         ),
     ] {
         assert_eq!(rt; listed(rt.alloc(), bytes)?.as_str(), want, "in {bytes:?}");
+    }
+    Ok(())
+}
+
+/// What comes next from a place on.
+fn next(alloc: Global, bytes: &[u8], at: u32) -> Result<String, LexFault> {
+    if bytes.len() > 200 {
+        return Err(LexFault::Memory);
+    }
+    let text = source_text(bytes)?;
+    let mut told = String::new(alloc);
+    if !text.is_char_boundary(at as usize) {
+        return Ok(told);
+    }
+    let written = match next_token(alloc, text, at)? {
+        Some(token) => write!(told, "{token}"),
+        None => write!(told, "end"),
+    };
+    match written {
+        Ok(()) => Ok(told),
+        Err(_) => Err(LexFault::Memory),
+    }
+}
+
+#[test]
+fn token_by_token(rt: HostRuntime) -> Result<(), Fail> {
+    for (bytes, at, want) in [
+        (b"".as_slice(), 0, "end"),
+        (b" \t// a", 0, "end"),
+        (b"print ( 'a' ) ;", 0, "word 0 5; "),
+        (b"print ( 'a' ) ;", 5, "OpenParen 6 7; "),
+        (b"print ( 'a' ) ;", 7, "[97] 8 11; "),
+        (b"print ( 'a' ) ;", 15, "end"),
+        // from within a word
+        (b"print", 2, "word 2 5; "),
+        // blanks and comments of both forms are passed over, and no token is
+        (b"\xC2\xA0/*a*/ //b\n\xE2\x80\xA8c d", 0, "word 15 16; "),
+        (b"a /* b */ c", 1, "word 10 11; "),
+        // a fault behind the token is of no matter yet
+        (b"a #", 0, "word 0 1; "),
+        // no place between two characters
+        (b"\xC2\xA0a", 1, ""),
+    ] {
+        assert_eq!(rt; next(rt.alloc(), bytes, at)?.as_str(), want, "in {bytes:?}");
+    }
+    for (bytes, at, want) in [
+        (b"a #".as_slice(), 1, LexFault::BadCharacter { at: 2 }),
+        (b"a/**/ /*", 1, LexFault::OpenComment { at: 6 }),
+        (b"a\xFF", 0, LexFault::NotUtf8 { at: 1 }),
+    ] {
+        match next(rt.alloc(), bytes, at) {
+            Ok(_) => assert!(rt; false, "in {bytes:?}"),
+            Err(fault) => assert_eq!(rt; fault, want, "in {bytes:?}"),
+        }
     }
     Ok(())
 }

@@ -1,139 +1,116 @@
 -- From the tokens of the text to those of the grammar.
-use Rattle.std.proofs.Common.{◌≡◌, ◌⊎◌, inl, inr, ℕ, ◌+◌, ◌≤◌, List, [], ◌∷◌, ◌++◌, length, length-append, refl, sym, ap, ◌∙◌, subst, arith, append-nil, append_assoc, Option, Some, None}
+use Rattle.std.proofs.Common.{◌≡◌, ℕ, Bool, true, false, cond, List, [], ◌∷◌, ◌++◌, length, refl, sym, ap, ◌∙◌, subst, None, codes}
+use Rattle.std.specs.Prelude.{IsUtf8, Result, Ok, Err, IfErr}
+use Rattle.std.specs.Str.{bytes_eq}
+use Rattle.std.proofs.lemmas.Slice.Eq.{bytes_eq-Decides}
+use Rattle.std.proofs.lemmas.Str.{IsCharBoundary-start}
 use Rattle.js_lex.specs.declared.token.Token.{Token as Lexed}
-use Rattle.js_lex.specs.declared.token.TokenKind.{TokenKind}
 use Rattle.js_lex.specs.declared.token.TokenKind.TheVariants as kinds
-use Rattle.std.specs.Prelude.{MatchOption}
+use Rattle.js_lex.specs.declared.token.Mark.TheVariants.{Semicolon}
 use Rattle.js_lex.specs.declared.token.LexFault.{LexFault}
-use Rattle.js_lex.specs.declared.token.LexFault.TheVariants as lexical
-use Rattle.js_lex.specs.Tokens.{LexFaultOf}
-use Rattle.js_lex.specs.Spans.{InOrder, slice}
+use Rattle.js_lex.specs.Tokens.{LexFaultOf, in_text, Lexes, Fails}
+use Rattle.js_lex.specs.Next.{GoesOn}
+use Rattle.js_lex.proofs.OneList.{one_list}
 use Rattle.js_parse.specs.declared.parser.ParseFault.{ParseFault}
+use Rattle.js_parse.specs.declared.parser.ParseFault.TheVariants.{Memory, NotInProfile, Lex}
 use Rattle.js_parse.specs.declared.token.Token.{Token}
-use Rattle.js_parse.specs.Token.{token_of, text_of, texts_of, tokens_of, plain, strict}
-use Rattle.js_parse.specs.Gives.{Within, HasDirective, IsAfterDirective, IsLexical, lex_fault}
+use Rattle.js_parse.specs.declared.token.Word.{Word}
+use Rattle.js_parse.specs.declared.token.Word.TheVariants as word
+use Rattle.js_parse.specs.Token.{method_of, method_or, plain_word, word_of, texts_of, tokens_of, IsUseStrict, plain, strict}
+use Rattle.js_parse.specs.Gives.{HasDirective, IsBehindDirective, Classified, IsLexical}
 
--- some tokens were sorted
-pub record Sorted (bytes : List ℕ) (all : List Lexed) (done : List Token) (texts : List (List ℕ)) (rest : List Lexed) : Type 0 where
-  pub tokens : done ++ tokens_of bytes (length texts) rest ≡ tokens_of bytes 0 all
-  pub words : texts ++ texts_of rest ≡ texts_of all
-  pub inside : Within bytes rest
-  pub few : length texts + length rest ≤ length all
+-- a plain word is no method's name
 
-pub none_sorted : (bytes : List ℕ) (all : List Lexed) (done : List Token) (texts : List (List ℕ)) → done ≡ [] → texts ≡ [] → Within bytes all → Sorted bytes all done texts all
-none_sorted bytes all done texts no_token no_text inside =
-    subst (λ (d : List Token). Sorted bytes all d texts all) (sym no_token) (subst (λ (t : List (List ℕ)). Sorted bytes all [] t all) (sym no_text) start)
+is_name : (letters name : List ℕ) (w more : Word) → method_of name ≡ None → ((more ≡ word.Other → ⊥) → method_of letters ≡ None) → ((cond (bytes_eq letters name) w more) ≡ word.Other → ⊥) → method_of letters ≡ None
+is_name letters name w more none later h = go (bytes_eq letters name) refl h
   where
-    start : Sorted bytes all [] [] all
-    start = record { tokens = refl; words = refl; inside = inside; few = omega arith }
+    go : (b : Bool) → bytes_eq letters name ≡ b → (cond b w more ≡ word.Other → ⊥) → method_of letters ≡ None
+    go true e h = ap method_of ((bytes_eq-Decides letters name).0 e) ∙ none
+    go false e h = later h
 
-one_text : (k : TokenKind) → length (text_of k) ≤ 1
-one_text kinds.Word = omega arith
-one_text (kinds.Text units) = omega arith
-one_text (kinds.Number value) = omega arith
-one_text (kinds.Mark mark) = omega arith
+no_method : (letters : List ℕ) → (plain_word letters ≡ word.Other → ⊥) → method_of letters ≡ None
+no_method letters =
+    is_name letters (codes "print") _ _ refl
+    (is_name letters (codes "length") _ _ refl
+    (is_name letters (codes "undefined") _ _ refl
+    (is_name letters (codes "null") _ _ refl
+    (is_name letters (codes "true") _ _ refl
+    (is_name letters (codes "false") _ _ refl
+    (is_name letters (codes "NaN") _ _ refl
+    (is_name letters (codes "Infinity") _ _ refl
+    (is_name letters (codes "String") _ _ refl
+    (is_name letters (codes "fromCharCode") _ _ refl
+    (is_name letters (codes "fromCodePoint") _ _ refl
+    (is_name letters (codes "JSON") _ _ refl
+    (is_name letters (codes "stringify") _ _ refl
+    (λ none. absurd (none refl))))))))))))))
 
-module _ (bytes : List ℕ) (all : List Lexed) (done : List Token) (texts : List (List ℕ)) (old rest : List Lexed) (t : Lexed) (part : Sorted bytes all done texts old) (first : old ≡ t ∷ rest) where
-  part_at : Sorted bytes all done texts (t ∷ rest)
-  part_at = subst (λ (l : List Lexed). Sorted bytes all done texts l) first part
+pub plain_first : (letters : List ℕ) (w : Word) → w ≡ plain_word letters → (w ≡ word.Other → ⊥) → w ≡ word_of letters
+plain_first letters w e other = e ∙ ap (method_or (plain_word letters)) (sym (no_method letters (λ is. other (e ∙ is))))
 
-  pub first_forward : t.from ≤ t.to
-  first_forward = part_at.inside.0
-
-  pub first_inside : t.to ≤ length bytes
-  first_inside = part_at.inside.1
-
-  pub one_sorted : (new : List Token) (new_texts : List (List ℕ)) → new ≡ done ++ token_of (slice bytes t.from t.to) (length texts) t.from t.kind ∷ [] → new_texts ≡ texts ++ text_of t.kind → Sorted bytes all new new_texts rest
-  one_sorted new new_texts w v = subst (λ (d : List Token). Sorted bytes all d new_texts rest) (sym w) (subst (λ (u : List (List ℕ)). Sorted bytes all (done ++ token_of (slice bytes t.from t.to) (length texts) t.from t.kind ∷ []) u rest) (sym v) step)
-    where
-      number : length (texts ++ text_of t.kind) ≡ length texts + length (text_of t.kind)
-      number = length-append texts (text_of t.kind)
-
-      tokens_are : (done ++ token_of (slice bytes t.from t.to) (length texts) t.from t.kind ∷ []) ++ tokens_of bytes (length (texts ++ text_of t.kind)) rest ≡ tokens_of bytes 0 all
-      tokens_are =
-          append_assoc done (token_of (slice bytes t.from t.to) (length texts) t.from t.kind ∷ []) (tokens_of bytes (length (texts ++ text_of t.kind)) rest)
-          ∙ ap (λ (n : ℕ). done ++ (token_of (slice bytes t.from t.to) (length texts) t.from t.kind ∷ tokens_of bytes n rest)) number
-          ∙ part_at.tokens
-
-      step : Sorted bytes all (done ++ token_of (slice bytes t.from t.to) (length texts) t.from t.kind ∷ []) (texts ++ text_of t.kind) rest
-      step = record {
-        tokens = tokens_are;
-        words = append_assoc texts (text_of t.kind) (texts_of rest) ∙ part_at.words;
-        inside = part_at.inside.2;
-        few = let few = part_at.few in let k = one_text t.kind in omega (arith, number);
-      }
-
-pub all_tokens : (bytes : List ℕ) (all : List Lexed) (done : List Token) (texts : List (List ℕ)) (rest : List Lexed) → Sorted bytes all done texts rest → length rest ≡ 0 → done ≡ tokens_of bytes 0 all
-all_tokens bytes all done texts [] part e = sym (append-nil done) ∙ part.tokens
-all_tokens bytes all done texts (t ∷ rest) part e = absurd (omega arith)
-
-pub all_texts : (bytes : List ℕ) (all : List Lexed) (done : List Token) (texts : List (List ℕ)) (rest : List Lexed) → Sorted bytes all done texts rest → length rest ≡ 0 → texts ≡ texts_of all
-all_texts bytes all done texts [] part e = sym (append-nil texts) ∙ part.words
-all_texts bytes all done texts (t ∷ rest) part e = absurd (omega arith)
-
--- spans in order lie within the bytes
-
-pub within : (bytes : List ℕ) (at : ℕ) (ts : List Lexed) → InOrder bytes at ts → Within bytes ts
-within bytes at [] h = tt
-within bytes at (t ∷ ts) h = (let p = h.1 in omega arith, h.2, within bytes t.to ts h.3)
-
-ends_within : (bytes : List ℕ) (at : ℕ) (ts : List Lexed) → InOrder bytes at ts → at ≤ length bytes → at + length ts ≤ length bytes
-ends_within bytes at [] h le = omega arith
-ends_within bytes at (t ∷ ts) h le = let a = h.0 in let b = h.1 in let rest = ends_within bytes t.to ts h.3 h.2 in omega arith
-
-pub no_more_tokens : (bytes : List ℕ) (ts : List Lexed) → InOrder bytes 0 ts → length ts ≤ length bytes
-no_more_tokens bytes ts h = let p = ends_within bytes 0 ts h (omega arith) in omega arith
+-- what completes the rest of the tokens completes all of them
+abbrev pub Goes : List ℕ → ℕ → ℕ → List Token → List (List ℕ) → Type 0
+Goes text start at done texts = (ts : List Lexed) → Lexes text at ts → Classified text start (done ++ tokens_of text (length texts) ts) (texts ++ texts_of ts)
 
 -- the directive
 
-pub all_stay : (bytes : List ℕ) (all rest : List Lexed) → (HasDirective bytes all → ⊥) → rest ≡ all → Within bytes all → IsAfterDirective bytes all rest
-all_stay bytes all rest none same inside = subst (λ (l : List Lexed). IsAfterDirective bytes all l) (sym same) (record {
-  directed = plain all;
-  whole = λ _. refl;
-  behind = λ t semi ts e has. absurd (none has);
-  fewer = omega arith;
-  inside = inside;
-})
+abbrev NoDirective : List ℕ → Type 0
+NoDirective text = (t semi : Lexed) (ts : List Lexed) → Lexes text 0 (t ∷ semi ∷ ts) → IsUseStrict text t → semi.kind ≡ kinds.Mark Semicolon → ⊥
 
-two_go : (bytes : List ℕ) (all between rest : List Lexed) (a b : Lexed) → HasDirective bytes all → all ≡ a ∷ between → between ≡ b ∷ rest → Within bytes all → IsAfterDirective bytes all rest
-two_go bytes all between rest a b has first second inside = subst (λ (l : List Lexed). IsAfterDirective bytes l rest) (sym whole) (go (subst (HasDirective bytes) whole has) (subst (Within bytes) whole inside))
+none_behind : (text : List ℕ) → IsUtf8 text → NoDirective text → IsBehindDirective text 0
+none_behind text u never = record {
+  cut = IsCharBoundary-start text u;
+  lexes = λ ts h. record {
+    all = ts;
+    lexes = h;
+    after = record { directed = plain ts; whole = λ _. refl; behind = λ t semi rest e has. absurd (none ts h has) };
+  };
+  fails = λ fault h. h;
+}
   where
-    whole : all ≡ a ∷ b ∷ rest
-    whole = first ∙ ap (λ (l : List Lexed). a ∷ l) second
+    none : (ts : List Lexed) → Lexes text 0 ts → HasDirective text ts → ⊥
+    none [] h has = has
+    none (t ∷ []) h has = has
+    none (t ∷ semi ∷ ts) h has = never t semi ts h (has.0) (has.1)
 
-    go : HasDirective bytes (a ∷ b ∷ rest) → Within bytes (a ∷ b ∷ rest) → IsAfterDirective bytes (a ∷ b ∷ rest) rest
-    go has inside = record {
-      directed = strict a b rest has.0 has.1;
-      whole = λ none. absurd (none has);
-      behind = λ t semi ts e _. let same : rest ≡ ts = cc in same;
-      fewer = omega arith;
-      inside = inside.2.2;
-    }
+pub none_left : (text : List ℕ) → IsUtf8 text → Lexes text 0 [] → IsBehindDirective text 0
+none_left text u h = none_behind text u (λ t semi ts g is end. let e = one_list text 0 [] (t ∷ semi ∷ ts) u h g in absurd cc)
 
-has_two : (bytes : List ℕ) (all : List Lexed) → HasDirective bytes all → 2 ≤ length all
-has_two bytes [] has = absurd has
-has_two bytes (t ∷ []) has = absurd has
-has_two bytes (t ∷ semi ∷ ts) has = omega arith
+pub not_strict : (text : List ℕ) (t : Lexed) → IsUtf8 text → GoesOn text 0 t → (IsUseStrict text t → ⊥) → IsBehindDirective text 0
+not_strict text t u on never = none_behind text u (λ v semi ts g is end. never (subst (IsUseStrict text) (on.only v (semi ∷ ts) g).0 is))
 
--- two steps of an iterator over all of them, with how many are left
-pub two_gone : (bytes : List ℕ) (all start between rest : List Lexed) (n m k : ℕ) (a b : Option Lexed) → HasDirective bytes all → Within bytes all → start ≡ all → n ≡ length all
-    → MatchOption a ((n ≡ 0) × (m ≡ 0)) (λ x. (start ≡ x ∷ between) × (m + 1 ≡ n))
-    → MatchOption b ((m ≡ 0) × (k ≡ 0)) (λ x. (between ≡ x ∷ rest) × (k + 1 ≡ m))
-    → IsAfterDirective bytes all rest
-two_gone bytes all start between rest n m k None b has inside same count first second = let p = has_two bytes all has in absurd (omega (arith, first.0))
-two_gone bytes all start between rest n m k (Some x) None has inside same count first second = let p = has_two bytes all has in absurd (omega (arith, first.1, second.0))
-two_gone bytes all start between rest n m k (Some x) (Some y) has inside same count first second = two_go bytes all between rest x y has (sym same ∙ first.0) second.0 inside
+pub one_left : (text : List ℕ) (t : Lexed) → IsUtf8 text → GoesOn text 0 t → Lexes text t.to [] → IsBehindDirective text 0
+one_left text t u on h = none_behind text u (λ v semi ts g is end. let e = one_list text t.to [] (semi ∷ ts) u h (on.only v (semi ∷ ts) g).1 in absurd cc)
 
--- a lexical fault
+pub not_ended : (text : List ℕ) (t semi : Lexed) → IsUtf8 text → GoesOn text 0 t → GoesOn text t.to semi → (semi.kind ≡ kinds.Mark Semicolon → ⊥) → IsBehindDirective text 0
+not_ended text t semi u on next never = none_behind text u (λ v other ts g is end.
+    let same = (next.only other ts (on.only v (other ∷ ts) g).1).0 in never (ap (λ (x : Lexed). x.kind) (sym same) ∙ end))
 
-pub lexical_fault : (bytes : List ℕ) (fault : LexFault) (answer : ParseFault) → (fault ≡ lexical.Memory) ⊎ LexFaultOf bytes fault → answer ≡ lex_fault fault → IsLexical answer (LexFaultOf bytes)
-lexical_fault bytes fault answer (inl e) w = subst (λ (f : ParseFault). IsLexical f (LexFaultOf bytes)) (sym (w ∙ ap lex_fault e)) tt
-lexical_fault bytes fault answer (inr is) w = subst (λ (f : ParseFault). IsLexical f (LexFaultOf bytes)) (sym w) (go fault is)
-  where
-    go : (fault : LexFault) → LexFaultOf bytes fault → IsLexical (lex_fault fault) (LexFaultOf bytes)
-    go lexical.Memory is = tt
-    go (lexical.NotUtf8 at) is = is
-    go (lexical.BadCharacter at) is = is
-    go (lexical.OpenComment at) is = is
-    go (lexical.Literal f) is = is
-    go (lexical.Number f) is = is
+pub directive_behind : (text : List ℕ) (t semi : Lexed) → GoesOn text 0 t → GoesOn text t.to semi → IsUseStrict text t → semi.kind ≡ kinds.Mark Semicolon → IsBehindDirective text semi.to
+directive_behind text t semi on next is end = record {
+  cut = next.cut;
+  lexes = λ ts h. record {
+    all = t ∷ semi ∷ ts;
+    lexes = on.lexes (semi ∷ ts) (next.lexes ts h);
+    after = record {
+      directed = strict t semi ts is end;
+      whole = λ none. absurd (none (is, end));
+      behind = λ v other rest e _. let same : ts ≡ rest = cc in same;
+    };
+  };
+  fails = λ fault h. on.fails fault (next.fails fault h);
+}
+
+-- the faults of the text are those of the bytes
+
+pub text_fault : (bytes text : List ℕ) → text ≡ bytes → IsUtf8 bytes → (fault : LexFault) → Fails text 0 fault → LexFaultOf bytes fault
+text_fault bytes text same u fault h = in_text fault u (subst (λ (b : List ℕ). Fails b 0 fault) same h)
+
+pub lexical_more : (P Q : LexFault → Type 0) → ((fault : LexFault) → P fault → Q fault) → (answer : ParseFault) → IsLexical answer P → IsLexical answer Q
+lexical_more P Q more Memory is = tt
+lexical_more P Q more (Lex fault) is = more fault is
+lexical_more P Q more (NotInProfile at) is = is
+
+pub refused_more : {X : Type 0} (P Q : LexFault → Type 0) → ((fault : LexFault) → P fault → Q fault) → (r : Result X ParseFault) → IfErr r (λ fault. IsLexical fault P) → IfErr r (λ fault. IsLexical fault Q)
+refused_more P Q more (Ok found) is = tt
+refused_more P Q more (Err fault) is = lexical_more P Q more fault is

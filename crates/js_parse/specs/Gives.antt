@@ -1,11 +1,13 @@
 -- What the private functions of the parser give. The public contracts don't speak of it.
-use Rattle.std.specs.Prelude.{◌≡◌, ◌≤◌, [], ◌∷◌, ℕ, List, length, ⊤, Result, Ok, Err}
+use Rattle.std.specs.Prelude.{◌≡◌, [], ◌∷◌, ℕ, List, ⊤, Result, Ok, Err}
 use Rattle.js_lex.specs.declared.token.Token.{Token as Lexed}
 use Rattle.js_lex.specs.declared.token.TokenKind.TheVariants as kinds
 use Rattle.js_lex.specs.declared.token.Mark.TheVariants.{Semicolon}
 use Rattle.js_lex.specs.declared.token.LexFault.{LexFault}
 use Rattle.js_lex.specs.declared.token.LexFault.TheVariants as lexical
-use Rattle.js_lex.specs.Tokens.{TokensOf}
+use Rattle.std.specs.Str.{IsCharBoundary}
+use Rattle.js_lex.specs.Tokens.{TokensOf, Lexes}
+use Rattle.js_lex.specs.Tokens as lexer
 use Rattle.js_parse.specs.declared.token.Token.{Token}
 use Rattle.js_parse.specs.declared.parser.ParseFault.{ParseFault}
 use Rattle.js_parse.specs.declared.parser.ParseFault.TheVariants.{Memory, NotInProfile, Lex}
@@ -27,11 +29,6 @@ abbrev pub Gives : {X A : Type 0} → (X → A) → (X → List Token) → Resul
 Gives view rest (Ok x) answer = answer ≡ Got (view x) (rest x)
 Gives view rest (Err fault) answer = Fails fault (answer ≡ Bad)
 
--- each token's span lies within the bytes
-abbrev pub Within : List ℕ → List Lexed → Type 0
-Within bytes [] = ⊤
-Within bytes (t ∷ ts) = (t.from ≤ t.to) × (t.to ≤ length bytes) × Within bytes ts
-
 -- the first two tokens are the directive and a semicolon
 abbrev pub HasDirective : List ℕ → List Lexed → Type 0
 HasDirective bytes [] = ⊥
@@ -48,8 +45,25 @@ pub record IsAfterDirective (bytes : List ℕ) (all rest : List Lexed) : Type 0 
   pub directed : Directed bytes all rest
   pub whole : (HasDirective bytes all → ⊥) → rest ≡ all
   pub behind : (t semi : Lexed) (ts : List Lexed) → all ≡ t ∷ semi ∷ ts → HasDirective bytes all → rest ≡ ts
-  pub fewer : length rest ≤ length all
-  pub inside : Within bytes rest
+
+-- the text has these tokens behind the directive
+pub record HasBehind (text : List ℕ) (rest : List Lexed) : Type 0 where
+  pub all : List Lexed
+  pub lexes : Lexes text 0 all
+  pub after : IsAfterDirective text all rest
+
+-- what the text has from a place on, it has behind the directive
+pub record IsBehindDirective (text : List ℕ) (at : ℕ) : Type 0 where
+  pub cut : IsCharBoundary text at
+  pub lexes : (rest : List Lexed) → Lexes text at rest → HasBehind text rest
+  pub fails : (fault : LexFault) → lexer.Fails text at fault → lexer.Fails text 0 fault
+
+-- the grammar's tokens and the texts from a place on
+pub record Classified (text : List ℕ) (at : ℕ) (ts : List Token) (texts : List (List ℕ)) : Type 0 where
+  pub rest : List Lexed
+  pub lexes : Lexes text at rest
+  pub tokens : ts ≡ tokens_of text 0 rest
+  pub words : texts ≡ texts_of rest
 
 -- the tokens and texts of the bytes, behind the directive
 pub record Reads (bytes : List ℕ) (ts : List Token) (texts : List (List ℕ)) : Type 0 where

@@ -1,17 +1,19 @@
 // Tokens as the grammar sees them, and how they come from those of the text.
-ghost use Rattle.std.specs.Prelude.{◌≡◌, ◌≤◌, ◌∷◌, ◌++◌, [], List, length, IfOk, IfErr, OnOk, IsTrue, ◌↔◌};
-ghost use Rattle.std.specs.Vec.Iter.{into_iter_items, into_iter_len};
+ghost use Rattle.std.specs.Prelude.{◌≡◌, ◌≤◌, ◌∷◌, ◌++◌, [], length, IfOk, IfErr, OnOk, IsTrue, ◌↔◌, MatchOption};
+ghost use Rattle.std.specs.Str.{IsCharBoundary};
 ghost use Rattle.js_lex.specs.Spans.{slice};
-ghost use Rattle.js_lex.specs.Tokens.{LexFaultOf};
-ghost use Rattle.js_parse.specs.Token.{method_of, plain_word, word_of, token_of, text_of, tokens_of, texts_of, IsUseStrict};
-ghost use Rattle.js_parse.specs.Gives.{OnRefusal, Within, HasDirective, IsAfterDirective, Reads, IsLexical, lex_fault};
+ghost use Rattle.js_lex.specs.Tokens.{LexFaultOf, Lexes, Fails};
+ghost use Rattle.js_lex.specs.Next.{GoesOn};
+ghost use Rattle.js_lex.specs.declared.token.TokenKind.TheVariants as kinds;
+ghost use Rattle.js_lex.specs.declared.token.Mark.TheVariants.{Semicolon};
+ghost use Rattle.js_parse.specs.Token.{method_of, plain_word, word_of, token_of, text_of, IsUseStrict};
+ghost use Rattle.js_parse.specs.Gives.{OnRefusal, IsBehindDirective, Classified, Reads, IsLexical, lex_fault};
 
 use crate::parser::ParseFault;
 use crate::tree::Method;
 use js_lex::{LexFault, Mark, TokenKind};
 use js_units::Units;
 use std::alloc::Global;
-use std::vec::IntoIter;
 
 /// A word, by what the grammar knows of it. It may be one thing at one place and a name at another.
 #[derive(Clone, Copy, Debug, PartialEq, Eq)]
@@ -136,12 +138,17 @@ fn plain_word(letters: &[u8]) -> Word
     }
 }
 
+// No method has the name of a plain word. The plain words are looked at first, as every statement
+// begins with one.
 fn word_named(letters: &[u8]) -> Word
     ensures { result ≡ word_of letters.now }
 {
-    match method_named(letters) {
-        Some(method) => Word::Method(method),
-        None => plain_word(letters),
+    match plain_word(letters) {
+        Word::Other => match method_named(letters) {
+            Some(method) => Word::Method(method),
+            None => Word::Other,
+        },
+        word => word,
     }
 }
 
@@ -177,25 +184,26 @@ fn put(
     Ok(())
 }
 
-// The grammar's tokens, and what the texts among them stand for.
-fn classified(
-    alloc: Global,
-    bytes: &[u8],
-    mut lexed: IntoIter<js_lex::Token>,
-) -> Result<(Vec<Token>, Vec<Units>), ParseFault>
-    requires few { length (into_iter_items lexed) ≤ 1_048_576 }
-    requires counted { into_iter_len lexed ≡ length (into_iter_items lexed) }
-    requires inside { Within bytes.now (into_iter_items lexed) }
-    ensures tokens { IfOk result (λ found. found.0.items ≡ tokens_of bytes.now 0 (into_iter_items lexed)) }
-    ensures texts { IfOk result (λ found. found.1.items ≡ texts_of (into_iter_items lexed)) }
-    ensures refused { OnRefusal result ⊥ }
+fn lexical(fault: LexFault) -> ParseFault
+    ensures { result ≡ lex_fault fault }
 {
-    let mut tokens = Vec::new(alloc);
-    let mut texts = Vec::new(alloc);
-    while let Some(token) = lexed.next() {
-        put(&mut tokens, &mut texts, bytes, token)?;
+    match fault {
+        LexFault::Memory => ParseFault::Memory,
+        fault => ParseFault::Lex(fault),
     }
-    Ok((tokens, texts))
+}
+
+// The next token of the text from a place on.
+fn next(alloc: Global, text: &str, at: u32) -> Result<Option<js_lex::Token>, ParseFault>
+    requires short { length text.now ≤ 1_048_576 }
+    requires cut { IsCharBoundary text.now at }
+    ensures found { IfOk result (λ found. MatchOption found (Lexes text.now at []) (GoesOn text.now at)) }
+    ensures refused { IfErr result (λ fault. IsLexical fault (Fails text.now at)) }
+{
+    match js_lex::next_token(alloc, text, at) {
+        Ok(found) => Ok(found),
+        Err(fault) => Err(lexical(fault)),
+    }
 }
 
 // Whether the token is a text that is spelled as the directive.
@@ -209,53 +217,72 @@ fn is_use_strict(bytes: &[u8], token: &js_lex::Token) -> bool
         && (source == b"'use strict'".as_slice() || source == b"\"use strict\"".as_slice())
 }
 
-fn has_directive(bytes: &[u8], lexed: &[js_lex::Token]) -> bool
-    requires { Within bytes.now lexed.now }
-    ensures { IsTrue result ↔ HasDirective bytes.now lexed.now }
+fn is_semicolon(token: &js_lex::Token) -> bool
+    ensures { IsTrue result ↔ (token.now.kind ≡ kinds.Mark Semicolon) }
 {
-    match lexed {
-        [first, second, ..] => {
-            is_use_strict(bytes, first) && matches!(second.kind, TokenKind::Mark(Mark::Semicolon))
+    matches!(token.kind, TokenKind::Mark(Mark::Semicolon))
+}
+
+// The place behind the directive, or 0 where there is none.
+fn behind_directive(alloc: Global, text: &str) -> Result<u32, ParseFault>
+    requires { length text.now ≤ 1_048_576 }
+    ensures place { IfOk result (λ at. IsBehindDirective text.now at) }
+    ensures refused { IfErr result (λ fault. IsLexical fault (Fails text.now 0)) }
+{
+    let first = match next(alloc, text, 0)? {
+        Some(first) => first,
+        None => return Ok(0),
+    };
+    if !is_use_strict(text.as_bytes(), &first) {
+        return Ok(0);
+    }
+    let second = match next(alloc, text, first.to)? {
+        Some(second) => second,
+        None => return Ok(0),
+    };
+    if !is_semicolon(&second) {
+        return Ok(0);
+    }
+    Ok(second.to)
+}
+
+// The grammar's tokens from a place on, and what the texts among them stand for. There is room at
+// once for the tokens and texts of an ordinary script.
+fn classified(
+    alloc: Global,
+    text: &str,
+    start: u32,
+) -> Result<(Vec<Token>, Vec<Units>), ParseFault>
+    requires short { length text.now ≤ 1_048_576 }
+    requires cut { IsCharBoundary text.now start }
+    ensures read { IfOk result (λ found. Classified text.now start found.0.items found.1.items) }
+    ensures refused { IfErr result (λ fault. IsLexical fault (Fails text.now start)) }
+{
+    let bytes = text.as_bytes();
+    let mut tokens = Vec::with_capacity(alloc, bytes.len() / 8 + 8)?;
+    let mut texts = Vec::with_capacity(alloc, bytes.len() / 32 + 8)?;
+    let mut at = start;
+    'tokens: loop {
+        match next(alloc, text, at)? {
+            Some(token) => {
+                at = token.to;
+                put(&mut tokens, &mut texts, bytes, token)?;
+            }
+            None => return Ok((tokens, texts)),
         }
-        _ => false,
-    }
-}
-
-// The tokens behind the directive, or all where there is none.
-fn after_directive(bytes: &[u8], lexed: Vec<js_lex::Token>) -> IntoIter<js_lex::Token>
-    requires { Within bytes.now lexed.items }
-    ensures rest { IsAfterDirective bytes.now lexed.items (into_iter_items result) }
-    ensures counted { into_iter_len result ≡ length (into_iter_items result) }
-{
-    let strict = has_directive(bytes, &lexed);
-    let mut rest = lexed.into_iter();
-    if strict {
-        let _directive = rest.next();
-        let _semicolon = rest.next();
-    }
-    rest
-}
-
-fn lexical(fault: LexFault) -> ParseFault
-    ensures { result ≡ lex_fault fault }
-{
-    match fault {
-        LexFault::Memory => ParseFault::Memory,
-        fault => ParseFault::Lex(fault),
     }
 }
 
 /// The grammar's tokens behind the directive, and what the texts among them stand for.
-#[tactic(auto, using(crate::proofs::Classes::within, crate::proofs::Classes::no_more_tokens, crate::proofs::Classes::lexical_fault))]
 pub(crate) fn tokens(alloc: Global, bytes: &[u8]) -> Result<(Vec<Token>, Vec<Units>), ParseFault>
     requires { length bytes.now ≤ 1_048_576 }
     ensures read { IfOk result (λ found. Reads bytes.now found.0.items found.1.items) }
     ensures refused { IfErr result (λ fault. IsLexical fault (LexFaultOf bytes.now)) }
 {
-    let lexed = match js_lex::tokens(alloc, bytes) {
-        Ok(lexed) => lexed,
+    let text = match js_lex::source_text(bytes) {
+        Ok(text) => text,
         Err(fault) => return Err(lexical(fault)),
     };
-    let rest = after_directive(bytes, lexed);
-    classified(alloc, bytes, rest)
+    let start = behind_directive(alloc, text)?;
+    classified(alloc, text, start)
 }

@@ -1,10 +1,18 @@
-use Rattle.std.proofs.Common.{◌≡◌, length}
-use Rattle.std.specs.Vec.Iter.{into_iter_items, into_iter_len}
-use Rattle.js_parse.proofs.Classes.{Sorted}
+use Rattle.std.proofs.Common.{◌≤◌, ◌-◌, length}
+use Rattle.std.specs.Str.{IsCharBoundary}
+use Rattle.js_lex.specs.Tokens.{Fails}
+use Rattle.js_lex.specs.declared.token.LexFault.{LexFault}
+use Rattle.js_parse.proofs.Classes.{Goes}
 use Rattle.js_parse.proofs.token.classified.Given as goal
 
-abbrev pub invariant-loop-token : goal.invariant-loop-token
-invariant-loop-token l = Sorted l.bytes (into_iter_items l.initial.lexed) l.tokens.items l.texts.items (into_iter_items l.lexed) × (into_iter_len l.lexed ≡ length (into_iter_items l.lexed))
+abbrev pub invariant-tokens : goal.invariant-tokens
+invariant-tokens l = record {
+  cut : IsCharBoundary l.fn.text l.at;
+  within : l.at ≤ length l.fn.text;
+  few : length l.texts.items ≤ l.at;
+  goes : Goes l.fn.text l.start l.at l.tokens.items l.texts.items;
+  fails : (fault : LexFault) → Fails l.fn.text l.at fault → Fails l.fn.text l.start fault;
+}
 
-abbrev pub decreases-loop-token : goal.decreases-loop-token
-decreases-loop-token l = into_iter_len l.lexed
+abbrev pub decreases-tokens : goal.decreases-tokens
+decreases-tokens l = length l.fn.text - l.at
