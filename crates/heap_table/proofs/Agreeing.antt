@@ -81,13 +81,13 @@ module _ (z : HeapSize) (W : List ℕ) (built : AreBuilt z W) where
   module _ (vs vs' : List View) (u w : View) (ku : Knows z W vs u) (kw : Knows z W vs' w) (iu : OwnsIds z W u.own_ids) (iw : OwnsIds z W w.own_ids) (ou : OwnsWords z W u.own_words) (ow : OwnsWords z W w.own_words) (keys : HasKeys u w) where
     test_passes : ((q : ℕ) (x : Form) → Has u.forms q x → (y : Form) × Has w.forms q y × (fits_form x y ≡ true)) → has_all u w ≡ true
     test_passes forms =
-      and_from _ _ (fits_same bytes_eq u.units w.units bytes_decides (one_value (λ i us. IsBorn z W i × (units_of z W i ≡ us)) (λ q x y p r. sym p.1 ∙ r.1) u.units w.units ku.of_units kw.of_units keys.units))
-      (and_from _ _ (fits_same same_number u.lengths w.lengths same_number_decides (one_value (λ i n. IsBorn z W i × (length_word z W i ≡ n)) (λ q x y p r. sym p.1 ∙ r.1) u.lengths w.lengths ku.of_lengths kw.of_lengths keys.lengths))
-      (and_from _ _ (fits_true fits_form u.forms w.forms forms)
-      (and_from _ _ (fits_same same_number u.frozen w.frozen same_number_decides (one_value (λ c x. content z W c ≡ x) (λ q x y p r. sym p ∙ r) u.frozen w.frozen (λ q x h. (ku.of_frozen q x h).1) (λ q x h. (kw.of_frozen q x h).1) keys.frozen))
-      (and_from _ _ (fits_same same_number u.slots w.slots same_number_decides (one_value (λ k i. slot z W k ≡ i + 1) (λ q x y p r. omega arith) u.slots w.slots (λ q x h. (ku.of_slots q x h).1) (λ q x h. (kw.of_slots q x h).1) keys.slots))
-      (and_from _ _ (fits_same same_number u.own_ids w.own_ids same_number_decides (one_value (λ i n. length_word z W i ≡ n) (λ q x y p r. sym p ∙ r) u.own_ids w.own_ids (λ q x h. (iu.each q x h).2) (λ q x h. (iw.each q x h).2) keys.own_ids))
-      (fits_same same_number u.own_words w.own_words same_number_decides (one_value (λ c x. content z W c ≡ x) (λ q x y p r. sym p ∙ r) u.own_words w.own_words (λ q x h. (ou.each q x h).1) (λ q x h. (ow.each q x h).1) keys.own_words)))))))
+        and_from _ _ (fits_same bytes_eq u.units w.units bytes_decides (one_value (λ i us. IsBorn z W i × (units_of z W i ≡ us)) (λ q x y p r. sym p.1 ∙ r.1) u.units w.units ku.of_units kw.of_units keys.units))
+        (and_from _ _ (fits_same same_number u.lengths w.lengths same_number_decides (one_value (λ i n. IsBorn z W i × (length_word z W i ≡ n)) (λ q x y p r. sym p.1 ∙ r.1) u.lengths w.lengths ku.of_lengths kw.of_lengths keys.lengths))
+        (and_from _ _ (fits_true fits_form u.forms w.forms forms)
+        (and_from _ _ (fits_same same_number u.frozen w.frozen same_number_decides (one_value (λ c x. content z W c ≡ x) (λ q x y p r. sym p ∙ r) u.frozen w.frozen (λ q x h. (ku.of_frozen q x h).1) (λ q x h. (kw.of_frozen q x h).1) keys.frozen))
+        (and_from _ _ (fits_same same_number u.slots w.slots same_number_decides (one_value (λ k i. slot z W k ≡ i + 1) (λ q x y p r. omega arith) u.slots w.slots (λ q x h. (ku.of_slots q x h).1) (λ q x h. (kw.of_slots q x h).1) keys.slots))
+        (and_from _ _ (fits_same same_number u.own_ids w.own_ids same_number_decides (one_value (λ i n. length_word z W i ≡ n) (λ q x y p r. sym p ∙ r) u.own_ids w.own_ids (λ q x h. (iu.each q x h).2) (λ q x h. (iw.each q x h).2) keys.own_ids))
+        (fits_same same_number u.own_words w.own_words same_number_decides (one_value (λ c x. content z W c ≡ x) (λ q x y p r. sym p ∙ r) u.own_words w.own_words (λ q x h. (ou.each q x h).1) (λ q x h. (ow.each q x h).1) keys.own_words)))))))
 
 module _ (z : HeapSize) (agents : ℕ) (W : List ℕ) (vs : List View) (s : IsSound z agents W vs) (built : AreBuilt z W) (j o : ℕ) (v b : View) (ne : j ≢ o) (at : At vs j v) (live : v.live ≡ true) (at_other : At vs o b) (live_other : b.live ≡ true) where
   abbrev w : View

@@ -140,9 +140,11 @@ fn twice_at_once(
     ensures known_left { IfSome result.0 (λ t. HasKey (view_of left.new.agent).units t.id) }
     ensures known_right { IfSome result.1 (λ t. HasKey (view_of right.new.agent).units t.id) }
 {
-    join_mut(rt, &mut || turn(left, s, want), &mut || {
-        turn(right, s, want)
-    })
+    join_mut(
+        rt,
+        &mut || turn(left, s, want),
+        &mut || { turn(right, s, want) },
+    )
 }
 
 // Whether both strings are there and read as wanted: ids 1 and 2 in one order or the other.
