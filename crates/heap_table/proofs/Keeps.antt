@@ -1,5 +1,5 @@
 -- Each step of the table keeps the rule.
-use Rattle.std.proofs.Common.{◌≡◌, ℕ, zero, suc, [], ◌∷◌, ◌+◌, ◌^◌, ◌<◌, ◌≤◌, ⊎_elim, eqb, List, get_or, set, sym, refl, ap, ◌∙◌, subst, arith, eq-eqb, ne_eqb, cond, Bool, true, false, Option, Some, None}
+use Rattle.std.proofs.Common.{◌≡◌, ◌≢◌, ℕ, zero, suc, [], ◌∷◌, ◌+◌, ◌^◌, ◌<◌, ◌≤◌, ⊎_elim, eqb, List, get_or, set, sym, refl, ap, ◌∙◌, subst, arith, eq-eqb, ne_eqb, cond, Bool, true, false, Option, Some, None}
 use Rattle.std.specs.Prelude.{unwrap_or, is_some}
 use Rattle.std.proofs.lemmas.List.{set-get_or}
 use mathlib.Core.Option.{none, some, some-injective}
@@ -38,6 +38,8 @@ use Rattle.heap_core.proofs.ListLemmas.{set_else, set_there}
 use Rattle.heap_core.proofs.MapLemmas.{insert_same, key_of}
 use Rattle.heap_table.specs.declared.rule.HeapKey.{HeapKey}
 use Rattle.heap_table.specs.Rule.{AreBuilt, KeepsHeap}
+use Rattle.heap_table.specs.Taken.{taken}
+use Rattle.heap_table.proofs.Agreeing.{both_agree, taken_is}
 use Rattle.heap_table.proofs.Stay.{built_else, built_born, known_form, known_length, known_word, known_birth}
 use Rattle.heap_table.specs.Plays.{Looked, Noted, Sat, FoundCounter, LoadedCounter, Claimed, StoredWord, StoredLength, GaveBirth, LoadedForm, LoadedLength, LoadedWord, Stays}
 use Rattle.heap_table.specs.Agents.{Belongs}
@@ -276,11 +278,12 @@ module _ (key : HeapKey) (slots id : ℕ) (me : Sat) (live : me.0.live ≡ true)
         (record { slots = refl; sizes = refl; live = refl; share = refl; possible = after_possible s at s.words me.0 live kept }, refl, omega arith),
       )
 
-pub joins : (key : HeapKey) (id other : ℕ) (v b : View) → v.live ≡ true → b.live ≡ true → Joins (KeepsHeap key) id v other b (joined v b) spent
-joins key id other v b live live' s (h, built) at ne at' = (
-  keeps_joined key.size key.agents s.words s.views h id other v b (λ e. ne (sym e)) at live (sym (set_else s.views id other (joined v b) ne) ∙ at') live',
-  built,
-)
+pub joins : (key : HeapKey) (id other : ℕ) (v b : View) → v.live ≡ true → b.live ≡ true → Joins (KeepsHeap key) id v other b (taken v b) spent
+joins key id other v b live live' s (h, built) at ne at' = let apart : id ≢ other = (λ e. ne (sym e)) in let at_other : get_elem? s.views other ≡ some b = sym (set_else s.views id other (taken v b) ne) ∙ at' in
+    let same : taken v b ≡ joined v b = taken_is v b (both_agree key.size key.agents s.words s.views h built id other v b apart at live at_other live') in (
+      subst (λ (w : View). IsSound key.size key.agents s.words (set (set s.views id w) other spent)) (sym same) (keeps_joined key.size key.agents s.words s.views h id other v b apart at live at_other live'),
+      built,
+    )
 
 pub splits : (key : HeapKey) (id : ℕ) (v : View) → v.live ≡ true → 1 ≤ v.giving → v.giving < v.share → Splits (KeepsHeap key) id v (left_after_split v v.giving) (right_after_split v v.giving)
 splits key id v live some_give less s (h, b) at = (keeps_split key.size key.agents s.words s.views h id v at live v.giving some_give less, b)

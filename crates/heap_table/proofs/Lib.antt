@@ -1,2 +1,5 @@
 pub mod Stay
+pub mod Fitting
+pub mod LaterForms
+pub mod Agreeing
 pub mod Keeps

@@ -1,12 +1,25 @@
--- What an agent knows stays known: the units and the lengths of ids, Flats, and which strings are settled.
-use Rattle.std.specs.Prelude.{ℕ, Bool, List}
+-- What an agent knows stays known: the units and the lengths of ids, Flats, and which strings are settled; and all else that a view has.
+use Rattle.std.specs.Prelude.{◌≡◌, ℕ, Bool, false, List}
+use Rattle.js_header.specs.declared.form.Form.{Form}
 use Rattle.js_header.specs.declared.form.Form.TheVariants.{Flat}
 use Rattle.heap_core.specs.declared.view.View.{View}
-use Rattle.heap_core.specs.Maps.{Has}
-use Rattle.heap_core.specs.Views.{IsSettled}
+use Rattle.heap_core.specs.Maps.{Has, HasKey}
+use Rattle.heap_core.specs.Forms.{is_later}
+use Rattle.heap_core.specs.Views.{IsKnown, IsSettled}
 
 pub record KeepsKnown (v w : View) : Type 0 where
   pub units : (i : ℕ) (us : List ℕ) → Has v.units i us → Has w.units i us
   pub lengths : (i n : ℕ) → Has v.lengths i n → Has w.lengths i n
   pub flats : (i : ℕ) (wide : Bool) (start : ℕ) (fixed : Bool) → Has v.forms i (Flat wide start fixed) → Has w.forms i (Flat wide start fixed)
   pub settled : (i : ℕ) → IsSettled v i → IsSettled w i
+
+-- The view w has what v has beside that: its own ids and words with what it stored there, known ids, frozen words with their contents,
+-- slots with their ids, and for each id with a form a form that isn't an earlier one.
+pub record HasAll (v w : View) : Type 0 where
+  pub own_ids : (i n : ℕ) → Has v.own_ids i n → Has w.own_ids i n
+  pub own_words : (c x : ℕ) → Has v.own_words c x → Has w.own_words c x
+  pub known : (i : ℕ) → IsKnown v i → IsKnown w i
+  pub met : (i : ℕ) → HasKey v.met i → HasKey w.met i
+  pub frozen : (c x : ℕ) → Has v.frozen c x → Has w.frozen c x
+  pub slots : (k i : ℕ) → Has v.slots k i → Has w.slots k i
+  pub forms : (i : ℕ) (f : Form) → Has v.forms i f → (g : Form) × Has w.forms i g × (is_later g f ≡ false)

@@ -1,7 +1,9 @@
 // An agent: its share, and how agents are split off.
-ghost use Rattle.std.specs.Prelude.{◌≡◌, ℕ, ◌+◌, ◌≤◌, ◌<◌};
+ghost use Rattle.std.specs.Prelude.{◌≡◌, ℕ, ◌+◌, ◌++◌, ◌≤◌, ◌<◌};
 ghost use Rattle.heap_table.specs.Agents.{Belongs, share_of, view_of};
+ghost use Rattle.heap_table.specs.Known.{HasAll, KeepsKnown};
 ghost use Rattle.heap_core.specs.Claims.{loaded_counter};
+ghost use Rattle.heap_core.specs.Views.{history};
 ghost use Rattle.heap_core.specs.Agents.{MayJoin, joined, left_after_split, noted, right_after_split};
 
 use crate::heap::Heap;
@@ -73,10 +75,16 @@ impl Agent {
     /// Takes over what another agent owns, used and knows, with its share and, at the end of the
     /// history, the calls that it made since it was split off. It was split off with calls that
     /// this agent knows by now, among which are those that this agent was split off with.
+    /// Afterwards this agent knows and has what both knew and had.
     pub fn join(&mut self, heap: &Heap, other: Agent)
         requires belongs { Belongs self.old heap.now × Belongs other heap.now }
         requires may { MayJoin (view_of self.old) (view_of other) }
         ensures view { view_of self.new ≡ joined (view_of self.old) (view_of other) }
+        ensures known { KeepsKnown (view_of self.old) (view_of self.new) }
+        ensures known_of_other { KeepsKnown (view_of other) (view_of self.new) }
+        ensures all { HasAll (view_of self.old) (view_of self.new) }
+        ensures all_of_other { HasAll (view_of other) (view_of self.new) }
+        ensures history { history (view_of self.new) ≡ history (view_of self.old) ++ (view_of other).mine }
         ensures share { share_of self.new ≡ share_of self.old + share_of other }
         ensures belongs { Belongs self.new heap.now }
     {

@@ -123,13 +123,16 @@ impl Play<(), View> for Looks {
     ghost then = { Looked };
 }
 
-/// The view of an agent that takes over what another has.
+/// The view of an agent that takes over what another has: the joined view. For the proof alone it
+/// is written as that view or, where the two do not agree, one that no rule allows; so the next
+/// load tells that they agree.
 pub struct TakesOver;
 
 impl Join<View> for TakesOver {
-    ghost use Rattle.heap_core.specs.Agents.{joined, spent};
+    ghost use Rattle.heap_core.specs.Agents.{spent};
+    ghost use Rattle.heap_table.specs.Taken.{taken};
 
-    ghost both = { joined };
+    ghost both = { taken };
 
     ghost spent = { spent };
 }

@@ -1,9 +1,13 @@
--- Two agents that were split from one, and may be joined again.
-use Rattle.std.proofs.Common.{◌≡◌, ℕ, ◌++◌, true, [], sym, ap, ap₂, ◌∙◌}
+-- Two agents that were split from one, and may be joined again; and a string that one of the two made.
+use Rattle.std.proofs.Common.{◌≡◌, ℕ, ◌++◌, true, [], sym, ap, ap₂, ◌∙◌, Option, Some, None, IfSome}
 use Rattle.std.proofs.lemmas.List.{append-nil}
 use Rattle.heap_core.specs.declared.view.View.{View}
 use Rattle.heap_core.specs.Agents.{MayJoin, joined, left_after_split, right_after_split}
+use Rattle.heap_core.specs.Maps.{HasKey}
 use Rattle.heap_core.specs.Paths.{Calls}
+use Rattle.heap_core.proofs.MapLemmas.{has_key, key_of}
+use Rattle.heap_table.specs.Known.{KeepsKnown}
+use Rattle.heap_text.specs.declared.string.JsStr.{JsStr}
 use Rattle.heap_text.specs.Texts.{Continues}
 
 -- v was split into l and r, and each went on
@@ -18,3 +22,8 @@ module _ (v l r a b : View) (give : ℕ) (left : l ≡ left_after_split v give) 
 
   pub joined_agents : (joined a b).agents ≡ v.agents
   joined_agents = ca.agents ∙ ap (λ (x : View). x.agents) left
+
+-- a string that may have been made stays known
+pub made_stays : (v w : View) → KeepsKnown v w → (o : Option JsStr) → IfSome o (λ s. HasKey v.units s.id) → IfSome o (λ s. HasKey w.units s.id)
+made_stays v w k None h = tt
+made_stays v w k (Some s) h = let p = has_key v.units s.id h in key_of w.units s.id p.0 (k.units s.id p.0 p.1)

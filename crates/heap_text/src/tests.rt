@@ -1,4 +1,4 @@
-ghost use Rattle.std.specs.Prelude.{◌≡◌, ℕ, List, ◌≤◌, ◌<◌, length};
+ghost use Rattle.std.specs.Prelude.{◌≡◌, ℕ, List, ◌≤◌, ◌<◌, IfSome, length};
 ghost use Rattle.heap_core.specs.Maps.{Has, HasKey};
 ghost use Rattle.heap_table.specs.Agents.{Belongs, share_of, view_of};
 ghost use Rattle.heap_text.specs.Texts.{Continues, Reads};
@@ -90,12 +90,13 @@ fn strings_of_each_length(rt: HostRuntime) {
 }
 
 // The string joined with itself, where it reads as wanted.
-fn twice(text: &mut Text, s: JsStr, want: &[u16]) -> Option<u32>
+fn twice(text: &mut Text, s: JsStr, want: &[u16]) -> Option<JsStr>
     requires text { Belongs text.old.agent text.old.heap.now }
     requires known { HasKey (view_of text.old.agent).units s.id }
     ensures text { Belongs text.new.agent text.new.heap.now }
     ensures heap { text.new.heap ≡ text.old.heap }
     ensures continues { Continues (view_of text.old.agent) (view_of text.new.agent) }
+    ensures known { IfSome result (λ t. HasKey (view_of text.new.agent).units t.id) }
 {
     let Ok(joined) = text.concat(s, s) else {
         return None;
@@ -103,26 +104,32 @@ fn twice(text: &mut Text, s: JsStr, want: &[u16]) -> Option<u32>
     if !reads(text, joined, want) {
         return None;
     }
-    Some(joined.id)
+    Some(joined)
 }
 
 // The same, as what a thread does.
-fn turn(text: &mut Text, s: JsStr, want: &[u16]) -> Option<u32>
+fn turn(text: &mut Text, s: JsStr, want: &[u16]) -> Option<JsStr>
     requires text { Belongs text.old.agent text.old.heap.now }
     requires known { HasKey (view_of text.old.agent).units s.id }
     ensures heap { text.new.heap ≡ text.old.heap }
     ensures goes_on { GoesOn (view_of text.old.agent) text.new.agent text.new.heap.now }
+    ensures known { IfSome result (λ t. HasKey (view_of text.new.agent).units t.id) }
 {
     twice(text, s, want)
 }
 
-fn are_one_and_two(a: Option<u32>, b: Option<u32>) -> bool {
-    matches!((a, b), (Some(1), Some(2)) | (Some(2), Some(1)))
+fn are_one_and_two(a: JsStr, b: JsStr) -> bool {
+    matches!((a.id, b.id), (1, 2) | (2, 1))
 }
 
-// Two agents join the string with itself at once, each in a thread: ids 1 and 2 in one order or
-// the other.
-fn twice_at_once(rt: &impl Threads, left: &mut Text, right: &mut Text, s: JsStr) -> bool
+// Two agents join the string with itself at once, each in a thread, and each knows what it made.
+fn twice_at_once(
+    rt: &impl Threads,
+    left: &mut Text,
+    right: &mut Text,
+    s: JsStr,
+    want: &[u16],
+) -> (Option<JsStr>, Option<JsStr>)
     requires left { Belongs left.old.agent left.old.heap.now }
     requires right { Belongs right.old.agent right.old.heap.now }
     requires known_left { HasKey (view_of left.old.agent).units s.id }
@@ -130,18 +137,40 @@ fn twice_at_once(rt: &impl Threads, left: &mut Text, right: &mut Text, s: JsStr)
     ensures heaps { (left.new.heap ≡ left.old.heap) × (right.new.heap ≡ right.old.heap) }
     ensures left { GoesOn (view_of left.old.agent) left.new.agent left.new.heap.now }
     ensures right { GoesOn (view_of right.old.agent) right.new.agent right.new.heap.now }
+    ensures known_left { IfSome result.0 (λ t. HasKey (view_of left.new.agent).units t.id) }
+    ensures known_right { IfSome result.1 (λ t. HasKey (view_of right.new.agent).units t.id) }
 {
-    let want = [97, 98, 99, 97, 98, 99];
-    let (a, b) = join_mut(
+    join_mut(
         rt,
-        &mut || turn(left, s, want.as_slice()),
-        &mut || turn(right, s, want.as_slice()),
-    );
+        &mut || turn(left, s, want),
+        &mut || { turn(right, s, want) },
+    )
+}
+
+// Whether both strings are there and read as wanted: ids 1 and 2 in one order or the other.
+fn reads_both(text: &mut Text, both: (Option<JsStr>, Option<JsStr>), want: &[u16]) -> bool
+    requires text { Belongs text.old.agent text.old.heap.now }
+    requires first { IfSome both.0 (λ t. HasKey (view_of text.old.agent).units t.id) }
+    requires second { IfSome both.1 (λ t. HasKey (view_of text.old.agent).units t.id) }
+    ensures text { Belongs text.new.agent text.new.heap.now }
+    ensures heap { text.new.heap ≡ text.old.heap }
+    ensures reads { Reads (view_of text.old.agent) (view_of text.new.agent) }
+{
+    let (Some(a), Some(b)) = both else {
+        return false;
+    };
+    if !reads(text, a, want) {
+        return false;
+    }
+    if !reads(text, b, want) {
+        return false;
+    }
     are_one_and_two(a, b)
 }
 
-// The agent is split, the two join the string with itself at once, and they become one agent again.
-fn split_and_joined(rt: &impl Threads, left: &mut Text, s: JsStr) -> bool
+// The agent is split, the two join the string with itself at once, and they become one agent
+// again, which reads what both made.
+fn split_and_joined(rt: &impl Threads, left: &mut Text, s: JsStr, want: &[u16]) -> bool
     requires text { Belongs left.old.agent left.old.heap.now }
     requires known { HasKey (view_of left.old.agent).units s.id }
     requires two { share_of left.old.agent ≡ 2 }
@@ -152,10 +181,10 @@ fn split_and_joined(rt: &impl Threads, left: &mut Text, s: JsStr) -> bool
 {
     let agent = left.agent.split(left.heap, 1);
     let mut right = Text::new(left.heap, agent);
-    let both = twice_at_once(rt, left, &mut right, s);
+    let both = twice_at_once(rt, left, &mut right, s, want);
     let Text { heap: _, agent } = right;
     left.agent.join(left.heap, agent);
-    both
+    reads_both(left, both, want)
 }
 
 // abc is made once and joined with itself by two agents; together they used three ids and three
@@ -173,7 +202,8 @@ fn shares_a_heap(rt: &impl Threads, alloc: Global) -> bool {
     let Ok(abc) = text.make_flat([97, 98, 99].as_slice()) else {
         return false;
     };
-    if !split_and_joined(rt, &mut text, abc) {
+    let want = [97, 98, 99, 97, 98, 99];
+    if !split_and_joined(rt, &mut text, abc, want.as_slice()) {
         return false;
     }
     if text.agent.totals(&heap) != (3, 3) {
@@ -209,6 +239,30 @@ fn a_thousand_heaps_are_shared(rt: HostRuntime) {
     for round in 0..1000 {
         assert!(rt; shares_a_heap(&rt, rt.alloc()), "round {round}");
     }
+}
+
+// Half of more than the greatest length can't be joined with itself: the answer tells both
+// lengths, and nothing is used by it.
+#[test]
+fn too_long(rt: HostRuntime) {
+    let size = HeapSize {
+        ids: 2,
+        words: 33554431,
+        slots: 1,
+    };
+    let Ok((heap, agent)) = Heap::make(rt.alloc(), size, 1) else {
+        panic!(rt; "no heap");
+    };
+    let Ok(units) = vec![in rt.alloc(); 97u16; 268435445] else {
+        panic!(rt; "no room for the units");
+    };
+    let mut text = Text::new(&heap, agent);
+    let Ok(half) = text.make_flat(units.as_slice()) else {
+        panic!(rt; "no string");
+    };
+    let (left, right) = (268435445, 268435445);
+    assert!(rt; text.concat(half, half) == Err(JoinFault::TooLong { left, right }));
+    assert!(rt; text.agent.totals(&heap) == (1, 33554431));
 }
 
 // A call that may want more ids or words than there are left.

@@ -1,3 +1,4 @@
+use Rattle.std.proofs.Common.{◌++◌}
 use Rattle.heap_core.specs.declared.view.View.{View}
 use Rattle.heap_core.proofs.MapLemmas.{has_key, key_of}
 use Rattle.heap_text.proofs.tests.twice.Goals as goal
@@ -5,3 +6,7 @@ use Rattle.heap_text.proofs.tests.twice.Goals as goal
 pub reads-requires-clause-known : goal.reads-requires-clause-known
 reads-requires-clause-known c = let v : View = c.args.text.now.agent.seat.me.0 in let p = has_key v.units c.args.s.id c.requires.known in
     key_of c.concat.new.self.agent.seat.me.0.units c.in-Ok.joined.id _ (c.in-Ok.ensures.units p.0 p.0 p.1 p.1)
+
+pub returns-clause-known : goal.returns-clause-known
+returns-clause-known c = let v : View = c.args.text.now.agent.seat.me.0 in let p = has_key v.units c.args.s.id c.requires.known in
+    key_of c.reads.new.text.agent.seat.me.0.units c.in-Ok.joined.id _ (c.reads.ensures.reads.known.units c.in-Ok.joined.id (p.0 ++ p.0) (c.in-Ok.ensures.units p.0 p.0 p.1 p.1))
