@@ -10,3 +10,4 @@ pub mod Spans
 pub mod NextToken
 pub mod Texts
 pub mod SomeAnswer
+pub mod WordRun
