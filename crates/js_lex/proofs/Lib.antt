@@ -11,3 +11,4 @@ pub mod NextToken
 pub mod Texts
 pub mod SomeAnswer
 pub mod WordRun
+pub mod AloneMark
