@@ -29,6 +29,9 @@ pub enum Front<'a> {
 fn is_blank(c: char) -> bool
     ensures { result ≡ Elements.is_blank c }
 {
+    if matches!(c, '!'..='~') {
+        return false;
+    }
     match u16::try_from(c as u32) {
         Ok(unit) => is_trimmed(unit),
         Err(_) => false,
@@ -126,7 +129,7 @@ pub fn look_ahead(text: &str) -> Front<'_>
                 Front::Word(after_word(rest))
             } else if c == '"' || c == '\'' {
                 Front::Quote
-            } else if begins_number(text) {
+            } else if begins_number(c, rest) {
                 Front::Number
             } else if c == '/' {
                 comment(rest)
