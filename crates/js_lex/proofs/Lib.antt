@@ -11,3 +11,5 @@ pub mod NextToken
 pub mod OneNext
 pub mod Texts
 pub mod SomeAnswer
+pub mod WordRun
+pub mod AloneMark

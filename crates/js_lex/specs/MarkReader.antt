@@ -1,5 +1,5 @@
 -- How the code finds the longest mark, for the contracts of private functions. No public contract cites this file.
-use Rattle.std.specs.Prelude.{ℕ, List, [], ◌∷◌, Option, Some, None, ◌==◌, ◌&&◌, if◌then◌else◌, option_map}
+use Rattle.std.specs.Prelude.{ℕ, List, [], ◌∷◌, Option, Some, None, ◌==◌, Bool, ◌&&◌, ◌||◌, if◌then◌else◌, option_map}
 use Rattle.std.specs.Str.{chars}
 use Rattle.js_lex.specs.declared.token.Mark.{Mark}
 use Rattle.js_lex.specs.declared.token.Mark.TheVariants.{StrictEqual, StrictUnequal, AtMost, AtLeast, And, Or, AddAssign, Increment, Decrement, OpenBrace, CloseBrace, OpenParen, CloseParen, OpenBracket, CloseBracket, Point, Semicolon, Comma, Less, Greater, Plus, Minus, Not, Question, Colon, Assign}
@@ -27,6 +27,10 @@ abbrev pub three_mark : ℕ → ℕ → ℕ → Option Mark
 three_mark a b c =
     if a == 61 && b == 61 && c == 61 then Some StrictEqual else
     (if a == 33 && b == 61 && c == 61 then Some StrictUnequal else None)
+
+-- a mark that begins no longer one
+abbrev pub is_alone : ℕ → Bool
+is_alone a = a == 123 || a == 125 || a == 40 || a == 41 || a == 91 || a == 93 || a == 46 || a == 59 || a == 44 || a == 63 || a == 58
 
 abbrev pub with_rest : List ℕ → Option Mark → Option (Mark × List ℕ)
 with_rest s found = option_map (λ m. (m, s)) found

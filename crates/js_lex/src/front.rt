@@ -1,4 +1,5 @@
 // What stands at the front of a text: a blank, a comment, or what a token begins with.
+ghost use Rattle.std.specs.List.{prefix_len};
 ghost use Rattle.std.specs.Prelude.{◌≡◌, option_map};
 ghost use Rattle.std.specs.Str.{chars};
 ghost use Rattle.js_lex.specs.Elements;
@@ -28,6 +29,9 @@ pub enum Front<'a> {
 fn is_blank(c: char) -> bool
     ensures { result ≡ Elements.is_blank c }
 {
+    if matches!(c, '!'..='~') {
+        return false;
+    }
     match u16::try_from(c as u32) {
         Ok(unit) => is_trimmed(unit),
         Err(_) => false,
@@ -48,18 +52,23 @@ fn is_word_part(c: char) -> bool
     is_word_start(c) || c.is_ascii_digit()
 }
 
-/// What follows the longest run of word parts.
+/// How many bytes in front are word parts.
+fn word_len(bytes: &[u8]) -> usize
+    ensures { result ≡ prefix_len Elements.is_word_part bytes.now }
+{
+    for (i, byte) in bytes.iter().enumerate() {
+        if !is_word_part(char::from(*byte)) {
+            return i;
+        }
+    }
+    bytes.len()
+}
+
+/// What follows the longest run of word parts, which are ASCII.
 fn after_word(text: &str) -> &str
     ensures { chars result.now ≡ Elements.after_word (chars text.now) }
 {
-    let mut text = text;
-    while let Some((c, rest)) = split_char(text) {
-        if !is_word_part(c) {
-            break;
-        }
-        text = rest;
-    }
-    text
+    &text[word_len(text.as_bytes())..]
 }
 
 /// The text from the next line end on.
@@ -120,7 +129,7 @@ pub fn look_ahead(text: &str) -> Front<'_>
                 Front::Word(after_word(rest))
             } else if c == '"' || c == '\'' {
                 Front::Quote
-            } else if begins_number(text) {
+            } else if begins_number(c, rest) {
                 Front::Number
             } else if c == '/' {
                 comment(rest)

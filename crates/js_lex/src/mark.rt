@@ -87,11 +87,25 @@ fn three_front(text: &str) -> Option<(Mark, &str)>
     Some((three_mark(a, b, c)?, rest))
 }
 
+/// Whether the character is a mark that begins no longer one.
+fn is_alone(c: char) -> bool
+    ensures { result ≡ MarkReader.is_alone c }
+{
+    matches!(
+        c,
+        '{' | '}' | '(' | ')' | '[' | ']' | '.' | ';' | ',' | '?' | ':'
+    )
+}
+
 /// The longest mark in front, and what follows it.
-#[tactic(auto, unfolding(crate::specs::MarkReader::mark_front))]
+#[tactic(auto, using(crate::proofs::AloneMark::alone_front), unfolding(crate::specs::MarkReader::mark_front))]
 pub fn mark_front(text: &str) -> Option<(Mark, &str)>
     ensures { option_map (λ p. taken p.0 p.1.now) result ≡ MarkReader.mark_front (chars text.now) }
 {
+    let (a, rest) = split_char(text)?;
+    if is_alone(a) {
+        return Some((one_mark(a)?, rest));
+    }
     if let Some(found) = three_front(text) {
         return Some(found);
     }

@@ -1,41 +1,48 @@
 -- Runs of characters that stand for themselves.
-use Rattle.std.proofs.Common.{◌≡◌, ℕ, ◌-◌, ◌≤◌, List, [], ◌∷◌, ◌++◌, length, take, Bool, true, false, if◌then◌else◌, encode_utf8_all, IsUtf8, refl, sym, ap, ◌∙◌, subst, append_assoc, arith, rules}
-use Rattle.std.proofs.lemmas.List.{append-nil, length-append}
-use Rattle.std.proofs.lemmas.Str.{encodes-chars}
-use Rattle.std.proofs.Math.Seq.{take-append_seam}
-use Rattle.std.specs.Str.{chars}
-use Rattle.std.specs.Char.{encode_utf8}
+use Rattle.std.proofs.Common.{◌≡◌, ℕ, ◌≤◌, ◌+◌, List, [], ◌∷◌, ◌++◌, length, take, drop, Bool, true, false, cond, if◌then◌else◌, IsUtf8, refl, sym, ap, ◌∙◌, subst, append_assoc, arith, rules}
+use Rattle.std.proofs.lemmas.Bool.Decides.{nat_tests}
+use Rattle.std.proofs.lemmas.List.{append-nil}
+use Rattle.std.specs.List.{prefix_len}
+use Rattle.std.specs.Str.{chars, IsCharBoundary}
 use Rattle.js_literal.specs.Literal.{is_quote}
 use Rattle.js_literal.specs.Reader.{reading, Take, is_plain, plain_run, after_plain}
+use Rattle.js_literal.proofs.AsciiRun.{OfAscii, take_first, drop_first, run_of}
 use Rattle.js_literal.proofs.Pieces.{Closes, Fails, closes_more, fails_more}
 
 plain_reads : (q c : ℕ) (s : List ℕ) → is_plain q c ≡ true → Take (c ∷ []) s ≡ reading q (c ∷ s)
 unfolding reading
 plain_reads q c s e = search rules
 
-plain_byte : (q c : ℕ) → is_plain q c ≡ true → encode_utf8 c ≡ c ∷ []
-unfolding lib.Utf8.encode
-plain_byte q c e = search rules
+-- the code's run of bytes
+plain_ascii : (q : ℕ) → OfAscii (is_plain q)
+plain_ascii q c e = grind (arith, nat_tests)
 
-pub text_split : (q : ℕ) (s : List ℕ) → encode_utf8_all s ≡ plain_run q s ++ encode_utf8_all (after_plain q s)
-text_split q [] = refl
-text_split q (c ∷ s) = go (is_plain q c) refl (text_split q s)
+run_taken : (q : ℕ) (s : List ℕ) → take (prefix_len (is_plain q) s) s ≡ plain_run q s
+run_taken q [] = refl
+run_taken q (c ∷ s) = go (is_plain q c) (run_taken q s)
   where
-    go : (b : Bool) → is_plain q c ≡ b → encode_utf8_all s ≡ plain_run q s ++ encode_utf8_all (after_plain q s) → encode_utf8_all (c ∷ s) ≡ (if b then c ∷ plain_run q s else []) ++ encode_utf8_all (if b then after_plain q s else c ∷ s)
-    go false e h = refl
-    go true e h = ap (λ r. r ++ encode_utf8_all s) (plain_byte q c e) ∙ ap (λ r. c ∷ r) h
+    go : (b : Bool) → take (prefix_len (is_plain q) s) s ≡ plain_run q s → take (cond b (1 + prefix_len (is_plain q) s) 0) (c ∷ s) ≡ (if b then c ∷ plain_run q s else [])
+    go false h = refl
+    go true h = take_first (prefix_len (is_plain q) s) c s ∙ ap (λ r. c ∷ r) h
 
-pub run_and_rest : (q : ℕ) (text rest : List ℕ) → IsUtf8 text → IsUtf8 rest → chars rest ≡ after_plain q (chars text) → text ≡ plain_run q (chars text) ++ rest
-run_and_rest q text rest u v h =
-    sym (encodes-chars text u) ∙ (text_split q (chars text) ∙ ap (λ r. plain_run q (chars text) ++ r) (ap encode_utf8_all (sym h) ∙ encodes-chars rest v))
+run_dropped : (q : ℕ) (s : List ℕ) → drop (prefix_len (is_plain q) s) s ≡ after_plain q s
+run_dropped q [] = refl
+run_dropped q (c ∷ s) = go (is_plain q c) (run_dropped q s)
+  where
+    go : (b : Bool) → drop (prefix_len (is_plain q) s) s ≡ after_plain q s → drop (cond b (1 + prefix_len (is_plain q) s) 0) (c ∷ s) ≡ (if b then after_plain q s else c ∷ s)
+    go false h = refl
+    go true h = drop_first (prefix_len (is_plain q) s) c s ∙ h
 
-pub no_longer : (text run rest : List ℕ) → text ≡ run ++ rest → length rest ≤ length text
-no_longer text run rest h = omega (arith, ap length h, length-append run rest)
+-- a text cut behind its run
+pub record Split (q : ℕ) (text : List ℕ) (len : ℕ) : Type 0 where
+  pub cut : IsCharBoundary text len
+  pub run : take len text ≡ plain_run q (chars text)
+  pub rest : chars (drop len text) ≡ after_plain q (chars text)
 
-pub front_of : (text run rest : List ℕ) → text ≡ run ++ rest → take (length text - length rest) text ≡ run
-front_of text run rest h =
-    let n : length text - length rest ≡ length run = omega (arith, ap length h, length-append run rest) in
-    ap (λ m. take m text) n ∙ (ap (take (length run)) h ∙ take-append_seam run rest)
+pub split_at : (q : ℕ) (text bytes : List ℕ) (len : ℕ) → IsUtf8 text → bytes ≡ text → len ≡ prefix_len (is_plain q) bytes → Split q text len
+split_at q text bytes len u e h =
+    let r = run_of (is_plain q) text bytes len (plain_ascii q) u e h in
+    record { cut = r.cut; run = r.run ∙ run_taken q (chars text); rest = r.rest ∙ run_dropped q (chars text) }
 
 pub closes_run : (q : ℕ) (whole units s : List ℕ) → is_quote q ≡ true → Closes q whole units s → Closes q whole (units ++ plain_run q s) (after_plain q s)
 closes_run q whole units [] hq h = subst (λ w. Closes q whole w []) (sym (append-nil units)) h

@@ -1,6 +1,7 @@
 // What stands at the front of a string literal's inside: a character, an escape, the closing quote,
 // or what is refused.
 ghost use Rattle.std.specs.Prelude.{◌≡◌, ◌<◌, ◌≤◌, ◌+◌, ◌*◌, [], ◌∷◌, min, IfSome, option_map};
+ghost use Rattle.std.specs.List.{prefix_len};
 ghost use Rattle.std.specs.Str.{chars};
 ghost use Rattle.js_units.specs.Text.{utf16_of};
 ghost use Rattle.js_literal.specs.Literal.{letter_unit};
@@ -214,18 +215,16 @@ fn is_plain(quote: char, c: char) -> bool
     matches!(c, ' '..='~') && c != quote && c != '\\'
 }
 
-/// What follows the longest run of such characters.
-fn past_plain(quote: char, text: &str) -> &str
-    ensures { chars result.now ≡ after_plain quote (chars text.now) }
+/// How many bytes in front are such characters.
+fn plain_len(quote: char, bytes: &[u8]) -> usize
+    ensures { result ≡ prefix_len (Reader.is_plain quote) bytes.now }
 {
-    let mut text = text;
-    while let Some((c, rest)) = split_char(text) {
-        if !is_plain(quote, c) {
-            break;
+    for (i, byte) in bytes.iter().enumerate() {
+        if !is_plain(quote, char::from(*byte)) {
+            return i;
         }
-        text = rest;
     }
-    text
+    bytes.len()
 }
 
 /// The longest run of such characters, and what follows it: most literals are one run.
@@ -233,8 +232,9 @@ pub fn split_plain(quote: char, text: &str) -> (&[u8], &str)
     ensures run { result.0.now ≡ plain_run quote (chars text.now) }
     ensures rest { chars result.1.now ≡ after_plain quote (chars text.now) }
 {
-    let rest = past_plain(quote, text);
-    (&text.as_bytes()[..text.len() - rest.len()], rest)
+    let bytes = text.as_bytes();
+    let len = plain_len(quote, bytes);
+    (&bytes[..len], &text[len..])
 }
 
 /// What stands at the front of a literal's inside.

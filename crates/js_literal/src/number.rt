@@ -93,14 +93,11 @@ fn number(text: &str) -> Result<(u64, &str), Refusal>
     Ok((value, rest))
 }
 
-/// Whether a number begins in front: a digit, or a point and a digit.
-pub fn begins_number(text: &str) -> bool
-    ensures { result ≡ Number.begins_number (chars text.now) }
+/// Whether a number begins with the character before the rest: a digit, or a point and a digit.
+pub fn begins_number(c: char, rest: &str) -> bool
+    ensures { result ≡ Number.begins_number (c ∷ chars rest.now) }
 {
-    match split_char(text) {
-        Some((c, rest)) => c.is_ascii_digit() || (c == '.' && begins_digit(rest)),
-        None => false,
-    }
+    c.is_ascii_digit() || (c == '.' && begins_digit(rest))
 }
 
 /// The number literal that begins at byte `at`: its value, and the byte behind it. The rules that

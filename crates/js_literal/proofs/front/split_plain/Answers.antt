@@ -1,19 +1,19 @@
-use Rattle.std.proofs.Common.{◌-◌, length, take, ap, ◌∙◌}
+use Rattle.std.proofs.Common.{take, ap, ◌∙◌}
 use Rattle.std.specs.Str.{chars}
-use Rattle.js_literal.specs.Reader.{plain_run}
-use Rattle.js_literal.proofs.Plain.{run_and_rest, no_longer, front_of}
+use Rattle.js_literal.proofs.Plain.{split_at}
 use Rattle.js_literal.proofs.front.split_plain.Goals as goal
 
-pub slice_bounds-result-count : goal.slice_bounds-result-count
-slice_bounds-result-count c =
-    let q = c.args.quote in
-    let text = c.args.text.now in
-    let rest = c.past_plain-rest.result.now in
-    no_longer text (plain_run q (chars text)) rest (run_and_rest q text rest c.utf8.text c.past_plain-rest.utf8 c.past_plain-rest.ensures)
+pub range_from-requires : goal.range_from-requires
+range_from-requires c =
+    let s = split_at c.args.quote c.args.text.now c.as_bytes-bytes.result.now c.plain_len-len.result c.utf8.text c.as_bytes-bytes.ensures.value c.plain_len-len.ensures in
+    λ h. s.cut
 
 pub returns-clause-run : goal.returns-clause-run
 returns-clause-run c =
-    let q = c.args.quote in
-    let text = c.args.text.now in
-    let rest = c.past_plain-rest.result.now in
-    ap (take (length text - length rest)) c.as_bytes.ensures.value ∙ front_of text (plain_run q (chars text)) rest (run_and_rest q text rest c.utf8.text c.past_plain-rest.utf8 c.past_plain-rest.ensures)
+    let s = split_at c.args.quote c.args.text.now c.as_bytes-bytes.result.now c.plain_len-len.result c.utf8.text c.as_bytes-bytes.ensures.value c.plain_len-len.ensures in
+    ap (take c.plain_len-len.result) c.as_bytes-bytes.ensures.value ∙ s.run
+
+pub returns-clause-rest : goal.returns-clause-rest
+returns-clause-rest c =
+    let s = split_at c.args.quote c.args.text.now c.as_bytes-bytes.result.now c.plain_len-len.result c.utf8.text c.as_bytes-bytes.ensures.value c.plain_len-len.ensures in
+    ap chars c.range_from.ensures.value ∙ s.rest
