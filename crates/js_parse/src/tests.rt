@@ -144,6 +144,12 @@ fn lexical_faults_come_first(rt: HostRuntime) -> Result<(), Fail> {
         Err(fault) => assert_eq!(rt; fault, ParseFault::Lex(LexFault::NotUtf8 { at: 14 })),
         Ok(_) => assert!(rt; false),
     }
+    match parse(alloc, b"'use strict' #", Role::Main, &outer) {
+        Err(fault) => {
+            assert_eq!(rt; fault, ParseFault::Lex(LexFault::BadCharacter { at: 13 }));
+        }
+        Ok(_) => assert!(rt; false),
+    }
     assert!(rt; parse(alloc, b"'use strict'; /* */", Role::Prelude, &outer).is_ok());
     assert!(rt; parse(alloc, b"print();", Role::Prelude, &outer).is_err());
     Ok(())
