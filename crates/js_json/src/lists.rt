@@ -8,8 +8,8 @@ ghost use Rattle.js_json.specs.Quoting.{quoted, elements, list_rest, list_text};
 ghost use Rattle.js_texts.specs.Texts.{texts, AllKnown, settle_most, full_fault_of};
 
 use crate::escapes::{push_quoted, quoted_len};
-use js_texts::read;
 use js_store::{Cause, MethodFault, StoreFault, Strings};
+use js_texts::read;
 use js_units::Units;
 use std::alloc::Global;
 

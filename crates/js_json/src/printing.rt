@@ -8,8 +8,8 @@ ghost use Rattle.js_json.specs.Printing.{line, line_rest};
 ghost use Rattle.js_json.specs.Printing;
 ghost use Rattle.js_texts.specs.Texts.{texts, AllKnown, settle_most, full_fault_of};
 
-use js_texts::copied;
 use js_store::{StoreFault, Strings};
+use js_texts::copied;
 use js_units::{NoMemory, append_utf8};
 use std::alloc::Global;
 

@@ -2,8 +2,8 @@
 ghost use Rattle.std.specs.Prelude.{◌≤◌, length};
 
 use crate::{print_line, quote, stringify_list};
-use js_texts::copied;
 use js_store::{MethodFault, StoreFault, Strings};
+use js_texts::copied;
 use js_units::append_utf8;
 use plain_store::PlainStore;
 use std::alloc::Global;

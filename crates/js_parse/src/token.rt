@@ -248,11 +248,7 @@ fn behind_directive(alloc: Global, text: &str) -> Result<u32, ParseFault>
 
 // The grammar's tokens from a place on, and what the texts among them stand for. There is room at
 // once for the tokens and texts of an ordinary script.
-fn classified(
-    alloc: Global,
-    text: &str,
-    start: u32,
-) -> Result<(Vec<Token>, Vec<Units>), ParseFault>
+fn classified(alloc: Global, text: &str, start: u32) -> Result<(Vec<Token>, Vec<Units>), ParseFault>
     requires short { length text.now ≤ 1_048_576 }
     requires cut { IsCharBoundary text.now start }
     ensures read { IfOk result (λ found. Classified text.now start found.0.items found.1.items) }

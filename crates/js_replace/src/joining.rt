@@ -8,8 +8,8 @@ ghost use Rattle.js_replace.specs.Joined.{joined, with_each};
 ghost use Rattle.js_replace.specs.Use.{settling, made_words};
 
 use crate::making::made;
-use js_texts::read;
 use js_store::{Cause, MethodFault, StoreFault, Strings};
+use js_texts::read;
 use js_units::Units;
 use std::alloc::Global;
 

@@ -10,8 +10,8 @@ ghost use Rattle.js_replace.specs.Use.{settling, made_words};
 
 use crate::making::made;
 use crate::pieces::{Shape, push_substituted};
-use js_texts::read;
 use js_store::{Cause, MethodFault, StoreFault, Strings};
+use js_texts::read;
 use js_units::Units;
 use std::alloc::Global;
 

@@ -5,9 +5,9 @@ ghost use Rattle.std.specs.Prelude.{IfOk};
 ghost use Rattle.js_store.specs.State.{Grows, IsKnown};
 
 use crate::{join, replace, replace_all, split, substitution};
-use js_texts::read;
 use js_search::stands_at;
 use js_store::{Cause, MethodFault, StoreFault, Strings};
+use js_texts::read;
 use js_units::{NoMemory, Units, append_utf8};
 use plain_store::PlainStore;
 use std::alloc::Global;

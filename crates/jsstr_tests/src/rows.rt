@@ -3,9 +3,9 @@ ghost use Rattle.std.specs.Prelude.{IfOk};
 ghost use Rattle.js_number.specs.Places.{IsLawful};
 ghost use Rattle.js_store.specs.State.{Grows, IsKnown, IsSettled};
 
-use js_texts::copied;
 use js_number::{MAX_SAFE, Num};
 use js_store::{Cause, MethodFault, StoreFault, Strings};
+use js_texts::copied;
 use js_units::{NoMemory, Units};
 use std::alloc::Global;
 
