@@ -242,7 +242,8 @@ fn a_thousand_heaps_are_shared(rt: HostRuntime) {
 }
 
 // Half of more than the greatest length can't be joined with itself: the answer tells both
-// lengths, and nothing is used by it.
+// lengths, and nothing is used by it. It takes 0.8 GB and a few seconds; under `rt try`, which
+// builds it with checks, it takes more than the minute that a test has.
 #[test]
 fn too_long(rt: HostRuntime) {
     let size = HeapSize {
