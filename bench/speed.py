@@ -3,17 +3,20 @@
 
 Usage: bench/speed.py [WORD]. With a word only the shapes whose name holds it are measured. Build the
 program first, as tools/jsstr does. It belongs to no gate: run it on a machine that does nothing else.
-Each figure is the median of many runs; a run writes to /dev/null.
+Each figure is the median of many runs; a run writes to /dev/null. Where a C compiler is there, blocks.c is
+measured too: what the memory of the shorter print statements alone costs.
 """
 
 import os
+import shutil
 import statistics
 import subprocess
 import sys
 import tempfile
 import time
 
-ROOT = os.path.dirname(os.path.dirname(os.path.abspath(__file__)))
+HERE = os.path.dirname(os.path.abspath(__file__))
+ROOT = os.path.dirname(HERE)
 PROGRAM = os.path.join(ROOT, "crates", "jsstr", "out", "jsstr")
 SIZES = [64 * 1024, 256 * 1024, 1024 * 1024]
 START_RUNS = 201
@@ -75,6 +78,19 @@ def measure(folder, name, text_of, status, start):
     print(f"{name}: 16 times the bytes take {spent[SIZES[-1]] / spent[SIZES[0]]:.1f} times as long")
 
 
+def measure_blocks(folder):
+    """What it takes to make, fill and free the blocks of a script of short print statements, and no more."""
+    if shutil.which("cc") is None:
+        return
+    program, empty, script = (os.path.join(folder, name) for name in ("blocks", "none.js", "script.js"))
+    subprocess.run(["cc", "-O2", "-o", program, os.path.join(HERE, "blocks.c")], check=True)
+    with open(empty, "w", encoding="ascii"), open(script, "w", encoding="ascii") as file:
+        file.write(repeated(PRINT, SIZES[-1]))
+    length = os.path.getsize(script)
+    spent = seconds([program, script], SCRIPT_RUNS, 0) - seconds([program, empty], SCRIPT_RUNS, 0)
+    print(f"the blocks of such statements alone, in C, {SIZES[-1] // 1024} KiB: {spent * 1e3:.2f} ms, {length / spent / 1e6:.1f} MB a second")
+
+
 def asked():
     """The word of the command line, empty where there is none; ends where the program isn't built."""
     if not os.access(PROGRAM, os.X_OK):
@@ -94,6 +110,8 @@ def main():
         for name, text_of, status in SHAPES:
             if wanted in name:
                 measure(folder, name, text_of, status, start)
+        if wanted in SHAPES[0][0]:
+            measure_blocks(folder)
 
 
 if __name__ == "__main__":

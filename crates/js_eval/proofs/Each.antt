@@ -1,5 +1,5 @@
 -- The same evaluation of each element of a list, from left to right.
-use Rattle.std.proofs.Common.{arith, ◌≡◌, ℕ, List, [], ◌∷◌, ◌++◌, map, refl, ap, ◌∙◌, sym, subst, ◌<◌, ◌+◌, length, get_or, drop, drop-cons, add-one, Vec, Global, Result, Ok, Err}
+use Rattle.std.proofs.Common.{arith, ◌≡◌, ℕ, List, [], ◌∷◌, ◌++◌, map, refl, ap, ◌∙◌, sym, subst, ◌<◌, ◌+◌, length, get_or, drop, Vec, Global, Result, Ok, Err}
 use Rattle.js_store.specs.State.{State}
 use Rattle.js_store.specs.declared.faults.StoreFault.TheVariants.{Memory}
 use Rattle.js_store.proofs.Laws.{step_refl}

@@ -1,7 +1,6 @@
 -- The elements of an array joined.
-use Rattle.std.proofs.Common.{arith, ◌≡◌, ℕ, ◌+◌, ◌*◌, ◌≤◌, List, length, subst, Bool, true, false, Result, Ok, Err}
+use Rattle.std.proofs.Common.{arith, ◌≡◌, ℕ, ◌+◌, ◌≤◌, List, length, subst, false, Result, Ok}
 use Rattle.js_store.specs.State.{State, Grows, text}
-use Rattle.js_store.specs.Rows.{settle_words}
 use Rattle.js_store.proofs.Laws.{settle_words_most}
 use Rattle.js_texts.specs.Texts.{texts, AllKnown, settle_most}
 use Rattle.js_texts.proofs.Lists.{texts_still}

@@ -1,5 +1,5 @@
 -- The string of an array: its elements joined by commas.
-use Rattle.std.proofs.Common.{arith, ◌≡◌, ℕ, ◌+◌, ◌*◌, ◌<◌, ◌≤◌, List, length, [], refl, Bool, true, false, nat_le, if◌then◌else◌, Some, None, Result, Ok, Err}
+use Rattle.std.proofs.Common.{arith, ◌≡◌, ℕ, ◌+◌, ◌*◌, ◌<◌, ◌≤◌, List, length, [], refl, Bool, true, false, nat_le, if◌then◌else◌, None, Ok, Err}
 use Rattle.js_store.specs.State.{State, Has}
 use Rattle.js_store.specs.Faults.{Step, NeverSlots}
 use Rattle.js_store.specs.Answers.{full_part}
@@ -9,7 +9,7 @@ use Rattle.js_store.proofs.Laws.{has_text, has_known}
 use Rattle.js_replace.specs.Use.{made_words}
 use Rattle.js_eval.specs.declared.value.Kind.TheVariants.{RangeError}
 use Rattle.js_eval.specs.declared.value.Stop.TheVariants.{Threw}
-use Rattle.js_eval.specs.Outcome.{Out, gave, ended, threw, ledger_of, parts_ids, parts_words}
+use Rattle.js_eval.specs.Outcome.{gave, ended, threw, ledger_of, parts_ids, parts_words}
 use Rattle.js_eval.specs.Conversions.{list_units, comma_joined, list_string}
 use Rattle.js_eval.specs.Ran.{Cut}
 use Rattle.js_eval.specs.Does.{GivesText}

@@ -1,5 +1,5 @@
 -- New strings that calls of several parts give: nothing is made of units that are more than the limit.
-use Rattle.std.proofs.Common.{arith, ◌≡◌, ℕ, zero, suc, ◌+◌, ◌*◌, ◌<◌, ◌≤◌, List, length, refl, Bool, true, false, nat_le, nat_lt, if◌then◌else◌, Some, None, Result, Ok, Err}
+use Rattle.std.proofs.Common.{arith, ◌≡◌, ℕ, zero, suc, ◌+◌, ◌<◌, ◌≤◌, List, length, refl, Bool, true, false, nat_le, nat_lt, if◌then◌else◌, None, Ok, Err}
 use Rattle.js_store.specs.State.{State, Has}
 use Rattle.js_store.specs.Rows.{flat_words, wide_words}
 use Rattle.js_store.specs.Faults.{Step, NeverSlots}

@@ -1,5 +1,5 @@
 -- The parts of a string.
-use Rattle.std.proofs.Common.{arith, ◌≡◌, ℕ, zero, suc, ◌+◌, ◌*◌, ◌<◌, ◌≤◌, List, [], ◌∷◌, length, ap, ◌∙◌, Bool, true, false, Option, Some, None, nat_lt, if◌then◌else◌, slice_index_or, Contains, Result, Ok, Err, refl, sym, subst, Vec, Global}
+use Rattle.std.proofs.Common.{arith, ◌≡◌, ℕ, zero, suc, ◌+◌, ◌*◌, ◌<◌, ◌≤◌, List, [], ◌∷◌, length, ap, ◌∙◌, Bool, true, false, Option, Some, None, nat_lt, if◌then◌else◌, slice_index_or, Result, Ok, refl, sym, subst, Vec, Global}
 use Rattle.std.proofs.lemmas.List.{append-nil}
 use Rattle.js_store.specs.State.{State, Has, Grows, IsKnown, text as units_of}
 use Rattle.js_store.specs.Faults.{Step, NeverSlots}
@@ -10,20 +10,18 @@ use Rattle.js_store.specs.Answers.{full_part}
 use Rattle.js_store.proofs.Laws.{known_has, text_still}
 use Rattle.js_texts.specs.Texts.{texts, AllKnown}
 use Rattle.js_replace.specs.Parts.{parts}
-use Rattle.js_replace.specs.Use.{settling, copies}
+use Rattle.js_replace.specs.Use.{copies}
 use Rattle.js_eval.specs.declared.value.Value.{Value}
 use Rattle.js_eval.specs.declared.value.Value.TheVariants as value
 use Rattle.js_eval.specs.declared.value.Stop.{Stop}
-use Rattle.js_eval.specs.declared.value.Stop.TheVariants.{Store}
-use Rattle.js_eval.specs.Outcome.{Val, list, Out, bind, ledger_of, some_parts, parts_ids, parts_words}
+use Rattle.js_eval.specs.Outcome.{Val, list, ledger_of, some_parts, parts_ids, parts_words}
 use Rattle.js_eval.specs.Conversions.{list_units, to_string, first_text_units}
 use Rattle.js_eval.specs.Arguments.{first_of, is_undefined}
 use Rattle.js_eval.specs.Arrays.{split_into, split_most}
-use Rattle.js_eval.specs.Seen.{seen, IsFine, all_seen}
 use Rattle.js_eval.specs.Ran.{Ran, Cut}
 use Rattle.js_eval.specs.Does.{Does, GivesText}
 use Rattle.js_eval.proofs.Compose.{cut_of_full, full_same}
-use Rattle.js_eval.proofs.Calls.{text_then, text_stops}
+use Rattle.js_eval.proofs.Calls.{text_then}
 
 -- what copies and settling take, four times over
 copy_most : (n : ℕ) → 4 * copy_words n ≤ n + 12

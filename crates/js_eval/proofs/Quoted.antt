@@ -1,11 +1,10 @@
 -- How long a string is as JSON text, and values that are their own text.
-use Rattle.std.proofs.Common.{arith, ◌≡◌, ℕ, zero, suc, ◌+◌, ◌*◌, ◌<◌, ◌≤◌, List, [], ◌∷◌, ◌++◌, length, length-append, refl, Bool, true, false, nat_lt, if◌then◌else◌, Option, Some, None, Result, Ok, Err}
+use Rattle.std.proofs.Common.{arith, ℕ, zero, suc, ◌+◌, ◌*◌, ◌≤◌, List, [], ◌∷◌, length, length-append, refl, Bool, true, false, nat_lt, if◌then◌else◌, Option, Some, None, Ok, Err}
 use Rattle.std.specs.Prelude.{◌&&◌}
 use Rattle.std.specs.List.{flat_map}
 use Rattle.js_units.specs.Text.{is_lead, is_trail, pair_value, points, utf16_of}
-use Rattle.js_json.specs.Quoting.{is_escaped, unicode_escape, escaped, letter_of, quoted_point, body, quoted, list_rest, elements, list_text}
+use Rattle.js_json.specs.Quoting.{is_escaped, unicode_escape, escaped, letter_of, quoted_point, body, quoted, list_rest, list_text}
 use Rattle.js_store.specs.State.{State, IsKnown, text}
-use Rattle.js_store.specs.Rows.{settle_words, wide_words}
 use Rattle.js_store.proofs.Laws.{known_has, step_refl, settle_words_most}
 use Rattle.js_texts.specs.Texts.{texts, settle_most}
 use Rattle.js_eval.specs.declared.value.Value.{Value}

@@ -1,6 +1,5 @@
 -- What a value stands for stays while the store grows.
-use Rattle.std.proofs.Common.{◌≡◌, ℕ, zero, suc, List, [], ◌∷◌, map, refl, ap, ◌∙◌, sym, subst, Some, ◌<◌, length, get_or}
-use Rattle.std.proofs.lemmas.Option.{slice_get-get_or}
+use Rattle.std.proofs.Common.{◌≡◌, ℕ, zero, suc, List, [], ◌∷◌, map, refl, ap, subst, Some}
 use Rattle.std.specs.Prelude.{slice_get}
 use Rattle.js_store.specs.State.{State, Grows}
 use Rattle.js_store.proofs.Laws.{known_still, text_still}

@@ -1,5 +1,5 @@
 -- Values as strings.
-use Rattle.std.proofs.Common.{arith, ◌≡◌, ℕ, ◌+◌, ◌≤◌, ◌<◌, List, [], ◌∷◌, ◌++◌, refl, subst, Bool, true, false, IsTrue, length, get_or, drop, Result, Ok, Err}
+use Rattle.std.proofs.Common.{arith, ◌≡◌, ℕ, ◌+◌, ◌≤◌, ◌<◌, List, [], ◌∷◌, ◌++◌, subst, length, get_or, drop, Result, Ok, Err}
 use Rattle.js_store.specs.State.{State, Grows, IsKnown, text}
 use Rattle.js_store.specs.Rows.{settle_words, wide_words}
 use Rattle.js_store.proofs.Laws.{text_still, grows_trans}

@@ -1,5 +1,5 @@
 -- Elements of values, and methods that take arrays or give them.
-use Rattle.std.specs.Prelude.{ℕ, ◌+◌, List, [], ◌∷◌, length, Option, Some, None, if◌then◌else◌, slice_get, pos, negsuc, Bool, true, false}
+use Rattle.std.specs.Prelude.{ℕ, ◌+◌, List, [], ◌∷◌, length, Option, Some, None, if◌then◌else◌, slice_get, pos, negsuc}
 use Rattle.js_number.specs.declared.Num.{Num}
 use Rattle.js_number.specs.declared.Num.TheVariants.{Int, NaN, PosInf, NegInf}
 use Rattle.js_number.specs.Arith.{modulo}
@@ -10,7 +10,7 @@ use Rattle.js_parse.specs.declared.tree.Method.{Method}
 use Rattle.js_parse.specs.declared.tree.Method.TheVariants.{At, CharAt, CharCodeAt, CodePointAt, Concat, EndsWith, Includes, IndexOf, IsWellFormed, Join, LastIndexOf, PadEnd, PadStart, Repeat, Replace, ReplaceAll, Slice, Split, StartsWith, Substr, Substring, ToWellFormed, Trim, TrimEnd, TrimStart}
 use Rattle.js_eval.specs.declared.value.Kind.TheVariants.{TypeError}
 use Rattle.js_eval.specs.Outcome.{Val, undefined, null, bool, number, text, list, Out, gave, bind, free, gives, throws, refuses, row_ids, row_words, parts_ids, parts_words}
-use Rattle.js_eval.specs.Conversions.{to_string, list_units, string_units, all_units, first_text_units}
+use Rattle.js_eval.specs.Conversions.{to_string, list_units, string_units, first_text_units}
 use Rattle.js_eval.specs.Arguments.{first_of, is_undefined}
 use Rattle.js_eval.specs.Reading.{maybe_text}
 use Rattle.js_eval.specs.Cutting.{within}

@@ -1,10 +1,9 @@
 -- The same for each kind of value that the code's functions give.
-use Rattle.std.specs.Prelude.{◌≡◌, ℕ, ◌+◌, List, [], ◌∷◌, ◌++◌, length, Option, None, Result, Ok, Err}
+use Rattle.std.specs.Prelude.{◌≡◌, ℕ, ◌+◌, List, [], ◌∷◌, ◌++◌, Result, Ok, Err}
 use Rattle.std.specs.List.{concat}
 use Rattle.std.proofs.Common.{Vec, Global}
 use Rattle.js_store.specs.State.{State, IsKnown, text as units_of}
 use Rattle.js_store.specs.Rows.{wide_words}
-use Rattle.js_store.specs.declared.faults.StoreFault.{StoreFault}
 use Rattle.js_number.specs.declared.Num.{Num}
 use Rattle.js_eval.specs.declared.builtins.Codes.{Codes}
 use Rattle.js_eval.specs.declared.value.Value.{Value}
@@ -13,7 +12,7 @@ use Rattle.js_eval.specs.declared.value.Stop.TheVariants.{Threw, Unsupported, St
 use Rattle.js_eval.specs.Outcome.{Val, Out}
 use Rattle.js_eval.specs.Conversions.{text_units}
 use Rattle.js_eval.specs.Expression.{Bound}
-use Rattle.js_texts.specs.Texts.{texts as texts_seen, AllKnown, Every, full_only}
+use Rattle.js_texts.specs.Texts.{texts as texts_seen, AllKnown, Every}
 use Rattle.js_eval.specs.Script.{Flow}
 use Rattle.js_eval.specs.Seen.{seen, IsFine, all_seen, AllFine, IsFor}
 use Rattle.js_eval.specs.Ran.{Did}

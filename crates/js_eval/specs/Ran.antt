@@ -1,10 +1,10 @@
 -- What an evaluation leaves in a store, and when a result of the code is the outcome that is meant.
-use Rattle.std.specs.Prelude.{◌≡◌, ℕ, ◌+◌, ◌≤◌, List, [], ◌∷◌, ◌++◌, map, Option, Some, None, Result, Ok, Err, IsTrue, Contains}
+use Rattle.std.specs.Prelude.{◌≡◌, ℕ, ◌+◌, ◌≤◌, List, [], ◌∷◌, ◌++◌, map, Some, Result, Ok, Err, IsTrue, Contains}
 use Rattle.js_store.specs.State.{State, Has, Grows}
 use Rattle.js_store.specs.Faults.{Honest, ids_wanted, words_wanted}
 use Rattle.js_store.specs.declared.faults.FullReport.TheVariants.{Slots}
 use Rattle.js_store.specs.declared.faults.StoreFault.{StoreFault}
-use Rattle.js_store.specs.declared.faults.StoreFault.TheVariants.{Full, Memory}
+use Rattle.js_store.specs.declared.faults.StoreFault.TheVariants.{Full}
 use Rattle.js_texts.specs.Texts.{full_only}
 use Rattle.js_eval.specs.declared.value.Stop.{Stop}
 use Rattle.js_eval.specs.declared.value.Stop.TheVariants.{Threw, Unsupported, Store}

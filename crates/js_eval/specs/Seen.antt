@@ -1,5 +1,5 @@
 -- What the values and bindings of the code stand for in a store, and when they may be used.
-use Rattle.std.specs.Prelude.{◌≡◌, ℕ, true, List, [], ◌∷◌, map, Option, Some}
+use Rattle.std.specs.Prelude.{◌≡◌, ℕ, true, List, map, Option, Some}
 use Rattle.js_number.specs.declared.Num.{Num}
 use Rattle.js_number.specs.Places.{IsLawful}
 use Rattle.js_store.specs.State.{State, IsKnown, text as units_of}

@@ -1,6 +1,7 @@
 -- What the next token says of the lists and the faults from a place on.
 use Rattle.std.proofs.Common.{◌≡◌, ℕ, ◌≤◌, List, [], ◌∷◌, subst, arith, ◌⊎◌, inl, inr}
 use Rattle.std.specs.Prelude.{IsUtf8}
+use Rattle.std.specs.Str.{IsCharBoundary}
 use Rattle.js_lex.specs.Tokens.{End, Skip, TokenOf, Fault, ElementAt, Lexes, done, skip, token, Fails, fault, skip_on, token_on, token_at}
 use Rattle.js_lex.specs.Next.{Separates, nothing, more, IsNextToken, GoesOn}
 use Rattle.js_lex.specs.declared.token.Token.{Token}
@@ -10,11 +11,11 @@ use Rattle.js_lex.proofs.OneList.{after_same}
 use Rattle.js_lex.proofs.Spans.{forward}
 
 module _ (text : List ℕ) (at : ℕ) where
-  lexes_behind : (mid : ℕ) → Separates text at mid → (ts : List Token) → Lexes text mid ts → Lexes text at ts
+  pub lexes_behind : (mid : ℕ) → Separates text at mid → (ts : List Token) → Lexes text mid ts → Lexes text at ts
   lexes_behind _ nothing ts h = h
   lexes_behind _ (more mid end s e) ts h = lexes_behind mid s ts (skip mid end ts e h)
 
-  fails_behind : (mid : ℕ) → Separates text at mid → (f : LexFault) → Fails text mid f → Fails text at f
+  pub fails_behind : (mid : ℕ) → Separates text at mid → (f : LexFault) → Fails text mid f → Fails text at f
   fails_behind _ nothing f h = h
   fails_behind _ (more mid end s e) f h = fails_behind mid s f (skip_on mid end f e h)
 
@@ -26,13 +27,14 @@ module _ (text : List ℕ) (at : ℕ) where
   not_before _ u nothing = omega arith
   not_before _ u (more mid end s e) = let p = not_before mid u s in let f = forward text mid (Skip end) u e in omega (arith, p, f.later)
 
-  pub goes_on : (t : Token) → IsUtf8 text → IsNextToken text at t → GoesOn text at t
-  goes_on t u n =
+  pub goes_on : (t : Token) → IsUtf8 text → IsCharBoundary text t.from → IsNextToken text at t → GoesOn text at t
+  goes_on t u start n =
       let f = forward text t.from (TokenOf t.kind t.to) u n.stands in
       record {
         behind = not_before t.from u n.apart;
         forward = f.later;
         within = f.within;
+        start = start;
         cut = f.cut;
         lexes = λ ts h. lexes_behind t.from n.apart (t ∷ ts) (token t.from t.to t.kind ts n.stands h);
         fails = λ e h. fails_behind t.from n.apart e (token_on t.from t.to t.kind e n.stands h);

@@ -33,6 +33,7 @@ pub record GoesOn (text : List ℕ) (at : ℕ) (t : Token) : Type 0 where
   pub behind : at ≤ t.from
   pub forward : t.from < t.to
   pub within : t.to ≤ length text
+  pub start : IsCharBoundary text t.from
   pub cut : IsCharBoundary text t.to
   pub lexes : (ts : List Token) → Lexes text t.to ts → Lexes text at (t ∷ ts)
   pub fails : (f : LexFault) → Fails text t.to f → Fails text at f

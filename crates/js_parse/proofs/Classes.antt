@@ -1,15 +1,15 @@
 -- From the tokens of the text to those of the grammar.
 use Rattle.std.proofs.Common.{◌≡◌, ℕ, Bool, true, false, cond, List, [], ◌∷◌, ◌++◌, length, refl, sym, ap, ◌∙◌, subst, None, codes}
-use Rattle.std.specs.Prelude.{IsUtf8, Result, Ok, Err, IfErr}
+use Rattle.std.specs.Prelude.{IsUtf8, Result, Ok, Err, IfErr, IfSome, Option, Some}
 use Rattle.std.specs.Str.{bytes_eq}
 use Rattle.std.proofs.lemmas.Slice.Eq.{bytes_eq-Decides}
-use Rattle.std.proofs.lemmas.Str.{IsCharBoundary-start}
 use Rattle.js_lex.specs.declared.token.Token.{Token as Lexed}
 use Rattle.js_lex.specs.declared.token.TokenKind.TheVariants as kinds
 use Rattle.js_lex.specs.declared.token.Mark.TheVariants.{Semicolon}
 use Rattle.js_lex.specs.declared.token.LexFault.{LexFault}
 use Rattle.js_lex.specs.Tokens.{LexFaultOf, in_text, Lexes, Fails}
-use Rattle.js_lex.specs.Next.{GoesOn}
+use Rattle.js_lex.specs.Next.{GoesOn, IsNextToken, GivesToken}
+use Rattle.js_lex.proofs.NextToken.{lexes_behind, fails_behind}
 use Rattle.js_lex.proofs.OneList.{one_list}
 use Rattle.js_parse.specs.declared.parser.ParseFault.{ParseFault}
 use Rattle.js_parse.specs.declared.parser.ParseFault.TheVariants.{Memory, NotInProfile, Lex}
@@ -17,7 +17,7 @@ use Rattle.js_parse.specs.declared.token.Token.{Token}
 use Rattle.js_parse.specs.declared.token.Word.{Word}
 use Rattle.js_parse.specs.declared.token.Word.TheVariants as word
 use Rattle.js_parse.specs.Token.{method_of, method_or, plain_word, word_of, texts_of, tokens_of, IsUseStrict, plain, strict}
-use Rattle.js_parse.specs.Gives.{HasDirective, IsBehindDirective, Classified, IsLexical}
+use Rattle.js_parse.specs.Gives.{HasDirective, IsBehindDirective, Classified, Reads, IsLexical}
 
 -- a plain word is no method's name
 
@@ -57,15 +57,15 @@ Goes text start at done texts = (ts : List Lexed) → Lexes text at ts → Class
 abbrev NoDirective : List ℕ → Type 0
 NoDirective text = (t semi : Lexed) (ts : List Lexed) → Lexes text 0 (t ∷ semi ∷ ts) → IsUseStrict text t → semi.kind ≡ kinds.Mark Semicolon → ⊥
 
-none_behind : (text : List ℕ) → IsUtf8 text → NoDirective text → IsBehindDirective text 0
-none_behind text u never = record {
-  cut = IsCharBoundary-start text u;
-  lexes = λ ts h. record {
+none_behind : (text : List ℕ) (t : Lexed) → GoesOn text 0 t → IsNextToken text 0 t → NoDirective text → IsBehindDirective text t.from
+none_behind text t on next never = record {
+  cut = on.start;
+  lexes = λ ts h. let all = lexes_behind text 0 t.from next.apart ts h in record {
     all = ts;
-    lexes = h;
-    after = record { directed = plain ts; whole = λ _. refl; behind = λ t semi rest e has. absurd (none ts h has) };
+    lexes = all;
+    after = record { directed = plain ts; whole = λ _. refl; behind = λ t semi rest e has. absurd (none ts all has) };
   };
-  fails = λ fault h. h;
+  fails = λ fault h. fails_behind text 0 t.from next.apart fault h;
 }
   where
     none : (ts : List Lexed) → Lexes text 0 ts → HasDirective text ts → ⊥
@@ -73,18 +73,15 @@ none_behind text u never = record {
     none (t ∷ []) h has = has
     none (t ∷ semi ∷ ts) h has = never t semi ts h (has.0) (has.1)
 
-pub none_left : (text : List ℕ) → IsUtf8 text → Lexes text 0 [] → IsBehindDirective text 0
-none_left text u h = none_behind text u (λ t semi ts g is end. let e = one_list text 0 [] (t ∷ semi ∷ ts) u h g in absurd cc)
+pub not_strict : (text : List ℕ) (t : Lexed) → GoesOn text 0 t → IsNextToken text 0 t → (IsUseStrict text t → ⊥) → IsBehindDirective text t.from
+not_strict text t on next never = none_behind text t on next (λ v semi ts g is end. never (subst (IsUseStrict text) (on.only v (semi ∷ ts) g).0 is))
 
-pub not_strict : (text : List ℕ) (t : Lexed) → IsUtf8 text → GoesOn text 0 t → (IsUseStrict text t → ⊥) → IsBehindDirective text 0
-not_strict text t u on never = none_behind text u (λ v semi ts g is end. never (subst (IsUseStrict text) (on.only v (semi ∷ ts) g).0 is))
+pub one_left : (text : List ℕ) (t : Lexed) → IsUtf8 text → GoesOn text 0 t → IsNextToken text 0 t → Lexes text t.to [] → IsBehindDirective text t.from
+one_left text t u on next h = none_behind text t on next (λ v semi ts g is end. let e = one_list text t.to [] (semi ∷ ts) u h (on.only v (semi ∷ ts) g).1 in absurd cc)
 
-pub one_left : (text : List ℕ) (t : Lexed) → IsUtf8 text → GoesOn text 0 t → Lexes text t.to [] → IsBehindDirective text 0
-one_left text t u on h = none_behind text u (λ v semi ts g is end. let e = one_list text t.to [] (semi ∷ ts) u h (on.only v (semi ∷ ts) g).1 in absurd cc)
-
-pub not_ended : (text : List ℕ) (t semi : Lexed) → IsUtf8 text → GoesOn text 0 t → GoesOn text t.to semi → (semi.kind ≡ kinds.Mark Semicolon → ⊥) → IsBehindDirective text 0
-not_ended text t semi u on next never = none_behind text u (λ v other ts g is end.
-    let same = (next.only other ts (on.only v (other ∷ ts) g).1).0 in never (ap (λ (x : Lexed). x.kind) (sym same) ∙ end))
+pub not_ended : (text : List ℕ) (t semi : Lexed) → GoesOn text 0 t → IsNextToken text 0 t → GoesOn text t.to semi → (semi.kind ≡ kinds.Mark Semicolon → ⊥) → IsBehindDirective text t.from
+not_ended text t semi on next second never = none_behind text t on next (λ v other ts g is end.
+    let same = (second.only other ts (on.only v (other ∷ ts) g).1).0 in never (ap (λ (x : Lexed). x.kind) (sym same) ∙ end))
 
 pub directive_behind : (text : List ℕ) (t semi : Lexed) → GoesOn text 0 t → GoesOn text t.to semi → IsUseStrict text t → semi.kind ≡ kinds.Mark Semicolon → IsBehindDirective text semi.to
 directive_behind text t semi on next is end = record {
@@ -100,6 +97,24 @@ directive_behind text t semi on next is end = record {
   };
   fails = λ fault h. on.fails fault (next.fails fault h);
 }
+
+-- a text without a token
+
+pub nothing_read : (bytes text : List ℕ) (ts : List Token) (texts : List (List ℕ)) → ts ≡ [] → texts ≡ [] → text ≡ bytes → IsUtf8 bytes → Lexes text 0 [] → Reads bytes ts texts
+nothing_read bytes text ts texts none blank same u h = record {
+  all = [];
+  rest = [];
+  lexed = record { utf8 = u; lexes = subst (λ (b : List ℕ). Lexes b 0 []) same h };
+  after = record { directed = plain []; whole = λ _. refl; behind = λ t semi ts e has. absurd has };
+  tokens = none;
+  words = blank;
+}
+
+-- what comes next is the token found
+
+pub found_next : (text : List ℕ) (at : ℕ) (found : Option Lexed) → GivesToken text at (Ok found) → IfSome found (IsNextToken text at)
+found_next text at None given = tt
+found_next text at (Some t) given = given
 
 -- the faults of the text are those of the bytes
 

@@ -1,9 +1,9 @@
 // Tokens as the grammar sees them, and how they come from those of the text.
-ghost use Rattle.std.specs.Prelude.{◌≡◌, ◌≤◌, ◌∷◌, ◌++◌, [], length, IfOk, IfErr, OnOk, IsTrue, ◌↔◌, MatchOption};
+ghost use Rattle.std.specs.Prelude.{◌≡◌, ◌≤◌, ◌∷◌, ◌++◌, [], length, IfOk, IfErr, IfSome, OnOk, IsTrue, ◌↔◌, MatchOption};
 ghost use Rattle.std.specs.Str.{IsCharBoundary};
 ghost use Rattle.js_lex.specs.Spans.{slice};
 ghost use Rattle.js_lex.specs.Tokens.{LexFaultOf, Lexes, Fails};
-ghost use Rattle.js_lex.specs.Next.{GoesOn};
+ghost use Rattle.js_lex.specs.Next.{GoesOn, IsNextToken};
 ghost use Rattle.js_lex.specs.declared.token.TokenKind.TheVariants as kinds;
 ghost use Rattle.js_lex.specs.declared.token.Mark.TheVariants.{Semicolon};
 ghost use Rattle.js_parse.specs.Token.{method_of, plain_word, word_of, token_of, text_of, IsUseStrict};
@@ -198,6 +198,7 @@ fn next(alloc: Global, text: &str, at: u32) -> Result<Option<js_lex::Token>, Par
     requires short { length text.now ≤ 1_048_576 }
     requires cut { IsCharBoundary text.now at }
     ensures found { IfOk result (λ found. MatchOption found (Lexes text.now at []) (GoesOn text.now at)) }
+    ensures apart { IfOk result (λ found. IfSome found (IsNextToken text.now at)) }
     ensures refused { IfErr result (λ fault. IsLexical fault (Fails text.now at)) }
 {
     match js_lex::next_token(alloc, text, at) {
@@ -223,27 +224,28 @@ fn is_semicolon(token: &js_lex::Token) -> bool
     matches!(token.kind, TokenKind::Mark(Mark::Semicolon))
 }
 
-// The place behind the directive, or 0 where there is none.
-fn behind_directive(alloc: Global, text: &str) -> Result<u32, ParseFault>
+// The place behind the directive, and that of the first token where there is none; `None` where
+// the text has no token. So what stands before the first token is read once.
+fn behind_directive(alloc: Global, text: &str) -> Result<Option<u32>, ParseFault>
     requires { length text.now ≤ 1_048_576 }
-    ensures place { IfOk result (λ at. IsBehindDirective text.now at) }
+    ensures place { IfOk result (λ found. MatchOption found (Lexes text.now 0 []) (IsBehindDirective text.now)) }
     ensures refused { IfErr result (λ fault. IsLexical fault (Fails text.now 0)) }
 {
     let first = match next(alloc, text, 0)? {
         Some(first) => first,
-        None => return Ok(0),
+        None => return Ok(None),
     };
     if !is_use_strict(text.as_bytes(), &first) {
-        return Ok(0);
+        return Ok(Some(first.from));
     }
     let second = match next(alloc, text, first.to)? {
         Some(second) => second,
-        None => return Ok(0),
+        None => return Ok(Some(first.from)),
     };
     if !is_semicolon(&second) {
-        return Ok(0);
+        return Ok(Some(first.from));
     }
-    Ok(second.to)
+    Ok(Some(second.to))
 }
 
 // The grammar's tokens from a place on, and what the texts among them stand for. There is room at
@@ -279,6 +281,8 @@ pub(crate) fn tokens(alloc: Global, bytes: &[u8]) -> Result<(Vec<Token>, Vec<Uni
         Ok(text) => text,
         Err(fault) => return Err(lexical(fault)),
     };
-    let start = behind_directive(alloc, text)?;
-    classified(alloc, text, start)
+    match behind_directive(alloc, text)? {
+        Some(start) => classified(alloc, text, start),
+        None => Ok((Vec::new(alloc), Vec::new(alloc))),
+    }
 }

@@ -1,4 +1,4 @@
-use Rattle.std.proofs.Common.{arith, ◌+◌, ◌*◌, ◌≤◌, length, ℕ}
+use Rattle.std.proofs.Common.{arith, ◌+◌, ◌≤◌, length, ℕ}
 use Rattle.js_store.specs.State.{State, text}
 use Rattle.js_store.proofs.Laws.{settle_words_most}
 use Rattle.js_replace.specs.Use.{settling}

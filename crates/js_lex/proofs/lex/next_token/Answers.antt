@@ -26,7 +26,7 @@ separators-preserved c =
 pub returns-in-Ok-Token-clause-goes_on : goal.returns-in-Ok-Token-clause-goes_on
 returns-in-Ok-Token-clause-goes_on c =
     let m = rw c.in-Ok-Token.field-0-is at c.in-Ok-Token.ensures in
-    goes_on c.args.text.now c.args.at _ c.utf8.text (record { apart = c.separators.invariant.apart; stands = m.0 })
+    goes_on c.args.text.now c.args.at _ c.utf8.text c.separators.invariant.cut (record { apart = c.separators.invariant.apart; stands = m.0 })
 
 pub returns-in-Err-clause-fault : goal.returns-in-Err-clause-fault
 returns-in-Err-clause-fault c = fails_here c.args.text.now c.args.at c.separators.from c.in-Err.fault c.separators.invariant.apart c.in-Err.ensures
