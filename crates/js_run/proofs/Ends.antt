@@ -1,5 +1,5 @@
 -- How scripts end by their meaning: Done, or with status 1.
-use Rattle.std.proofs.Common.{◌≡◌, ◌⊎◌, inl, inr, ℕ, ◌≤◌, ◌+◌, List, [], ◌∷◌, ◌++◌, Bool, false, Some, refl, sym, ap, ◌∙◌, subst, append-nil, arith}
+use Rattle.std.proofs.Common.{◌≡◌, ◌⊎◌, inl, inr, ℕ, List, [], ◌∷◌, ◌++◌, false, Some, refl, sym, ap, ◌∙◌, append-nil, arith}
 use Rattle.std.specs.List.{concat}
 use Rattle.js_store.specs.State.{State}
 use Rattle.js_store.specs.Faults.{Honest}
@@ -9,10 +9,10 @@ use Rattle.js_store.specs.declared.faults.StoreFault.TheVariants as store
 use Rattle.js_parse.specs.Tree.{Tree}
 use Rattle.js_eval.specs.declared.value.End.{End}
 use Rattle.js_eval.specs.Outcome.{Out, gave, ended, threw, unsupported}
-use Rattle.js_eval.specs.Script.{Flow, meaning}
-use Rattle.js_eval.specs.Evaluates.{end_of, Finished}
+use Rattle.js_eval.specs.Script.{meaning}
+use Rattle.js_eval.specs.Evaluates.{end_of}
 use Rattle.js_run.specs.Words.{Name}
-use Rattle.js_run.specs.Meaning.{Run, run_by, run_of, runs_of, max_length}
+use Rattle.js_run.specs.Meaning.{run_of, runs_of, max_length}
 use Rattle.js_run.specs.Verdict.{Ran, Printed, report_of, status_of, status_or, err_of, end_line}
 use Rattle.js_run.specs.Answer.{IsRunOf}
 

@@ -1,5 +1,6 @@
 // What scripts print and how they end, by the rules of the language.
-use js_eval::{End, Env, Kind, Lines, eval};
+use js_eval::{End, Env, Kind, Lines, Value, eval};
+use js_number::Num;
 use js_parse::{Names, Role, Script, parse};
 use js_store::Strings;
 use plain_store::PlainStore;
@@ -359,4 +360,21 @@ fn limits_and_indexes(rt: HostRuntime) -> Result<(), Fail> {
     )?;
     let thrown = End::Threw(Kind::TypeError);
     ends(&rt, alloc, "print(undefined['x']);", thrown, b"")
+}
+
+// A value once more, of each kind.
+#[test]
+fn values_are_copied(rt: HostRuntime) -> Result<(), Fail> {
+    let alloc = rt.alloc();
+    let list = Value::List([3u32, 4].to_vec(alloc)?);
+    assert!(rt;
+        matches!(list.copy(alloc)?, Value::List(copy) if copy.as_slice() == [3, 4].as_slice())
+    );
+    assert!(rt; matches!(Value::Text(7u32).copy(alloc)?, Value::Text(7)));
+    let five = Value::<u32>::Number(Num::Int(5));
+    assert!(rt; matches!(five.copy(alloc)?, Value::Number(Num::Int(5))));
+    assert!(rt; matches!(Value::<u32>::Bool(true).copy(alloc)?, Value::Bool(true)));
+    assert!(rt; matches!(Value::<u32>::Null.copy(alloc)?, Value::Null));
+    assert!(rt; matches!(Value::<u32>::Undefined.copy(alloc)?, Value::Undefined));
+    Ok(())
 }
