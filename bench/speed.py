@@ -24,6 +24,7 @@ SCRIPT_RUNS = 21
 
 PRINT = "print('the quick brown fox ' + 'jumps over the lazy dog');\n"
 LONGER = "the quick brown fox jumps over the lazy dog and comes back home again before it is dark, "
+LONGEST = (3 * LONGER)[:200]
 PLAIN = "the quick brown fox jumps over the lazy dog "
 
 
@@ -44,6 +45,7 @@ def sums(size):
 SHAPES = [
     ("print statements, texts of 20 and 23 units", lambda size: repeated(PRINT, size), 0),
     ("print statements, two texts of 89 units", lambda size: repeated(f"print('{LONGER}' + '{LONGER}');\n", size), 0),
+    ("print statements, two texts of 200 units", lambda size: repeated(f"print('{LONGEST}' + '{LONGEST}');\n", size), 0),
     ("sums on one line", sums, 0),
     ("a long literal", lambda size: one_literal(PLAIN, size), 0),
     ("escapes", lambda size: one_literal("\\x41\\u0042\\u{43}\\n", size), 0),
