@@ -1,16 +1,16 @@
 -- What the tree of each recursive node is.
 use Rattle.std.proofs.Common.{◌≡◌, ℕ, Bool, ap, sym, ◌∙◌, refl, List, [], ◌∷◌, map, Box, Vec, Global}
-use Rattle.js_parse.specs.declared.tree.Method.{Method}
-use Rattle.js_parse.specs.declared.tree.Builtin.{Builtin}
-use Rattle.js_parse.specs.declared.tree.Expr.{Expr, fold-roll-Expr}
-use Rattle.js_parse.specs.declared.tree.Link.{Link, fold-Link, fold_out-Link}
-use Rattle.js_parse.specs.declared.tree.PostStep.{PostStep, fold-roll-PostStep, fold_out-PostStep}
-use Rattle.js_parse.specs.declared.tree.Expr.TheOpen.{Expr-F, PostStep-F}
-use Rattle.js_parse.specs.declared.tree.Expr.TheViews.{Chain, rolls-Chain, Unary, rolls-Unary, Post, rolls-Post, Builtin as BuiltinCall, rolls-Builtin}
-use Rattle.js_parse.specs.declared.tree.Expr.TheViews.{Call, rolls-Call, out-PostStep}
+use Rattle.js_tree.specs.declared.tree.Method.{Method}
+use Rattle.js_tree.specs.declared.tree.Builtin.{Builtin}
+use Rattle.js_tree.specs.declared.tree.Expr.{Expr, fold-roll-Expr}
+use Rattle.js_tree.specs.declared.tree.Link.{Link, fold-Link, fold_out-Link}
+use Rattle.js_tree.specs.declared.tree.PostStep.{PostStep, fold-roll-PostStep, fold_out-PostStep}
+use Rattle.js_tree.specs.declared.tree.Expr.TheOpen.{Expr-F, PostStep-F}
+use Rattle.js_tree.specs.declared.tree.Expr.TheViews.{Chain, rolls-Chain, Unary, rolls-Unary, Post, rolls-Post, Builtin as BuiltinCall, rolls-Builtin}
+use Rattle.js_tree.specs.declared.tree.Expr.TheViews.{Call, rolls-Call, out-PostStep}
 use denote.Hole.Carrier.{out}
-use Rattle.js_parse.specs.declared.tree.PostStep.TheVariants.{Index}
-use Rattle.js_parse.specs.Tree.{ExprTree, StepTree, LinkTree, chain, unary, post, builtin, of_call, of_index, links, expr_layer, step_layer, link_layer, expr_tree, step_tree, link_tree, links_tree, steps_tree, exprs_tree}
+use Rattle.js_tree.specs.declared.tree.PostStep.TheVariants.{Index}
+use Rattle.js_tree.specs.Tree.{ExprTree, StepTree, LinkTree, chain, unary, post, builtin, of_call, of_index, links, expr_layer, step_layer, link_layer, expr_tree, step_tree, link_tree, links_tree, steps_tree, exprs_tree}
 
 link_is : (l : Link) → fold-Link ExprTree StepTree LinkTree expr_layer step_layer link_layer l ≡ link_tree l
 link_is l = fold_out-Link ExprTree StepTree LinkTree expr_layer step_layer link_layer l

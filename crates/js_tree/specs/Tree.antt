@@ -1,16 +1,16 @@
 -- The tree of a script, with lists in the place of vectors and without boxes. Each kind of list in the tree is a type
 -- of its own, since a data type can't hold a list of itself.
 use Rattle.std.specs.Prelude.{ℕ, Bool, List, [], ◌∷◌, map}
-use Rattle.js_parse.specs.declared.tree.Op.{Op}
-use Rattle.js_parse.specs.declared.tree.Method.{Method}
-use Rattle.js_parse.specs.declared.tree.Builtin.{Builtin}
-use Rattle.js_parse.specs.declared.tree.Expr.{Expr, fold-Expr}
-use Rattle.js_parse.specs.declared.tree.Link.{Link}
-use Rattle.js_parse.specs.declared.tree.PostStep.{PostStep, fold-PostStep}
-use Rattle.js_parse.specs.declared.tree.Expr.TheOpen.{Expr-F, Link-F, PostStep-F}
-use Rattle.js_parse.specs.declared.tree.Stmt.{Stmt}
-use Rattle.js_parse.specs.declared.tree.Stmt.TheVariants.{Print}
-use Rattle.js_parse.specs.declared.tree.Script.{Script}
+use Rattle.js_tree.specs.declared.tree.Op.{Op}
+use Rattle.js_tree.specs.declared.tree.Method.{Method}
+use Rattle.js_tree.specs.declared.tree.Builtin.{Builtin}
+use Rattle.js_tree.specs.declared.tree.Expr.{Expr, fold-Expr}
+use Rattle.js_tree.specs.declared.tree.Link.{Link}
+use Rattle.js_tree.specs.declared.tree.PostStep.{PostStep, fold-PostStep}
+use Rattle.js_tree.specs.declared.tree.Expr.TheOpen.{Expr-F, Link-F, PostStep-F}
+use Rattle.js_tree.specs.declared.tree.Stmt.{Stmt}
+use Rattle.js_tree.specs.declared.tree.Stmt.TheVariants.{Print}
+use Rattle.js_tree.specs.declared.tree.Script.{Script}
 
 mutual
   pub data ExprTree : Type 0 where
