@@ -8,6 +8,7 @@ use js_run::run_words;
 use std::alloc::Global;
 use std::fs;
 use std::process::ExitCode;
+use std::rt::Files;
 use std::thread::Threads;
 
 // So many bytes a sink takes.
@@ -66,7 +67,10 @@ fn run<R: Threads + Sync>(rt: &R, alloc: Global, case: &mut Case) -> Result<Endi
 }
 
 /// Runs the cases of this file, and prints each difference and how many there are.
-pub(crate) fn check_file(rt: &HostRuntime, name: &str) -> Result<Tally> {
+pub(crate) fn check_file<R>(rt: &R, name: &str) -> Result<Tally>
+where
+    R: AllocGlobal + Files + Print + Sync + Threads,
+{
     let alloc = rt.alloc();
     let text = fs::read_to_string(rt, name).context(format_args!("{name}"))?;
     let mut cases = match cases_of(alloc, text.as_str()) {
