@@ -1,4 +1,6 @@
 // A case, and why a text is none.
+ghost use Rattle.std.specs.Prelude.{◌↔◌, IsTrue};
+ghost use Rattle.jsstr_cases.specs.Ending.{IsSame};
 
 use js_io::MemFiles;
 use js_units::NoMemory;
@@ -9,11 +11,22 @@ use std::fmt;
 pub(crate) const FILE: &str = "a.js";
 
 /// The status, and what both sinks took.
-#[derive(Debug, Drop, PartialEq, Eq)]
+#[derive(Debug, Drop)]
 pub(crate) struct Ending {
     pub status: u8,
     pub out: Vec<u8>,
     pub err: Vec<u8>,
+}
+
+impl Ending {
+    /// Whether both are the same.
+    pub(crate) fn is(&self, other: &Ending) -> bool
+        ensures { IsTrue result ↔ IsSame self.now other.now }
+    {
+        self.status == other.status
+            && self.out.as_slice() == other.out.as_slice()
+            && self.err.as_slice() == other.err.as_slice()
+    }
 }
 
 impl fmt::Display for Ending {

@@ -1,64 +1,28 @@
 // Runs the cases of a file, and tells which differ.
 
-use crate::case::{Case, Ending, Fault};
+use crate::case::{Ending, Fault};
 use crate::reading::cases_of;
+use crate::tally::Tally;
 use anyhow::{Context, Result, bail};
-use js_io::{FreeGate, MemSink};
+use js_io::{FreeGate, MemFiles, MemSink};
 use js_run::run_words;
 use std::alloc::Global;
 use std::fs;
-use std::process::ExitCode;
 use std::rt::Files;
 use std::thread::Threads;
 
 // So many bytes a sink takes.
 const ROOM: u32 = 65_536;
 
-/// How many cases were run, and how many of them differ from what is wanted.
-#[derive(Clone, Copy, Debug)]
-pub(crate) struct Tally {
-    pub cases: usize,
-    pub differ: usize,
-}
-
-impl Tally {
-    pub(crate) fn new() -> Self {
-        Tally {
-            cases: 0,
-            differ: 0,
-        }
-    }
-
-    /// Both together.
-    pub(crate) fn and(self, other: Tally) -> Self {
-        Tally {
-            cases: self.cases.saturating_add(other.cases),
-            differ: self.differ.saturating_add(other.differ),
-        }
-    }
-
-    pub(crate) fn code(self) -> ExitCode {
-        if self.differ == 0 {
-            ExitCode::SUCCESS
-        } else {
-            ExitCode::FAILURE
-        }
-    }
-}
-
-// What the case gives.
-fn run<R: Threads + Sync>(rt: &R, alloc: Global, case: &mut Case) -> Result<Ending, Fault> {
+fn run<R: Threads + Sync>(
+    rt: &R,
+    alloc: Global,
+    words: &[String],
+    files: &mut MemFiles,
+) -> Result<Ending, Fault> {
     let mut out = MemSink::new(alloc, ROOM, ROOM)?;
     let mut err = MemSink::new(alloc, ROOM, ROOM)?;
-    let status = run_words(
-        rt,
-        alloc,
-        &case.words,
-        &mut case.files,
-        &mut out,
-        &mut err,
-        &FreeGate,
-    );
+    let status = run_words(rt, alloc, words, files, &mut out, &mut err, &FreeGate);
     Ok(Ending {
         status: status.code,
         out: out.taken().to_vec(alloc)?,
@@ -77,19 +41,17 @@ where
         Ok(cases) => cases,
         Err(bad) => bail!("{name}:{}: {}", bad.line, bad.fault),
     };
-    let mut tally = Tally {
-        cases: cases.len(),
-        differ: 0,
-    };
+    let mut tally = Tally::new();
     for case in cases.iter_mut() {
-        let got = match run(rt, alloc, case) {
+        let got = match run(rt, alloc, &case.words, &mut case.files) {
             Ok(got) => got,
             Err(fault) => bail!("{name}:{}: {fault}", case.line),
         };
-        if got != case.wanted {
-            tally.differ = tally.differ.saturating_add(1);
+        let as_wanted = got.is(&case.wanted);
+        if !as_wanted {
             println!(rt; "{name}:{}: wanted {}; got {got}", case.line, case.wanted)?;
         }
+        tally = tally.with(as_wanted);
     }
     println!(rt; "{name} {}", tally.cases)?;
     Ok(tally)

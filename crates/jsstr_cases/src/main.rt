@@ -66,11 +66,13 @@ mod check;
 mod line;
 mod reading;
 mod spelling;
+mod tally;
 
 use anyhow::{Result, bail};
-use check::{Tally, check_file};
+use check::check_file;
 use std::env;
 use std::process::ExitCode;
+use tally::Tally;
 
 fn main(rt: HostRuntime) -> Result<ExitCode> {
     let mut total = Tally::new();
@@ -81,5 +83,5 @@ fn main(rt: HostRuntime) -> Result<ExitCode> {
         bail!("no case was run");
     }
     println!(rt; "{} cases, {} differ", total.cases, total.differ)?;
-    Ok(total.code())
+    Ok(ExitCode::from(total.code()))
 }
