@@ -31,16 +31,16 @@ pub fn greetings(
         words: 16,
         slots: 1,
     };
-    let (heap, agent) = Heap::make(alloc, size, 2).map_err(Refusal::Make)?;
+    let (heap, agent) = Heap::make(alloc, size, 2)?;
     let mut left = Text::new(&heap, agent);
-    let hello = left.make_flat(hello).map_err(Refusal::Full)?;
+    let hello = left.make_flat(hello)?;
     let agent = left.agent.split(&heap, 1);
     let mut right = Text::new(&heap, agent);
     let (one, other) = greet_both(rt, &mut left, &mut right, hello, first, second);
     left.agent.join(&heap, right.agent);
-    let one = read(alloc, &mut left, one?)?;
-    let other = read(alloc, &mut left, other?)?;
-    Ok((one, other))
+    let first = read(alloc, &mut left, one?)?;
+    let second = read(alloc, &mut left, other?)?;
+    Ok((first, second))
 }
 
 // Each of the two agents makes its greeting, in a thread of its own.
@@ -79,8 +79,8 @@ fn greet(text: &mut Text, hello: JsStr, name: &[u16]) -> Result<JsStr, Refusal>
     ensures goes_on { GoesOn (view_of text.old.agent) text.new.agent text.new.heap.now }
     ensures greets { IfOk result (λ s. Greets (view_of text.old.agent) (view_of text.new.agent) hello name.now s) }
 {
-    let name = text.make_flat(name).map_err(Refusal::Full)?;
-    text.concat(hello, name).map_err(Refusal::Join)
+    let name = text.make_flat(name)?;
+    Ok(text.concat(hello, name)?)
 }
 
 // The units of a string.
@@ -92,12 +92,11 @@ fn read(alloc: Global, text: &mut Text, s: JsStr) -> Result<Vec<u16>, Refusal>
     ensures known { KeepsKnown (view_of text.old.agent) (view_of text.new.agent) }
     ensures units { IfOk result (λ r. Has (view_of text.old.agent).units s.id r.items) }
 {
-    text.settle(s).map_err(Refusal::Full)?;
+    text.settle(s)?;
     let window = text.window(s);
     let mut units = Vec::new(alloc);
     for i in 0..window.len {
-        let unit = text.unit_in(window, i);
-        units.push(unit).map_err(|failed| Refusal::Memory(failed.into()))?;
+        units.push(text.unit_in(window, i))?;
     }
     Ok(units)
 }

@@ -7,17 +7,17 @@
 mod greeting;
 mod refusal;
 
+use anyhow::Result;
 use greeting::greetings;
-use refusal::Refusal;
 
-fn main(rt: HostRuntime) -> Result<(), Refusal> {
+fn main(rt: HostRuntime) -> Result<()> {
     let hello = b"Hello, ".map(u16::from);
     let ada = b"Ada".map(u16::from);
     let world = [0x4E16, 0x754C];
     let (first, second) = greetings(&rt, rt.alloc(), &hello, &ada, &world)?;
     for units in [first, second] {
-        let line = String::from_utf16_lossy(rt.alloc(), &units).map_err(Refusal::Memory)?;
-        println!(rt; "{line}").map_err(Refusal::Output)?;
+        let line = String::from_utf16_lossy(rt.alloc(), &units)?;
+        println!(rt; "{line}")?;
     }
     Ok(())
 }
