@@ -114,6 +114,13 @@ def available():
         return 1024 * int(re.search(r"MemAvailable:\s+(\d+)", text.read())[1])
 
 
+def so_far(log):
+    """What a check last told of how far it is, in brackets, if it did."""
+    with open(log, "rb") as text:
+        told = re.findall(rb"(?m)^so far: (\d+ of \d+ functions)", text.read())
+    return f" ({told[-1].decode()})" if told else ""
+
+
 def link_or_copy(one, other):
     """Gives a file that nobody writes into a second name, or else copies it."""
     try:
@@ -225,7 +232,7 @@ class Build:
             took = time.monotonic() - check.began
             self.news(f"{len(self.proved):2} of {len(self.crates)}  {check.crate.name}, in {took:.0f} s")
         if time.monotonic() - self.told > SILENT:
-            self.news("at work: " + ", ".join(it.crate.name for it in self.running))
+            self.news("at work: " + ", ".join(it.crate.name + so_far(self.log(it.crate.name)) for it in self.running))
 
     def give_back(self, is_well):
         """Moves what was proved, and the program if all is well, into the checkout, but where another rt works in the crate's folder."""
