@@ -1,6 +1,7 @@
 // What no clause says: that with ample memory a script is read; and the tree of each construct.
 use super::*;
 use js_lex::LexFault;
+use js_tree::{Builtin, Expr, Link, Method, Op, PostStep, Stmt};
 use std::test::Fail;
 
 fn script_of(rt: &HostRuntime, bytes: &[u8]) -> Option<Script> {
