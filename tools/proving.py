@@ -36,9 +36,8 @@ class Crate:
 
     def __init__(self, root, name, below):
         self.name, self.below, self.folder = name, below, os.path.join(root, "crates", name)
-        code, terms = (sum(map(lines_in, files_of(self.folder, ending))) for ending in (".rt", ".antt"))
         # what a check takes, and the work of the longest chain of crates that begins here
-        self.memory, self.work, self.chain = 1.5e9 + 1e6 * code + 2e5 * terms, code + terms // 4, 0
+        self.memory = self.chain = 0
 
     def needs(self, jobs):
         """The memory, in bytes, that a check of the crate may take."""
@@ -88,12 +87,18 @@ def crates_for(root, top):
         found[name] = Crate(root, name, sorted({*own, *(below for it in own for below in found[it].below)}))
 
     find(top)
-    crates = list(found.values())
+    return list(found.values())
+
+
+def weigh(crates):
+    """Estimates of each crate what its check takes, by the lines of its code and of its definitions and proofs."""
+    named = {it.name: it for it in crates}
     for crate in reversed(crates):
-        crate.chain += crate.work
+        code, terms = (sum(map(lines_in, files_of(crate.folder, ending))) for ending in (".rt", ".antt"))
+        crate.memory = 1.5e9 + 1e6 * code + 2e5 * terms
+        crate.chain += code + terms // 4
         for below in crate.below:
-            found[below].chain = max(found[below].chain, crate.chain)
-    return crates
+            named[below].chain = max(named[below].chain, crate.chain)
 
 
 def sum_of_sources(crates, lines, folder):
@@ -146,6 +151,7 @@ class Build:
     def __init__(self, root, top, work, logs, tell):
         self.root, self.top, self.work, self.logs, self.tell = root, top, work, logs, tell
         self.crates, self.lines = crates_for(root, top), listed(root)
+        weigh(self.crates)
         self.processors, self.memory = len(os.sched_getaffinity(0)), 0.85 * available()
         self.running, self.proved, self.began, self.told = [], set(), time.monotonic(), time.monotonic()
 
