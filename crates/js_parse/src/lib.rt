@@ -19,6 +19,3 @@ mod tree;
 pub use laws::{no_refused_script, one_refusal, one_script};
 pub use parser::{ParseFault, Role, parse};
 pub use tree::{Builtin, Expr, Link, Method, Name, Names, Op, PostStep, Script, Stmt};
-
-#[cfg(test)]
-mod tests;
