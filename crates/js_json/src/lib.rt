@@ -14,6 +14,3 @@ mod quoting;
 pub use lists::stringify_list;
 pub use printing::print_line;
 pub use quoting::quote;
-
-#[cfg(test)]
-mod tests;

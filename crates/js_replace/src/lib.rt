@@ -20,6 +20,3 @@ pub use joining::join;
 pub use replacing::{replace, replace_all};
 pub use splitting::split;
 pub use substituting::substitution;
-
-#[cfg(test)]
-mod tests;

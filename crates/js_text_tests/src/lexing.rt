@@ -1,30 +1,34 @@
-// Tokens and faults of short scripts, by the tables of the lexical grammar.
-use crate::{LexFault, Token, TokenKind, next_token, source_text, tokens};
-use js_literal::{LiteralFault, NumberFault};
+// Tokens of short scripts with their spans, by the tables of the lexical grammar.
+use js_lex::{LexFault, Token, TokenKind, next_token, source_text, tokens};
 use std::alloc::Global;
 use std::fmt;
 use std::test::Fail;
 
-impl fmt::Display for Token {
+// A token, shown by its kind and span.
+#[derive(Clone, Copy)]
+struct Shown<'a>(&'a Token);
+
+impl fmt::Display for Shown<'_> {
     fn fmt<W: fmt::Write>(&self, f: &mut fmt::Formatter<W>) -> fmt::Result {
-        match &self.kind {
+        let token = self.0;
+        match &token.kind {
             TokenKind::Word => write!(f, "word"),
             TokenKind::Text(units) => write!(f, "{:?}", units.as_slice()),
             TokenKind::Number(value) => write!(f, "{value}"),
             TokenKind::Mark(mark) => write!(f, "{mark:?}"),
         }?;
-        write!(f, " {} {}; ", self.from, self.to)
+        write!(f, " {} {}; ", token.from, token.to)
     }
 }
 
-/// The tokens of a short text, each with its span.
+// The tokens of a short text, each with its span.
 fn listed(alloc: Global, bytes: &[u8]) -> Result<String, LexFault> {
     if bytes.len() > 200 {
         return Err(LexFault::Memory);
     }
     let mut list = String::new(alloc);
     for token in &tokens(alloc, bytes)? {
-        if write!(list, "{token}").is_err() {
+        if write!(list, "{}", Shown(token)).is_err() {
             return Err(LexFault::Memory);
         }
     }
@@ -114,7 +118,7 @@ fn tokens_and_spans(rt: HostRuntime) -> Result<(), Fail> {
     Ok(())
 }
 
-/// What comes next from a place on.
+// What comes next from a place on.
 fn next(alloc: Global, bytes: &[u8], at: u32) -> Result<String, LexFault> {
     if bytes.len() > 200 {
         return Err(LexFault::Memory);
@@ -125,7 +129,7 @@ fn next(alloc: Global, bytes: &[u8], at: u32) -> Result<String, LexFault> {
         return Ok(told);
     }
     let written = match next_token(alloc, text, at)? {
-        Some(token) => write!(told, "{token}"),
+        Some(token) => write!(told, "{}", Shown(&token)),
         None => write!(told, "end"),
     };
     match written {
@@ -166,84 +170,4 @@ fn token_by_token(rt: HostRuntime) -> Result<(), Fail> {
         }
     }
     Ok(())
-}
-
-#[test]
-fn faults(rt: HostRuntime) {
-    for (bytes, want) in [
-        // no UTF-8, at the first sequence that isn't well formed, before every other fault
-        (b"\xFF".as_slice(), LexFault::NotUtf8 { at: 0 }),
-        (b"A\xE3\x81", LexFault::NotUtf8 { at: 1 }),
-        (b"a\xE3\x81b", LexFault::NotUtf8 { at: 1 }),
-        (b"\xED\xA0\x80", LexFault::NotUtf8 { at: 0 }),
-        (b"\xC0\x80", LexFault::NotUtf8 { at: 0 }),
-        (b"\xE0\x9F\xBF", LexFault::NotUtf8 { at: 0 }),
-        (b"\xF4\x90\x80\x80", LexFault::NotUtf8 { at: 0 }),
-        (b"# 'a\xC3", LexFault::NotUtf8 { at: 4 }),
-        // characters that begin no token
-        (b"a # b", LexFault::BadCharacter { at: 2 }),
-        (b"x = a & b", LexFault::BadCharacter { at: 6 }),
-        (b"a | b", LexFault::BadCharacter { at: 2 }),
-        (b"a / b", LexFault::BadCharacter { at: 2 }),
-        (b"a/=b", LexFault::BadCharacter { at: 1 }),
-        (b"a*b", LexFault::BadCharacter { at: 1 }),
-        (b"`a`", LexFault::BadCharacter { at: 0 }),
-        (b"a\\u0062", LexFault::BadCharacter { at: 1 }),
-        (b"a\xC3\xA9", LexFault::BadCharacter { at: 1 }),
-        (b"1\xC3\xA9", LexFault::BadCharacter { at: 1 }),
-        (b"\xC2\x85", LexFault::BadCharacter { at: 0 }),
-        (b" \xE1\xA0\x8E", LexFault::BadCharacter { at: 1 }),
-        (b"\xE2\x80\x8B", LexFault::BadCharacter { at: 0 }),
-        (b"\xF0\x9F\x98\x80", LexFault::BadCharacter { at: 0 }),
-        // comments without an end
-        (b"/*", LexFault::OpenComment { at: 0 }),
-        (b"/*/", LexFault::OpenComment { at: 0 }),
-        (b"\xC2\xA0/* * / \xC3\xA9", LexFault::OpenComment { at: 2 }),
-        // literals, by the place in the file
-        (
-            b"print('\\08');",
-            LexFault::Literal(LiteralFault::LegacyOctal { at: 7 }),
-        ),
-        (
-            b"print('\\u{110000}');",
-            LexFault::Literal(LiteralFault::CodePointTooLarge { at: 7 }),
-        ),
-        (
-            b"print('a",
-            LexFault::Literal(LiteralFault::Unclosed { at: 6 }),
-        ),
-        (
-            b"print('\xC3\xA9\\x4');",
-            LexFault::Literal(LiteralFault::BadEscape { at: 9 }),
-        ),
-        (
-            b"x = 'a\nb';",
-            LexFault::Literal(LiteralFault::RawLineEnd { at: 6 }),
-        ),
-        (
-            b"x = 1.5;",
-            LexFault::Number(NumberFault::Fraction { at: 4 }),
-        ),
-        (b"a.5", LexFault::Number(NumberFault::Fraction { at: 1 })),
-        (
-            b"x = 0x1;",
-            LexFault::Number(NumberFault::OtherForm { at: 4 }),
-        ),
-        (
-            b"-9007199254740992",
-            LexFault::Number(NumberFault::TooLarge { at: 1 }),
-        ),
-        // the first fault from the left
-        (b"1. # '", LexFault::Number(NumberFault::Fraction { at: 0 })),
-        (b"# 1. '", LexFault::BadCharacter { at: 0 }),
-        (
-            b"'\\x # /*",
-            LexFault::Literal(LiteralFault::BadEscape { at: 1 }),
-        ),
-    ] {
-        match listed(rt.alloc(), bytes) {
-            Ok(_) => assert!(rt; false, "in {bytes:?}"),
-            Err(fault) => assert_eq!(rt; fault, want, "in {bytes:?}"),
-        }
-    }
 }
