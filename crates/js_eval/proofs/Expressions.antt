@@ -1,12 +1,12 @@
 -- One lemma for each kind of expression, and for its early end.
 use Rattle.std.proofs.Common.{◌≡◌, ℕ, List, [], ◌∷◌, ◌++◌, refl, ap, ◌∙◌, sym, subst, ◌<◌, ◌+◌, length, get_or, drop, Bool, Vec, Global, Result, Ok, Err}
 use Rattle.js_store.specs.State.{State, Grows}
-use Rattle.js_parse.specs.declared.tree.Expr.{Expr}
-use Rattle.js_parse.specs.declared.tree.Link.{Link}
-use Rattle.js_parse.specs.declared.tree.PostStep.{PostStep}
-use Rattle.js_parse.specs.declared.tree.Method.{Method}
-use Rattle.js_parse.specs.declared.tree.Builtin.{Builtin}
-use Rattle.js_parse.specs.Tree.{ExprTree, chain, unary, post, builtin, Links, Steps, Exprs, LinkTree, StepTree, of_length, of_call, of_index, with_step, expr_tree, link_tree, links_tree, step_tree, steps_tree, exprs_tree}
+use Rattle.js_tree.specs.declared.tree.Expr.{Expr}
+use Rattle.js_tree.specs.declared.tree.Link.{Link}
+use Rattle.js_tree.specs.declared.tree.PostStep.{PostStep}
+use Rattle.js_tree.specs.declared.tree.Method.{Method}
+use Rattle.js_tree.specs.declared.tree.Builtin.{Builtin}
+use Rattle.js_tree.specs.Tree.{ExprTree, chain, unary, post, builtin, Links, Steps, Exprs, LinkTree, StepTree, of_length, of_call, of_index, with_step, expr_tree, link_tree, links_tree, step_tree, steps_tree, exprs_tree}
 use Rattle.js_eval.specs.declared.value.Value.{Value}
 use Rattle.js_eval.specs.declared.value.Stop.{Stop}
 use Rattle.js_eval.specs.declared.env.Scope.{Scope as CodeScope}

@@ -6,8 +6,8 @@ use Rattle.std.proofs.lemmas.List.Folds.{concat-append}
 use Rattle.js_store.specs.State.{State, Grows}
 use Rattle.js_store.specs.Faults.{Step, NeverSlots}
 use Rattle.js_store.specs.declared.faults.StoreFault.{StoreFault}
-use Rattle.js_parse.specs.declared.tree.Stmt.{Stmt}
-use Rattle.js_parse.specs.Tree.{Exprs, Stmts, stmt_tree, stmts_tree}
+use Rattle.js_tree.specs.declared.tree.Stmt.{Stmt}
+use Rattle.js_tree.specs.Tree.{Exprs, Stmts, stmt_tree, stmts_tree}
 use Rattle.js_eval.specs.declared.value.Value.{Value}
 use Rattle.js_eval.specs.declared.value.Stop.{Stop}
 use Rattle.js_eval.specs.declared.value.Stop.TheVariants.{Threw, Unsupported, Store}

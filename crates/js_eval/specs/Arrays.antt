@@ -6,8 +6,8 @@ use Rattle.js_number.specs.Arith.{modulo}
 use Rattle.js_methods.specs.Places.{at_of}
 use Rattle.js_replace.specs.Joined.{joined as joined_list}
 use Rattle.js_replace.specs.Parts.{parts}
-use Rattle.js_parse.specs.declared.tree.Method.{Method}
-use Rattle.js_parse.specs.declared.tree.Method.TheVariants.{At, CharAt, CharCodeAt, CodePointAt, Concat, EndsWith, Includes, IndexOf, IsWellFormed, Join, LastIndexOf, PadEnd, PadStart, Repeat, Replace, ReplaceAll, Slice, Split, StartsWith, Substr, Substring, ToWellFormed, Trim, TrimEnd, TrimStart}
+use Rattle.js_tree.specs.declared.tree.Method.{Method}
+use Rattle.js_tree.specs.declared.tree.Method.TheVariants.{At, CharAt, CharCodeAt, CodePointAt, Concat, EndsWith, Includes, IndexOf, IsWellFormed, Join, LastIndexOf, PadEnd, PadStart, Repeat, Replace, ReplaceAll, Slice, Split, StartsWith, Substr, Substring, ToWellFormed, Trim, TrimEnd, TrimStart}
 use Rattle.js_eval.specs.declared.value.Kind.TheVariants.{TypeError}
 use Rattle.js_eval.specs.Outcome.{Val, undefined, null, bool, number, text, list, Out, gave, bind, free, gives, throws, refuses, row_ids, row_words, parts_ids, parts_words}
 use Rattle.js_eval.specs.Conversions.{to_string, list_units, string_units, first_text_units}

@@ -9,11 +9,11 @@ use Rattle.js_methods.specs.Trimming.{trimmed, trimmed_start, trimmed_end}
 use Rattle.js_replace.specs.Matches.{matches}
 use Rattle.js_replace.specs.Replaced.{replaced_first, replaced_all}
 use Rattle.js_methods.specs.WellFormed.{all_paired}
-use Rattle.js_parse.specs.declared.tree.Builtin.{Builtin}
-use Rattle.js_parse.specs.declared.tree.Builtin.TheVariants.{FromCharCode, FromCodePoint, Stringify}
+use Rattle.js_tree.specs.declared.tree.Builtin.{Builtin}
+use Rattle.js_tree.specs.declared.tree.Builtin.TheVariants.{FromCharCode, FromCodePoint, Stringify}
 use Rattle.js_eval.specs.declared.builtins.Codes.TheVariants.{CharCodes, CodePoints}
-use Rattle.js_parse.specs.declared.tree.Method.{Method}
-use Rattle.js_parse.specs.declared.tree.Method.TheVariants.{At, CharAt, CharCodeAt, CodePointAt, Concat, EndsWith, Includes, IndexOf, IsWellFormed, Join, LastIndexOf, PadEnd, PadStart, Repeat, Replace, ReplaceAll, Slice, Split, StartsWith, Substr, Substring, ToWellFormed, Trim, TrimEnd, TrimStart}
+use Rattle.js_tree.specs.declared.tree.Method.{Method}
+use Rattle.js_tree.specs.declared.tree.Method.TheVariants.{At, CharAt, CharCodeAt, CodePointAt, Concat, EndsWith, Includes, IndexOf, IsWellFormed, Join, LastIndexOf, PadEnd, PadStart, Repeat, Replace, ReplaceAll, Slice, Split, StartsWith, Substr, Substring, ToWellFormed, Trim, TrimEnd, TrimStart}
 use Rattle.js_eval.specs.declared.value.Kind.TheVariants.{TypeError}
 use Rattle.js_eval.specs.Outcome.{Val, undefined, null, bool, number, text, list, Out, gave, ended, threw, free, number_of, gives, throws, row_ids, row_words}
 use Rattle.js_eval.specs.Conversions.{to_number, list_units, all_units, first_text_units}

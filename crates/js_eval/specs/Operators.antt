@@ -2,8 +2,8 @@
 use Rattle.std.specs.Prelude.{ℕ, ◌+◌, List, ◌++◌, length, Option, Some, None, nat_le, if◌then◌else◌, Bool, true, false, not, ◌||◌}
 use Rattle.js_number.specs.declared.Num.{Num}
 use Rattle.js_number.specs.Arith.{sum, difference, negative}
-use Rattle.js_parse.specs.declared.tree.Op.{Op}
-use Rattle.js_parse.specs.declared.tree.Op.TheVariants.{Plus, Minus}
+use Rattle.js_tree.specs.declared.tree.Op.{Op}
+use Rattle.js_tree.specs.declared.tree.Op.TheVariants.{Plus, Minus}
 use Rattle.js_eval.specs.declared.value.Kind.TheVariants.{RangeError}
 use Rattle.js_eval.specs.Outcome.{Val, bool, number, text, Out, bind, gives, throws, refuses, row_ids, row_words}
 use Rattle.js_eval.specs.Conversions.{to_string, to_number, to_boolean, is_text, text_units}

@@ -15,8 +15,8 @@ use crate::arguments::{first_is_missing, first_text};
 use crate::conversions::joined_by_commas;
 use crate::value::{Kind, Stop, Value};
 use js_number::Num;
-use js_parse::Method;
 use js_store::{MethodFault, Strings};
+use js_tree::Method;
 use std::alloc::Global;
 
 /// The element of a value at an index that was evaluated; `at` is the byte offset of the bracket.

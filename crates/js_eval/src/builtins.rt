@@ -17,8 +17,8 @@ use crate::lists::push;
 use crate::quoting::call_stringify;
 use crate::value::{Kind, Stop, Value};
 use js_number::Num;
-use js_parse::Builtin;
 use js_store::{MethodFault, Strings};
+use js_tree::Builtin;
 use std::alloc::Global;
 
 /// A function of the constructor that makes a string of numbers.

@@ -3,7 +3,7 @@ ghost use Rattle.std.specs.Prelude.{◌≡◌, [], map, IfOk};
 ghost use Rattle.js_eval.specs.Copies.{bound_content};
 
 use crate::value::Value;
-use js_parse::Name;
+use js_tree::Name;
 use js_units::NoMemory;
 use std::alloc::Global;
 use std::marker::Model;

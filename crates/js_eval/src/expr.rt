@@ -1,7 +1,7 @@
 // Expressions.
 ghost use Rattle.std.specs.Prelude.{◌≡◌, [], IfOk};
 ghost use Rattle.js_store.specs.State.{Grows};
-ghost use Rattle.js_parse.specs.Tree.{expr_tree, link_tree, links_tree, step_tree, steps_tree, exprs_tree};
+ghost use Rattle.js_tree.specs.Tree.{expr_tree, link_tree, links_tree, step_tree, steps_tree, exprs_tree};
 ghost use Rattle.js_eval.specs.Expression.{expr_out, links_out, link_out, steps_out, step_out, exprs_out};
 ghost use Rattle.js_eval.specs.Seen.{seen, IsFine, AllFine, ScopeFine, scope_of};
 ghost use Rattle.js_eval.specs.Does.{Does, GivesAll};
@@ -15,8 +15,8 @@ use crate::members::{call, present, read_length};
 use crate::operators::{apply_unary, operate};
 use crate::value::{Stop, Value};
 use js_number::Num;
-use js_parse::{Expr, Link, PostStep};
 use js_store::Strings;
+use js_tree::{Expr, Link, PostStep};
 use std::alloc::Global;
 
 /// The value of an expression.

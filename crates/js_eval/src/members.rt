@@ -21,8 +21,8 @@ use crate::searching::{Search, call_ends_with, call_search};
 use crate::splitting::call_split;
 use crate::value::{Kind, Stop, Value};
 use js_number::Num;
-use js_parse::Method;
 use js_store::{MethodFault, Strings};
+use js_tree::Method;
 use std::alloc::Global;
 
 /// `.length` of a value.

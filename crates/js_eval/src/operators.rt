@@ -10,8 +10,8 @@ ghost use Rattle.js_eval.specs.Does.{Does};
 use crate::conversions::{is_string, number_of, to_text, truth};
 use crate::value::{Kind, Stop, Value};
 use js_number::Num;
-use js_parse::Op;
 use js_store::{ConcatFault, Strings};
+use js_tree::Op;
 use std::alloc::Global;
 
 /// An operator of a chain, at the byte offset `at`, on its two sides.

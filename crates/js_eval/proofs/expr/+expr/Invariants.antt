@@ -1,6 +1,6 @@
 use Rattle.std.proofs.Common.{[], drop, Result, Vec, Global}
 use Rattle.js_store.specs.State.{State, Grows}
-use Rattle.js_parse.specs.Tree.{expr_tree, links_tree, steps_tree, exprs_tree}
+use Rattle.js_tree.specs.Tree.{expr_tree, links_tree, steps_tree, exprs_tree}
 use Rattle.js_eval.specs.declared.value.Value.{Value}
 use Rattle.js_eval.specs.declared.value.Stop.{Stop}
 use Rattle.js_eval.specs.Outcome.{each}

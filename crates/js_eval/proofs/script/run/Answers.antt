@@ -1,5 +1,5 @@
 use Rattle.std.proofs.lemmas.Result.{err_from_is_err_and}
-use Rattle.js_parse.specs.Tree.{stmts_tree}
+use Rattle.js_tree.specs.Tree.{stmts_tree}
 use Rattle.js_eval.specs.Seen.{bindings_of}
 use Rattle.js_eval.proofs.Flows.{script_went, script_halts}
 use Rattle.js_eval.proofs.Still.{env_still}

@@ -1,6 +1,6 @@
 use Rattle.std.proofs.Common.{◌≡◌, ℕ, List, drop, Result}
 use Rattle.js_store.specs.State.{State, Grows}
-use Rattle.js_parse.specs.Tree.{stmts_tree}
+use Rattle.js_tree.specs.Tree.{stmts_tree}
 use Rattle.js_eval.specs.declared.value.Stop.{Stop}
 use Rattle.js_eval.specs.Expression.{Bound}
 use Rattle.js_eval.specs.Script.{stmts_flow}
