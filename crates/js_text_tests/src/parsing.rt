@@ -1,5 +1,6 @@
 // What scripts don't show of a tree: the role of a prelude.
-use js_parse::{Names, Role, parse};
+use js_parse::{Role, parse};
+use js_tree::Names;
 use std::test::Fail;
 
 #[test]

@@ -5,6 +5,7 @@ ghost use Rattle.jsstr_cases.specs.Ending.{IsSame};
 use js_io::MemFiles;
 use js_units::NoMemory;
 use std::alloc::{AllocError, AllocFailed};
+use std::error::Error;
 use std::fmt;
 
 /// The file that a case runs where it names no other.
@@ -62,6 +63,8 @@ impl fmt::Display for Fault {
         }
     }
 }
+
+impl Error for Fault {}
 
 impl From<AllocError> for Fault {
     fn from(_error: AllocError) -> Fault {

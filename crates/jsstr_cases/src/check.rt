@@ -1,9 +1,9 @@
 // Runs the cases of a file, and tells which differ.
 
-use crate::case::{Ending, Fault};
+use crate::case::{Case, Ending, Fault};
 use crate::reading::cases_of;
 use crate::tally::Tally;
-use anyhow::{Context, Result, bail};
+use anyhow::{Context, Result};
 use js_io::{FreeGate, MemFiles, MemSink};
 use js_run::run_words;
 use std::alloc::Global;
@@ -30,28 +30,37 @@ fn run<R: Threads + Sync>(
     })
 }
 
+fn read_cases<R>(rt: &R, name: &str) -> Result<Vec<Case>>
+where
+    R: AllocGlobal + Files,
+{
+    let text = fs::read_to_string(rt, name).context(format_args!("{name}"))?;
+    cases_of(rt.alloc(), text.as_str()).context(format_args!("{name}"))
+}
+
+// Runs the case, prints how it differs, and says whether it doesn't.
+fn check_case<R>(rt: &R, name: &str, case: &mut Case) -> Result<bool>
+where
+    R: AllocGlobal + Print + Sync + Threads,
+{
+    let got = run(rt, rt.alloc(), &case.words, &mut case.files)?;
+    let as_wanted = got.is(&case.wanted);
+    if !as_wanted {
+        let line = case.line;
+        println!(rt; "{name}:{line}: wanted {}; got {got}", case.wanted)?;
+    }
+    Ok(as_wanted)
+}
+
 /// Runs the cases of this file, and prints each difference and how many there are.
 pub(crate) fn check_file<R>(rt: &R, name: &str) -> Result<Tally>
 where
     R: AllocGlobal + Files + Print + Sync + Threads,
 {
-    let alloc = rt.alloc();
-    let text = fs::read_to_string(rt, name).context(format_args!("{name}"))?;
-    let mut cases = match cases_of(alloc, text.as_str()) {
-        Ok(cases) => cases,
-        Err(bad) => bail!("{name}:{}: {}", bad.line, bad.fault),
-    };
+    let mut cases = read_cases(rt, name)?;
     let mut tally = Tally::new();
     for case in cases.iter_mut() {
-        let got = match run(rt, alloc, &case.words, &mut case.files) {
-            Ok(got) => got,
-            Err(fault) => bail!("{name}:{}: {fault}", case.line),
-        };
-        let as_wanted = got.is(&case.wanted);
-        if !as_wanted {
-            println!(rt; "{name}:{}: wanted {}; got {got}", case.line, case.wanted)?;
-        }
-        tally = tally.with(as_wanted);
+        tally = tally.with(check_case(rt, name, case)?);
     }
     println!(rt; "{name} {}", tally.cases)?;
     Ok(tally)
