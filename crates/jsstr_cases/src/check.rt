@@ -1,9 +1,9 @@
 // Runs the cases of a file, and tells which differ.
 
 use crate::case::{Case, Ending, Fault};
-use crate::reading::cases_of;
+use crate::reading::{BadLine, cases_of};
 use crate::tally::Tally;
-use anyhow::{Context, Result};
+use anyhow::{Context, Error, Result, anyhow};
 use js_io::{FreeGate, MemFiles, MemSink};
 use js_run::run_words;
 use std::alloc::Global;
@@ -35,7 +35,17 @@ where
     R: AllocGlobal + Files,
 {
     let text = fs::read_to_string(rt, name).context(format_args!("{name}"))?;
-    cases_of(rt.alloc(), text.as_str()).context(format_args!("{name}"))
+    match cases_of(rt.alloc(), text.as_str()) {
+        Ok(cases) => Ok(cases),
+        Err(bad) => Err(refusal(name, bad)),
+    }
+}
+
+// Why the file of this name holds no cases.
+fn refusal(name: &str, bad: BadLine) -> Error {
+    let line = bad.line;
+    let fault = bad.fault;
+    anyhow!("{name}:{line}: {fault}")
 }
 
 // Runs the case, prints how it differs, and says whether it doesn't.

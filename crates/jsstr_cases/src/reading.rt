@@ -4,8 +4,6 @@ use crate::block::{Block, Step};
 use crate::case::{Case, Fault};
 use crate::line::case_of;
 use std::alloc::Global;
-use std::error::Error;
-use std::fmt;
 
 /// A line that isn't of the form, and why.
 #[derive(Clone, Copy, Debug)]
@@ -13,14 +11,6 @@ pub(crate) struct BadLine {
     pub line: usize,
     pub fault: Fault,
 }
-
-impl fmt::Display for BadLine {
-    fn fmt<W: fmt::Write>(&self, f: &mut fmt::Formatter<W>) -> fmt::Result {
-        write!(f, "line {}: {}", self.line, self.fault)
-    }
-}
-
-impl Error for BadLine {}
 
 /// The cases of a case file, in their order.
 pub(crate) fn cases_of(alloc: Global, text: &str) -> Result<Vec<Case>, BadLine> {
