@@ -2,7 +2,6 @@
 use heap_table::MakeFault;
 use heap_text::{JoinFault, TextFull};
 use std::alloc::AllocError;
-use std::io;
 use thiserror::Error;
 
 /// A call that was refused, with what it answered.
@@ -16,6 +15,4 @@ pub enum Refusal {
     Join(#[from] JoinFault),
     #[error(transparent)]
     Memory(#[from(alloc)] AllocError),
-    #[error(transparent)]
-    Output(#[from] io::Error),
 }
