@@ -1,6 +1,5 @@
 // What scripts don't show of a tree: the role of a prelude.
-use js_parse::{Role, parse};
-use js_tree::Names;
+use js_parse::{Names, Role, parse};
 use std::test::Fail;
 
 #[test]
