@@ -3,10 +3,10 @@ use Rattle.std.proofs.Common.{◌≡◌, ◌∙◌, ℕ, ◌+◌, ◌-◌, ◌*�
 use Rattle.js_units.specs.Lanes.{words_over, lane_count}
 use Rattle.js_header.specs.declared.form.Form.{Form}
 use Rattle.js_header.specs.declared.form.Form.TheVariants.{Unborn, Flat, Cons, Sliced, Thin}
-use Rattle.heap_core.specs.declared.view.View.{View}
-use Rattle.heap_core.specs.Maps.{Has, HasKey}
-use Rattle.heap_core.specs.Views.{HasLength, IsFrozen}
-use Rattle.heap_core.specs.Loads.{MayLoadWord}
+use Rattle.heap_rule.specs.declared.view.View.{View}
+use Rattle.heap_rule.specs.Maps.{Has, HasKey}
+use Rattle.heap_rule.specs.Views.{HasLength, IsFrozen}
+use Rattle.heap_rule.specs.Loads.{MayLoadWord}
 use Rattle.heap_core.specs.Loading.{Spans, IsSpanned, EndsPast}
 
 later_part : (v : View) (i n j : ℕ) (f : Form) → Has v.forms j f → EndsPast v i n j f → (m : ℕ) × HasLength v i m × (n < m)

@@ -12,13 +12,13 @@ use Rattle.std.specs.FinMap.{FinMap, get, keys, contains_key, contains_key-keys}
 use Rattle.std.proofs.Common.{ne_eqb}
 use Rattle.js_header.specs.declared.form.Form.{Form}
 use Rattle.js_header.specs.declared.form.Form.TheVariants.{Unborn, Flat, Cons, Sliced, Thin}
-use Rattle.heap_core.specs.declared.view.View.{View}
+use Rattle.heap_rule.specs.declared.view.View.{View}
 use Rattle.heap_core.specs.declared.load.Load.{Load}
-use Rattle.heap_core.specs.Maps.{Has, HasKey, first_some, first_in}
-use Rattle.heap_core.specs.Learning.{by_thin, by_cons, by_flat, all_frozen, justified, tells, learn_one, learn_into}
+use Rattle.heap_rule.specs.Maps.{Has, HasKey, first_some, first_in}
+use Rattle.heap_rule.specs.Learning.{by_thin, by_cons, by_flat, all_frozen, justified, tells, learn_one, learn_into}
 use Rattle.heap_core.specs.Loading.{loaded_by}
-use Rattle.heap_core.proofs.MapLemmas.{key_of}
-use Rattle.heap_core.proofs.Learning.{first_found, either_way}
+use Rattle.heap_rule.proofs.MapLemmas.{key_of}
+use Rattle.heap_rule.proofs.Learning.{first_found, either_way}
 
 -- one more frozen word
 pub frozen_next : (v : View) (c l : ℕ) → 0 < l → contains_key v.frozen c ≡ true → all_frozen v (c + 1) (l - 1) ≡ all_frozen v c l

@@ -5,28 +5,28 @@ use Rattle.std.proofs.lemmas.List.{set-get_or}
 use Rattle.js_header.specs.Form.{word_of}
 use Rattle.js_header.specs.declared.form.Form.{Form}
 use Rattle.js_header.specs.declared.form.Form.TheVariants.{Unborn, Flat, Cons, Sliced, Thin}
-use Rattle.heap_core.specs.declared.view.View.{View}
-use Rattle.heap_core.specs.declared.size.Counter.{Counter}
+use Rattle.heap_rule.specs.declared.view.View.{View}
+use Rattle.heap_rule.specs.declared.size.Counter.{Counter}
 use Rattle.heap_core.specs.declared.event.Refusal.{Refusal}
 use Rattle.heap_core.specs.declared.event.Refusal.TheVariants.{NotEnabled, Memory}
 use Rattle.heap_core.specs.declared.event.Event.{Event}
 use Rattle.heap_core.specs.declared.event.Event.TheVariants.{Make, Split, Join, LoadCounter, Claim, StoreWord, StoreLength, Birth, LoadHeader, LoadWord}
-use Rattle.heap_core.specs.Layout.{counter_at, content_at, length_at, form_at, form, IsBorn}
-use Rattle.heap_core.specs.Maps.{HasKey}
-use Rattle.heap_core.specs.Sound.{At, total}
+use Rattle.heap_rule.specs.Layout.{counter_at, content_at, length_at, form_at, form, IsBorn}
+use Rattle.heap_rule.specs.Maps.{HasKey}
+use Rattle.heap_rule.specs.Sound.{At, total}
 use Rattle.heap_core.specs.Core.{Core, core}
 use Rattle.heap_core.specs.Events.{IsCore, IsSoundCore, LiveAt, view_at, Enabled, after, found, Applied, KeepsUnits, Kept, BornBy}
-use Rattle.heap_core.specs.Claims.{loaded_counter, MayClaim, won_claim}
-use Rattle.heap_core.specs.Births.{stored_word, MayStoreLength, stored_length, MayBear, born_with, born}
-use Rattle.heap_core.specs.Views.{IsKnown}
-use Rattle.heap_core.specs.Learning.{MayLearn}
-use Rattle.heap_core.specs.Loads.{MayLoadWord, loaded_word}
-use Rattle.heap_core.specs.Agents.{spent, MayJoin}
-use Rattle.heap_core.proofs.ListLemmas.{at_index}
-use Rattle.heap_core.proofs.Agreement.{Agrees, born_then, units_stay}
-use Rattle.heap_core.proofs.Making.{keeps_making}
-use Rattle.heap_core.proofs.Steps.{keeps_loaded_counter, keeps_won_claim, agrees_won_claim, keeps_stored_word, agrees_stored_word, keeps_stored_length, agrees_stored_length}
-use Rattle.heap_core.proofs.Birth.{keeps_birth, agrees, born_now}
+use Rattle.heap_rule.specs.Claims.{loaded_counter, MayClaim, won_claim}
+use Rattle.heap_rule.specs.Births.{stored_word, MayStoreLength, stored_length, MayBear, born_with, born}
+use Rattle.heap_rule.specs.Views.{IsKnown}
+use Rattle.heap_rule.specs.Learning.{MayLearn}
+use Rattle.heap_rule.specs.Loads.{MayLoadWord, loaded_word}
+use Rattle.heap_rule.specs.Agents.{spent, MayJoin}
+use Rattle.heap_rule.proofs.ListLemmas.{at_index}
+use Rattle.heap_rule.proofs.Agreement.{Agrees, born_then, units_stay}
+use Rattle.heap_rule.proofs.Making.{keeps_making}
+use Rattle.heap_rule.proofs.Steps.{keeps_loaded_counter, keeps_won_claim, agrees_won_claim, keeps_stored_word, agrees_stored_word, keeps_stored_length, agrees_stored_length}
+use Rattle.heap_rule.proofs.Birth.{keeps_birth, agrees, born_now}
 use Rattle.heap_core.proofs.StateLemmas.{sound_of}
 use Rattle.heap_core.proofs.KnowingKept.{split_kept, join_kept, load_header_kept, load_word_kept}
 

@@ -1,11 +1,11 @@
 -- What the executable kinds find, as plain data.
 use Rattle.std.proofs.Common.{◌≡◌, ℕ, suc, ◌+◌, ◌-◌, ◌<◌, ◌≤◌, Bool, List, [], ◌∷◌, ◌++◌, sym, ◌∙◌, subst, arith, append_assoc, IsTrue}
-use Rattle.heap_core.specs.declared.view.View.{View}
-use Rattle.heap_core.specs.declared.size.Counter.{Counter}
-use Rattle.heap_core.specs.declared.size.Counter.TheVariants.{Ids}
-use Rattle.heap_core.specs.Layout.{end_of, count_in}
-use Rattle.heap_core.specs.Contents.{span, lane_in}
-use Rattle.heap_core.specs.Claims.{MayClaim}
+use Rattle.heap_rule.specs.declared.view.View.{View}
+use Rattle.heap_rule.specs.declared.size.Counter.{Counter}
+use Rattle.heap_rule.specs.declared.size.Counter.TheVariants.{Ids}
+use Rattle.heap_rule.specs.Layout.{end_of, count_in}
+use Rattle.heap_rule.specs.Contents.{span, lane_in}
+use Rattle.heap_rule.specs.Claims.{MayClaim}
 
 pub may_by : (v : View) (k : Counter) (a want low end : ℕ) (b : Bool) → low ≡ count_in v.low k → end ≡ end_of v.sizes k → a ≤ low → a + want ≤ end → 1 ≤ want
     → (IsTrue b → k ≡ Ids → want ≡ 1) → ((k ≡ Ids → want ≡ 1) → IsTrue b) → (IsTrue b → MayClaim v k a want) × (MayClaim v k a want → IsTrue b)

@@ -1,19 +1,19 @@
 -- Splitting, joining and loading keep the rule: they change what views know, and no word.
 use Rattle.std.proofs.Common.{◌≡◌, ℕ, Bool, true, false, cond, List, [], ◌∷◌, ◌++◌, get_or, set, sym, refl, ap, ◌∙◌, subst}
 use Rattle.std.specs.FinMap.{insert, contains_key}
-use Rattle.heap_core.specs.declared.view.View.{View}
-use Rattle.heap_core.specs.Layout.{form_at, length_at, content_at}
-use Rattle.heap_core.specs.Learning.{learned}
-use Rattle.heap_core.specs.Loads.{loaded_form, loaded_length, loaded_word}
-use Rattle.heap_core.specs.Agents.{spent, left_after_split, right_after_split, joined}
-use Rattle.heap_core.specs.Sound.{At, IsSound}
+use Rattle.heap_rule.specs.declared.view.View.{View}
+use Rattle.heap_rule.specs.Layout.{form_at, length_at, content_at}
+use Rattle.heap_rule.specs.Learning.{learned}
+use Rattle.heap_rule.specs.Loads.{loaded_form, loaded_length, loaded_word}
+use Rattle.heap_rule.specs.Agents.{spent, left_after_split, right_after_split, joined}
+use Rattle.heap_rule.specs.Sound.{At, IsSound}
 use Rattle.heap_core.specs.Core.{Core, core}
 use Rattle.heap_core.specs.Events.{IsSoundCore, CanSplit, after_split, CanJoin, after_join, CanLoadHeader, after_load_header, CanLoadWord, after_load_word, Kept}
-use Rattle.heap_core.proofs.ListLemmas.{at_index, set_there}
-use Rattle.heap_core.proofs.Loading.{keeps_loaded_form}
-use Rattle.heap_core.proofs.Loads.{keeps_loaded_length, keeps_loaded_word}
-use Rattle.heap_core.proofs.Splitting.{set_twice, keeps_learned, keeps_split}
-use Rattle.heap_core.proofs.Joining.{keeps_joined}
+use Rattle.heap_rule.proofs.ListLemmas.{at_index, set_there}
+use Rattle.heap_rule.proofs.Loading.{keeps_loaded_form}
+use Rattle.heap_rule.proofs.Loads.{keeps_loaded_length, keeps_loaded_word}
+use Rattle.heap_rule.proofs.Splitting.{set_twice, keeps_learned, keeps_split}
+use Rattle.heap_rule.proofs.Joining.{keeps_joined}
 
 -- a step that changes no word
 pub still : (s : Core) (vs' : List View) → IsSound s.size s.agents s.words vs' → Kept s (core s.size s.agents s.words vs')

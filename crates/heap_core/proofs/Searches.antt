@@ -7,7 +7,7 @@ use Rattle.std.specs.FinMap.{FinMap, get, entries, keys, find, get-entries}
 use mathlib.Core.Logic.{dite}
 use native.Mathlib.Decide.{ℕ_discrete}
 use Rattle.std.proofs.Common.{eq-eqb, ne_eqb}
-use Rattle.heap_core.specs.Maps.{Has, first_some, first_in}
+use Rattle.heap_rule.specs.Maps.{Has, first_some, first_in}
 
 module _ {X : Type 0} where
   abbrev pub In : List (ℕ × X) → ℕ → X → Type 0

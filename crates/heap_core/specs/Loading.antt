@@ -4,15 +4,15 @@ use Rattle.std.specs.FinMap.{insert}
 use Rattle.js_header.specs.Form.{form_of}
 use Rattle.js_header.specs.declared.form.Form.{Form}
 use Rattle.js_header.specs.declared.form.Form.TheVariants.{Flat, Sliced, Thin}
-use Rattle.heap_core.specs.declared.view.View.{View}
-use Rattle.heap_core.specs.declared.size.HeapSize.{HeapSize}
+use Rattle.heap_rule.specs.declared.view.View.{View}
+use Rattle.heap_rule.specs.declared.size.HeapSize.{HeapSize}
 use Rattle.heap_core.specs.declared.load.Load.{Load}
 use Rattle.heap_core.specs.declared.load.Load.TheVariants.{SeenForm, SeenLength, SeenWord, Own}
-use Rattle.heap_core.specs.Layout.{form, length_word}
+use Rattle.heap_rule.specs.Layout.{form, length_word}
 use Rattle.js_units.specs.Lanes.{lane_count}
-use Rattle.heap_core.specs.Maps.{Has}
-use Rattle.heap_core.specs.Views.{HasLength}
-use Rattle.heap_core.specs.Loads.{met_ids, with_form, added_loads, loaded_length}
+use Rattle.heap_rule.specs.Maps.{Has}
+use Rattle.heap_rule.specs.Views.{HasLength}
+use Rattle.heap_rule.specs.Loads.{met_ids, with_form, added_loads, loaded_length}
 
 -- the view after a load
 abbrev pub loaded_by : View → Load → View

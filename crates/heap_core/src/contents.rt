@@ -1,12 +1,12 @@
 // The units of an id, read from the words.
 ghost use Rattle.std.specs.Prelude.{◌≡◌, ℕ, List, ◌+◌, ◌<◌, ◌≤◌, ◌^◌, ◌++◌, slice_index, Some, IfSome, IsSome, OnOk};
 ghost use Rattle.js_header.specs.Form.{form_of, IsInRange};
-ghost use Rattle.heap_core.specs.Layout.{content, form, length_word, IsBorn, MAX};
-ghost use Rattle.heap_core.specs.Contents.{span, lane_in, units_of};
-ghost use Rattle.heap_core.specs.Forms.{IsSolidForm};
-ghost use Rattle.heap_core.specs.Sound.{AreStanding};
+ghost use Rattle.heap_rule.specs.Layout.{content, form, length_word, IsBorn, MAX};
+ghost use Rattle.heap_rule.specs.Contents.{span, lane_in, units_of};
+ghost use Rattle.heap_rule.specs.Forms.{IsSolidForm};
+ghost use Rattle.heap_rule.specs.Sound.{AreStanding};
 
-use crate::size::HeapSize;
+use heap_rule::HeapSize;
 use js_header::{Form, decode};
 use js_units::{NoMemory, Units, lane, lanes};
 
@@ -31,7 +31,7 @@ fn content(size: HeapSize, words: &[u64], at: u32) -> u64
 }
 
 /// Lane `o` of a span.
-#[tactic(auto, unfolding(crate::specs::Contents::lane_in))]
+#[tactic(auto, unfolding(heap_rule::specs::Contents::lane_in))]
 fn lane_at(size: HeapSize, words: &[u64], wide: bool, start: u32, o: u32) -> u16
     requires { start + o < 2 ^ 32 }
     ensures { result ≡ lane_in (content size words.now) wide start o }

@@ -2,15 +2,13 @@
 // tests take no memory, so that a load can be refused before anything changes.
 ghost use Rattle.std.specs.Prelude.{◌≡◌, ℕ, ◌+◌, ◌<◌, ◌^◌, ◌↔◌, IsTrue, IsSome, Some, is_some};
 ghost use Rattle.std.specs.FinMap.{get, insert, contains_key};
-ghost use Rattle.heap_core.specs.Layout.{IsBorn};
-ghost use Rattle.heap_core.specs.Sound.{AreStanding};
-ghost use Rattle.heap_core.specs.Learning.{tells, by_flat, all_frozen, justified, MayLearn};
+ghost use Rattle.heap_rule.specs.Layout.{IsBorn};
+ghost use Rattle.heap_rule.specs.Sound.{AreStanding};
+ghost use Rattle.heap_rule.specs.Learning.{tells, by_flat, all_frozen, justified, MayLearn};
 ghost use Rattle.heap_core.specs.Loading.{loaded_by, IsHeaderLoad, HasRoom};
 
 use crate::contents;
-use crate::maps::IdMap;
-use crate::size::HeapSize;
-use crate::view::View;
+use heap_rule::{HeapSize, IdMap, View};
 use js_header::Form;
 use js_units::words_for;
 
@@ -40,24 +38,22 @@ pub(crate) fn header_load(size: HeapSize, words: &[u64], id: u32, length: bool) 
     Load::SeenForm { id, form: found.0 }
 }
 
-impl<X: Copy> IdMap<X> {
-    /// What the key has once `value` stands at `at`.
-    fn get_with(&self, key: u32, at: u32, value: X) -> Option<X>
-        ensures { result ≡ get (insert self.now at value) key }
-    {
-        if key == at {
-            return Some(value);
-        }
-        self.get_copy(key)
+/// What the key has once `value` stands at `at`.
+fn get_with<X: Copy>(map: &IdMap<X>, key: u32, at: u32, value: X) -> Option<X>
+    ensures { result ≡ get (insert map.now at value) key }
+{
+    if key == at {
+        return Some(value);
     }
+    get_copy(map, key)
+}
 
-    fn get_copy(&self, key: u32) -> Option<X>
-        ensures { result ≡ get self.now key }
-    {
-        match self.get(key) {
-            Some(found) => Some(*found),
-            None => None,
-        }
+fn get_copy<X: Copy>(map: &IdMap<X>, key: u32) -> Option<X>
+    ensures { result ≡ get map.now key }
+{
+    match map.get(key) {
+        Some(found) => Some(*found),
+        None => None,
     }
 }
 
@@ -67,10 +63,10 @@ impl Load {
         ensures { result ≡ get (loaded_by view.now self.now).forms id }
     {
         match *self {
-            Load::SeenForm { id: at, form } => view.forms.get_with(id, at, form),
-            Load::SeenLength { id: _, length: _ } => view.forms.get_copy(id),
-            Load::SeenWord { at: _, word: _ } => view.forms.get_copy(id),
-            Load::Own => view.forms.get_copy(id),
+            Load::SeenForm { id: at, form } => get_with(&view.forms, id, at, form),
+            Load::SeenLength { id: _, length: _ } => get_copy(&view.forms, id),
+            Load::SeenWord { at: _, word: _ } => get_copy(&view.forms, id),
+            Load::Own => get_copy(&view.forms, id),
         }
     }
 
@@ -79,10 +75,10 @@ impl Load {
         ensures { result ≡ get (loaded_by view.now self.now).lengths id }
     {
         match *self {
-            Load::SeenForm { id: _, form: _ } => view.lengths.get_copy(id),
-            Load::SeenLength { id: at, length } => view.lengths.get_with(id, at, length),
-            Load::SeenWord { at: _, word: _ } => view.lengths.get_copy(id),
-            Load::Own => view.lengths.get_copy(id),
+            Load::SeenForm { id: _, form: _ } => get_copy(&view.lengths, id),
+            Load::SeenLength { id: at, length } => get_with(&view.lengths, id, at, length),
+            Load::SeenWord { at: _, word: _ } => get_copy(&view.lengths, id),
+            Load::Own => get_copy(&view.lengths, id),
         }
     }
 
@@ -93,7 +89,7 @@ impl Load {
         match *self {
             Load::SeenForm { id: _, form: _ } => view.frozen.contains_key(at),
             Load::SeenLength { id: _, length: _ } => view.frozen.contains_key(at),
-            Load::SeenWord { at: place, word } => view.frozen.get_with(at, place, word).is_some(),
+            Load::SeenWord { at: place, word } => get_with(&view.frozen, at, place, word).is_some(),
             Load::Own => view.frozen.contains_key(at),
         }
     }

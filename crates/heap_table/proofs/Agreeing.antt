@@ -7,18 +7,18 @@ use Rattle.std.specs.FinMap.{FinMap}
 use Rattle.js_header.specs.Form.{form_of}
 use Rattle.js_header.specs.declared.form.Form.{Form}
 use Rattle.js_header.specs.declared.form.Form.TheVariants.{Flat}
-use Rattle.heap_core.specs.declared.view.View.{View}
-use Rattle.heap_core.specs.declared.size.HeapSize.{HeapSize}
-use Rattle.heap_core.specs.Layout.{content, form, length_word, slot, IsBorn}
-use Rattle.heap_core.specs.Contents.{units_of}
-use Rattle.heap_core.specs.Maps.{Has, HasKey, upper_one}
-use Rattle.heap_core.specs.Forms.{IsLater, later_form}
-use Rattle.heap_core.specs.Agents.{joined, spent}
-use Rattle.heap_core.specs.Events.{IsBuilt}
-use Rattle.heap_core.specs.Sound.{At, IsSound, IsPossible, Knows, KnowsForm, OwnsIds, OwnsWords}
-use Rattle.heap_core.proofs.MapLemmas.{has_key, key_of}
-use Rattle.heap_core.proofs.ListLemmas.{set_else, set_there}
-use Rattle.heap_core.proofs.Joining.{keeps_joined, laid_keeps, laid_takes}
+use Rattle.heap_rule.specs.declared.view.View.{View}
+use Rattle.heap_rule.specs.declared.size.HeapSize.{HeapSize}
+use Rattle.heap_rule.specs.Layout.{content, form, length_word, slot, IsBorn}
+use Rattle.heap_rule.specs.Contents.{units_of}
+use Rattle.heap_rule.specs.Maps.{Has, HasKey, upper_one}
+use Rattle.heap_rule.specs.Forms.{IsLater, later_form}
+use Rattle.heap_rule.specs.Agents.{joined, spent}
+use Rattle.heap_rule.specs.Forms.{IsBuilt}
+use Rattle.heap_rule.specs.Sound.{At, IsSound, IsPossible, Knows, KnowsForm, OwnsIds, OwnsWords}
+use Rattle.heap_rule.proofs.MapLemmas.{has_key, key_of}
+use Rattle.heap_rule.proofs.ListLemmas.{set_else, set_there}
+use Rattle.heap_rule.proofs.Joining.{keeps_joined, laid_keeps, laid_takes}
 use Rattle.heap_table.specs.Rule.{AreBuilt}
 use Rattle.heap_table.specs.Known.{KeepsKnown, HasAll}
 use Rattle.heap_table.specs.Taken.{same_number, fits_form, has_all, agree, taken}

@@ -9,18 +9,18 @@ use Rattle.js_header.specs.Form.{form_of, word_of}
 use Rattle.js_header.specs.declared.form.Form.{Form}
 use Rattle.js_header.specs.declared.form.Form.TheVariants.{Unborn, Flat, Cons, Sliced, Thin}
 use Rattle.js_header.proofs.RoundTrip.{form_of-word_of}
-use Rattle.heap_core.specs.declared.view.View.{View}
-use Rattle.heap_core.specs.declared.size.HeapSize.{HeapSize}
-use Rattle.heap_core.specs.Layout.{form_at, form, length_word, word_count, IsBorn}
-use Rattle.heap_core.specs.Maps.{Has, HasKey}
-use Rattle.heap_core.specs.Forms.{IsCons, IsLater}
-use Rattle.heap_core.specs.Learning.{justified, learn_one, learn_into, learned_all, all_named}
-use Rattle.heap_core.specs.Loads.{with_form, added_loads, loaded_form, loaded_length, loaded_word}
-use Rattle.heap_core.specs.Births.{born, units_for}
-use Rattle.heap_core.specs.Events.{IsBuilt}
-use Rattle.heap_core.specs.Sound.{At, IsSound}
-use Rattle.heap_core.proofs.MapLemmas.{insert_same, insert_other, has_key, key_of}
-use Rattle.heap_core.proofs.ListLemmas.{set_there}
+use Rattle.heap_rule.specs.declared.view.View.{View}
+use Rattle.heap_rule.specs.declared.size.HeapSize.{HeapSize}
+use Rattle.heap_rule.specs.Layout.{form_at, form, length_word, word_count, IsBorn}
+use Rattle.heap_rule.specs.Maps.{Has, HasKey}
+use Rattle.heap_rule.specs.Forms.{IsCons, IsLater}
+use Rattle.heap_rule.specs.Learning.{justified, learn_one, learn_into, learned_all, all_named}
+use Rattle.heap_rule.specs.Loads.{with_form, added_loads, loaded_form, loaded_length, loaded_word}
+use Rattle.heap_rule.specs.Births.{born, units_for}
+use Rattle.heap_rule.specs.Forms.{IsBuilt}
+use Rattle.heap_rule.specs.Sound.{At, IsSound}
+use Rattle.heap_rule.proofs.MapLemmas.{insert_same, insert_other, has_key, key_of}
+use Rattle.heap_rule.proofs.ListLemmas.{set_there}
 use Rattle.heap_table.specs.Known.{KeepsKnown}
 use Rattle.heap_table.specs.Rule.{AreBuilt}
 

@@ -2,10 +2,10 @@
 use Rattle.std.specs.Prelude.{◌≡◌, ℕ, Bool, false, List}
 use Rattle.js_header.specs.declared.form.Form.{Form}
 use Rattle.js_header.specs.declared.form.Form.TheVariants.{Flat}
-use Rattle.heap_core.specs.declared.view.View.{View}
-use Rattle.heap_core.specs.Maps.{Has, HasKey}
-use Rattle.heap_core.specs.Forms.{is_later}
-use Rattle.heap_core.specs.Views.{IsKnown, IsSettled}
+use Rattle.heap_rule.specs.declared.view.View.{View}
+use Rattle.heap_rule.specs.Maps.{Has, HasKey}
+use Rattle.heap_rule.specs.Forms.{is_later}
+use Rattle.heap_rule.specs.Views.{IsKnown, IsSettled}
 
 pub record KeepsKnown (v w : View) : Type 0 where
   pub units : (i : ℕ) (us : List ℕ) → Has v.units i us → Has w.units i us

@@ -4,18 +4,18 @@ use Rattle.std.specs.Prelude.{Some, ◌≡◌, ℕ, ◌+◌, ◌<◌, ◌≤◌}
 use Rattle.atomic_table.specs.Table.{Step, Me}
 use Rattle.js_header.specs.Form.{IsInRange, form_of, word_of}
 use Rattle.js_header.specs.declared.form.Form.{Form}
-use Rattle.heap_core.specs.declared.view.View.{View}
-use Rattle.heap_core.specs.declared.size.Counter.{Counter}
-use Rattle.heap_core.specs.declared.size.Counter.TheVariants.{Ids}
-use Rattle.heap_core.specs.Layout.{counter_at, end_of, content_at, form_at, length_at, MAX, count_in}
-use Rattle.heap_core.specs.Views.{IsKnown, shown}
-use Rattle.heap_core.specs.Claims.{loaded_counter, claimed}
-use Rattle.heap_core.specs.Births.{stored_word, stored_length, born}
-use Rattle.heap_core.specs.Loads.{loaded_form, loaded_length, loaded_word}
-use Rattle.heap_core.specs.Learning.{learned_all}
-use Rattle.heap_core.specs.Agents.{noted}
-use Rattle.heap_core.specs.Events.{IsBuilt}
-use Rattle.heap_core.specs.Sound.{IsPossible}
+use Rattle.heap_rule.specs.declared.view.View.{View}
+use Rattle.heap_rule.specs.declared.size.Counter.{Counter}
+use Rattle.heap_rule.specs.declared.size.Counter.TheVariants.{Ids}
+use Rattle.heap_rule.specs.Layout.{counter_at, end_of, content_at, form_at, length_at, MAX, count_in}
+use Rattle.heap_rule.specs.Views.{IsKnown, shown}
+use Rattle.heap_rule.specs.Claims.{loaded_counter, claimed}
+use Rattle.heap_rule.specs.Births.{stored_word, stored_length, born}
+use Rattle.heap_rule.specs.Loads.{loaded_form, loaded_length, loaded_word}
+use Rattle.heap_rule.specs.Learning.{learned_all}
+use Rattle.heap_rule.specs.Agents.{noted}
+use Rattle.heap_rule.specs.Forms.{IsBuilt}
+use Rattle.heap_rule.specs.Sound.{IsPossible}
 use Rattle.heap_table.specs.Known.{KeepsKnown}
 
 -- a seat: its view, and the slots that it holds, of which there are none

@@ -1,8 +1,8 @@
 // Claims on the two counters.
 ghost use Rattle.std.specs.Prelude.{◌≡◌, ℕ, ◌+◌, ◌*◌, ◌≤◌, ◌<◌, IfOk, IfErr};
-ghost use Rattle.heap_core.specs.Layout.{count_in, end_of};
-ghost use Rattle.heap_core.specs.Views.{IsKnown};
-ghost use Rattle.heap_core.specs.Claims.{loaded_counter, MayClaim, claimed, won_claim};
+ghost use Rattle.heap_rule.specs.Layout.{count_in, end_of};
+ghost use Rattle.heap_rule.specs.Views.{IsKnown};
+ghost use Rattle.heap_rule.specs.Claims.{loaded_counter, MayClaim, claimed, won_claim};
 ghost use Rattle.heap_table.specs.Agents.{Belongs, view_of, size_of};
 ghost use Rattle.heap_table.specs.Plays.{FoundCounter};
 ghost use Rattle.heap_table.specs.Full.{IsFull};
@@ -10,7 +10,7 @@ ghost use Rattle.heap_table.specs.Full.{IsFull};
 use crate::agent::Agent;
 use crate::heap::Heap;
 use crate::rule::{Claims, LoadsCounter};
-use heap_core::Counter;
+use heap_rule::Counter;
 
 /// A counter that has no room: it stood at `at`, and `want` more pass `end`.
 #[derive(Clone, Copy, Debug, PartialEq, Eq)]

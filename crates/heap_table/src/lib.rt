@@ -18,6 +18,3 @@ pub use claims::CounterFull;
 pub use heap::{Heap, MakeFault};
 pub use rule::{HeapKey, HeapRule};
 pub use stores::Step;
-
-#[cfg(test)]
-mod tests;

@@ -4,13 +4,13 @@ use mathlib.Core.Logic.{dite}
 use native.Mathlib.Decide.{ℕ_discrete}
 use Rattle.std.specs.FinMap.{FinMap, get, insert}
 use Rattle.std.specs.Ordering.{nat_cmp}
-use Rattle.heap_core.specs.declared.view.View.{View}
-use Rattle.heap_core.specs.declared.size.Counter.TheVariants.{Ids, Words}
-use Rattle.heap_core.specs.declared.size.Counters.{Counters}
-use Rattle.heap_core.specs.Maps.{HasKey, with_run}
-use Rattle.heap_core.specs.Claims.{loaded_counter, won_claim}
-use Rattle.heap_core.specs.Births.{stored_word, stored_length}
-use Rattle.heap_core.proofs.MapLemmas.{has_key, key_of, insert_same, insert_other}
+use Rattle.heap_rule.specs.declared.view.View.{View}
+use Rattle.heap_rule.specs.declared.size.Counter.TheVariants.{Ids, Words}
+use Rattle.heap_rule.specs.declared.size.Counters.{Counters}
+use Rattle.heap_rule.specs.Maps.{HasKey, with_run}
+use Rattle.heap_rule.specs.Claims.{loaded_counter, won_claim}
+use Rattle.heap_rule.specs.Births.{stored_word, stored_length}
+use Rattle.heap_rule.proofs.MapLemmas.{has_key, key_of, insert_same, insert_other}
 use Rattle.heap_table.specs.Known.{KeepsKnown}
 use Rattle.heap_text.specs.Texts.{Reads, Continues}
 use Rattle.heap_text.specs.Written.{AreWords, IsWordOf}

@@ -3,11 +3,11 @@ use Rattle.std.proofs.Common.{◌≡◌, ℕ, ◌⊎◌, inl, inr, Bool, true, f
 use Rattle.std.specs.FinMap.{contains_key, insert}
 use Rattle.js_header.specs.Form.{form_of}
 use Rattle.js_header.specs.declared.form.Form.{Form}
-use Rattle.heap_core.specs.declared.view.View.{View}
-use Rattle.heap_core.specs.Maps.{HasKey}
-use Rattle.heap_core.specs.Loads.{with_form, loaded_form, loaded_length, loaded_word}
-use Rattle.heap_core.specs.Learning.{learned_all}
-use Rattle.heap_core.proofs.MapLemmas.{insert_same, key_of}
+use Rattle.heap_rule.specs.declared.view.View.{View}
+use Rattle.heap_rule.specs.Maps.{HasKey}
+use Rattle.heap_rule.specs.Loads.{with_form, loaded_form, loaded_length, loaded_word}
+use Rattle.heap_rule.specs.Learning.{learned_all}
+use Rattle.heap_rule.proofs.MapLemmas.{insert_same, key_of}
 use Rattle.heap_table.specs.Known.{KeepsKnown}
 use Rattle.heap_text.specs.Texts.{Reads}
 

@@ -3,10 +3,10 @@ use Rattle.std.proofs.lemmas.Map.Iter.{rest_more, rest_all}
 use Rattle.std.specs.Map.Iter.{deref_pair}
 use Rattle.std.specs.FinMap.{get}
 use Rattle.heap_core.specs.declared.load.Load.{Load}
-use Rattle.heap_core.specs.Maps.{Has}
-use Rattle.heap_core.specs.Learning.{tells}
+use Rattle.heap_rule.specs.Maps.{Has}
+use Rattle.heap_rule.specs.Learning.{tells}
 use Rattle.heap_core.specs.Loading.{loaded_by}
-use Rattle.heap_core.proofs.MapLemmas.{insert_other}
+use Rattle.heap_rule.proofs.MapLemmas.{insert_other}
 use Rattle.heap_core.proofs.Searches.{search_start, search_next, search_none}
 use Rattle.heap_core.proofs.Justified.{none_told, one_told}
 use Rattle.heap_core.proofs.load.Load.any_tells.Goals as goal

@@ -1,6 +1,6 @@
 use Rattle.std.proofs.Common.{IsTrue}
 use Rattle.std.specs.FinMap.{get}
-use Rattle.heap_core.specs.Learning.{tells}
+use Rattle.heap_rule.specs.Learning.{tells}
 use Rattle.heap_core.specs.Loading.{loaded_by}
 use Rattle.heap_core.proofs.Searches.{Searching}
 use Rattle.heap_core.proofs.load.Load.any_tells.Given as goal

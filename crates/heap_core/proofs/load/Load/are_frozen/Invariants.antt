@@ -1,5 +1,5 @@
 use Rattle.std.proofs.Common.{◌≡◌, ◌+◌}
-use Rattle.heap_core.specs.Learning.{all_frozen}
+use Rattle.heap_rule.specs.Learning.{all_frozen}
 use Rattle.heap_core.specs.Loading.{loaded_by}
 use Rattle.heap_core.proofs.load.Load.are_frozen.Given as goal
 

@@ -1,6 +1,6 @@
 use Rattle.std.proofs.Common.{◌≡◌, ◌-◌, ◌<◌, ℕ, length, get_or}
 use Rattle.std.specs.Prelude.{IsSome}
-use Rattle.heap_core.specs.Learning.{justified}
+use Rattle.heap_rule.specs.Learning.{justified}
 use Rattle.heap_core.specs.Loading.{loaded_by}
 use Rattle.heap_core.proofs.load.Load.justifies_all.Given as goal
 
