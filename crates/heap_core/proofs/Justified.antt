@@ -1,5 +1,5 @@
 -- When the units of a string follow from a view, and which they are.
-use Rattle.std.proofs.Common.{◌≡◌, ◌≢◌, ℕ, zero, suc, ◌+◌, ◌-◌, ◌<◌, ◌⊎◌, inl, inr, ⊎_elim, Bool, true, false, cond, List, [], ◌∷◌, map, sym, refl, ap, ◌∙◌, subst, arith, Option, Some, None, Result, Ok, Err, IsTrue, length, drop, get_or, ◌≤◌}
+use Rattle.std.proofs.Common.{◌≡◌, ◌≢◌, ℕ, zero, suc, ◌+◌, ◌-◌, ◌<◌, ◌⊎◌, inl, inr, ⊎_elim, Bool, true, false, List, [], ◌∷◌, sym, refl, ap, ◌∙◌, subst, arith, Option, Some, None, Result, Ok, Err, IsTrue, length, drop, get_or, ◌≤◌}
 use Rattle.std.specs.Prelude.{◌&&◌, ◌||◌, is_some, IsSome, IfOk}
 use Rattle.std.specs.List.{list_any}
 use Rattle.std.proofs.lemmas.List.{drop_more}
@@ -11,10 +11,9 @@ use Rattle.std.specs.Cmp.{unsigned_tied}
 use Rattle.std.specs.FinMap.{FinMap, get, keys, contains_key, contains_key-keys}
 use Rattle.std.proofs.Common.{ne_eqb}
 use Rattle.js_header.specs.declared.form.Form.{Form}
-use Rattle.js_header.specs.declared.form.Form.TheVariants.{Unborn, Flat, Cons, Sliced, Thin}
 use Rattle.heap_rule.specs.declared.view.View.{View}
 use Rattle.heap_core.specs.declared.load.Load.{Load}
-use Rattle.heap_rule.specs.Maps.{Has, HasKey, first_some, first_in}
+use Rattle.heap_rule.specs.Maps.{Has, first_some, first_in}
 use Rattle.heap_rule.specs.Learning.{by_thin, by_cons, by_flat, all_frozen, justified, tells, learn_one, learn_into}
 use Rattle.heap_core.specs.Loading.{loaded_by}
 use Rattle.heap_rule.proofs.MapLemmas.{key_of}

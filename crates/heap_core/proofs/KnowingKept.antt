@@ -1,5 +1,5 @@
 -- Splitting, joining and loading keep the rule: they change what views know, and no word.
-use Rattle.std.proofs.Common.{◌≡◌, ℕ, Bool, true, false, cond, List, [], ◌∷◌, ◌++◌, get_or, set, sym, refl, ap, ◌∙◌, subst}
+use Rattle.std.proofs.Common.{◌≡◌, ℕ, Bool, true, false, cond, List, [], ◌∷◌, ◌++◌, get_or, set, sym, refl, ◌∙◌, subst}
 use Rattle.std.specs.FinMap.{insert, contains_key}
 use Rattle.heap_rule.specs.declared.view.View.{View}
 use Rattle.heap_rule.specs.Layout.{form_at, length_at, content_at}

@@ -2,28 +2,27 @@
 use Rattle.std.proofs.Common.{◌≡◌, ℕ, ◌+◌, ◌<◌, Bool, true, false, cond, List, [], ◌∷◌, ◌++◌, length, get_or, set, zero, suc, eqb, eqb-true, ne_eqb, arith, Option, Some, None, sym, refl, ap, ◌∙◌, subst}
 use Rattle.std.specs.Prelude.{unwrap_or}
 use Rattle.std.proofs.lemmas.List.{set-get_or}
-use Rattle.std.specs.FinMap.{get, insert, contains_key}
+use Rattle.std.specs.FinMap.{get, insert}
 use Rattle.js_units.specs.Lanes.{words_over}
 use Rattle.js_header.specs.Form.{word_of, form_of}
 use Rattle.js_header.specs.declared.form.Form.{Form}
 use Rattle.js_header.specs.declared.form.Form.TheVariants.{Unborn, Flat, Cons, Sliced, Thin}
 use Rattle.heap_rule.specs.declared.view.View.{View}
 use Rattle.heap_rule.specs.declared.size.HeapSize.{HeapSize}
-use Rattle.heap_rule.specs.Layout.{form_at, length_at, content_at, slot_at}
+use Rattle.heap_rule.specs.Layout.{form_at, slot_at}
 use Rattle.heap_rule.specs.Maps.{Has}
 use Rattle.heap_rule.specs.Paths.{rank}
 use Rattle.heap_rule.specs.Learning.{learned}
-use Rattle.heap_rule.specs.Loads.{loaded_form, loaded_length, loaded_word}
 use Rattle.heap_rule.specs.Births.{freeze, Fits, born_with, born}
 use Rattle.heap_rule.specs.HeaderMoves.{seen_form, MayFlatten, flattened, MayThin, thinned}
 use Rattle.heap_rule.specs.Slots.{with_slot, loaded_slot, Differs, MayTakeSlot, took_slot}
-use Rattle.heap_rule.specs.Agents.{spent, joined, left_after_split, right_after_split}
+use Rattle.heap_rule.specs.Agents.{spent}
 use Rattle.heap_rule.specs.Sound.{At, IsSound}
 use Rattle.heap_core.specs.Core.{Core, core}
 use Rattle.heap_core.specs.Events.{IsSoundCore, Kept, view_at}
 use Rattle.heap_core.specs.Later.{FlatteningKeeps, ThinningKeeps, LoadingSlotsKeeps, TakingSlotsKeeps, BirthsKeep}
 use Rattle.heap_rule.proofs.ListLemmas.{at_index, set_there}
-use Rattle.heap_core.proofs.KnowingKept.{still, then_learns}
+use Rattle.heap_core.proofs.KnowingKept.{then_learns}
 use Rattle.heap_rule.proofs.Splitting.{set_twice, keeps_learned}
 use Rattle.heap_rule.proofs.Flattening.{keeps_flattening, agrees_flattening}
 use Rattle.heap_rule.proofs.Thinning.{keeps_thinning, agrees_thinning}

@@ -1,21 +1,17 @@
 -- What the executable loads do to the machine, as plain data.
-use Rattle.std.proofs.Common.{◌≡◌, ℕ, ◌+◌, ◌^◌, ◌<◌, ◌≤◌, ⊎_elim, Bool, true, false, List, [], length, get_or, set, sym, refl, ap, ◌∙◌, subst, arith, IsTrue, Option, Some, Result, Ok, Err}
+use Rattle.std.proofs.Common.{◌≡◌, ℕ, ◌<◌, ◌≤◌, ⊎_elim, Bool, true, false, List, [], length, get_or, set, sym, ap, ◌∙◌, subst, arith, IsTrue, Some, Result, Ok, Err}
 use mathlib.Core.Option.{some-injective}
 use Rattle.js_units.specs.Lanes.{words_over}
-use Rattle.js_header.specs.Form.{form_of}
-use Rattle.js_header.specs.declared.form.Form.{Form}
 use Rattle.js_header.specs.declared.form.Form.TheVariants.{Flat}
 use Rattle.std.specs.Global.{Vec}
 use Rattle.heap_rule.specs.declared.view.View.{View}
 use Rattle.heap_core.specs.declared.load.Load.{Load}
-use Rattle.heap_core.specs.declared.load.Load.TheVariants.{SeenForm, SeenLength, SeenWord, Own}
 use Rattle.heap_rule.specs.declared.size.HeapSize.{HeapSize}
 use Rattle.heap_core.specs.declared.event.Refusal.{Refusal}
 use Rattle.heap_core.specs.declared.event.Refusal.TheVariants.{NotEnabled, Memory}
 use Rattle.heap_core.specs.declared.event.Event.TheVariants.{LoadHeader, LoadWord}
-use Rattle.heap_rule.specs.Layout.{MAX, IsLawful, IsBorn, form, length_word, form_at, length_at, content_at, content}
-use Rattle.heap_rule.specs.Maps.{Has, HasKey}
-use Rattle.heap_rule.specs.Views.{IsKnown, IsFrozen}
+use Rattle.heap_rule.specs.Layout.{IsLawful, IsBorn, form, length_word, form_at, length_at, content_at, content}
+use Rattle.heap_rule.specs.Views.{IsKnown}
 use Rattle.heap_rule.specs.Learning.{learned, MayLearn}
 use Rattle.heap_rule.specs.Loads.{with_form, added_loads, loaded_form, loaded_length, MayLoadWord, loaded_word}
 use Rattle.heap_core.specs.Loading.{loaded_by, IsHeaderLoad, HasRoom}

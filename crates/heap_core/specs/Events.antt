@@ -1,8 +1,6 @@
 -- The machine: where each event may come, and what it does. An event is one atomic step of one agent on one word, but for the making of the heap.
 use Rattle.std.specs.Prelude.{◌≡◌, ◌≢◌, ℕ, ◌+◌, ◌<◌, ◌≤◌, ◌⊎◌, ◌==◌, Bool, true, false, if◌then◌else◌, List, [], ◌∷◌, ◌++◌, slice_index, slice_index_or, slice_set, replicate, Result, Ok, Err}
 use Rattle.js_header.specs.Form.{word_of}
-use Rattle.js_header.specs.declared.form.Form.{Form}
-use Rattle.js_header.specs.declared.form.Form.TheVariants.{Flat}
 use Rattle.heap_rule.specs.declared.view.View.{View}
 use Rattle.heap_rule.specs.declared.size.HeapSize.{HeapSize}
 use Rattle.heap_core.specs.declared.event.Refusal.{Refusal}

@@ -1,7 +1,7 @@
 ghost use Rattle.std.specs.Prelude.{◌≡◌};
 
-use heap_table::{Agent, CounterFull, Heap, MakeFault};
 use heap_rule::HeapSize;
+use heap_table::{Agent, CounterFull, Heap, MakeFault};
 use std::mem::size_of;
 use std::thread::join_mut;
 

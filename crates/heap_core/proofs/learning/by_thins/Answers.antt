@@ -1,9 +1,9 @@
 use Rattle.std.proofs.Common.{◌∙◌, ap, sym, rules}
-use Rattle.std.proofs.lemmas.Map.Iter.{rest_more, rest_all}
+use Rattle.std.proofs.lemmas.Map.Iter.{rest_more}
 use Rattle.std.specs.Map.Iter.{deref_pair}
 use Rattle.std.specs.Option.{option_copied}
 use Rattle.heap_rule.specs.Learning.{by_thin}
-use Rattle.heap_core.proofs.Searches.{seek_start, seek_next, seek_hit, seek_none}
+use Rattle.heap_core.proofs.Searches.{seek_start, seek_next}
 use Rattle.heap_core.proofs.learning.by_thins.Goals as goal
 
 pub loop-other-init : goal.loop-other-init

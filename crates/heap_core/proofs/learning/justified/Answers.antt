@@ -1,5 +1,4 @@
-use Rattle.std.proofs.Common.{◌≡◌, ◌∙◌, ap, sym, rules, List, ℕ, Option, Some}
-use Rattle.std.specs.Prelude.{IfOk}
+use Rattle.std.proofs.Common.{◌∙◌, ap, sym, rules, Some}
 use Rattle.std.specs.Option.{option_copied}
 use Rattle.heap_core.proofs.Justified.{by_thins, by_conses, by_itself, if_ok_same}
 use Rattle.heap_core.proofs.learning.justified.Goals as goal

@@ -1,4 +1,4 @@
-use Rattle.std.proofs.Common.{◌≡◌, ◌∙◌, sym}
+use Rattle.std.proofs.Common.{◌∙◌}
 use Rattle.heap_core.proofs.FrozenWords.{load_by}
 use Rattle.heap_core.proofs.learning.may_load_word.Goals as goal
 

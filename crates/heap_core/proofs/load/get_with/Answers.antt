@@ -1,4 +1,4 @@
-use Rattle.std.proofs.Common.{◌∙◌, ap, sym, rules}
+use Rattle.std.proofs.Common.{◌∙◌, ap, sym}
 use Rattle.std.specs.FinMap.{get, insert}
 use Rattle.heap_rule.proofs.MapLemmas.{insert_same, insert_other}
 use Rattle.heap_core.proofs.load.get_with.Goals as goal

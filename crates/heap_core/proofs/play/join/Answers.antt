@@ -1,4 +1,4 @@
-use Rattle.std.proofs.Common.{◌+◌, ◌<◌, ◌^◌, ◌∙◌, length, get_or, refl, sym, subst, rules, arith}
+use Rattle.std.proofs.Common.{◌+◌, ◌<◌, ◌^◌, ◌∙◌, get_or, refl, sym, subst, arith}
 use Rattle.std.proofs.lemmas.List.{length-set}
 use Rattle.heap_rule.specs.declared.view.View.{View}
 use Rattle.heap_core.specs.Core.{core}

@@ -1,7 +1,6 @@
-use Rattle.std.proofs.Common.{◌≡◌, ◌<◌, ◌∙◌, List, length, get_or, refl, sym, subst, rules}
+use Rattle.std.proofs.Common.{◌∙◌, get_or, refl, sym}
 use Rattle.heap_core.specs.Core.{core}
 use Rattle.heap_rule.specs.Views.{IsKnown}
-use Rattle.heap_rule.specs.Loads.{MayLoadWord}
 use Rattle.heap_core.proofs.StateLemmas.{view_inside}
 use Rattle.heap_core.proofs.LoadSteps.{known_stands, known_inside, header_room, header_done, place_inside}
 use Rattle.heap_rule.proofs.ListLemmas.{at_index}

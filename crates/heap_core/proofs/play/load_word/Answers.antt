@@ -1,6 +1,5 @@
-use Rattle.std.proofs.Common.{◌≡◌, ◌<◌, ◌∙◌, List, length, get_or, refl, sym, subst, rules}
+use Rattle.std.proofs.Common.{◌<◌, ◌∙◌, length, get_or, refl, sym, subst}
 use Rattle.heap_core.specs.Core.{core}
-use Rattle.heap_rule.specs.Views.{IsKnown}
 use Rattle.heap_rule.specs.Loads.{MayLoadWord}
 use Rattle.heap_core.proofs.StateLemmas.{view_inside}
 use Rattle.heap_core.proofs.LoadSteps.{may_word, word_inside, word_room, word_done}

@@ -1,7 +1,6 @@
-use Rattle.std.proofs.Common.{◌≡◌, ◌<◌, ◌∙◌, List, length, get_or, refl, sym, subst, rules}
+use Rattle.std.proofs.Common.{refl, sym}
 use Rattle.heap_core.specs.Core.{core}
 use Rattle.heap_rule.specs.Views.{IsKnown}
-use Rattle.heap_rule.specs.Loads.{MayLoadWord}
 use Rattle.heap_core.proofs.StateLemmas.{view_inside}
 use Rattle.heap_core.proofs.LoadSteps.{live_here, known_stands, header_room, header_not_live, header_not_known, header_if}
 use Rattle.heap_core.proofs.play.may_load_header.Goals as goal

@@ -1,4 +1,4 @@
-use Rattle.std.proofs.Common.{◌+◌, ◌≡◌, ◌∙◌, sym, arith}
+use Rattle.std.proofs.Common.{◌∙◌, sym, arith}
 use Rattle.heap_core.specs.Loading.{loaded_by}
 use Rattle.heap_core.proofs.Justified.{frozen_next}
 use Rattle.heap_core.proofs.load.Load.are_frozen.Goals as goal

@@ -1,4 +1,4 @@
-use Rattle.std.proofs.Common.{◌≡◌, ◌-◌, ◌<◌, ℕ, length, get_or}
+use Rattle.std.proofs.Common.{◌-◌, ◌<◌, ℕ, length, get_or}
 use Rattle.std.specs.Prelude.{IsSome}
 use Rattle.heap_rule.specs.Learning.{justified}
 use Rattle.heap_core.specs.Loading.{loaded_by}
