@@ -1,8 +1,4 @@
-pub mod Searches
 pub mod StateLemmas
-pub mod KindLemmas
-pub mod Justified
-pub mod FrozenWords
 pub mod KnowingKept
 pub mod LoadSteps
 pub mod Kept
@@ -10,3 +6,4 @@ pub mod LaterKept
 pub mod EveryRun
 pub mod Entries
 pub mod Reading
+pub mod EventSteps

@@ -1,4 +1,5 @@
-pub mod Loading
 pub mod Core
 pub mod Events
+pub mod Headers
+pub mod Steps
 pub mod Later

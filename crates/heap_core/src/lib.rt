@@ -7,16 +7,11 @@
 //! definitions are in `specs/`, in reading order. Nothing here runs in threads.
 #![tactic(auto)]
 
-mod agents;
-mod births;
-mod claims;
 mod contents;
 mod event;
-mod learning;
-mod load;
 mod play;
 mod state;
 
 pub use event::{Event, Refusal};
 pub use heap_rule::{Counter, Counters, HeapSize, History, IdMap, MAX, View};
-pub use state::{CoreState, apply, enabled, every_later_kind, every_run};
+pub use state::{CoreState, apply, enabled, every_event, every_later_kind, every_run};

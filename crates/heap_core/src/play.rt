@@ -14,9 +14,9 @@ ghost use Rattle.heap_rule.specs.Agents.{first_view, MayJoin};
 ghost use Rattle.heap_core.specs.declared.event.Event.TheVariants as event;
 
 use crate::event::{Event, Refusal};
-use crate::load::header_load;
-use crate::{agents, births, claims, learning};
+use crate::contents::header_load;
 use heap_rule::{Counter, HeapSize, View};
+use heap_views::{agents, births, claims, learning};
 use js_header::{Form, encode};
 use js_units::NoMemory;
 use std::alloc::Global;

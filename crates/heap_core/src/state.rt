@@ -3,6 +3,7 @@ ghost use Rattle.std.specs.Prelude.{◌≡◌, ◌↔◌, List, ℕ, IsTrue, IfO
 ghost use Rattle.heap_rule.specs.Layout.{IsBorn};
 ghost use Rattle.heap_rule.specs.Contents.{units_of};
 ghost use Rattle.heap_core.specs.Events.{HasNoHeap, IsSoundCore, Enabled, after, found, KeepsUnits, BornBy, HasEntry, RunsAreSound, MadeRunsAreSound, RunsKeepUnits, RunsAreLegal};
+ghost use Rattle.heap_core.specs.Steps.{EventsAreSteps};
 ghost use Rattle.heap_core.specs.Later.{FlatteningKeeps, ThinningKeeps, LoadingSlotsKeeps, TakingSlotsKeeps, BirthsKeep};
 ghost use Rattle.heap_core.specs.declared.event.Refusal.TheVariants as refusal;
 
@@ -173,6 +174,13 @@ pub fn every_run()
     ensures made { MadeRunsAreSound }
     ensures units { RunsKeepUnits }
     ensures legal { RunsAreLegal }
+{}
+
+/// What each event on a word does to the machine is what its kind of step does to that word and to
+/// the agent's view, wherever it is enabled. The steps of the running heap are of the same kinds.
+/// The call does nothing.
+pub fn every_event()
+    ensures { EventsAreSteps }
 {}
 
 /// Each kind of event that the machine does not play yet keeps the rule and the units of every

@@ -152,6 +152,13 @@ module _ (z : HeapSize) (agents : ℕ) (W : List ℕ) (vs : List View) (s : IsSo
   kept_now : (c : ℕ) → start ≤ c → c < start + words_over wide (length_word z W' i) → IsKept W' vs' c
   kept_now c lo hi = kept c lo (subst (λ (m : ℕ). c < start + words_over wide m) length_now hi)
 
+  zeros_now : (o : ℕ) → length_word z W' i ≤ o → o < words_over wide (length_word z W' i) * lane_count wide → lane_in (content z W') wide start o ≡ 0
+  zeros_now o lo hi = let hi' : o < words_over wide n * lane_count wide = subst (λ (m : ℕ). o < words_over wide m * lane_count wide) length_now hi in
+      sym (lane_now wide o hi' shown_is) ∙ fits.2 o (subst (λ (m : ℕ). m ≤ o) length_now lo) hi'
+
+  narrow_now : IsNarrow wide (units_of z W' i)
+  narrow_now = subst (IsNarrow wide) (sym units_now) (narrow_span (content z W') wide start 0 (length_word z W' i))
+
   standing : IsStanding z W' vs' i
   standing = record {
     now = f;
@@ -159,12 +166,7 @@ module _ (z : HeapSize) (agents : ℕ) (W : List ℕ) (vs : List View) (s : IsSo
     below = (let a = ids_same in let b = mine.0 in omega arith);
     length_is = sym (ap length units_now ∙ length_span (content z W') wide start 0 (length_word z W' i));
     short = subst (λ (m : ℕ). m ≤ MAX) (sym length_now) mine.3;
-    stands = (
-      kept_now,
-      (λ o lo hi. let hi' : o < words_over wide n * lane_count wide = subst (λ (m : ℕ). o < words_over wide m * lane_count wide) length_now hi in
-          sym (lane_now wide o hi' shown_is) ∙ fits.2 o (subst (λ (m : ℕ). m ≤ o) length_now lo) hi'),
-      subst (IsNarrow wide) (sym units_now) (narrow_span (content z W') wide start 0 (length_word z W' i)),
-    );
+    stands = (kept_now, zeros_now, narrow_now);
   }
 
   moved_ids : (m : FinMap nat_cmp ℕ) → ((k : ℕ) → HasKey m k → k ≢ i) → OwnsIds z W m → OwnsIds z W' m
@@ -196,7 +198,7 @@ module _ (z : HeapSize) (agents : ℕ) (W : List ℕ) (vs : List View) (s : IsSo
     knows = record {
       of_met = k.of_met;
       of_units = λ q us h. ⊎_elim (λ (t : (q ≡ i) × (units_for v n f ≡ us)). (subst (IsBorn z W') (sym t.0) born_now, ap (units_of z W') t.0 ∙ (units_are ∙ t.1))) (λ (t : (q ≢ i) × Has v.units q us). k.of_units q us t.1) (has_insert v.units i q (units_for v n f) us h);
-      of_forms = λ q g h. ⊎_elim (λ (t : (q ≡ i) × (f ≡ g)). subst (λ (y : ℕ × Form). KnowsForm z W' vs' y.0 y.1) (λ d. (sym t.0 d, t.1 d)) record { born = born_now; now = f; decodes = decodes; later = inl refl; shows = (units_now, kept_now) })
+      of_forms = λ q g h. ⊎_elim (λ (t : (q ≡ i) × (f ≡ g)). subst (λ (y : ℕ × Form). KnowsForm z W' vs' y.0 y.1) (λ d. (sym t.0 d, t.1 d)) record { born = born_now; now = f; decodes = decodes; later = inl refl; shows = (units_now, kept_now, zeros_now, narrow_now) })
           (λ (t : (q ≢ i) × Has v.forms q g). k.of_forms q g t.1) (has_insert v.forms i q f g h);
       of_lengths = λ q m h. ⊎_elim (λ (t : (q ≡ i) × (n ≡ m)). (subst (IsBorn z W') (sym t.0) born_now, ap (λ (y : ℕ). length_word z W' y) t.0 ∙ (length_now ∙ t.1))) (λ (t : (q ≢ i) × Has v.lengths q m). k.of_lengths q m t.1) (has_insert v.lengths i q n m h);
       of_frozen = λ c x h. ⊎_elim (λ (t : (start ≤ c) × (c < start + words_over wide n) × Has v.own_words c x). (kept c t.0 t.1, contents c ∙ ((s.own_words j v at live).each c x t.2).1)) (λ t. k.of_frozen c x t) (has_frozen v.own_words v.frozen start (words_over wide n) c x h);

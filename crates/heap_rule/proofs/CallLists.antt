@@ -1,5 +1,5 @@
 -- Lists of calls that begin with one another.
-use Rattle.std.proofs.Common.{◌≡◌, ℕ, ◌+◌, ◌<◌, ◌≤◌, Bool, true, false, List, [], ◌∷◌, ◌++◌, append_assoc, length, take, drop, ◌-◌, get_or, sym, refl, ap, ◌∙◌, subst, arith, IsTrue}
+use Rattle.std.proofs.Common.{◌≡◌, ℕ, ◌+◌, ◌<◌, ◌≤◌, Bool, true, List, [], ◌∷◌, ◌++◌, append_assoc, length, take, drop, ◌-◌, get_or, sym, refl, ap, ◌∙◌, subst, IsTrue}
 use Rattle.std.proofs.lemmas.List.{drop_more, append_cancel_left, length-drop}
 use Rattle.std.proofs.Math.Seq.{drop-append_seam, take-length}
 use Rattle.std.proofs.Math.ListN.{drop_of_length-le}

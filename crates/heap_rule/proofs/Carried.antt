@@ -67,22 +67,29 @@ module _ (z : HeapSize) (W : List ℕ) (vs : List View) (stand : (i : ℕ) → I
   lane_kept true start o n h k = lane_same (content z W') (content z W) true start o (a.contents (start + o / 4) (k (start + o / 4) (omega arith) (omega arith)))
   lane_kept false start o n h k = lane_same (content z W') (content z W) false start o (a.contents (start + o / 8) (k (start + o / 8) (omega arith) (omega arith)))
 
+  lanes_then : (i : ℕ) (wide : Bool) (start : ℕ) → IsBorn z W i → ((c : ℕ) → start ≤ c → c < start + words_over wide (length_word z W i) → IsKept W vs c)
+      → ((o : ℕ) → length_word z W i ≤ o → o < words_over wide (length_word z W i) * lane_count wide → lane_in (content z W) wide start o ≡ 0)
+      → (o : ℕ) → length_word z W' i ≤ o → o < words_over wide (length_word z W' i) * lane_count wide → lane_in (content z W') wide start o ≡ 0
+  lanes_then i wide start b kept_words zeros o lo hi = let hi' : o < words_over wide (length_word z W i) * lane_count wide = subst (λ (n : ℕ). o < words_over wide n * lane_count wide) (a.lengths i b) hi in
+      lane_kept wide start o (length_word z W i) hi' kept_words ∙ zeros o (subst (λ (n : ℕ). n ≤ o) (a.lengths i b) lo) hi'
+
+  long_then : (i : ℕ) → IsBorn z W i → 13 ≤ length_word z W i → 13 ≤ length_word z W' i
+  long_then i b h = subst (λ (n : ℕ). 13 ≤ n) (sym (a.lengths i b)) h
+
+  some_then : (i : ℕ) → IsBorn z W i → 1 ≤ length (units_of z W i) → 1 ≤ length (units_of z W' i)
+  some_then i b h = subst (λ (u : List ℕ). 1 ≤ length u) (same i b) h
+
   stands_then : (i : ℕ) (f : Form) → IsBorn z W i → Stands z W vs i f → Stands z W' vs' i f
   stands_then i Unborn b s = absurd s
-  stands_then i (Flat wide start fixed) b s = (
-    kept_span i wide start b s.0,
-    (λ o lo hi. let hi' : o < words_over wide (length_word z W i) * lane_count wide = subst (λ (n : ℕ). o < words_over wide n * lane_count wide) (a.lengths i b) hi in
-        lane_kept wide start o (length_word z W i) hi' s.0 ∙ s.1 o (subst (λ (n : ℕ). n ≤ o) (a.lengths i b) lo) hi'),
-    narrow_then i wide b s.2,
-  )
+  stands_then i (Flat wide start fixed) b s = (kept_span i wide start b s.0, lanes_then i wide start b s.0 s.1, narrow_then i wide b s.2)
   stands_then i (Cons wide left right) b s = (
     s.0,
     s.1,
     born left s.2,
     born right s.3,
-    subst (λ (u : List ℕ). 1 ≤ length u) (same left s.2) s.4,
-    subst (λ (u : List ℕ). 1 ≤ length u) (same right s.3) s.5,
-    subst (λ (n : ℕ). 13 ≤ n) (sym (a.lengths i b)) s.6,
+    some_then left s.2 s.4,
+    some_then right s.3 s.5,
+    long_then i b s.6,
     narrow_then i wide b s.7,
   )
   stands_then i (Sliced wide parent offset) b s = (
@@ -90,7 +97,7 @@ module _ (z : HeapSize) (W : List ℕ) (vs : List View) (stand : (i : ℕ) → I
     born parent s.1,
     solid_then parent s.1 s.2,
     subst (λ (n : ℕ). offset + n ≤ length (units_of z W' parent)) (sym (a.lengths i b)) (subst (λ (u : List ℕ). offset + length_word z W i ≤ length u) (same parent s.1) s.3),
-    subst (λ (n : ℕ). 13 ≤ n) (sym (a.lengths i b)) s.4,
+    long_then i b s.4,
     narrow_then i wide b s.5,
   )
   stands_then i (Thin target) b s = (
@@ -115,15 +122,33 @@ module _ (z : HeapSize) (W : List ℕ) (vs : List View) (stand : (i : ℕ) → I
 
   shows_then : (i : ℕ) (f : Form) → IsBorn z W i → Shows z W vs i f → Shows z W' vs' i f
   shows_then i Unborn b s = absurd s
-  shows_then i (Flat wide start fixed) b s = (sym (same i b) ∙ (s.0 ∙ span_then z W vs stand W' vs' a i wide start b s.1), kept_span i wide start b s.1)
-  shows_then i (Cons wide left right) b s = (born left s.0, born right s.1, sym (same i b) ∙ (s.2 ∙ (λ j. same left s.0 j ++ same right s.1 j)))
+  shows_then i (Flat wide start fixed) b s = (
+    sym (same i b) ∙ (s.0 ∙ span_then z W vs stand W' vs' a i wide start b s.1),
+    kept_span i wide start b s.1,
+    lanes_then i wide start b s.1 s.2,
+    narrow_then i wide b s.3,
+  )
+  shows_then i (Cons wide left right) b s = (
+    born left s.0,
+    born right s.1,
+    sym (same i b) ∙ (s.2 ∙ (λ j. same left s.0 j ++ same right s.1 j)),
+    s.3,
+    s.4,
+    some_then left s.0 s.5,
+    some_then right s.1 s.6,
+    long_then i b s.7,
+    narrow_then i wide b s.8,
+  )
   shows_then i (Sliced wide parent offset) b s = (
     born parent s.0,
     solid_then parent s.0 s.1,
     sym (same i b) ∙ (s.2 ∙ (λ j. take (sym (a.lengths i b) j) (drop offset (same parent s.0 j)))),
     subst (λ (n : ℕ). offset + n ≤ length (units_of z W' parent)) (sym (a.lengths i b)) (subst (λ (u : List ℕ). offset + length_word z W i ≤ length u) (same parent s.0) s.3),
+    s.4,
+    long_then i b s.5,
+    narrow_then i wide b s.6,
   )
-  shows_then i (Thin target) b s = (born target s.0, sym (same target s.0) ∙ (s.1 ∙ same i b))
+  shows_then i (Thin target) b s = (born target s.0, sym (same target s.0) ∙ (s.1 ∙ same i b), (s.2.0, s.2.1, fixed target s.2.0 s.2.1 s.0 s.2.2))
 
   pub knows_form_then : (i : ℕ) (f : Form) → KnowsForm z W vs i f → KnowsForm z W' vs' i f
   knows_form_then i f k = let shown = shows_then i f k.born k.shows in ⊎_elim

@@ -23,5 +23,6 @@ pub mod Legal
 pub mod Paths
 pub mod Loads
 pub mod Seen
+pub mod KindsKept
 pub mod Whole
 pub mod Possible

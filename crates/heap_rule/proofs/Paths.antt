@@ -1,8 +1,15 @@
 -- A slot stands on the path of a list at its rank, and each slot stands there.
-use Rattle.std.proofs.Common.{◌≡◌, ℕ, zero, suc, ◌+◌, ◌-◌, ◌%◌, ◌<◌, List, get_or, ap, ◌∙◌, arith}
+use Rattle.std.proofs.Common.{◌≡◌, ℕ, zero, suc, ◌+◌, ◌-◌, ◌%◌, ◌<◌, List, length, get_or, refl, ap, ◌∙◌, arith}
 use Rattle.std.proofs.Math.Nat.{mod-lt, mod-eq_of_lt, add-mod-mod, add-mod_right}
 use Rattle.js_units.specs.Lanes.{hash_of}
 use Rattle.heap_rule.specs.Paths.{path_from, path, rank}
+
+length_from : (n k m : ℕ) → length (path_from n k m) ≡ m
+length_from n k zero = refl
+length_from n k (suc m) = ap suc (length_from n (suc k) m)
+
+pub path_length : (u : List ℕ) (n : ℕ) → length (path u n) ≡ n
+path_length u n = length_from n (hash_of u % n) n
 
 step_from : (n k m r : ℕ) → r < m → get_or (path_from n k m) r 0 ≡ (k + r) % n
 step_from n k zero r l = absurd (omega arith)

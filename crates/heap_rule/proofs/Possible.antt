@@ -1,11 +1,11 @@
 -- What the rule says of one live view alone. Each fact holds in the sound state that has the view, and speaks of the view only.
-use Rattle.std.proofs.Common.{◌≡◌, ℕ, zero, suc, ◌+◌, ◌/◌, ◌<◌, ◌≤◌, ◌⊎◌, Bool, true, false, List, length, get_or, subst, sym, ap, ◌∙◌, arith}
+use Rattle.std.proofs.Common.{◌≡◌, ℕ, zero, suc, ◌+◌, ◌/◌, ◌<◌, ◌≤◌, ◌⊎◌, Bool, List, length, get_or, subst, sym, ap, ◌∙◌, arith}
 use Rattle.js_units.specs.Lanes.{lane_count}
 use Rattle.js_header.specs.declared.form.Form.TheVariants.{Flat}
 use Rattle.heap_rule.specs.declared.view.View.{View}
 use Rattle.heap_rule.specs.declared.size.HeapSize.{HeapSize}
 use Rattle.heap_rule.specs.Layout.{content, length_word, MAX, IsLawful}
-use Rattle.heap_rule.specs.Contents.{lane_in, span, units_of}
+use Rattle.heap_rule.specs.Contents.{lane_in, span}
 use Rattle.heap_rule.specs.Maps.{Has, HasKey}
 use Rattle.heap_rule.specs.Views.{IsFrozen, shown}
 use Rattle.heap_rule.specs.Sound.{IsPossible}

@@ -36,7 +36,7 @@ turns a b n le lt e (no d) = let m = further (a / n) (b / n) n (lt_of_not-le d) 
     let x : ℕ = a / n * n in let y : ℕ = b / n * n in let r : ℕ = b % n in let p' : x + r ≡ a = ap (λ (k : ℕ). x + k) (sym e) ∙ p in let q' : y + r ≡ b = q in let m' : x + n ≤ y = m in absurd (omega arith)
 
 -- two slots of one rank are one
-rank_one : (u : List ℕ) (n a b : ℕ) → a < n → b < n → rank u n a ≡ rank u n b → a ≡ b
+pub rank_one : (u : List ℕ) (n a b : ℕ) → a < n → b < n → rank u n a ≡ rank u n b → a ≡ b
 rank_one u n a b l m e = let c : ℕ = n - hash_of u % n in dite (dec_le a b)
     (λ le. let h : a + c ≡ b + c = turns (a + c) (b + c) n (omega arith) (omega arith) e (dec_le ((b + c) / n) ((a + c) / n)) in omega arith)
     (λ gt. let h : b + c ≡ a + c = turns (b + c) (a + c) n (omega arith) (omega arith) (sym e) (dec_le ((a + c) / n) ((b + c) / n)) in omega arith)
@@ -54,7 +54,7 @@ last_or (a ∷ xs) y x (zero, l, e) = inl (zero, omega arith, e)
 last_or (a ∷ xs) y x (suc k, l, e) = ⊎_elim (λ (t : Contains xs x). let m = t.1 in inl (suc t.0, omega arith, t.2)) (λ t. inr t) (last_or xs y x (k, omega arith, e))
 
 -- what differs by the view differs
-differs_right : (z : HeapSize) (agents : ℕ) (W : List ℕ) (vs : List View) (s : IsSound z agents W vs) (v : View) (k : Knows z W vs v) (us : List ℕ) (i : ℕ) → IsBorn z W i → Differs v us i → units_of z W i ≢ us
+pub differs_right : (z : HeapSize) (agents : ℕ) (W : List ℕ) (vs : List View) (s : IsSound z agents W vs) (v : View) (k : Knows z W vs v) (us : List ℕ) (i : ℕ) → IsBorn z W i → Differs v us i → units_of z W i ≢ us
 differs_right z agents W vs s v k us i b d e = ⊎_elim
     (λ (t : (n : ℕ) × Has v.lengths i n × (n ≢ length us)). t.2 (sym (k.of_lengths i t.0 t.1).1 ∙ ((s.standing i b).length_is ∙ ap length e)))
     (λ rest. ⊎_elim

@@ -213,7 +213,7 @@ module _ (z : HeapSize) (agents : ℕ) (W : List ℕ) (vs : List View) (s : IsSo
     knows = record {
       of_met = kn.of_met;
       of_units = kn.of_units;
-      of_forms = λ q g h. ⊎_elim (λ (r : (q ≡ i) × (f ≡ g)). subst (λ (y : ℕ × Form). KnowsForm z W' vs' y.0 y.1) (λ d. (sym r.0 d, r.1 d)) record { born = (inside, turned.born); now = f; decodes = decodes; later = inl refl; shows = (target_born, target_units_now ∙ sym units_now) })
+      of_forms = λ q g h. ⊎_elim (λ (r : (q ≡ i) × (f ≡ g)). subst (λ (y : ℕ × Form). KnowsForm z W' vs' y.0 y.1) (λ d. (sym r.0 d, r.1 d)) record { born = (inside, turned.born); now = f; decodes = decodes; later = inl refl; shows = (target_born, target_units_now ∙ sym units_now, (wide, start, target_now)) })
           (λ (r : (q ≢ i) × Has v.forms q g). kn.of_forms q g r.1) (has_insert v.forms i q f g h);
       of_lengths = kn.of_lengths;
       of_frozen = kn.of_frozen;

@@ -12,3 +12,4 @@ pub mod HeaderMoves
 pub mod Slots
 pub mod Agents
 pub mod Sound
+pub mod Kinds

@@ -89,17 +89,23 @@ module _ (z : HeapSize) (W : List ℕ) (vs : List View) where
     pub short : length_word z W i ≤ MAX
     pub stands : Stands i now
 
-  -- What a form that was seen still says of its string, whatever form stands by now.
-  -- A Flat: its words, which change no more, show the units. A Cons: its children join to them.
-  -- A Sliced: they are that part of its parent, which is Flat or Thin and has room for it. A Thin: its target has them.
+  -- What a form that was seen still says of its string, whatever form stands by now: all that it asks of its string and that never changes.
+  -- A Flat: its words, which change no more, show the units, and their lanes past the length are 0.
+  -- A Cons: its children, which are smaller and not empty, join to at least 13 units.
+  -- A Sliced: the units, at least 13, are that part of its smaller parent, which is Flat or Thin and has room for it.
+  -- A Thin: its target, a fixed Flat, has the units. Without the wide bit all units are below 256.
   abbrev pub Shows : ℕ → Form → Type 0
   Shows i Unborn = ⊥
   Shows i (Flat wide start fixed) = (units_of z W i ≡ span (content z W) wide start 0 (length_word z W i))
       × ((c : ℕ) → start ≤ c → c < start + words_over wide (length_word z W i) → IsKept W vs c)
+      × ((o : ℕ) → length_word z W i ≤ o → o < words_over wide (length_word z W i) * lane_count wide → lane_in (content z W) wide start o ≡ 0)
+      × IsNarrow wide (units_of z W i)
   Shows i (Cons wide left right) = IsBorn z W left × IsBorn z W right × (units_of z W i ≡ units_of z W left ++ units_of z W right)
+      × (left < i) × (right < i) × (1 ≤ length (units_of z W left)) × (1 ≤ length (units_of z W right)) × (13 ≤ length_word z W i) × IsNarrow wide (units_of z W i)
   Shows i (Sliced wide parent offset) = IsBorn z W parent × IsSolidForm (form_of (form z W parent))
       × (units_of z W i ≡ take (length_word z W i) (drop offset (units_of z W parent))) × (offset + length_word z W i ≤ length (units_of z W parent))
-  Shows i (Thin target) = IsBorn z W target × (units_of z W target ≡ units_of z W i)
+      × (parent < i) × (13 ≤ length_word z W i) × IsNarrow wide (units_of z W i)
+  Shows i (Thin target) = IsBorn z W target × (units_of z W target ≡ units_of z W i) × ((wide : Bool) × (start : ℕ) × (form_of (form z W target) ≡ Some (Flat wide start true)))
 
   -- the form that stands now is the one that was seen, or a later one
   pub record KnowsForm (i : ℕ) (f : Form) : Type 0 where

@@ -8,11 +8,13 @@
 
 mod maps;
 mod overlay;
+mod rule;
 mod runs;
 mod size;
 mod view;
 
 pub use maps::{History, IdMap};
 pub use overlay::Twin;
+pub use rule::{every_path, every_step};
 pub use size::{Counter, Counters, HeapSize, MAX};
 pub use view::View;

@@ -130,11 +130,13 @@ possible_agree v b p = some_share (agree v b) (v.share + b.share) (p.5.members p
 -- what the test says
 module _ (v w : View) (keys : HasKeys v w) (test : has_all v w ≡ true) where
   known_by : KeepsKnown v w
-  known_by = let a = and_parts _ _ test in let b = and_parts _ _ a.1 in let c = and_parts _ _ b.1 in record {
+  known_by = let a = and_parts _ _ test in let b = and_parts _ _ a.1 in let c = and_parts _ _ b.1 in let d = and_parts _ _ c.1 in record {
     units = same_met bytes_eq v.units w.units bytes_decides a.0;
     lengths = same_met same_number v.lengths w.lengths same_number_decides b.0;
     flats = λ q wide start fixed h. let t = fits_met fits_form v.forms w.forms c.0 q (Flat wide start fixed) h in t.1 ∙ ap Some (fits_flat wide start fixed t.0 t.2);
     settled = λ q h. let t = fits_met fits_form v.forms w.forms c.0 q h.0 h.1 in (t.0, t.1, fits_settled h.0 t.0 t.2 h.2);
+    frozen = same_met same_number v.frozen w.frozen same_number_decides d.0;
+    known = λ q h. ⊎_elim (λ (t : HasKey v.units q). inl (keys.units q t)) (λ (t : HasKey v.met q). inr (keys.met q t)) h;
   }
 
   all_by : HasAll v w

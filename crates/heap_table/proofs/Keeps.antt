@@ -35,7 +35,7 @@ use Rattle.heap_rule.proofs.Whole.{share_within, whole_counter}
 use Rattle.heap_rule.proofs.Joining.{keeps_joined}
 use Rattle.heap_rule.proofs.Possible.{possible_frozen}
 use Rattle.heap_rule.proofs.ListLemmas.{set_else, set_there}
-use Rattle.heap_rule.proofs.MapLemmas.{insert_same, key_of}
+use Rattle.heap_rule.proofs.MapLemmas.{insert_same, has_key, key_of}
 use Rattle.heap_table.specs.declared.rule.HeapKey.{HeapKey}
 use Rattle.heap_table.specs.Rule.{AreBuilt, KeepsHeap}
 use Rattle.heap_table.specs.Taken.{taken}
@@ -96,6 +96,8 @@ module _ (key : HeapKey) (slots id : ℕ) (me : Sat) (live : me.0.live ≡ true)
     grown = f.0;
     within = f.1;
     above = λ e i known. subst (λ (q : Counter). i < get_or s.words (counter_at q) 0) (sym e) (known_below key.size key.agents s.words s.views h id me.0 at live i known);
+    own_ids = λ e i own. subst (λ (q : Counter). i < get_or s.words (counter_at q) 0) (sym e) (let p = has_key me.0.own_ids i own in ((h.own_ids id me.0 at live).each i p.0 p.1).0);
+    own_words = λ e c own. subst (λ (q : Counter). c < get_or s.words (counter_at q) 0) (sym e) (let p = has_key me.0.own_words c own in ((h.own_words id me.0 at live).each c p.0 p.1).0);
     whole = whole_counter key.size key.agents s.words s.views h id me.0 at live k;
   }
 
@@ -248,7 +250,7 @@ module _ (key : HeapKey) (slots id : ℕ) (me : Sat) (live : me.0.live ≡ true)
         a_load (content_at z c) s w (kept, b),
         (
           record { slots = refl; sizes = t.0; live = t.1; share = t.2; possible = after_possible s at s.words w (t.1 ∙ live) kept },
-          known_word key.size key.agents s.words s.views h id me.0 at live c x kept,
+          known_word key.size key.agents s.words s.views h id me.0 at live c x (ap (λ (y : HeapSize). get_or s.words (content_at y c) 0) (sym same)) kept,
           λ d e. let is : c ≡ d = one_content z c d e in subst (λ (y : ℕ). (w ≡ learned_all (loaded_word me.0 y x)) × (x ≡ shown w y)) is (refl, word_shown c x (get me.0.own_words c) refl found),
         ),
       )

@@ -1,4 +1,5 @@
--- What an agent knows stays known: the units and the lengths of ids, Flats, and which strings are settled; and all else that a view has.
+-- What an agent knows stays known: which strings, their units and lengths, Flats, which strings are settled, and frozen words; and all else that a
+-- view has.
 use Rattle.std.specs.Prelude.{◌≡◌, ℕ, Bool, false, List}
 use Rattle.js_header.specs.declared.form.Form.{Form}
 use Rattle.js_header.specs.declared.form.Form.TheVariants.{Flat}
@@ -12,6 +13,8 @@ pub record KeepsKnown (v w : View) : Type 0 where
   pub lengths : (i n : ℕ) → Has v.lengths i n → Has w.lengths i n
   pub flats : (i : ℕ) (wide : Bool) (start : ℕ) (fixed : Bool) → Has v.forms i (Flat wide start fixed) → Has w.forms i (Flat wide start fixed)
   pub settled : (i : ℕ) → IsSettled v i → IsSettled w i
+  pub frozen : (c x : ℕ) → Has v.frozen c x → Has w.frozen c x
+  pub known : (i : ℕ) → IsKnown v i → IsKnown w i
 
 -- The view w has what v has beside that: its own ids and words with what it stored there, known ids, frozen words with their contents,
 -- slots with their ids, and for each id with a form a form that isn't an earlier one.

@@ -17,10 +17,12 @@ known_trans u v w a b = record {
   lengths = λ i n h. b.lengths i n (a.lengths i n h);
   flats = λ i wide start fixed h. b.flats i wide start fixed (a.flats i wide start fixed h);
   settled = λ i h. b.settled i (a.settled i h);
+  frozen = λ c x h. b.frozen c x (a.frozen c x h);
+  known = λ i h. b.known i (a.known i h);
 }
 
 pub known_refl : (v : View) → KeepsKnown v v
-known_refl v = record { units = λ i us h. h; lengths = λ i n h. h; flats = λ i wide start fixed h. h; settled = λ i h. h }
+known_refl v = record { units = λ i us h. h; lengths = λ i n h. h; flats = λ i wide start fixed h. h; settled = λ i h. h; frozen = λ c x h. h; known = λ i h. h }
 
 pub reads_trans : (u v w : View) → Reads u v → Reads v w → Reads u w
 reads_trans u v w a b = record {

@@ -1,4 +1,4 @@
-use Rattle.std.proofs.Common.{◌≡◌, ◌<◌, ◌∙◌, false, true, length, refl, sym, rules, arith}
+use Rattle.std.proofs.Common.{◌≡◌, ◌∙◌, false, true, refl, sym, arith}
 use Rattle.heap_rule.proofs.ListLemmas.{any_default}
 use Rattle.heap_rule.proofs.CallLists.{same_next, other_next, at_end}
 use Rattle.heap_rule.proofs.maps.begins_with.Goals as goal
