@@ -13,8 +13,8 @@ ghost use Rattle.heap_rule.specs.Births.{MayStoreLength, MayBear};
 ghost use Rattle.heap_rule.specs.Agents.{first_view, MayJoin};
 ghost use Rattle.heap_core.specs.declared.event.Event.TheVariants as event;
 
-use crate::event::{Event, Refusal};
 use crate::contents::header_load;
+use crate::event::{Event, Refusal};
 use heap_rule::{Counter, HeapSize, View};
 use heap_views::{agents, births, claims, learning};
 use js_header::{Form, encode};

@@ -111,13 +111,7 @@ fn has_zeros(view: &View, wide: bool, start: u32, from: u32, end: u32) -> bool
 }
 
 /// The first n lanes of a span.
-pub fn span(
-    view: &View,
-    alloc: Global,
-    wide: bool,
-    start: u32,
-    n: u32,
-) -> Result<Units, NoMemory>
+pub fn span(view: &View, alloc: Global, wide: bool, start: u32, n: u32) -> Result<Units, NoMemory>
     requires { start + n < 2 ^ 32 }
     ensures { IfOk result (λ us. us ≡ span (shown view.now) wide start 0 n) }
 {

@@ -172,12 +172,7 @@ fn twin(view: &View, alloc: Global) -> Result<View, NoMemory>
 }
 
 /// The view after a load that learns the units of the named strings.
-pub fn loaded(
-    view: &View,
-    alloc: Global,
-    load: Load,
-    names: &[u32],
-) -> Result<View, NoMemory>
+pub fn loaded(view: &View, alloc: Global, load: Load, names: &[u32]) -> Result<View, NoMemory>
     requires { HasRoom (loaded_by view.now load) }
     ensures { IfOk result (λ w. w ≡ learned (loaded_by view.now load) names.now) }
 {

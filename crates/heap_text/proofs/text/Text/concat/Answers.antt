@@ -61,6 +61,10 @@ copy-requires-clause-count c = let v : View = c.args.self.now.agent.seat.me.0 in
     ap length (λ i. whole_is w4 c.args.a p.0 (k4.units c.args.a.id p.0 p.1) c.window_on-front.result a.1 i ++ whole_is w4 c.args.b q.0 (k4.units c.args.b.id q.0 q.1) c.window_on-back.result b.1 i)
     ∙ (length-append p.0 q.0 ∙ (λ i. sym left i + sym right i))
 
+pub returns-then-left-right-gt-MAX_LENGTH-clause-continues : goal.returns-then-left-right-gt-MAX_LENGTH-clause-continues
+returns-then-left-right-gt-MAX_LENGTH-clause-continues c = let v : View = c.args.self.now.agent.seat.me.0 in let w1 : View = c.len-left.new.self.agent.seat.me.0 in let w2 : View = c.len-right.new.self.agent.seat.me.0 in
+    continues_reads v w2 (reads_trans v w1 w2 c.len-left.ensures.reads c.len-right.ensures.reads)
+
 pub returns-in-Ok-clause-continues : goal.returns-in-Ok-clause-continues
 returns-in-Ok-clause-continues c = let v : View = c.args.self.now.agent.seat.me.0 in
     let w1 : View = c.len-left.new.self.agent.seat.me.0 in let w2 : View = c.len-right.new.self.agent.seat.me.0 in let w3 : View = c.window_on-front.new.self.agent.seat.me.0 in let w4 : View = c.window_on-back.new.self.agent.seat.me.0 in let w5 : View = c.copy.new.self.agent.seat.me.0 in

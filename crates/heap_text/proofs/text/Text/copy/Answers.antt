@@ -19,6 +19,10 @@ returns-in-Err-claim_id-clause-continues c = let v : View = c.args.self.now.agen
     let x : View = c.claim_id.new.self.seat.me.0 in
     continues_trans v u x (continues_reads v u c.has_wide-wide.ensures.reads) (continues_trans u w x c.write.ensures.continues (continues_full_ids w x c.in-Err-claim_id.full.at c.in-Err-claim_id.ensures.refused.0 c.claim_id.ensures.low))
 
+pub returns-in-Err-clause-continues : goal.returns-in-Err-clause-continues
+returns-in-Err-clause-continues c = let v : View = c.args.self.now.agent.seat.me.0 in let u : View = c.has_wide-wide.new.self.agent.seat.me.0 in let w : View = c.write.new.self.agent.seat.me.0 in
+    continues_trans v u w (continues_reads v u c.has_wide-wide.ensures.reads) c.write.ensures.continues
+
 pub store_length-requires-clause-may : goal.store_length-requires-clause-may
 store_length-requires-clause-may c = let w : View = c.write.new.self.agent.seat.me.0 in let id = c.in-Ok-claim_id.id in
     (subst (λ (y : View). HasKey y.own_ids id) (sym c.in-Ok-claim_id.ensures.view) (key_of _ id 0 (insert_same w.own_ids id 0)), c.requires.short)
