@@ -1,14 +1,14 @@
 // Two greetings, made by two threads on one heap.
 ghost use Rattle.std.specs.Prelude.{◌≡◌, ℕ, List, ◌++◌, ◌≤◌, IfOk, length};
-ghost use Rattle.heap_core.specs.Layout.{MAX};
-ghost use Rattle.heap_core.specs.Maps.{Has, HasKey};
+ghost use Rattle.heap_rule.specs.Layout.{MAX};
+ghost use Rattle.heap_rule.specs.Maps.{Has, HasKey};
 ghost use Rattle.heap_table.specs.Agents.{Belongs, view_of};
 ghost use Rattle.heap_table.specs.Known.{KeepsKnown};
 ghost use Rattle.heap_text.specs.Turns.{GoesOn};
 ghost use Rattle.heap_example.specs.Greeting.{Greets};
 
 use crate::refusal::Refusal;
-use heap_core::HeapSize;
+use heap_rule::HeapSize;
 use heap_table::Heap;
 use heap_text::{JsStr, Text};
 use std::alloc::Global;

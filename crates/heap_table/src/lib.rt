@@ -9,6 +9,7 @@
 mod agent;
 mod claims;
 mod heap;
+mod laws;
 mod loads;
 mod rule;
 mod stores;
@@ -16,8 +17,6 @@ mod stores;
 pub use agent::Agent;
 pub use claims::CounterFull;
 pub use heap::{Heap, MakeFault};
+pub use laws::{every_moment, every_play};
 pub use rule::{HeapKey, HeapRule};
 pub use stores::Step;
-
-#[cfg(test)]
-mod tests;

@@ -6,16 +6,16 @@ use Rattle.std.proofs.lemmas.Grind.{same_number_lists}
 use Rattle.std.specs.FinMap.{get}
 use Rattle.js_units.specs.Lanes.{lane_count, lane_of, words_over}
 use Rattle.js_header.specs.declared.form.Form.TheVariants.{Flat}
-use Rattle.heap_core.specs.declared.view.View.{View}
-use Rattle.heap_core.specs.declared.size.Counter.TheVariants.{Ids}
-use Rattle.heap_core.specs.Contents.{lane_in, span}
-use Rattle.heap_core.specs.Maps.{Has, HasKey}
-use Rattle.heap_core.specs.Views.{shown}
-use Rattle.heap_core.specs.Births.{Fits, born, stored_length, units_for}
-use Rattle.heap_core.specs.Claims.{won_claim}
-use Rattle.heap_core.proofs.Birth.{length_span}
-use Rattle.heap_core.proofs.MapLemmas.{insert_same, key_of}
-use Rattle.heap_core.proofs.Possible.{span_lane}
+use Rattle.heap_rule.specs.declared.view.View.{View}
+use Rattle.heap_rule.specs.declared.size.Counter.TheVariants.{Ids}
+use Rattle.heap_rule.specs.Contents.{lane_in, span}
+use Rattle.heap_rule.specs.Maps.{Has, HasKey}
+use Rattle.heap_rule.specs.Views.{shown}
+use Rattle.heap_rule.specs.Births.{Fits, born, stored_length, units_for}
+use Rattle.heap_rule.specs.Claims.{won_claim}
+use Rattle.heap_rule.proofs.Birth.{length_span}
+use Rattle.heap_rule.proofs.MapLemmas.{insert_same, key_of}
+use Rattle.heap_rule.proofs.Possible.{span_lane}
 use Rattle.heap_table.specs.Known.{KeepsKnown}
 use Rattle.heap_text.specs.Texts.{Continues}
 use Rattle.heap_text.specs.Written.{IsWritten}

@@ -3,11 +3,11 @@ use Rattle.std.proofs.Common.{◌≡◌, ℕ, ◌⊎◌, inl, inr, Bool, true, f
 use Rattle.std.specs.FinMap.{contains_key, insert}
 use Rattle.js_header.specs.Form.{form_of}
 use Rattle.js_header.specs.declared.form.Form.{Form}
-use Rattle.heap_core.specs.declared.view.View.{View}
-use Rattle.heap_core.specs.Maps.{HasKey}
-use Rattle.heap_core.specs.Loads.{with_form, loaded_form, loaded_length, loaded_word}
-use Rattle.heap_core.specs.Learning.{learned_all}
-use Rattle.heap_core.proofs.MapLemmas.{insert_same, key_of}
+use Rattle.heap_rule.specs.declared.view.View.{View}
+use Rattle.heap_rule.specs.Maps.{HasKey}
+use Rattle.heap_rule.specs.Loads.{with_form, loaded_form, loaded_length, loaded_word}
+use Rattle.heap_rule.specs.Learning.{learned_all}
+use Rattle.heap_rule.proofs.MapLemmas.{insert_same, key_of}
 use Rattle.heap_table.specs.Known.{KeepsKnown}
 use Rattle.heap_text.specs.Texts.{Reads}
 
@@ -17,10 +17,12 @@ known_trans u v w a b = record {
   lengths = λ i n h. b.lengths i n (a.lengths i n h);
   flats = λ i wide start fixed h. b.flats i wide start fixed (a.flats i wide start fixed h);
   settled = λ i h. b.settled i (a.settled i h);
+  frozen = λ c x h. b.frozen c x (a.frozen c x h);
+  known = λ i h. b.known i (a.known i h);
 }
 
 pub known_refl : (v : View) → KeepsKnown v v
-known_refl v = record { units = λ i us h. h; lengths = λ i n h. h; flats = λ i wide start fixed h. h; settled = λ i h. h }
+known_refl v = record { units = λ i us h. h; lengths = λ i n h. h; flats = λ i wide start fixed h. h; settled = λ i h. h; frozen = λ c x h. h; known = λ i h. h }
 
 pub reads_trans : (u v w : View) → Reads u v → Reads v w → Reads u w
 reads_trans u v w a b = record {

@@ -3,11 +3,11 @@ use Rattle.std.proofs.Common.{◌≡◌, ℕ, ◌+◌, ◌<◌, ◌≤◌, ◌�
 use Rattle.std.specs.Prelude.{unwrap_or, Result, Ok, Err, IfOk, IfErr}
 use Rattle.std.proofs.lemmas.List.{length-drop, length-take-le, take_all}
 use Rattle.std.proofs.lemmas.Grind.{same_number_lists}
-use Rattle.heap_core.specs.declared.view.View.{View}
-use Rattle.heap_core.specs.declared.size.Counters.{Counters}
-use Rattle.heap_core.specs.Births.{part}
-use Rattle.heap_core.specs.Maps.{Has}
-use Rattle.heap_core.proofs.MapLemmas.{key_of}
+use Rattle.heap_rule.specs.declared.view.View.{View}
+use Rattle.heap_rule.specs.declared.size.Counters.{Counters}
+use Rattle.heap_rule.specs.Births.{part}
+use Rattle.heap_rule.specs.Maps.{Has}
+use Rattle.heap_rule.proofs.MapLemmas.{key_of}
 use Rattle.heap_text.specs.declared.string.JsStr.{JsStr}
 use Rattle.heap_text.specs.declared.string.Window.{Window}
 use Rattle.heap_text.specs.Sources.{ShowsPiece, piece_units}
@@ -16,7 +16,7 @@ use Rattle.heap_text.specs.Texts.{Told, Uses, UsesAtMost, is_wide}
 use Rattle.heap_text.specs.declared.faults.TextFull.{TextFull}
 use Rattle.js_units.specs.Lanes.{words_over}
 use Rattle.js_header.specs.declared.form.Form.TheVariants.{Flat}
-use Rattle.heap_core.specs.declared.size.HeapSize.{HeapSize}
+use Rattle.heap_rule.specs.declared.size.HeapSize.{HeapSize}
 use Rattle.heap_text.specs.Windows.{IsWindow}
 use Rattle.heap_text.proofs.Showing.{part_unit}
 

@@ -2,18 +2,18 @@
 use Rattle.std.proofs.Common.{◌≡◌, ℕ, ◌+◌, ◌/◌, ◌^◌, ◌<◌, ◌≤◌, ◌⊎◌, inl, inr, Bool, true, false, List, length, drop, get_or, sym, ap, ◌∙◌, subst, arith, Option, Some, None}
 use Rattle.std.proofs.lemmas.List.{get_or-drop, get_or-take, length-drop, length-take-le}
 use Rattle.js_units.specs.Lanes.{lane_count, words_over}
-use Rattle.heap_core.specs.declared.view.View.{View}
-use Rattle.heap_core.specs.Contents.{lane_in}
-use Rattle.heap_core.specs.Maps.{Has, HasKey}
-use Rattle.heap_core.specs.Views.{IsFrozen, shown}
-use Rattle.heap_core.specs.Loads.{added_loads, loaded_form, with_form}
-use Rattle.heap_core.specs.Learning.{learned_all}
-use Rattle.heap_core.specs.Births.{part}
-use Rattle.heap_core.proofs.MapLemmas.{insert_same}
+use Rattle.heap_rule.specs.declared.view.View.{View}
+use Rattle.heap_rule.specs.Contents.{lane_in}
+use Rattle.heap_rule.specs.Maps.{Has, HasKey}
+use Rattle.heap_rule.specs.Views.{IsFrozen, shown}
+use Rattle.heap_rule.specs.Loads.{added_loads, loaded_form, with_form}
+use Rattle.heap_rule.specs.Learning.{learned_all}
+use Rattle.heap_rule.specs.Births.{part}
+use Rattle.heap_rule.proofs.MapLemmas.{insert_same}
 use Rattle.js_header.specs.Form.{form_of}
 use Rattle.js_header.specs.declared.form.Form.{Form}
-use Rattle.heap_core.specs.Sound.{IsPossible}
-use Rattle.heap_core.proofs.Possible.{possible_frozen, possible_lane, possible_lawful}
+use Rattle.heap_rule.specs.Sound.{IsPossible}
+use Rattle.heap_rule.proofs.Possible.{possible_frozen, possible_lane, possible_lawful}
 use Rattle.heap_table.specs.Known.{KeepsKnown}
 use Rattle.heap_text.specs.declared.string.Window.{Window}
 use Rattle.heap_text.specs.Windows.{IsFrozenWindow, IsWindow}

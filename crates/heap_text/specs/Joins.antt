@@ -2,11 +2,11 @@
 use Rattle.std.specs.Prelude.{◌≡◌, ℕ, ◌+◌, ◌-◌, ◌<◌, ◌≤◌, ◌++◌, ◌⊎◌, false, List, length, Result, Ok, Err}
 use Rattle.js_units.specs.Lanes.{words_over}
 use Rattle.js_header.specs.declared.form.Form.TheVariants.{Flat}
-use Rattle.heap_core.specs.declared.size.HeapSize.{HeapSize}
-use Rattle.heap_core.specs.declared.view.View.{View}
-use Rattle.heap_core.specs.Layout.{MAX}
-use Rattle.heap_core.specs.Births.{part}
-use Rattle.heap_core.specs.Maps.{Has}
+use Rattle.heap_rule.specs.declared.size.HeapSize.{HeapSize}
+use Rattle.heap_rule.specs.declared.view.View.{View}
+use Rattle.heap_rule.specs.Layout.{MAX}
+use Rattle.heap_rule.specs.Births.{part}
+use Rattle.heap_rule.specs.Maps.{Has}
 use Rattle.heap_text.specs.declared.faults.JoinFault.{JoinFault}
 use Rattle.heap_text.specs.declared.faults.JoinFault.TheVariants.{TooLong, Full}
 use Rattle.heap_text.specs.declared.faults.TextFull.{TextFull}

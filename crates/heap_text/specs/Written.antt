@@ -1,8 +1,8 @@
 -- Content words that hold units.
 use Rattle.std.specs.Prelude.{◌≡◌, ℕ, ◌+◌, ◌*◌, ◌<◌, ◌^◌, Bool, List, length, slice_index}
 use Rattle.js_units.specs.Lanes.{lane_count, lane_of, words_over}
-use Rattle.heap_core.specs.declared.view.View.{View}
-use Rattle.heap_core.specs.Maps.{Has}
+use Rattle.heap_rule.specs.declared.view.View.{View}
+use Rattle.heap_rule.specs.Maps.{Has}
 
 -- word number q of the units, whose lanes past the last unit are 0
 abbrev pub IsWordOf : Bool → List ℕ → ℕ → ℕ → Type 0

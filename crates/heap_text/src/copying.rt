@@ -2,8 +2,8 @@
 ghost use Rattle.std.specs.Prelude.{◌≡◌, ◌+◌, ◌*◌, ◌/◌, ◌%◌, ◌≤◌, ◌<◌, ◌^◌, ℕ, IfOk, IfErr, Some, false, slice_index, length};
 ghost use Rattle.js_units.specs.Lanes.{words_over, lane_count, lane_base};
 ghost use Rattle.js_header.specs.declared.form.Form.TheVariants.{Flat};
-ghost use Rattle.heap_core.specs.Layout.{MAX};
-ghost use Rattle.heap_core.specs.Maps.{Has};
+ghost use Rattle.heap_rule.specs.Layout.{MAX};
+ghost use Rattle.heap_rule.specs.Maps.{Has};
 ghost use Rattle.heap_table.specs.Agents.{Belongs, view_of, size_of};
 ghost use Rattle.heap_table.specs.Full.{IsFull};
 ghost use Rattle.heap_text.specs.Texts.{Reads, Continues, Uses, UsesAtMost, Told, is_wide};

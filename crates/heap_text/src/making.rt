@@ -2,10 +2,10 @@
 ghost use Rattle.std.specs.Prelude.{◌≡◌, ℕ, List, ◌+◌, ◌++◌, ◌*◌, ◌/◌, ◌%◌, ◌≤◌, ◌<◌, ◌^◌, ◌-◌, IfOk, IfErr, IsErr, Ok, Err, Some, false, true, slice_index, length};
 ghost use Rattle.js_units.specs.Lanes.{words_over};
 ghost use Rattle.js_header.specs.declared.form.Form.TheVariants.{Flat};
-ghost use Rattle.heap_core.specs.Layout.{MAX};
-ghost use Rattle.heap_core.specs.Births.{part};
-ghost use Rattle.heap_core.specs.Maps.{Has, HasKey};
-ghost use Rattle.heap_core.specs.Views.{IsSettled};
+ghost use Rattle.heap_rule.specs.Layout.{MAX};
+ghost use Rattle.heap_rule.specs.Births.{part};
+ghost use Rattle.heap_rule.specs.Maps.{Has, HasKey};
+ghost use Rattle.heap_rule.specs.Views.{IsSettled};
 ghost use Rattle.heap_table.specs.Agents.{Belongs, view_of, size_of};
 ghost use Rattle.heap_text.specs.Texts.{Continues, Uses, UsesAtMost, Told, is_wide};
 ghost use Rattle.heap_text.specs.Joins.{IsJoined, IsCut};

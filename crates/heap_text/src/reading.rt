@@ -1,9 +1,9 @@
 // Reading a string: its length, its window, its units.
 ghost use Rattle.std.specs.Prelude.{◌≡◌, ℕ, List, ◌+◌, ◌*◌, ◌/◌, ◌%◌, ◌≤◌, ◌<◌, IsOk, slice_index, length};
 ghost use Rattle.js_units.specs.Lanes.{words_over};
-ghost use Rattle.heap_core.specs.Contents.{lane_in};
-ghost use Rattle.heap_core.specs.Maps.{Has, HasKey};
-ghost use Rattle.heap_core.specs.Views.{IsSettled, shown};
+ghost use Rattle.heap_rule.specs.Contents.{lane_in};
+ghost use Rattle.heap_rule.specs.Maps.{Has, HasKey};
+ghost use Rattle.heap_rule.specs.Views.{IsSettled, shown};
 ghost use Rattle.heap_table.specs.Agents.{Belongs, view_of};
 ghost use Rattle.heap_text.specs.Texts.{Reads};
 ghost use Rattle.heap_text.specs.Windows.{IsFrozenWindow, IsWindow};

@@ -1,7 +1,7 @@
 use Rattle.std.proofs.Common.{◌++◌, ap, subst, sym, ◌∙◌}
-use Rattle.heap_core.specs.declared.view.View.{View}
-use Rattle.heap_core.specs.Maps.{Has}
-use Rattle.heap_core.proofs.MapLemmas.{key_of}
+use Rattle.heap_rule.specs.declared.view.View.{View}
+use Rattle.heap_rule.specs.Maps.{Has}
+use Rattle.heap_rule.proofs.MapLemmas.{key_of}
 use Rattle.heap_table.specs.declared.agent.Agent.{Agent}
 use Rattle.heap_table.specs.declared.heap.Heap.{Heap}
 use Rattle.heap_table.specs.Agents.{Belongs, view_of}

@@ -1,5 +1,5 @@
 use Rattle.std.proofs.Common.{◌≡◌, ℕ, List, take}
-use Rattle.heap_core.specs.Maps.{Has}
+use Rattle.heap_rule.specs.Maps.{Has}
 use Rattle.heap_table.specs.Agents.{Belongs, view_of}
 use Rattle.heap_table.specs.Known.{KeepsKnown}
 use Rattle.heap_text.specs.Windows.{IsWindow}

@@ -1,6 +1,6 @@
 use Rattle.std.proofs.Common.{◌∙◌, arith}
-use Rattle.heap_core.specs.declared.view.View.{View}
-use Rattle.heap_core.proofs.MapLemmas.{has_key}
+use Rattle.heap_rule.specs.declared.view.View.{View}
+use Rattle.heap_rule.proofs.MapLemmas.{has_key}
 use Rattle.heap_text.proofs.Loaded.{known_trans, reads_trans}
 use Rattle.heap_text.proofs.Showing.{window_frozen, window_kept, window_length}
 use Rattle.heap_text.proofs.tests.reads.Goals as goal

@@ -1,6 +1,6 @@
 use Rattle.std.proofs.Common.{◌++◌}
-use Rattle.heap_core.specs.declared.view.View.{View}
-use Rattle.heap_core.proofs.MapLemmas.{has_key, key_of}
+use Rattle.heap_rule.specs.declared.view.View.{View}
+use Rattle.heap_rule.proofs.MapLemmas.{has_key, key_of}
 use Rattle.heap_text.proofs.tests.twice.Goals as goal
 
 pub reads-requires-clause-known : goal.reads-requires-clause-known

@@ -2,11 +2,11 @@ use Rattle.std.proofs.Common.{◌≡◌, ◌+◌, ◌++◌, ◌∙◌, ℕ, List
 use Rattle.std.proofs.lemmas.List.{length-append}
 use Rattle.js_units.specs.Lanes.{words_over}
 use Rattle.js_header.specs.declared.form.Form.TheVariants.{Flat}
-use Rattle.heap_core.specs.declared.size.HeapSize.{HeapSize}
-use Rattle.heap_core.specs.declared.view.View.{View}
-use Rattle.heap_core.specs.Maps.{Has}
-use Rattle.heap_core.proofs.MapLemmas.{has_key}
-use Rattle.heap_core.proofs.Possible.{possible_short}
+use Rattle.heap_rule.specs.declared.size.HeapSize.{HeapSize}
+use Rattle.heap_rule.specs.declared.view.View.{View}
+use Rattle.heap_rule.specs.Maps.{Has}
+use Rattle.heap_rule.proofs.MapLemmas.{has_key}
+use Rattle.heap_rule.proofs.Possible.{possible_short}
 use Rattle.heap_table.specs.Agents.{size_of}
 use Rattle.heap_text.specs.declared.source.Source.TheVariants as source
 use Rattle.heap_text.specs.Sources.{listed}
@@ -60,6 +60,10 @@ copy-requires-clause-count c = let v : View = c.args.self.now.agent.seat.me.0 in
     let left = c.len-left.ensures.length p.0 p.1 in let right = c.len-right.ensures.length q.0 (c.len-left.ensures.reads.known.units c.args.b.id q.0 q.1) in
     ap length (λ i. whole_is w4 c.args.a p.0 (k4.units c.args.a.id p.0 p.1) c.window_on-front.result a.1 i ++ whole_is w4 c.args.b q.0 (k4.units c.args.b.id q.0 q.1) c.window_on-back.result b.1 i)
     ∙ (length-append p.0 q.0 ∙ (λ i. sym left i + sym right i))
+
+pub returns-then-left-right-gt-MAX_LENGTH-clause-continues : goal.returns-then-left-right-gt-MAX_LENGTH-clause-continues
+returns-then-left-right-gt-MAX_LENGTH-clause-continues c = let v : View = c.args.self.now.agent.seat.me.0 in let w1 : View = c.len-left.new.self.agent.seat.me.0 in let w2 : View = c.len-right.new.self.agent.seat.me.0 in
+    continues_reads v w2 (reads_trans v w1 w2 c.len-left.ensures.reads c.len-right.ensures.reads)
 
 pub returns-in-Ok-clause-continues : goal.returns-in-Ok-clause-continues
 returns-in-Ok-clause-continues c = let v : View = c.args.self.now.agent.seat.me.0 in

@@ -1,11 +1,11 @@
 use Rattle.std.proofs.Common.{◌≡◌, ◌∙◌, ℕ, Bool, false, List, length, ap, subst, sym}
 use Rattle.js_header.specs.declared.form.Form.TheVariants.{Flat}
-use Rattle.heap_core.specs.declared.view.View.{View}
-use Rattle.heap_core.specs.declared.size.Counter.TheVariants.{Ids}
-use Rattle.heap_core.specs.Maps.{Has, HasKey}
-use Rattle.heap_core.specs.Births.{MayBear, born, stored_length}
-use Rattle.heap_core.specs.Claims.{won_claim}
-use Rattle.heap_core.proofs.MapLemmas.{insert_same, key_of}
+use Rattle.heap_rule.specs.declared.view.View.{View}
+use Rattle.heap_rule.specs.declared.size.Counter.TheVariants.{Ids}
+use Rattle.heap_rule.specs.Maps.{Has, HasKey}
+use Rattle.heap_rule.specs.Births.{MayBear, born, stored_length}
+use Rattle.heap_rule.specs.Claims.{won_claim}
+use Rattle.heap_rule.proofs.MapLemmas.{insert_same, key_of}
 use Rattle.heap_table.specs.Known.{KeepsKnown}
 use Rattle.heap_text.specs.Sources.{listed}
 use Rattle.heap_text.specs.Texts.{Continues, is_wide}
@@ -18,6 +18,10 @@ pub returns-in-Err-claim_id-clause-continues : goal.returns-in-Err-claim_id-clau
 returns-in-Err-claim_id-clause-continues c = let v : View = c.args.self.now.agent.seat.me.0 in let u : View = c.has_wide-wide.new.self.agent.seat.me.0 in let w : View = c.write.new.self.agent.seat.me.0 in
     let x : View = c.claim_id.new.self.seat.me.0 in
     continues_trans v u x (continues_reads v u c.has_wide-wide.ensures.reads) (continues_trans u w x c.write.ensures.continues (continues_full_ids w x c.in-Err-claim_id.full.at c.in-Err-claim_id.ensures.refused.0 c.claim_id.ensures.low))
+
+pub returns-in-Err-clause-continues : goal.returns-in-Err-clause-continues
+returns-in-Err-clause-continues c = let v : View = c.args.self.now.agent.seat.me.0 in let u : View = c.has_wide-wide.new.self.agent.seat.me.0 in let w : View = c.write.new.self.agent.seat.me.0 in
+    continues_trans v u w (continues_reads v u c.has_wide-wide.ensures.reads) c.write.ensures.continues
 
 pub store_length-requires-clause-may : goal.store_length-requires-clause-may
 store_length-requires-clause-may c = let w : View = c.write.new.self.agent.seat.me.0 in let id = c.in-Ok-claim_id.id in

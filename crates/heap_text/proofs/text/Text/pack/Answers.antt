@@ -1,6 +1,6 @@
 use Rattle.std.proofs.Common.{◌≡◌, ◌<◌, ◌+◌, ◌-◌, ◌*◌, ◌^◌, ◌∙◌, ℕ, List, suc, get_or, ap, subst, sym, arith}
 use Rattle.js_units.specs.Lanes.{lane_base, lane_count, lane_of}
-use Rattle.heap_core.specs.declared.view.View.{View}
+use Rattle.heap_rule.specs.declared.view.View.{View}
 use Rattle.heap_text.specs.Sources.{listed}
 use Rattle.heap_text.proofs.Loaded.{reads_trans}
 use Rattle.heap_text.proofs.Packing.{base_some, lanes_then, one_more, unit_fits}

@@ -1,16 +1,17 @@
 use Rattle.std.proofs.Common.{◌≡◌, ◌≤◌, ◌+◌, ◌-◌, ◌∙◌, ℕ, List, length, ap, subst, sym, arith, Some}
 use Rattle.std.specs.Prelude.{IfErr}
 use Rattle.js_units.specs.Lanes.{words_over}
-use Rattle.heap_core.specs.declared.size.HeapSize.{HeapSize}
-use Rattle.heap_core.specs.declared.view.View.{View}
-use Rattle.heap_core.specs.Births.{part}
-use Rattle.heap_core.proofs.Possible.{possible_short}
+use Rattle.heap_rule.specs.declared.size.HeapSize.{HeapSize}
+use Rattle.heap_rule.specs.declared.view.View.{View}
+use Rattle.heap_rule.specs.Births.{part}
+use Rattle.heap_rule.proofs.Possible.{possible_short}
 use Rattle.heap_table.specs.Agents.{size_of}
 use Rattle.heap_text.specs.declared.string.Window.{Window}
 use Rattle.heap_text.specs.declared.source.Source.TheVariants as source
 use Rattle.heap_text.specs.Sources.{listed}
 use Rattle.heap_text.specs.Texts.{Told, is_wide}
 use Rattle.heap_text.proofs.Answered.{cut_all, cut_settled}
+use Rattle.heap_text.proofs.Going.{continues_reads, continues_trans}
 use Rattle.heap_text.proofs.Loaded.{known_trans}
 use Rattle.heap_text.proofs.Pieces.{copy_answer, length_part, part_shows, piece_is, piece_shows}
 use Rattle.heap_text.proofs.text.Text.slice.Goals.{else-from-eq0-via-then-from-eq0+else-to-window, else-from-eq0-via-else-from-eq0}
@@ -31,6 +32,10 @@ copy-requires-clause-count c = let w : View = c.window-window.new.self.agent.sea
 
 pub copy-requires-clause-short : goal.copy-requires-clause-short
 copy-requires-clause-short c = let v : View = c.args.self.now.agent.seat.me.0 in let t = c.requires.within in let b = possible_short v c.requires.text.5 c.args.s.id t.0 t.1 in let to = t.3 in omega arith
+
+pub returns-clause-continues : goal.returns-clause-continues
+returns-clause-continues c = let v : View = c.args.self.now.agent.seat.me.0 in let w : View = c.window-window.new.self.agent.seat.me.0 in let x : View = c.copy.new.self.agent.seat.me.0 in
+    continues_trans v w x (continues_reads v w c.window-window.ensures.reads) c.copy.ensures.continues
 
 pub returns-clause-cut : goal.returns-clause-cut
 returns-clause-cut c us h = let v : View = c.args.self.now.agent.seat.me.0 in let w : View = c.window-window.new.self.agent.seat.me.0 in let x : View = c.copy.new.self.agent.seat.me.0 in let t = c.requires.within in

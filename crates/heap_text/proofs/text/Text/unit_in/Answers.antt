@@ -1,9 +1,9 @@
 use Rattle.std.proofs.Common.{◌+◌, ◌/◌, ◌%◌, ℕ, inr, ap, subst, sym, ◌∙◌, arith, ◌⊎◌}
 use Rattle.js_units.specs.Lanes.{lane_count, lane_of}
-use Rattle.heap_core.specs.declared.view.View.{View}
-use Rattle.heap_core.specs.Contents.{lane_in}
-use Rattle.heap_core.specs.Maps.{HasKey}
-use Rattle.heap_core.specs.Views.{shown}
+use Rattle.heap_rule.specs.declared.view.View.{View}
+use Rattle.heap_rule.specs.Contents.{lane_in}
+use Rattle.heap_rule.specs.Maps.{HasKey}
+use Rattle.heap_rule.specs.Views.{shown}
 use Rattle.heap_text.proofs.Loaded.{has_loaded, reads_word}
 use Rattle.heap_text.proofs.Showing.{place_frozen, place_small, window_kept, window_unit, word_small}
 use Rattle.heap_text.proofs.text.Text.unit_in.Goals as goal

@@ -1,6 +1,6 @@
 use Rattle.std.proofs.Common.{◌<◌, length, get_or, ap, subst, sym, ◌∙◌, arith}
 use Rattle.std.proofs.lemmas.List.{get_or_append_left, get_or-append_right}
-use Rattle.heap_core.specs.declared.view.View.{View}
+use Rattle.heap_rule.specs.declared.view.View.{View}
 use Rattle.heap_text.specs.declared.source.Source.{Source}
 use Rattle.heap_text.specs.Sources.{Shows, listed, piece_units}
 use Rattle.heap_text.proofs.Listing.{listed_same, shows_kept}

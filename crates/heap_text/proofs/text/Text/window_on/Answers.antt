@@ -2,10 +2,10 @@ use Rattle.std.proofs.Common.{◌≡◌, ℕ, length, subst, sym, arith}
 use Rattle.std.proofs.lemmas.List.{take_all}
 use Rattle.js_header.specs.declared.form.Form.{Form}
 use Rattle.js_header.specs.declared.form.Form.TheVariants.{Flat}
-use Rattle.heap_core.specs.declared.view.View.{View}
-use Rattle.heap_core.specs.Maps.{Has}
-use Rattle.heap_core.proofs.MapLemmas.{insert_same}
-use Rattle.heap_core.proofs.Possible.{possible_length}
+use Rattle.heap_rule.specs.declared.view.View.{View}
+use Rattle.heap_rule.specs.Maps.{Has}
+use Rattle.heap_rule.proofs.MapLemmas.{insert_same}
+use Rattle.heap_rule.proofs.Possible.{possible_length}
 use Rattle.heap_text.proofs.Loaded.{reads_form, reads_length, reads_trans}
 use Rattle.heap_text.proofs.Showing.{form_there}
 use Rattle.heap_text.proofs.text.Text.window_on.Goals as goal

@@ -1,5 +1,5 @@
 use Rattle.std.proofs.Common.{◌≡◌, ◌<◌, ◌+◌, ℕ}
-use Rattle.heap_core.specs.Maps.{HasKey}
+use Rattle.heap_rule.specs.Maps.{HasKey}
 use Rattle.heap_table.specs.Agents.{Belongs, view_of}
 use Rattle.heap_text.specs.Sources.{Shows, listed}
 use Rattle.heap_text.specs.Texts.{Continues}
