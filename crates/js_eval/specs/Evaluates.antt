@@ -5,14 +5,14 @@ use Rattle.js_store.specs.State.{State, Has}
 use Rattle.js_store.specs.Faults.{Honest, ids_wanted, words_wanted}
 use Rattle.js_store.specs.declared.faults.StoreFault.{StoreFault}
 use Rattle.js_store.specs.declared.faults.StoreFault.TheVariants as store
-use Rattle.js_eval.specs.declared.value.End.{End}
-use Rattle.js_eval.specs.declared.value.End.TheVariants.{Done, Threw, Unsupported, Full, Memory}
-use Rattle.js_eval.specs.Outcome.{Out, gave, ended, threw, unsupported, ledger_of}
+use Rattle.js_eval.specs.declared.ending.End.{End}
+use Rattle.js_eval.specs.declared.ending.End.TheVariants.{Done, Threw, Unsupported, Full, Memory}
+use Rattle.js_values.specs.Outcome.{Out, gave, ended, threw, unsupported, ledger_of}
 use Rattle.js_eval.specs.Expression.{Bound}
 use Rattle.js_texts.specs.Texts.{full_only}
 use Rattle.js_eval.specs.Script.{Flow}
-use Rattle.js_eval.specs.Ran.{Interns, InternsSome}
-use Rattle.js_eval.specs.Does.{WroteSome}
+use Rattle.js_values.specs.Ran.{Interns, InternsSome}
+use Rattle.js_eval.specs.Flows.{WroteSome}
 
 -- how a script ends by its meaning
 abbrev pub end_of : {A : Type 0} → Out A → End

@@ -1,10 +1,10 @@
 -- What statements and a script mean: how they end, the lines that they print, and the bindings that they leave.
 use Rattle.std.specs.Prelude.{ℕ, List, [], ◌∷◌, ◌++◌, length, nat_le, if◌then◌else◌}
-use Rattle.js_json.specs.Printing.{line}
+use Rattle.js_print.specs.Printing.{line}
 use Rattle.js_tree.specs.Tree.{Exprs, StmtTree, print, Stmts, no_stmts, stmt, Tree}
-use Rattle.js_eval.specs.declared.value.Kind.TheVariants.{RangeError}
-use Rattle.js_eval.specs.Outcome.{Val, Out, gave, ended, threw, after, bind, each, free, row_ids, row_words, parts_ids, parts_words}
-use Rattle.js_eval.specs.Conversions.{to_string, all_text_units}
+use Rattle.js_values.specs.declared.value.Kind.TheVariants.{RangeError}
+use Rattle.js_values.specs.Outcome.{Val, Out, gave, ended, threw, after, bind, each, free, row_ids, row_words, parts_ids, parts_words}
+use Rattle.js_values.specs.Conversions.{to_string, all_text_units}
 use Rattle.js_eval.specs.Expression.{Scope, Bound, exprs_out}
 
 pub record Flow : Type 0 where

@@ -1,9 +1,10 @@
-// Quoting and printing over a plain store. Expected values follow from ECMA-262, "QuoteJSONString".
+// Quoting over a plain store. Expected values follow from ECMA-262, "QuoteJSONString".
 ghost use Rattle.std.specs.Prelude.{◌≤◌, length};
+ghost use Rattle.js_store.specs.State.{Grows, IsKnown};
 
-use crate::{print_line, quote, stringify_list};
-use js_store::{MethodFault, StoreFault, Strings};
-use js_texts::copied;
+use crate::{quote, stringify_list};
+use js_store::{MethodFault, Strings};
+use js_texts::read;
 use js_units::append_utf8;
 use plain_store::PlainStore;
 use std::alloc::Global;
@@ -15,8 +16,15 @@ fn quoted_text(alloc: Global, units: &[u16]) -> Result<Vec<u8>, MethodFault>
     let mut store = PlainStore::new(alloc);
     let s = store.from_units(units)?;
     let quoted = quote(alloc, &mut store, s)?;
-    store.settle(quoted)?;
-    let units = copied(alloc, &mut store, quoted)?;
+    text(alloc, &mut store, quoted)
+}
+
+// The text of a string.
+fn text<S: Strings>(alloc: Global, store: &mut S, s: S::Ref) -> Result<Vec<u8>, MethodFault>
+    requires { IsKnown (S.state store.old) (S.number s) }
+    ensures grows { Grows (S.state store.old) (S.state store.new) }
+{
+    let units = read(alloc, store, s)?;
     let mut bytes = Vec::new(alloc);
     append_utf8(units.as_slice(), &mut bytes)?;
     Ok(bytes)
@@ -67,61 +75,11 @@ fn arrays(rt: HostRuntime) -> Result<(), Fail> {
     let none = stringify_list(rt.alloc(), &mut store, &[])?;
     let one = stringify_list(rt.alloc(), &mut store, &[empty])?;
     let three = stringify_list(rt.alloc(), &mut store, &[a, empty, a])?;
-    let mut out = Vec::new(rt.alloc());
-    print_line(rt.alloc(), &mut store, &[none, one, three], &mut out)?;
-    assert_eq!(rt;
-        out.as_slice(),
-        "[] [\"\"] [\"a\\\"\",\"\",\"a\\\"\"]\n".as_bytes()
-    );
-    Ok(())
-}
-
-// Adds the line of two strings.
-fn print_two(
-    alloc: Global,
-    first: &[u16],
-    second: &[u16],
-    out: &mut Vec<u8>,
-) -> Result<(), StoreFault>
-    requires first { length first.now ≤ 100 }
-    requires second { length second.now ≤ 100 }
-{
-    let mut store = PlainStore::new(alloc);
-    let first = store.from_units(first)?;
-    let second = store.from_units(second)?;
-    print_line(alloc, &mut store, &[first, second], out)
-}
-
-// A line without a string, one of an empty string, and one of two.
-#[test]
-fn lines(rt: HostRuntime) -> Result<(), Fail> {
-    let mut store = PlainStore::new(rt.alloc());
-    let empty = store.from_units(&[])?;
-    let lead = store.from_units(&[98, 0xD83D])?;
-    let trail = store.from_units(&[0xDE00])?;
-    let mut out = Vec::new(rt.alloc());
-    print_line(rt.alloc(), &mut store, &[], &mut out)?;
-    print_line(rt.alloc(), &mut store, &[empty], &mut out)?;
-    print_line(rt.alloc(), &mut store, &[lead, trail], &mut out)?;
-    assert_eq!(rt; out.as_slice(), "\n\nb\u{FFFD} \u{FFFD}\n".as_bytes());
-    Ok(())
-}
-
-// Empty strings; ASCII up to 7F, and other units behind it; an unpaired surrogate at each end of a
-// string, a pair, and surrogates of two strings, which make no pair.
-#[test]
-fn texts_of_lines(rt: HostRuntime) -> Result<(), Fail> {
-    let alloc = rt.alloc();
-    let mut out = Vec::new(alloc);
-    print_two(alloc, &[], &[], &mut out)?;
-    print_two(alloc, &[], &[0x61, 0x7F], &mut out)?;
-    print_two(alloc, &[0x61, 0x80, 0x62], &[0x7FF, 0x800], &mut out)?;
-    print_two(alloc, &[0xDE00, 0x61], &[0x61, 0xD83D], &mut out)?;
-    print_two(alloc, &[0x61, 0xD83D], &[0xDE00, 0x61], &mut out)?;
-    print_two(alloc, &[0x61, 0xD83D, 0xDE00], &[0xD83D], &mut out)?;
-    assert_eq!(rt;
-        out.as_slice(),
-        " \n a\u{7F}\na\u{80}b \u{7FF}\u{800}\n\u{FFFD}a a\u{FFFD}\na\u{FFFD} \u{FFFD}a\na\u{1F600} \u{FFFD}\n".as_bytes()
-    );
+    let none = text(rt.alloc(), &mut store, none)?;
+    let one = text(rt.alloc(), &mut store, one)?;
+    let three = text(rt.alloc(), &mut store, three)?;
+    assert_eq!(rt; none.as_slice(), b"[]".as_slice());
+    assert_eq!(rt; one.as_slice(), br#"[""]"#.as_slice());
+    assert_eq!(rt; three.as_slice(), br#"["a\"","","a\""]"#.as_slice());
     Ok(())
 }

@@ -4,10 +4,10 @@
 ghost use Rattle.std.specs.Prelude.{IfOk};
 ghost use Rattle.js_store.specs.State.{Grows, IsKnown};
 
-use crate::{join, replace, replace_all, split, substitution};
+use crate::{replace, replace_all, split, substitution};
 use js_search::stands_at;
 use js_store::{Cause, MethodFault, StoreFault, Strings};
-use js_texts::read;
+use js_texts::{join, read};
 use js_units::{NoMemory, Units, append_utf8};
 use plain_store::PlainStore;
 use std::alloc::Global;
