@@ -7,7 +7,8 @@ use Rattle.js_texts.proofs.Lists.{texts_still}
 use Rattle.js_texts.specs.Use.{settling}
 use Rattle.js_values.specs.declared.value.Value.{Value}
 use Rattle.js_values.specs.declared.value.Stop.{Stop}
-use Rattle.js_values.specs.Outcome.{Val, parts_words}
+use Rattle.js_values.specs.Outcome.{Val}
+use Rattle.js_values.specs.Need.{parts_words}
 use Rattle.js_values.specs.Conversions.{to_string, list_units, first_text_units}
 use Rattle.js_values.specs.Arguments.{first_of, is_undefined}
 use Rattle.js_calls.specs.Arrays.{joined_with, join_call}

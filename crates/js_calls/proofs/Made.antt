@@ -9,7 +9,8 @@ use Rattle.js_texts.specs.Use.{made_words}
 use Rattle.js_values.specs.declared.value.Value.TheVariants.{Text}
 use Rattle.js_values.specs.declared.value.Kind.TheVariants.{RangeError}
 use Rattle.js_values.specs.declared.value.Stop.TheVariants.{Threw}
-use Rattle.js_values.specs.Outcome.{gives, throws, ledger_of, parts_ids, parts_words}
+use Rattle.js_values.specs.Outcome.{gives, throws, ledger_of}
+use Rattle.js_values.specs.Need.{parts_ids, parts_words}
 use Rattle.js_values.specs.Outcome.{text as text_value}
 use Rattle.js_calls.specs.Cutting.{within}
 use Rattle.js_values.specs.Ran.{Cut}

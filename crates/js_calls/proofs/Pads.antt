@@ -19,7 +19,8 @@ use Rattle.js_values.specs.Conversions.{to_string, string_units}
 use Rattle.js_calls.specs.Cutting.{within}
 use Rattle.js_values.specs.Arguments.{is_undefined, second_of}
 use Rattle.js_values.proofs.Still.{values_still}
-use Rattle.js_calls.specs.Padding.{repeat_ids, repeat_words, pad_ids, pad_words, repeated, filled, padded}
+use Rattle.js_values.specs.Need.{repeat_ids, repeat_words, pad_ids, pad_words}
+use Rattle.js_calls.specs.Padding.{repeated, filled, padded}
 use Rattle.js_values.specs.Seen.{seen, IsFine, all_seen, AllFine}
 use Rattle.js_values.specs.Ran.{Cut}
 use Rattle.js_values.specs.Does.{Does, GivesText}

@@ -14,7 +14,8 @@ use Rattle.js_replace.specs.Use.{copies}
 use Rattle.js_values.specs.declared.value.Value.{Value}
 use Rattle.js_values.specs.declared.value.Value.TheVariants as value
 use Rattle.js_values.specs.declared.value.Stop.{Stop}
-use Rattle.js_values.specs.Outcome.{Val, list, ledger_of, some_parts, parts_ids, parts_words}
+use Rattle.js_values.specs.Outcome.{Val, list, ledger_of}
+use Rattle.js_values.specs.Need.{some_parts, parts_ids, parts_words}
 use Rattle.js_values.specs.Conversions.{list_units, to_string, first_text_units}
 use Rattle.js_values.specs.Arguments.{first_of, is_undefined}
 use Rattle.js_calls.specs.Arrays.{split_into, split_most}

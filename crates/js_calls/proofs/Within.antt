@@ -6,7 +6,8 @@ use Rattle.js_store.specs.Rows.{join_ids, join_words}
 use Rattle.js_store.proofs.Laws.{has_text, has_known, joined_within}
 use Rattle.js_store.specs.declared.faults.StoreFault.{StoreFault}
 use Rattle.js_values.specs.declared.value.Stop.TheVariants.{Threw}
-use Rattle.js_values.specs.Outcome.{gave, ended, threw, ledger_of, gives, throws, text, row_ids, row_words}
+use Rattle.js_values.specs.Outcome.{gave, ended, threw, ledger_of, gives, throws, text}
+use Rattle.js_values.specs.Need.{row_ids, row_words}
 use Rattle.js_values.specs.declared.value.Kind.TheVariants.{RangeError}
 use Rattle.js_store.specs.Answers.{full_part}
 use Rattle.js_store.specs.declared.faults.MethodFault.TheVariants.{Store as MethodStore}

@@ -9,7 +9,8 @@ use Rattle.js_replace.specs.Parts.{parts}
 use Rattle.js_tree.specs.declared.tree.Method.{Method}
 use Rattle.js_tree.specs.declared.tree.Method.TheVariants.{At, CharAt, CharCodeAt, CodePointAt, Concat, EndsWith, Includes, IndexOf, IsWellFormed, Join, LastIndexOf, PadEnd, PadStart, Repeat, Replace, ReplaceAll, Slice, Split, StartsWith, Substr, Substring, ToWellFormed, Trim, TrimEnd, TrimStart}
 use Rattle.js_values.specs.declared.value.Kind.TheVariants.{TypeError}
-use Rattle.js_values.specs.Outcome.{Val, undefined, null, bool, number, text, list, Out, gave, bind, free, gives, throws, refuses, row_ids, row_words, parts_ids, parts_words}
+use Rattle.js_values.specs.Outcome.{Val, undefined, null, bool, number, text, list, Out, gave, bind, free, gives, throws, refuses}
+use Rattle.js_values.specs.Need.{row_ids, row_words, parts_ids, parts_words}
 use Rattle.js_values.specs.Conversions.{to_string, list_units, string_units, first_text_units}
 use Rattle.js_values.specs.Arguments.{first_of, is_undefined}
 use Rattle.js_calls.specs.Reading.{maybe_text}

@@ -6,7 +6,8 @@ use Rattle.js_methods.specs.Building.{is_code_point, code_units_of}
 use Rattle.js_calls.specs.declared.builtins.Codes.{Codes}
 use Rattle.js_calls.specs.declared.builtins.Codes.TheVariants.{CharCodes, CodePoints}
 use Rattle.js_values.specs.declared.value.Kind.TheVariants.{RangeError}
-use Rattle.js_values.specs.Outcome.{Val, text, Out, gave, ended, threw, bind, each, free, gives, refuses, row_ids, row_words, parts_ids, parts_words}
+use Rattle.js_values.specs.Outcome.{Val, text, Out, gave, ended, threw, bind, each, free, gives, refuses}
+use Rattle.js_values.specs.Need.{row_ids, row_words, parts_ids, parts_words}
 use Rattle.js_values.specs.Conversions.{to_string, to_number, text_units, all_units}
 use Rattle.js_calls.specs.Cutting.{within}
 

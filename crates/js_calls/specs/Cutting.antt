@@ -2,7 +2,8 @@
 use Rattle.std.specs.Prelude.{ℕ, ◌+◌, List, length, Option, Some, None, nat_le, if◌then◌else◌}
 use Rattle.js_number.specs.declared.Num.{Num}
 use Rattle.js_values.specs.declared.value.Kind.TheVariants.{RangeError}
-use Rattle.js_values.specs.Outcome.{Val, text, Out, gives, throws, refuses, row_ids, row_words}
+use Rattle.js_values.specs.Outcome.{Val, text, Out, gives, throws, refuses}
+use Rattle.js_values.specs.Need.{row_ids, row_words}
 
 -- a string, unless it is longer than a string may be; it needs so many ids, and words by the units of the result, of which
 -- there are none where it throws

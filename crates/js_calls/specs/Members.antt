@@ -15,7 +15,8 @@ use Rattle.js_calls.specs.declared.builtins.Codes.TheVariants.{CharCodes, CodePo
 use Rattle.js_tree.specs.declared.tree.Method.{Method}
 use Rattle.js_tree.specs.declared.tree.Method.TheVariants.{At, CharAt, CharCodeAt, CodePointAt, Concat, EndsWith, Includes, IndexOf, IsWellFormed, Join, LastIndexOf, PadEnd, PadStart, Repeat, Replace, ReplaceAll, Slice, Split, StartsWith, Substr, Substring, ToWellFormed, Trim, TrimEnd, TrimStart}
 use Rattle.js_values.specs.declared.value.Kind.TheVariants.{TypeError}
-use Rattle.js_values.specs.Outcome.{Val, undefined, null, bool, number, text, list, Out, gave, ended, threw, free, number_of, gives, throws, row_ids, row_words}
+use Rattle.js_values.specs.Outcome.{Val, undefined, null, bool, number, text, list, Out, gave, ended, threw, free, number_of, gives, throws}
+use Rattle.js_values.specs.Need.{row_ids, row_words}
 use Rattle.js_values.specs.Conversions.{to_number, list_units, all_units, first_text_units}
 use Rattle.js_values.specs.Arguments.{first_of, second_of, end_in}
 use Rattle.js_calls.specs.Reading.{at_call, char_at_call, char_code_call, code_point_call}

@@ -1,5 +1,5 @@
 -- Methods that repeat a string or a filler.
-use Rattle.std.specs.Prelude.{ℕ, ◌+◌, ◌*◌, List, [], ◌∷◌, length, Option, Some, None, Bool, true, false, nat_le, if◌then◌else◌}
+use Rattle.std.specs.Prelude.{ℕ, List, [], ◌∷◌, length, Option, Some, None, Bool, true, false, nat_le, if◌then◌else◌}
 use Rattle.js_number.specs.declared.Num.{Num}
 use Rattle.js_number.specs.Arith.{length_of}
 use Rattle.js_methods.specs.Repeating.{is_count, repeat_of}
@@ -7,21 +7,8 @@ use Rattle.js_values.specs.declared.value.Kind.TheVariants.{RangeError}
 use Rattle.js_values.specs.Outcome.{Val, Out, gave, bind, free, throws, refuses}
 use Rattle.js_values.specs.Conversions.{to_string, string_units}
 use Rattle.js_values.specs.Arguments.{is_undefined}
+use Rattle.js_values.specs.Need.{repeat_ids, repeat_words, pad_ids, pad_words}
 use Rattle.js_calls.specs.Cutting.{within}
-
--- what `repeat` needs, of a string of n units, where its result has r
-abbrev pub repeat_ids : ℕ
-repeat_ids = 96
-
-abbrev pub repeat_words : ℕ → ℕ → ℕ
-repeat_words n r = 2 * (n + r) + 512
-
--- what a pad needs, of a string of n units and a filler of m, where its result has r
-abbrev pub pad_ids : ℕ
-pad_ids = 128
-
-abbrev pub pad_words : ℕ → ℕ → ℕ → ℕ
-pad_words n m r = 2 * (n + m + r) + 1024
 
 -- so many copies of a string, where the number is a count
 abbrev pub repeated : Bool → ℕ → List ℕ → Num → Out Val

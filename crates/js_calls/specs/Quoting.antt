@@ -3,7 +3,8 @@ use Rattle.std.specs.Prelude.{ℕ, ◌+◌, List, length}
 use Rattle.js_number.specs.declared.Num.{Num}
 use Rattle.js_number.specs.declared.Num.TheVariants.{Int}
 use Rattle.js_json.specs.Quoting.{quoted, list_text}
-use Rattle.js_values.specs.Outcome.{Val, undefined, null, bool, number, text, list, Out, bind, gives, row_ids, row_words, parts_ids, parts_words}
+use Rattle.js_values.specs.Outcome.{Val, undefined, null, bool, number, text, list, Out, bind, gives}
+use Rattle.js_values.specs.Need.{row_ids, row_words, parts_ids, parts_words}
 use Rattle.js_values.specs.Conversions.{to_string, list_units}
 use Rattle.js_calls.specs.Cutting.{within, limited}
 

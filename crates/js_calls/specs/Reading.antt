@@ -3,7 +3,8 @@ use Rattle.std.specs.Prelude.{ℕ, ◌+◌, List, length, Option, Some, None, po
 use Rattle.js_number.specs.declared.Num.{Num}
 use Rattle.js_number.specs.declared.Num.TheVariants.{Int}
 use Rattle.js_methods.specs.Places.{at_of, char_at_of, char_code_of, code_point_of}
-use Rattle.js_values.specs.Outcome.{Val, undefined, number, text, Out, gives, refuses, row_ids, row_words}
+use Rattle.js_values.specs.Outcome.{Val, undefined, number, text, Out, gives, refuses}
+use Rattle.js_values.specs.Need.{row_ids, row_words}
 
 abbrev pub maybe_text : Option (List ℕ) → Val
 maybe_text None = undefined

@@ -1,6 +1,7 @@
 -- Methods that put a template in the place of matches. The operands of a call have t units.
 use Rattle.std.specs.Prelude.{ℕ, ◌+◌, List, [], ◌∷◌}
-use Rattle.js_values.specs.Outcome.{Val, Out, bind, parts_ids, parts_words}
+use Rattle.js_values.specs.Outcome.{Val, Out, bind}
+use Rattle.js_values.specs.Need.{parts_ids, parts_words}
 use Rattle.js_values.specs.Conversions.{to_string, text_units, first_text_units}
 use Rattle.js_calls.specs.Cutting.{within}
 

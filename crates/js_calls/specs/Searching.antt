@@ -2,7 +2,8 @@
 use Rattle.std.specs.Prelude.{ℕ, List, Option, Some, None, pos, negsuc}
 use Rattle.js_number.specs.declared.Num.{Num}
 use Rattle.js_number.specs.declared.Num.TheVariants.{Int}
-use Rattle.js_values.specs.Outcome.{Val, number, Out, bind, gives, refuses, row_ids, row_words}
+use Rattle.js_values.specs.Outcome.{Val, number, Out, bind, gives, refuses}
+use Rattle.js_values.specs.Need.{row_ids, row_words}
 use Rattle.js_values.specs.Conversions.{to_string}
 
 -- a place, or -1

@@ -1,7 +1,8 @@
 // Members and methods of values (ECMA-262, "Properties of the String Prototype Object").
 ghost use Rattle.std.specs.Prelude.{ℕ, ◌+◌, ◌≤◌, length, IfOk};
 ghost use Rattle.js_store.specs.State.{Grows, IsKnown, text};
-ghost use Rattle.js_values.specs.Outcome.{gives, row_ids, row_words};
+ghost use Rattle.js_values.specs.Outcome.{gives};
+ghost use Rattle.js_values.specs.Need.{row_ids, row_words};
 ghost use Rattle.js_values.specs.Outcome;
 ghost use Rattle.js_methods.specs.WellFormed.{all_paired};
 ghost use Rattle.js_values.specs.Conversions.{all_units};

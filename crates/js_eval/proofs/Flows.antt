@@ -13,7 +13,8 @@ use Rattle.js_values.specs.declared.value.Stop.{Stop}
 use Rattle.js_values.specs.declared.value.Stop.TheVariants.{Threw, Unsupported, Store}
 use Rattle.js_eval.specs.declared.env.Binding.{Binding}
 use Rattle.js_eval.specs.declared.env.Scope.{Scope as CodeScope}
-use Rattle.js_values.specs.Outcome.{Val, Ledger, Out, gave, ended, threw, unsupported, after, bind, each, ledger_of, parts_ids, parts_words}
+use Rattle.js_values.specs.Outcome.{Val, Ledger, Out, gave, ended, threw, unsupported, after, bind, each, ledger_of}
+use Rattle.js_values.specs.Need.{parts_ids, parts_words}
 use Rattle.js_values.specs.Conversions.{to_string, all_text_units}
 use Rattle.js_eval.specs.Expression.{Bound, Scope, exprs_out}
 use Rattle.js_texts.specs.Texts.{AllKnown, texts as texts_seen, full_only, settle_most}

@@ -3,6 +3,7 @@ use Rattle.std.specs.Prelude.{ℕ, ◌+◌, List, [], ◌∷◌, length, Option,
 use Rattle.js_store.specs.State.{State, text}
 use Rattle.js_store.specs.Rows.{copy_words}
 use Rattle.js_replace.specs.Parts.{parts}
+use Rattle.js_texts.specs.Use.{settling}
 
 -- copies of several lists
 abbrev pub copies : List (List ℕ) → ℕ

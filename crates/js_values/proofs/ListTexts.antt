@@ -9,7 +9,8 @@ use Rattle.js_store.proofs.Laws.{has_text, has_known}
 use Rattle.js_texts.specs.Use.{made_words}
 use Rattle.js_values.specs.declared.value.Kind.TheVariants.{RangeError}
 use Rattle.js_values.specs.declared.value.Stop.TheVariants.{Threw}
-use Rattle.js_values.specs.Outcome.{gave, ended, threw, ledger_of, parts_ids, parts_words}
+use Rattle.js_values.specs.Outcome.{gave, ended, threw, ledger_of}
+use Rattle.js_values.specs.Need.{parts_ids, parts_words}
 use Rattle.js_values.specs.Conversions.{list_units, comma_joined, list_string}
 use Rattle.js_values.specs.Ran.{Cut}
 use Rattle.js_values.specs.Does.{GivesText}

@@ -9,7 +9,8 @@ use Rattle.js_store.specs.declared.faults.StoreFault.TheVariants.{Full, Memory}
 use Rattle.js_store.specs.declared.faults.MethodFault.TheVariants.{Store as MethodStore}
 use Rattle.js_store.proofs.Laws.{flat_words_most}
 use Rattle.js_texts.specs.Use.{made_words}
-use Rattle.js_values.specs.Outcome.{Ledger, some_parts}
+use Rattle.js_values.specs.Outcome.{Ledger}
+use Rattle.js_values.specs.Need.{some_parts}
 use Rattle.js_values.specs.Ran.{Cut}
 use Rattle.js_values.proofs.Compose.{cut_of_step, cut_of_memory}
 use Rattle.std.proofs.Common.{◌*◌, [], ◌∷◌}

@@ -5,7 +5,8 @@ use Rattle.js_number.specs.declared.Num.TheVariants.{Int, NaN, PosInf, NegInf}
 use Rattle.js_number.specs.Arith.{text_of}
 use Rattle.js_texts.specs.Joined.{joined as joined_list}
 use Rattle.js_values.specs.declared.value.Kind.TheVariants.{RangeError}
-use Rattle.js_values.specs.Outcome.{Val, undefined, null, bool, number, text, list, Out, gave, ended, threw, free, row_ids, row_words, parts_ids, parts_words}
+use Rattle.js_values.specs.Outcome.{Val, undefined, null, bool, number, text, list, Out, gave, ended, threw, free}
+use Rattle.js_values.specs.Need.{row_ids, row_words, parts_ids, parts_words}
 
 -- a new string of these units
 abbrev pub spelled : List ℕ → Out (List ℕ)

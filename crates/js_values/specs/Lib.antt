@@ -1,4 +1,5 @@
 pub mod Outcome
+pub mod Need
 pub mod Conversions
 pub mod Operators
 pub mod Arguments

@@ -5,7 +5,8 @@ use Rattle.js_number.specs.Arith.{sum, difference, negative}
 use Rattle.js_tree.specs.declared.tree.Op.{Op}
 use Rattle.js_tree.specs.declared.tree.Op.TheVariants.{Plus, Minus}
 use Rattle.js_values.specs.declared.value.Kind.TheVariants.{RangeError}
-use Rattle.js_values.specs.Outcome.{Val, bool, number, text, Out, bind, gives, throws, refuses, row_ids, row_words}
+use Rattle.js_values.specs.Outcome.{Val, bool, number, text, Out, bind, gives, throws, refuses}
+use Rattle.js_values.specs.Need.{row_ids, row_words}
 use Rattle.js_values.specs.Conversions.{to_string, to_number, to_boolean, is_text, text_units}
 
 -- a number of the profile, or none, which ends the script at the operator

@@ -1,5 +1,5 @@
 -- What an evaluation comes to: a value, or what ended the script, beside a ledger of what it interned, made and needs.
-use Rattle.std.specs.Prelude.{ℕ, suc, zero, ◌+◌, ◌*◌, List, [], ◌∷◌, ◌++◌, Bool, nat_le, if◌then◌else◌, pos}
+use Rattle.std.specs.Prelude.{ℕ, ◌+◌, List, [], ◌∷◌, ◌++◌, Bool, nat_le, if◌then◌else◌, pos}
 use Rattle.js_number.specs.declared.Num.{Num}
 use Rattle.js_number.specs.declared.Num.TheVariants.{Int}
 use Rattle.js_values.specs.declared.value.Kind.{Kind}
@@ -74,21 +74,3 @@ throws k ids words = ended (threw k) (record { interned = []; texts = []; ids = 
 -- the place can't be evaluated in the profile
 abbrev pub refuses : {A : Type 0} → ℕ → Out A
 refuses at = ended (unsupported at) free
-
--- what a literal, a ToString or an operation of one part needs, where its string operands and results have t units together
-abbrev pub row_ids : ℕ
-row_ids = 8
-
-abbrev pub row_words : ℕ → ℕ
-row_words t = 2 * t + 24
-
--- the same of an operation of p parts, which count as one where there is none
-abbrev pub some_parts : ℕ → ℕ
-some_parts zero = 1
-some_parts (suc p) = suc p
-
-abbrev pub parts_ids : ℕ → ℕ
-parts_ids p = 4 * some_parts p + 4
-
-abbrev pub parts_words : ℕ → ℕ → ℕ
-parts_words p t = 2 * t + 8 * some_parts p + 16

@@ -3,7 +3,7 @@ use Rattle.js_units.specs.Text.{well}
 use Rattle.js_store.specs.State.{text}
 use Rattle.js_store.proofs.Laws.{flat_words_most}
 use Rattle.js_methods.proofs.WellFormed.{well_length}
-use Rattle.js_values.specs.Outcome.{row_ids, row_words}
+use Rattle.js_values.specs.Need.{row_ids, row_words}
 use Rattle.js_calls.proofs.Within.{within_full, within_given, within_thrown}
 use Rattle.js_calls.proofs.cutting.call_to_well_formed.Goals as goal
 

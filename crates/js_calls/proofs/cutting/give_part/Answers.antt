@@ -1,6 +1,6 @@
 use Rattle.std.proofs.Common.{arith, ◌+◌}
 use Rattle.js_store.specs.State.{text}
-use Rattle.js_values.specs.Outcome.{row_ids, row_words}
+use Rattle.js_values.specs.Need.{row_ids, row_words}
 use Rattle.js_calls.specs.Groups.{part_of}
 use Rattle.js_calls.proofs.Within.{within_cut}
 use Rattle.js_calls.proofs.cutting.give_part.Goals as goal

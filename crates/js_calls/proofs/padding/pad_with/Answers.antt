@@ -2,7 +2,7 @@ use Rattle.std.proofs.Common.{arith, length}
 use Rattle.js_store.specs.State.{text}
 use Rattle.js_methods.specs.Padding.{pad_words as methods_words}
 use Rattle.js_calls.specs.Groups.{padded_of}
-use Rattle.js_calls.specs.Padding.{pad_ids, pad_words}
+use Rattle.js_values.specs.Need.{pad_ids, pad_words}
 use Rattle.js_calls.proofs.Pads.{made_given, made_cut, made_thrown}
 use Rattle.js_calls.proofs.padding.pad_with.Goals as goal
 

@@ -1,7 +1,7 @@
 use Rattle.std.proofs.Common.{arith, ℕ, List, length, [], ◌∷◌}
 use Rattle.js_store.specs.State.{text}
 use Rattle.js_calls.specs.Groups.{padded_of}
-use Rattle.js_calls.specs.Padding.{pad_ids, pad_words}
+use Rattle.js_values.specs.Need.{pad_ids, pad_words}
 use Rattle.js_calls.proofs.Pads.{made_given, made_cut, made_thrown}
 use Rattle.js_calls.proofs.padding.pad_with_space.Goals as goal
 

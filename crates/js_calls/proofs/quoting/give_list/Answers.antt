@@ -3,7 +3,7 @@ use Rattle.js_store.specs.Rows.{flat_words}
 use Rattle.js_store.proofs.Laws.{flat_words_most}
 use Rattle.js_json.specs.Quoting.{list_text}
 use Rattle.js_texts.specs.Texts.{texts, settle_most}
-use Rattle.js_values.specs.Outcome.{parts_ids, parts_words}
+use Rattle.js_values.specs.Need.{parts_ids, parts_words}
 use Rattle.js_values.specs.Conversions.{list_units}
 use Rattle.js_calls.proofs.Within.{within_full, within_given, within_thrown}
 use Rattle.js_values.proofs.Needs.{some_most, settle_few}

@@ -3,7 +3,7 @@ use Rattle.js_store.specs.State.{text}
 use Rattle.js_store.specs.Rows.{wide_words, flat_words}
 use Rattle.js_store.proofs.Laws.{flat_words_most}
 use Rattle.js_json.specs.Quoting.{quoted}
-use Rattle.js_values.specs.Outcome.{row_ids, row_words}
+use Rattle.js_values.specs.Need.{row_ids, row_words}
 use Rattle.js_calls.proofs.Within.{within_full, within_given, within_thrown}
 use Rattle.js_calls.proofs.Quoted.{quoted_most}
 use Rattle.js_calls.proofs.quoting.give_quoted.Goals as goal

@@ -2,7 +2,7 @@ use Rattle.std.proofs.Common.{arith, ◌+◌, ◌≤◌, length, ℕ}
 use Rattle.js_store.specs.State.{State, text}
 use Rattle.js_store.proofs.Laws.{settle_words_most}
 use Rattle.js_texts.specs.Use.{settling}
-use Rattle.js_values.specs.Outcome.{parts_words}
+use Rattle.js_values.specs.Need.{parts_words}
 use Rattle.js_calls.specs.Groups.{replaced_of, match_count}
 use Rattle.js_values.proofs.Needs.{some_part}
 use Rattle.js_calls.proofs.Made.{parts_given, parts_cut, parts_thrown}
