@@ -11,7 +11,6 @@ use Rattle.std.specs.Prelude.{Result}
 use Rattle.std.proofs.Common.{Vec, Global}
 use Rattle.js_values.specs.declared.value.Stop.{Stop}
 use Rattle.js_values.specs.Outcome.{Out}
-use Rattle.js_calls.specs.Numbers.{IsFor}
 use Rattle.js_values.specs.Ran.{Did}
 
 -- a number that a function of the String constructor takes

@@ -4,3 +4,4 @@ pub mod Needs
 pub mod ListTexts
 pub mod Still
 pub mod Strings
+pub mod Sums

@@ -5,7 +5,7 @@ use Rattle.js_number.specs.Arith.{sum, difference, negative}
 use Rattle.js_tree.specs.declared.tree.Op.{Op}
 use Rattle.js_tree.specs.declared.tree.Op.TheVariants.{Plus, Minus}
 use Rattle.js_values.specs.declared.value.Kind.TheVariants.{RangeError}
-use Rattle.js_values.specs.Outcome.{Val, bool, number, text, Out, bind, gives, throws, refuses}
+use Rattle.js_values.specs.Outcome.{Val, undefined, null, bool, number, text, list, Out, gave, free, bind, gives, throws, refuses}
 use Rattle.js_values.specs.Need.{row_ids, row_words}
 use Rattle.js_values.specs.Conversions.{to_string, to_number, to_boolean, is_text, text_units}
 
@@ -38,13 +38,30 @@ joined limit t u w =
 abbrev pub joined_strings : ℕ → Val → Val → Out Val
 joined_strings limit v w = bind (to_string limit v) (λ u. bind (to_string limit w) (λ x. joined limit (text_units v + text_units w) u x))
 
-abbrev pub plus : Bool → ℕ → ℕ → Val → Val → Out Val
-plus true at limit v w = joined_strings limit v w
-plus false at limit v w = counted at (sum_in (to_number v) (to_number w))
+-- the primitive value of a value: an array becomes its string (ECMA-262, "ToPrimitive")
+abbrev pub primitive : ℕ → Val → Out Val
+primitive limit undefined = gave undefined free
+primitive limit null = gave null free
+primitive limit (bool b) = gave (bool b) free
+primitive limit (number n) = gave (number n) free
+primitive limit (text u) = gave (text u) free
+primitive limit (list us) = bind (to_string limit (list us)) (λ u. gave (text u) free)
+
+-- the sum of two primitive values, of which a string makes both strings
+abbrev pub added : Bool → ℕ → ℕ → Val → Val → Out Val
+added true at limit v w = joined_strings limit v w
+added false at limit v w = counted at (sum_in (to_number v) (to_number w))
+
+abbrev pub plus_primitives : ℕ → ℕ → Val → Val → Out Val
+plus_primitives at limit v w = added (is_text v || is_text w) at limit v w
+
+-- arrays become strings before anything else
+abbrev pub plus : ℕ → ℕ → Val → Val → Out Val
+plus at limit v w = bind (primitive limit v) (λ x. bind (primitive limit w) (λ y. plus_primitives at limit x y))
 
 -- ECMA-262, "ApplyStringOrNumericBinaryOperator"
 abbrev pub operated : Op → ℕ → ℕ → Val → Val → Out Val
-operated Plus at limit v w = plus (is_text v || is_text w) at limit v w
+operated Plus at limit v w = plus at limit v w
 operated Minus at limit v w = counted at (difference_in (to_number v) (to_number w))
 
 -- unary minus, or else `!`

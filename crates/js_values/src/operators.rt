@@ -2,8 +2,10 @@
 ghost use Rattle.std.specs.Prelude.{◌≡◌, ℕ, ◌+◌, ◌≤◌, ◌||◌, length, IfOk, IfSome};
 ghost use Rattle.js_number.specs.Places.{IsLawful};
 ghost use Rattle.js_store.specs.State.{Grows, IsKnown, text};
-ghost use Rattle.js_values.specs.Conversions.{is_text, to_number};
-ghost use Rattle.js_values.specs.Operators.{counted, sum_in, difference_in, negative_in, joined, joined_strings, operated, unary_out};
+ghost use Rattle.js_values.specs.Outcome;
+ghost use Rattle.js_values.specs.Outcome.{gave, bind, free};
+ghost use Rattle.js_values.specs.Conversions.{is_text, to_number, to_string};
+ghost use Rattle.js_values.specs.Operators.{counted, sum_in, difference_in, negative_in, joined, joined_strings, primitive, plus as sum_out, plus_primitives as primitive_sum, operated, unary_out};
 ghost use Rattle.js_values.specs.Seen.{seen, IsFine};
 ghost use Rattle.js_values.specs.Does.{Does};
 
@@ -30,14 +32,83 @@ pub fn operate<S: Strings>(
     ensures did { Does S.number (S.state store.old) (S.state store.new) result (operated op at (S.state store.old).limit (seen (S.state store.old) S.number left.now) (seen (S.state store.old) S.number right.now)) }
 {
     match op {
-        Op::Plus => {
-            if one_is_string(store, left, right) {
-                join_strings(alloc, store, left, right)
-            } else {
-                add(store, at, left, right)
-            }
-        }
+        Op::Plus => plus(alloc, store, at, left, right),
         Op::Minus => subtract(store, at, left, right),
+    }
+}
+
+// `+`, before which arrays become strings.
+fn plus<S: Strings>(
+    alloc: Global,
+    store: &mut S,
+    at: u32,
+    left: &Value<S::Ref>,
+    right: &Value<S::Ref>,
+) -> Result<Value<S::Ref>, Stop>
+    requires left { IsFine (S.state store.old) S.number left.now }
+    requires right { IsFine (S.state store.old) S.number right.now }
+    ensures grows { Grows (S.state store.old) (S.state store.new) }
+    ensures fine { IfOk result (λ v. IsFine (S.state store.new) S.number v) }
+    ensures did { Does S.number (S.state store.old) (S.state store.new) result (sum_out at (S.state store.old).limit (seen (S.state store.old) S.number left.now) (seen (S.state store.old) S.number right.now)) }
+{
+    let first = to_primitive(alloc, store, left)?;
+    let second = to_primitive(alloc, store, right)?;
+    plus_primitives(alloc, store, at, &first, &second)
+}
+
+// The primitive value of a value, which is no array.
+fn to_primitive<S: Strings>(
+    alloc: Global,
+    store: &mut S,
+    value: &Value<S::Ref>,
+) -> Result<Value<S::Ref>, Stop>
+    requires { IsFine (S.state store.old) S.number value.now }
+    ensures grows { Grows (S.state store.old) (S.state store.new) }
+    ensures fine { IfOk result (λ v. IsFine (S.state store.new) S.number v) }
+    ensures did { Does S.number (S.state store.old) (S.state store.new) result (primitive (S.state store.old).limit (seen (S.state store.old) S.number value.now)) }
+{
+    match value {
+        Value::Undefined => Ok(Value::Undefined),
+        Value::Null => Ok(Value::Null),
+        Value::Bool(b) => Ok(Value::Bool(*b)),
+        Value::Number(n) => Ok(Value::Number(*n)),
+        Value::Text(s) => Ok(Value::Text(*s)),
+        Value::List(_) => text_value(alloc, store, value),
+    }
+}
+
+// The string of a value as a value.
+fn text_value<S: Strings>(
+    alloc: Global,
+    store: &mut S,
+    value: &Value<S::Ref>,
+) -> Result<Value<S::Ref>, Stop>
+    requires { IsFine (S.state store.old) S.number value.now }
+    ensures grows { Grows (S.state store.old) (S.state store.new) }
+    ensures fine { IfOk result (λ v. IsFine (S.state store.new) S.number v) }
+    ensures did { Does S.number (S.state store.old) (S.state store.new) result (bind (to_string (S.state store.old).limit (seen (S.state store.old) S.number value.now)) (λ u. gave (Outcome.text u) free)) }
+{
+    let text = to_text(alloc, store, value)?;
+    Ok(Value::Text(text))
+}
+
+fn plus_primitives<S: Strings>(
+    alloc: Global,
+    store: &mut S,
+    at: u32,
+    left: &Value<S::Ref>,
+    right: &Value<S::Ref>,
+) -> Result<Value<S::Ref>, Stop>
+    requires left { IsFine (S.state store.old) S.number left.now }
+    requires right { IsFine (S.state store.old) S.number right.now }
+    ensures grows { Grows (S.state store.old) (S.state store.new) }
+    ensures fine { IfOk result (λ v. IsFine (S.state store.new) S.number v) }
+    ensures did { Does S.number (S.state store.old) (S.state store.new) result (primitive_sum at (S.state store.old).limit (seen (S.state store.old) S.number left.now) (seen (S.state store.old) S.number right.now)) }
+{
+    if one_is_string(store, left, right) {
+        join_strings(alloc, store, left, right)
+    } else {
+        add(store, at, left, right)
     }
 }
 
