@@ -161,23 +161,23 @@ IsLow W low = (low.ids ≤ next_id W) × (low.words ≤ next_word W)
 abbrev pub IsMember : HeapSize → ℕ → View → Type 0
 IsMember z agents v = (1 ≤ v.share) × (v.sizes ≡ z) × (v.agents ≡ agents)
 
--- the rule
+-- the rule; its parts have their numbers from docs/HEAP-PROOF.md
 pub record IsSound (z : HeapSize) (agents : ℕ) (W : List ℕ) (vs : List View) : Type 0 where
-  pub lawful : IsLawful z
-  pub counted : IsCounted z W
-  pub own_ids : EachLive vs (λ _ v. OwnsIds z W v.own_ids)
-  pub own_words : EachLive vs (λ _ v. OwnsWords z W v.own_words)
-  pub ids_apart : EachLive vs (λ j v. EachLive vs (λ k w. j ≢ k → AreApart v.own_ids w.own_ids))
-  pub words_apart : EachLive vs (λ j v. EachLive vs (λ k w. j ≢ k → AreApart v.own_words w.own_words))
-  pub standing : (i : ℕ) → IsBorn z W i → IsStanding z W vs i
-  pub knows : EachLive vs (λ _ v. Knows z W vs v)
-  pub slots : AreSlots z W vs
-  pub different : AreDifferent z W vs
-  pub recalls : EachLive vs (λ _ v. Recalls z W vs v)
-  pub entered : AreEntered z W vs
-  pub added : AreAdded z agents W vs
-  pub lows : EachLive vs (λ _ v. IsLow W v.low)
-  pub members : EachLive vs (λ _ v. IsMember z agents v)
+  pub lawful : IsLawful z  -- rule 1
+  pub counted : IsCounted z W  -- rule 1
+  pub own_ids : EachLive vs (λ _ v. OwnsIds z W v.own_ids)  -- rule 2
+  pub own_words : EachLive vs (λ _ v. OwnsWords z W v.own_words)  -- rule 2
+  pub ids_apart : EachLive vs (λ j v. EachLive vs (λ k w. j ≢ k → AreApart v.own_ids w.own_ids))  -- rule 2
+  pub words_apart : EachLive vs (λ j v. EachLive vs (λ k w. j ≢ k → AreApart v.own_words w.own_words))  -- rule 2
+  pub standing : (i : ℕ) → IsBorn z W i → IsStanding z W vs i  -- rule 3
+  pub knows : EachLive vs (λ _ v. Knows z W vs v)  -- rule 4
+  pub slots : AreSlots z W vs  -- rule 5
+  pub different : AreDifferent z W vs  -- rule 5
+  pub recalls : EachLive vs (λ _ v. Recalls z W vs v)  -- rule 6
+  pub entered : AreEntered z W vs  -- rule 6
+  pub added : AreAdded z agents W vs  -- rule 7; the shares, rule 8
+  pub lows : EachLive vs (λ _ v. IsLow W v.low)  -- rule 7
+  pub members : EachLive vs (λ _ v. IsMember z agents v)  -- rule 8
 
 -- all that the rule says of a live view alone: it is one of some sound state
 abbrev pub IsPossible : View → Type 0
