@@ -14,7 +14,7 @@ use Rattle.heap_text.specs.Texts.{Told, is_wide}
 use Rattle.heap_text.proofs.Answered.{joined_units}
 use Rattle.heap_text.proofs.Going.{continues_reads, continues_trans}
 use Rattle.heap_text.proofs.Loaded.{known_trans, reads_trans}
-use Rattle.heap_text.proofs.Pieces.{at_most_after, uses_after, whole_is, whole_shows}
+use Rattle.heap_text.proofs.Pieces.{spared_after, uses_after, whole_is, whole_shows}
 use Rattle.heap_text.proofs.Showing.{window_kept}
 use Rattle.heap_text.proofs.text.Text.concat.Goals as goal
 
@@ -60,10 +60,6 @@ copy-requires-clause-count c = let v : View = c.args.self.now.agent.seat.me.0 in
     let left = c.len-left.ensures.length p.0 p.1 in let right = c.len-right.ensures.length q.0 (c.len-left.ensures.reads.known.units c.args.b.id q.0 q.1) in
     ap length (λ i. whole_is w4 c.args.a p.0 (k4.units c.args.a.id p.0 p.1) c.window_on-front.result a.1 i ++ whole_is w4 c.args.b q.0 (k4.units c.args.b.id q.0 q.1) c.window_on-back.result b.1 i)
     ∙ (length-append p.0 q.0 ∙ (λ i. sym left i + sym right i))
-
-pub returns-then-left-right-gt-MAX_LENGTH-clause-continues : goal.returns-then-left-right-gt-MAX_LENGTH-clause-continues
-returns-then-left-right-gt-MAX_LENGTH-clause-continues c = let v : View = c.args.self.now.agent.seat.me.0 in let w1 : View = c.len-left.new.self.agent.seat.me.0 in let w2 : View = c.len-right.new.self.agent.seat.me.0 in
-    continues_reads v w2 (reads_trans v w1 w2 c.len-left.ensures.reads c.len-right.ensures.reads)
 
 pub returns-in-Ok-clause-continues : goal.returns-in-Ok-clause-continues
 returns-in-Ok-clause-continues c = let v : View = c.args.self.now.agent.seat.me.0 in
@@ -120,7 +116,7 @@ returns-in-Err-clause-joined c us vs h k = let v : View = c.args.self.now.agent.
       both = λ _ _ _. inr (
         c.in-Err.full,
         refl,
-        (subst (λ (y : HeapSize × ℕ). Told w5 y.0 y.1 c.in-Err.full) (λ i. (same i, words i)) e.refused, at_most_after v w4 w5 0 _ (words_over (is_wide (us ++ vs)) (length (us ++ vs))) r4.used words e.at_most),
+        (subst (λ (y : HeapSize × ℕ). Told w5 y.0 y.1 c.in-Err.full) (λ i. (same i, words i)) e.refused, spared_after v w4 w5 _ (words_over (is_wide (us ++ vs)) (length (us ++ vs))) c.in-Err.full r4 words e.spared),
       );
     }
 

@@ -11,7 +11,6 @@ use Rattle.heap_text.specs.declared.source.Source.TheVariants as source
 use Rattle.heap_text.specs.Sources.{listed}
 use Rattle.heap_text.specs.Texts.{Told, is_wide}
 use Rattle.heap_text.proofs.Answered.{cut_all, cut_settled}
-use Rattle.heap_text.proofs.Going.{continues_reads, continues_trans}
 use Rattle.heap_text.proofs.Loaded.{known_trans}
 use Rattle.heap_text.proofs.Pieces.{copy_answer, length_part, part_shows, piece_is, piece_shows}
 use Rattle.heap_text.proofs.text.Text.slice.Goals.{else-from-eq0-via-then-from-eq0+else-to-window, else-from-eq0-via-else-from-eq0}
@@ -33,10 +32,6 @@ copy-requires-clause-count c = let w : View = c.window-window.new.self.agent.sea
 pub copy-requires-clause-short : goal.copy-requires-clause-short
 copy-requires-clause-short c = let v : View = c.args.self.now.agent.seat.me.0 in let t = c.requires.within in let b = possible_short v c.requires.text.5 c.args.s.id t.0 t.1 in let to = t.3 in omega arith
 
-pub returns-clause-continues : goal.returns-clause-continues
-returns-clause-continues c = let v : View = c.args.self.now.agent.seat.me.0 in let w : View = c.window-window.new.self.agent.seat.me.0 in let x : View = c.copy.new.self.agent.seat.me.0 in
-    continues_trans v w x (continues_reads v w c.window-window.ensures.reads) c.copy.ensures.continues
-
 pub returns-clause-cut : goal.returns-clause-cut
 returns-clause-cut c us h = let v : View = c.args.self.now.agent.seat.me.0 in let w : View = c.window-window.new.self.agent.seat.me.0 in let x : View = c.copy.new.self.agent.seat.me.0 in let t = c.requires.within in
     let known = c.window-window.ensures.reads.known.units c.args.s.id us h in let a = c.window-window.ensures.shows us h in let n : ℕ = c.args.to - c.args.from in let from = t.2 in let to = t.3 in
@@ -50,8 +45,8 @@ returns-clause-cut c us h = let v : View = c.args.self.now.agent.seat.me.0 in le
         | else-from-eq0-via-then-from-eq0+else-to-window q ↦ absurd (q.if-to-window.false (l ∙ sym a.1))
         | else-from-eq0-via-else-from-eq0 q ↦ absurd (q.if-from-eq0.false z)
       ];
-      other = λ _. copy_answer v w x (size_of c.args.self.now.heap.now) c.copy.result (listed w (source.Piece (record { of = c.args.s; from = c.args.from; window = window }))) (part c.args.from n us) n all words c.window-window.ensures.reads.used e.units e.form e.used
-          (subst (λ (y : HeapSize). IfErr c.copy.result (λ f. Told x y (words_over (is_wide (listed w (source.Piece (record { of = c.args.s; from = c.args.from; window = window })))) n) f)) same e.refused) e.at_most;
+      other = λ _. copy_answer v w x (size_of c.args.self.now.heap.now) c.copy.result (listed w (source.Piece (record { of = c.args.s; from = c.args.from; window = window }))) (part c.args.from n us) n all words c.window-window.ensures.reads e.units e.form e.used
+          (subst (λ (y : HeapSize). IfErr c.copy.result (λ f. Told x y (words_over (is_wide (listed w (source.Piece (record { of = c.args.s; from = c.args.from; window = window })))) n) f)) same e.refused) e.spared;
     }
 
 pub returns-clause-units : goal.returns-clause-units
