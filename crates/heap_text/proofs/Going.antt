@@ -10,7 +10,7 @@ use Rattle.heap_rule.specs.declared.size.Counters.{Counters}
 use Rattle.heap_rule.specs.Maps.{HasKey, with_run}
 use Rattle.heap_rule.specs.Claims.{loaded_counter, won_claim}
 use Rattle.heap_rule.specs.Births.{stored_word, stored_length}
-use Rattle.heap_rule.proofs.MapLemmas.{has_key, key_of, insert_same, insert_other}
+use Rattle.heap_rule.proofs.MapLemmas.{key_of, insert_same, insert_other}
 use Rattle.heap_table.specs.Known.{KeepsKnown}
 use Rattle.heap_text.specs.Texts.{Reads, Continues}
 use Rattle.heap_text.specs.Written.{AreWords, IsWordOf}

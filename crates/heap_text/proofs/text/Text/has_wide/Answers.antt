@@ -1,4 +1,4 @@
-use Rattle.std.proofs.Common.{◌≡◌, ◌<◌, ◌≤◌, ◌∙◌, ℕ, List, get_or, below_more, ap, subst, sym, arith}
+use Rattle.std.proofs.Common.{◌≡◌, ◌≤◌, ◌∙◌, ℕ, List, get_or, below_more, ap, subst, sym, arith}
 use Rattle.heap_rule.specs.declared.view.View.{View}
 use Rattle.heap_text.specs.Sources.{listed}
 use Rattle.heap_text.specs.Written.{Holds}
