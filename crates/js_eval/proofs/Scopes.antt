@@ -12,10 +12,10 @@ use Rattle.js_values.proofs.Still.{seen_still, fine_still}
 
 module _ {F R : Type 0} (a b : State F) (name : R → ℕ) (g : Grows a b) where
   bound_still : (e : Binding R) → IsFine a name e.value → bound_of b name e ≡ bound_of a name e
-  bound_still e h = cc (seen_still e.value h)
+  bound_still e h = cc (seen_still a b name g e.value h)
 
   pub env_still : (es : List (Binding R)) → EnvFine a name es → EnvFine b name es
-  env_still es h = every_map (λ e k. fine_still e.value k) es h
+  env_still es h = every_map (λ e k. fine_still a b name g e.value k) es h
 
   pub bindings_still : (es : List (Binding R)) → EnvFine a name es → bindings_of b name es ≡ bindings_of a name es
   bindings_still es h = map_same bound_still es h

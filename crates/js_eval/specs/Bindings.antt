@@ -5,6 +5,7 @@ use Rattle.js_texts.specs.Texts.{Every, AllKnown, texts as texts_seen}
 use Rattle.js_eval.specs.declared.env.Binding.{Binding}
 use Rattle.js_eval.specs.declared.env.Scope.{Scope as CodeScope}
 use Rattle.js_eval.specs.Expression.{Bound, Scope}
+use Rattle.js_values.specs.Seen.{seen, IsFine}
 
 abbrev pub bound_of : {F R : Type 0} → State F → (R → ℕ) → Binding R → Bound
 bound_of s name b = record { name = b.name; constant = b.constant; value = seen s name b.value }

@@ -1,6 +1,7 @@
 -- What a binding holds, whatever vector has the elements of an array.
 use Rattle.std.specs.Prelude.{ℕ, List, Bool}
 use Rattle.js_eval.specs.declared.env.Binding.{Binding}
+use Rattle.js_values.specs.Copies.{Content, content}
 
 pub record BoundContent (R : Type 0) : Type 0 where
   pub name : List ℕ

@@ -289,3 +289,9 @@ one_step-returns-in_ok-index-in-Index-clause-did g t c =
     let state = g.S.Strings.state in
     rw (c.in-Index.is, tree_of_index c.in-Index.at c.in-Index.index)
     (index_does g.S.Strings.number (state c.args.store.now) (state c.expr.new.store) (state c.read_index.new.store) c.args.value.now c.in_ok-index-in-Index.index c.read_index.result c.in-Index.at (expr_tree c.in-Index.index) c.args.scope.now c.in_ok-index-in-Index.ensures.grows c.requires.value c.in_ok-index-in-Index.ensures.did c.read_index.ensures.did)
+
+pub exprs-returns-in_err-value-clause-grows : goal.exprs-returns-in_err-value-clause-grows
+exprs-returns-in_err-value-clause-grows g t c = grows_trans c.loop-e.invariant.grows c.in_err-value.ensures.grows
+
+pub exprs-returns-in_err-push-clause-grows : goal.exprs-returns-in_err-push-clause-grows
+exprs-returns-in_err-push-clause-grows g t c = grows_trans c.loop-e.invariant.grows c.in_ok-value.ensures.grows
