@@ -12,6 +12,3 @@ mod quoting;
 
 pub use lists::stringify_list;
 pub use quoting::quote;
-
-#[cfg(test)]
-mod tests;

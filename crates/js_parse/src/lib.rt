@@ -18,6 +18,3 @@ mod token;
 pub use js_tree::{Names, Script};
 pub use laws::{no_refused_script, one_refusal, one_script};
 pub use parser::{ParseFault, Role, parse};
-
-#[cfg(test)]
-mod tests;

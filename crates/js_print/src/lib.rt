@@ -8,6 +8,3 @@ mod lines;
 mod printing;
 
 pub use lines::{Lines, print_line};
-
-#[cfg(test)]
-mod tests;

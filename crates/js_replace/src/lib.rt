@@ -17,6 +17,3 @@ mod substituting;
 pub use replacing::{replace, replace_all};
 pub use splitting::split;
 pub use substituting::substitution;
-
-#[cfg(test)]
-mod tests;
