@@ -30,7 +30,7 @@ use Rattle.js_values.specs.Ran.{Cut}
 use Rattle.js_values.specs.Does.{Does, GivesText}
 use Rattle.js_values.proofs.Compose.{cut_of_step, ran_of_step, did_before}
 use Rattle.js_calls.proofs.Within.{within_given, within_thrown}
-use Rattle.js_calls.proofs.Calls.{text_then, text_stops}
+use Rattle.js_calls.proofs.Calls.{text_converts, text_fails}
 
 made_most : (limit n : ℕ) → made limit n ≤ n
 made_most limit n = elim (nat_le n limit) as (λ v. (if v then n else 0) ≤ n) [
@@ -107,11 +107,11 @@ module _ {F R : Type 0} (name : R → ℕ) (a b c : State F) (pad : List ℕ →
   -- a filler that is given, as a string
   pub fills_text : (w : R) (r : Result (Value R) Stop) → Grows a b → IsKnown a (name s) → is_undefined f ≡ false → GivesText name a b (Ok w) (to_string a.limit f) → Does name b c r (within b.limit pad_ids (pad_words (length (text b (name s))) (length (text b (name w)))) (pad (text b (name s)) m (text b (name w)))) → Does name a c r (filled a.limit (pad (text a (name s))) (text a (name s)) m f)
   fills_text w r g k e x d =
-      rw e (text_then name a b c w r (to_string a.limit f) (λ v. within a.limit pad_ids (pad_words (length (text a (name s))) (length v)) (pad (text a (name s)) m v)) x
+      rw e (text_converts name pad_ids (pad_words (length (text a (name s))) (string_units f) 0) a b c w r (to_string a.limit f) (λ v. within a.limit pad_ids (pad_words (length (text a (name s))) (length v)) (pad (text a (name s)) m v)) x
       (subst (λ (q : ℕ × List ℕ). Does name b c r (within q.0 pad_ids (pad_words (length q.1) (length (text b (name w)))) (pad q.1 m (text b (name w))))) (cc (g.limit, text_still g (name s) k)) d))
 
   pub fill_stops : (n : Stop) → is_undefined f ≡ false → GivesText name a b (Err n) (to_string a.limit f) → Does name a b (Err n) (filled a.limit (pad (text a (name s))) (text a (name s)) m f)
-  fill_stops n e x = rw e (text_stops name a b n (to_string a.limit f) (λ v. within a.limit pad_ids (pad_words (length (text a (name s))) (length v)) (pad (text a (name s)) m v)) x)
+  fill_stops n e x = rw e (text_fails name pad_ids (pad_words (length (text a (name s))) (string_units f) 0) a b n (to_string a.limit f) (λ v. within a.limit pad_ids (pad_words (length (text a (name s))) (length v)) (pad (text a (name s)) m v)) x)
 
 -- a string that has fewer units, where the filler is the second argument
 pub pads_more : {F R : Type 0} (name : R → ℕ) (a b c : State F) (pad : List ℕ → ℕ → List ℕ → List ℕ) (s : R) (m : ℕ) (vs : List (Value R)) (r : Result (Value R) Stop) → Step a b None 0 0 → b.history ≡ a.history → IsKnown a (name s) → AllFine a name vs → length (text a (name s)) < m → Does name b c r (filled b.limit (pad (text b (name s))) (text b (name s)) m (second_of (all_seen b name vs))) → Does name a c r (padded a.limit (pad (text a (name s))) (text a (name s)) m (second_of (all_seen a name vs)))

@@ -9,7 +9,7 @@ use Rattle.js_replace.specs.Parts.{parts}
 use Rattle.js_tree.specs.declared.tree.Method.{Method}
 use Rattle.js_tree.specs.declared.tree.Method.TheVariants.{At, CharAt, CharCodeAt, CodePointAt, Concat, EndsWith, Includes, IndexOf, IsWellFormed, Join, LastIndexOf, PadEnd, PadStart, Repeat, Replace, ReplaceAll, Slice, Split, StartsWith, Substr, Substring, ToWellFormed, Trim, TrimEnd, TrimStart}
 use Rattle.js_values.specs.declared.value.Kind.TheVariants.{TypeError}
-use Rattle.js_values.specs.Outcome.{Val, undefined, null, bool, number, text, list, Converted, Out, gave, bind, free, gives, throws, refuses, converts}
+use Rattle.js_values.specs.Outcome.{Val, undefined, null, bool, number, text, list, Converted, Out, gave, converting, free, gives, throws, refuses, converts}
 use Rattle.js_values.specs.Need.{row_ids, row_words, parts_ids, parts_words}
 use Rattle.js_values.specs.Conversions.{to_string, list_units, string_units, all_units, first_text_units}
 use Rattle.js_values.specs.Arguments.{first_of, is_undefined}
@@ -76,7 +76,7 @@ abbrev pub separator_of : ℕ → Val → Out (List ℕ)
 separator_of limit v = if is_undefined v then gave (44 ∷ []) free else to_string limit v
 
 abbrev pub join_call : ℕ → List (List ℕ) → List Val → Out Val
-join_call limit us vs = bind (separator_of limit (first_of vs)) (λ w. joined_with limit (list_units us + first_text_units vs) us w)
+join_call limit us vs = converting (parts_ids (length us)) (parts_words (length us) (list_units us + all_units vs)) (separator_of limit (first_of vs)) (λ w. joined_with limit (list_units us + first_text_units vs) us w)
 
 -- a method that was called on an array, where the operands of the call have t units. The profile leaves out what arrays have
 -- besides `join` (ECMA-262, "Properties of the Array Prototype Object")
@@ -121,7 +121,7 @@ abbrev pub split_most : ℕ → List ℕ → List Val → ℕ → Out Val
 split_most limit u vs most =
     if is_undefined (first_of vs)
     then split_into (length u + first_text_units vs) u most None
-    else bind (to_string limit (first_of vs)) (λ w. split_into (length u + first_text_units vs) u most (Some w))
+    else converting row_ids (row_words (length u + all_units vs)) (to_string limit (first_of vs)) (λ w. split_into (length u + first_text_units vs) u most (Some w))
 
 -- "String.prototype.split", of which the limit is converted first
 abbrev pub split_call : ℕ → List ℕ → List Val → Converted (Option Num) → Out Val

@@ -4,9 +4,9 @@ use Rattle.js_number.specs.declared.Num.{Num}
 use Rattle.js_number.specs.Arith.{modulo}
 use Rattle.js_methods.specs.Building.{is_code_point, code_units_of}
 use Rattle.js_values.specs.declared.value.Kind.TheVariants.{RangeError}
-use Rattle.js_values.specs.Outcome.{Val, text, Out, gave, ended, threw, bind, each, free, gives, converts}
+use Rattle.js_values.specs.Outcome.{Val, text, Out, gave, ended, threw, bind, converting, each, free, gives, converts}
 use Rattle.js_values.specs.Need.{row_ids, row_words, parts_ids, parts_words}
-use Rattle.js_values.specs.Conversions.{to_string, to_number, text_units, all_units}
+use Rattle.js_values.specs.Conversions.{to_string, to_number, string_units, text_units, all_units}
 use Rattle.js_calls.specs.Cutting.{within}
 
 -- two strings joined, of operands with t units
@@ -18,7 +18,7 @@ joined_text limit t u w =
 
 -- one more argument, as a string, behind what was joined so far
 abbrev pub one_joined : ℕ → List ℕ → Val → Out (List ℕ)
-one_joined limit u v = bind (to_string limit v) (λ w. joined_text limit (length u + text_units v) u w)
+one_joined limit u v = converting row_ids (row_words (length u + string_units v)) (to_string limit v) (λ w. joined_text limit (length u + text_units v) u w)
 
 -- "String.prototype.concat": each argument in turn
 abbrev pub concat_call : ℕ → List ℕ → List Val → Out Val

@@ -4,7 +4,7 @@ use Rattle.js_number.specs.declared.Num.{Num}
 use Rattle.js_number.specs.Arith.{length_of}
 use Rattle.js_methods.specs.Repeating.{is_count, repeat_of}
 use Rattle.js_values.specs.declared.value.Kind.TheVariants.{RangeError}
-use Rattle.js_values.specs.Outcome.{Val, Converted, Out, gave, bind, free, throws, converts}
+use Rattle.js_values.specs.Outcome.{Val, Converted, Out, gave, converting, free, throws, converts}
 use Rattle.js_values.specs.Conversions.{to_string, string_units}
 use Rattle.js_values.specs.Arguments.{is_undefined}
 use Rattle.js_values.specs.Need.{repeat_ids, repeat_words, pad_ids, pad_words}
@@ -25,7 +25,7 @@ filler_of limit v = if is_undefined v then gave (32 ∷ []) free else to_string 
 
 -- a filler, and then the string u with it, so that it has m units
 abbrev pub filled : ℕ → (ℕ → List ℕ → List ℕ) → List ℕ → ℕ → Val → Out Val
-filled limit pad u m f = bind (filler_of limit f) (λ w. within limit pad_ids (pad_words (length u) (length w)) (pad m w))
+filled limit pad u m f = converting pad_ids (pad_words (length u) (string_units f) 0) (filler_of limit f) (λ w. within limit pad_ids (pad_words (length u) (length w)) (pad m w))
 
 -- the string u padded to m units; the filler isn't looked at where u has as many
 abbrev pub padded : ℕ → (ℕ → List ℕ → List ℕ) → List ℕ → ℕ → Val → Out Val

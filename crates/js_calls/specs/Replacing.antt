@@ -1,7 +1,8 @@
--- Methods that put a template in the place of matches. The operands of a call have t units.
+-- Methods that put a template in the place of matches. The operands of a call have o units as they are, m where the first one
+-- was converted, and t where both were.
 use Rattle.std.specs.Prelude.{ℕ, ◌+◌, List, [], ◌∷◌}
-use Rattle.js_values.specs.Outcome.{Val, Out, bind}
-use Rattle.js_values.specs.Need.{parts_ids, parts_words}
+use Rattle.js_values.specs.Outcome.{Val, Out, converting}
+use Rattle.js_values.specs.Need.{row_ids, row_words, parts_ids, parts_words}
 use Rattle.js_values.specs.Conversions.{to_string, text_units, first_text_units}
 use Rattle.js_calls.specs.Cutting.{within}
 
@@ -16,5 +17,7 @@ replacement limit t p r = within limit (parts_ids p) (λ n. parts_words p (t + n
 
 -- the searched string and the template as strings, in this order, and then what they give: "String.prototype.replace",
 -- "String.prototype.replaceAll"
-abbrev pub replace_call : ℕ → ℕ → (List ℕ → ℕ) → (List ℕ → List ℕ → List ℕ) → Val → Val → Out Val
-replace_call limit t count replaced w template = bind (to_string limit w) (λ x. bind (to_string limit template) (λ y. replacement limit t (count x) (replaced x y)))
+abbrev pub replace_call : ℕ → ℕ → ℕ → ℕ → (List ℕ → ℕ) → (List ℕ → List ℕ → List ℕ) → Val → Val → Out Val
+replace_call limit o m t count replaced w template =
+    converting row_ids (row_words o) (to_string limit w) (λ x.
+    converting row_ids (row_words m) (to_string limit template) (λ y. replacement limit t (count x) (replaced x y)))

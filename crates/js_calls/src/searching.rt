@@ -7,7 +7,7 @@ ghost use Rattle.js_store.specs.Faults.{Step, method_fault_of, NeverSlots};
 ghost use Rattle.js_store.specs.Answers.{NeverThrows};
 ghost use Rattle.js_methods.specs.Searching.{ends_at};
 ghost use Rattle.js_values.specs.Outcome;
-ghost use Rattle.js_values.specs.Conversions.{to_number, first_text_units};
+ghost use Rattle.js_values.specs.Conversions.{to_number, all_units, first_text_units};
 ghost use Rattle.js_values.specs.Arguments.{first_of, second_of, end_in};
 ghost use Rattle.js_calls.specs.Searching.{place_number, found, search_call};
 ghost use Rattle.js_calls.specs.Groups.{search_of};
@@ -42,7 +42,7 @@ pub fn call_search<S: Strings>(
     requires args { AllFine (S.state store.old) S.number args.now }
     ensures grows { Grows (S.state store.old) (S.state store.new) }
     ensures fine { IfOk result (λ v. IsFine (S.state store.new) S.number v) }
-    ensures did { Does S.number (S.state store.old) (S.state store.new) result (search_call (S.state store.old).limit (length (text (S.state store.old) (S.number s)) + first_text_units (all_seen (S.state store.old) S.number args.now)) (search_of search (text (S.state store.old) (S.number s))) (first_of (all_seen (S.state store.old) S.number args.now)) (to_number at (second_of (all_seen (S.state store.old) S.number args.now)))) }
+    ensures did { Does S.number (S.state store.old) (S.state store.new) result (search_call (S.state store.old).limit (length (text (S.state store.old) (S.number s)) + all_units (all_seen (S.state store.old) S.number args.now)) (length (text (S.state store.old) (S.number s)) + first_text_units (all_seen (S.state store.old) S.number args.now)) (search_of search (text (S.state store.old) (S.number s))) (first_of (all_seen (S.state store.old) S.number args.now)) (to_number at (second_of (all_seen (S.state store.old) S.number args.now)))) }
 {
     let place = second_number(store, at, args);
     let w = first_text(alloc, store, args)?;
@@ -117,7 +117,7 @@ pub fn call_ends_with<S: Strings>(
     requires args { AllFine (S.state store.old) S.number args.now }
     ensures grows { Grows (S.state store.old) (S.state store.new) }
     ensures fine { IfOk result (λ v. IsFine (S.state store.new) S.number v) }
-    ensures did { Does S.number (S.state store.old) (S.state store.new) result (search_call (S.state store.old).limit (length (text (S.state store.old) (S.number s)) + first_text_units (all_seen (S.state store.old) S.number args.now)) (λ x e. Outcome.bool (ends_at (text (S.state store.old) (S.number s)) x e)) (first_of (all_seen (S.state store.old) S.number args.now)) (end_in at (second_of (all_seen (S.state store.old) S.number args.now)))) }
+    ensures did { Does S.number (S.state store.old) (S.state store.new) result (search_call (S.state store.old).limit (length (text (S.state store.old) (S.number s)) + all_units (all_seen (S.state store.old) S.number args.now)) (length (text (S.state store.old) (S.number s)) + first_text_units (all_seen (S.state store.old) S.number args.now)) (λ x e. Outcome.bool (ends_at (text (S.state store.old) (S.number s)) x e)) (first_of (all_seen (S.state store.old) S.number args.now)) (end_in at (second_of (all_seen (S.state store.old) S.number args.now)))) }
 {
     let end = second_or_none(store, at, args);
     let w = first_text(alloc, store, args)?;

@@ -5,4 +5,3 @@ pub mod ListTexts
 pub mod Still
 pub mod Strings
 pub mod Sums
-pub mod Refusals

@@ -5,9 +5,9 @@ use Rattle.js_number.specs.Arith.{sum, difference, negative}
 use Rattle.js_tree.specs.declared.tree.Op.{Op}
 use Rattle.js_tree.specs.declared.tree.Op.TheVariants.{Plus, Minus}
 use Rattle.js_values.specs.declared.value.Kind.TheVariants.{RangeError}
-use Rattle.js_values.specs.Outcome.{Val, undefined, null, bool, number, text, list, Converted, into, fails, threw, unsupported, Out, gave, free, bind, gives, throws, refuses, converts}
+use Rattle.js_values.specs.Outcome.{Val, undefined, null, bool, number, text, list, Converted, into, fails, threw, unsupported, Out, gave, free, bind, gives, throws, refuses, converts, converting}
 use Rattle.js_values.specs.Need.{row_ids, row_words}
-use Rattle.js_values.specs.Conversions.{to_string, to_number, to_boolean, is_text, text_units}
+use Rattle.js_values.specs.Conversions.{to_string, to_number, to_boolean, is_text, text_units, string_units}
 
 -- a number of the profile, or none, which ends the script at the operator
 abbrev pub counted : ℕ → Option Num → Out Val
@@ -39,8 +39,11 @@ joined limit t u w =
     then gives (text (u ++ w)) row_ids (row_words (t + (length u + length w)))
     else throws RangeError row_ids (row_words t)
 
+-- two primitive values as strings, joined
 abbrev pub joined_strings : ℕ → Val → Val → Out Val
-joined_strings limit v w = bind (to_string limit v) (λ u. bind (to_string limit w) (λ x. joined limit (text_units v + text_units w) u x))
+joined_strings limit v w =
+    converting row_ids (row_words (text_units v + text_units w)) (to_string limit v) (λ u.
+    converting row_ids (row_words (text_units v + text_units w)) (to_string limit w) (λ x. joined limit (text_units v + text_units w) u x))
 
 -- the primitive value of a value: an array becomes its string (ECMA-262, "ToPrimitive")
 abbrev pub primitive : ℕ → Val → Out Val
@@ -61,7 +64,9 @@ plus_primitives at limit v w = added (is_text v || is_text w) at limit v w
 
 -- arrays become strings before anything else
 abbrev pub plus : ℕ → ℕ → Val → Val → Out Val
-plus at limit v w = bind (primitive limit v) (λ x. bind (primitive limit w) (λ y. plus_primitives at limit x y))
+plus at limit v w =
+    converting row_ids (row_words (string_units v + string_units w)) (primitive limit v) (λ x.
+    converting row_ids (row_words (text_units v + string_units w)) (primitive limit w) (λ y. plus_primitives at limit x y))
 
 -- ECMA-262, "ApplyStringOrNumericBinaryOperator"
 abbrev pub operated : Op → ℕ → ℕ → Val → Val → Out Val

@@ -80,12 +80,22 @@ throws k ids words = ended (threw k) (record { interned = []; texts = []; ids = 
 abbrev pub refuses : {A : Type 0} → ℕ → Out A
 refuses at = ended (unsupported at) free
 
+-- what the operands of an operation that throws need
+abbrev pub cost : ℕ → ℕ → Ledger
+cost ids words = record { interned = []; texts = []; ids = ids; words = words }
+
 -- an operation that such a conversion ends: where it throws, the operands count, which need so much
 abbrev pub ends : {A : Type 0} → Ending → ℕ → ℕ → Out A
-ends (threw k) ids words = ended (threw k) (record { interned = []; texts = []; ids = ids; words = words })
+ends (threw k) ids words = ended (threw k) (cost ids words)
 ends (unsupported at) ids words = refuses at
 
 -- a conversion, and then what has its value
 abbrev pub converts : {A B : Type 0} → ℕ → ℕ → Converted A → (A → Out B) → Out B
 converts ids words (into x) go = go x
 converts ids words (fails e) go = ends e ids words
+
+-- the same where the conversion makes a string
+abbrev pub converting : {A B : Type 0} → ℕ → ℕ → Out A → (A → Out B) → Out B
+converting ids words (gave x l) go = after l (go x)
+converting ids words (ended (threw k) l) go = ended (threw k) (both l (cost ids words))
+converting ids words (ended (unsupported at) l) go = ended (unsupported at) l

@@ -15,7 +15,7 @@ ghost use Rattle.js_values.specs.Seen.{seen, IsFine, all_seen, AllFine};
 ghost use Rattle.js_values.specs.Does.{GivesText, GivesTexts, string_words};
 
 use crate::lists::push;
-use crate::value::{Kind, Refusal, Stop, Value};
+use crate::value::{Refusal, Stop, Value};
 use js_number::{Num, append_text};
 use js_store::{MethodFault, StoreFault, Strings};
 use js_units::Units;
@@ -54,11 +54,7 @@ fn list_text<S: Strings>(alloc: Global, store: &mut S, list: &[S::Ref]) -> Resul
     ensures settled { IfOk result (λ r. IsSettled (S.state store.new) (S.number r)) }
     ensures did { GivesText S.number (S.state store.old) (S.state store.new) result (list_string (S.state store.old).limit (texts_seen (S.state store.old) S.number list.now)) }
 {
-    match joined_by_commas(alloc, store, list) {
-        Ok(r) => Ok(r),
-        Err(MethodFault::Store(fault)) => Err(Stop::Store(fault)),
-        Err(MethodFault::RangeError(_)) => Err(Stop::Threw(Kind::RangeError)),
-    }
+    Ok(joined_by_commas(alloc, store, list)?)
 }
 
 /// The strings joined by commas.
