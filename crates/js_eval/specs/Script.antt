@@ -1,5 +1,5 @@
 -- What statements and a script mean: how they end, the lines that they print, and the bindings that they leave.
-use Rattle.std.specs.Prelude.{ℕ, List, [], ◌∷◌, ◌++◌, length, nat_le, if◌then◌else◌}
+use Rattle.std.specs.Prelude.{ℕ, ◌+◌, List, [], ◌∷◌, ◌++◌, length, nat_le, if◌then◌else◌}
 use Rattle.js_print.specs.Printing.{line}
 use Rattle.js_tree.specs.Tree.{Exprs, StmtTree, print, Stmts, no_stmts, stmt, Tree}
 use Rattle.js_values.specs.declared.value.Kind.TheVariants.{RangeError}
