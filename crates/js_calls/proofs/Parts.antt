@@ -18,7 +18,7 @@ use Rattle.js_values.specs.declared.value.Value.TheVariants as value
 use Rattle.js_values.specs.declared.value.Stop.{Stop}
 use Rattle.js_values.specs.Stops.{stop_of}
 use Rattle.js_values.specs.Outcome.{Val, list, ledger_of}
-use Rattle.js_values.specs.Need.{row_ids, row_words, some_parts, parts_ids, parts_words}
+use Rattle.js_values.specs.Need.{reads, some_parts, parts_ids, parts_words}
 use Rattle.js_values.specs.Conversions.{list_units, to_string, all_units, first_text_units}
 use Rattle.js_values.specs.Arguments.{first_of, is_undefined}
 use Rattle.js_calls.specs.Arrays.{split_into, split_most}
@@ -97,5 +97,5 @@ module _ {F R : Type 0} (name : R → ℕ) (a b c : State F) (s w : R) (most : �
       let same : units_of b (name s) ≡ units_of a (name s) = text_still g (name s) k in
       let t : ℕ = length (units_of a (name s)) + first_text_units vs in
       let z : Does name b c r (split_into t (units_of b (name s)) most (Some (units_of b (name w)))) = d t (rw same (omega (arith, h))) in
-      rw e (text_converts name row_ids (row_words (length (units_of a (name s)) + all_units vs)) a b c w r (to_string a.limit (first_of vs)) (λ x. split_into t (units_of a (name s)) most (Some x)) x
+      rw e (text_converts name (reads (length (units_of a (name s)) + all_units vs)) a b c w r (to_string a.limit (first_of vs)) (λ x. split_into t (units_of a (name s)) most (Some x)) x
       (subst (λ (q : List ℕ). Does name b c r (split_into t q most (Some (units_of b (name w))))) same z))

@@ -4,37 +4,34 @@ use Rattle.js_number.specs.declared.Num.{Num}
 use Rattle.js_number.specs.Arith.{modulo}
 use Rattle.js_methods.specs.Building.{is_code_point, code_units_of}
 use Rattle.js_values.specs.declared.value.Kind.TheVariants.{RangeError}
-use Rattle.js_values.specs.Outcome.{Val, text, Out, gave, ended, threw, bind, converting, each, free, gives, converts}
-use Rattle.js_values.specs.Need.{row_ids, row_words, parts_ids, parts_words}
+use Rattle.js_values.specs.Outcome.{Val, text, Out, gave, bind, converting, each, free, cost, needing, throwing, converts}
+use Rattle.js_values.specs.Need.{Row, nothing, reads, parts}
 use Rattle.js_values.specs.Conversions.{to_string, to_number, string_units, text_units, all_units}
-use Rattle.js_calls.specs.Cutting.{within}
+use Rattle.js_calls.specs.Cutting.{bounded}
 
 -- two strings joined, of operands with t units
 abbrev pub joined_text : ℕ → ℕ → List ℕ → List ℕ → Out (List ℕ)
 joined_text limit t u w =
     if nat_le (length u + length w) limit
-    then gave (u ++ w) (record { interned = []; texts = []; ids = row_ids; words = row_words (t + (length u + length w)) })
-    else ended (threw RangeError) (record { interned = []; texts = []; ids = row_ids; words = row_words t })
+    then gave (u ++ w) (cost (reads (t + (length u + length w))))
+    else throwing (reads t) RangeError
 
 -- one more argument, as a string, behind what was joined so far
 abbrev pub one_joined : ℕ → List ℕ → Val → Out (List ℕ)
-one_joined limit u v = converting row_ids (row_words (length u + string_units v)) (to_string limit v) (λ w. joined_text limit (length u + text_units v) u w)
+one_joined limit u v = converting (reads (length u + string_units v)) (to_string limit v) (λ w. joined_text limit (length u + text_units v) u w)
 
 -- "String.prototype.concat": each argument in turn
 abbrev pub concat_call : ℕ → List ℕ → List Val → Out Val
-concat_call limit u [] = within limit 0 (λ r. 0) u
+concat_call limit u [] = bounded limit (λ r. nothing) u
 concat_call limit u (v ∷ vs) = bind (one_joined limit u v) (λ w. concat_call limit w vs)
 
 -- what a call of `String.fromCharCode` or `String.fromCodePoint` with these arguments needs, where its result has n units
-abbrev pub from_ids : List Val → ℕ
-from_ids vs = parts_ids (length vs)
-
-abbrev pub from_words : List Val → ℕ → ℕ
-from_words vs n = parts_words (length vs) (all_units vs + n)
+abbrev pub from_row : List Val → ℕ → Row
+from_row vs n = parts (length vs) (all_units vs + n)
 
 -- a RangeError of such a call
 abbrev pub from_throws : {A : Type 0} → List Val → Out A
-from_throws vs = ended (threw RangeError) (record { interned = []; texts = []; ids = from_ids vs; words = from_words vs 0 })
+from_throws vs = throwing (from_row vs 0) RangeError
 
 -- a number that has to be a code point
 abbrev pub point_out : List Val → Num → Out Num
@@ -42,10 +39,10 @@ point_out vs n = if is_code_point n then gave n free else from_throws vs
 
 -- an argument as a number, and then what is taken of it
 abbrev pub number_out : (Num → Out Num) → ℕ → List Val → Val → Out Num
-number_out taken at vs v = converts (from_ids vs) (from_words vs 0) (to_number at v) taken
+number_out taken at vs v = converts (from_row vs 0) (to_number at v) taken
 
 abbrev pub made : List Val → List ℕ → Out Val
-made vs u = gives (text u) (from_ids vs) (from_words vs (length u))
+made vs u = needing (from_row vs (length u)) (text u)
 
 -- a call of such a function: each argument in turn as a number, and then the string of these; no text spells a call of more
 -- than 2^20 arguments

@@ -14,8 +14,8 @@ use Rattle.js_tree.specs.declared.tree.Builtin.TheVariants.{FromCharCode, FromCo
 use Rattle.js_tree.specs.declared.tree.Method.{Method}
 use Rattle.js_tree.specs.declared.tree.Method.TheVariants.{At, CharAt, CharCodeAt, CodePointAt, Concat, EndsWith, Includes, IndexOf, IsWellFormed, Join, LastIndexOf, PadEnd, PadStart, Repeat, Replace, ReplaceAll, Slice, Split, StartsWith, Substr, Substring, ToWellFormed, Trim, TrimEnd, TrimStart}
 use Rattle.js_values.specs.declared.value.Kind.TheVariants.{TypeError}
-use Rattle.js_values.specs.Outcome.{Val, undefined, null, bool, number, text, list, Out, gave, ended, threw, free, number_of, gives, throws}
-use Rattle.js_values.specs.Need.{row_ids, row_words}
+use Rattle.js_values.specs.Outcome.{Val, undefined, null, bool, number, text, list, Out, gave, free, number_of, needing, throwing}
+use Rattle.js_values.specs.Need.{nothing, reads}
 use Rattle.js_values.specs.Conversions.{to_number, list_units, all_units, first_text_units}
 use Rattle.js_values.specs.Arguments.{first_of, second_of, end_in}
 use Rattle.js_calls.specs.Reading.{at_call, char_at_call, char_code_call, code_point_call}
@@ -28,17 +28,17 @@ use Rattle.js_calls.specs.Quoting.{stringify_call}
 use Rattle.js_calls.specs.Arrays.{list_call, split_call}
 
 abbrev pub length_of : Val → Out Val
-length_of undefined = throws TypeError 0 0
-length_of null = throws TypeError 0 0
-length_of (bool b) = gives undefined 0 0
-length_of (number n) = gives undefined 0 0
-length_of (text u) = gives (number (Int (pos (length u)))) 0 0
-length_of (list us) = gives (number_of (length us)) 0 0
+length_of undefined = throwing nothing TypeError
+length_of null = throwing nothing TypeError
+length_of (bool b) = needing nothing undefined
+length_of (number n) = needing nothing undefined
+length_of (text u) = needing nothing (number (Int (pos (length u))))
+length_of (list us) = needing nothing (number_of (length us))
 
 -- a value that has members (ECMA-262, "RequireObjectCoercible")
 abbrev pub present : Val → Out (Unit {0})
-present undefined = ended (threw TypeError) (record { interned = []; texts = []; ids = row_ids; words = row_words 0 })
-present null = ended (threw TypeError) (record { interned = []; texts = []; ids = row_ids; words = row_words 0 })
+present undefined = throwing (reads 0) TypeError
+present null = throwing (reads 0) TypeError
 present v = gave tt free
 
 -- a method of a string, where the operands of the call have t units (ECMA-262, "Properties of the String Prototype Object")
@@ -51,8 +51,8 @@ string_call Concat at limit t u vs = concat_call limit u vs
 string_call EndsWith at limit t u vs = search_call limit t (length u + first_text_units vs) (λ w e. bool (ends_at u w e)) (first_of vs) (end_in at (second_of vs))
 string_call Includes at limit t u vs = search_call limit t (length u + first_text_units vs) (λ w n. bool (includes_from u w n)) (first_of vs) (to_number at (second_of vs))
 string_call IndexOf at limit t u vs = search_call limit t (length u + first_text_units vs) (λ w n. place_value (index_from u w n)) (first_of vs) (to_number at (second_of vs))
-string_call IsWellFormed at limit t u vs = gives (bool (all_paired u)) row_ids (row_words t)
-string_call Join at limit t u vs = throws TypeError row_ids (row_words t)
+string_call IsWellFormed at limit t u vs = needing (reads t) (bool (all_paired u))
+string_call Join at limit t u vs = throwing (reads t) TypeError
 string_call LastIndexOf at limit t u vs = search_call limit t (length u + first_text_units vs) (λ w n. place_value (last_index_up_to u w n)) (first_of vs) (to_number at (second_of vs))
 string_call PadEnd at limit t u vs = pad_call limit (pad_end_of u) u (to_number at (first_of vs)) (second_of vs)
 string_call PadStart at limit t u vs = pad_call limit (pad_start_of u) u (to_number at (first_of vs)) (second_of vs)
@@ -73,7 +73,7 @@ string_call TrimStart at limit t u vs = limited limit t (trimmed_start u)
 abbrev pub called : Method → ℕ → ℕ → Val → List Val → Out Val
 called m at limit (text u) vs = string_call m at limit (length u + all_units vs) u vs
 called m at limit (list us) vs = list_call m at limit (list_units us + all_units vs) us vs
-called m at limit v vs = throws TypeError row_ids (row_words (all_units vs))
+called m at limit v vs = throwing (reads (all_units vs)) TypeError
 
 -- a call of a built-in function, with all its arguments
 abbrev pub built : Builtin → ℕ → ℕ → List Val → Out Val

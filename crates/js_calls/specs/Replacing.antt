@@ -2,9 +2,9 @@
 -- was converted, and t where both were.
 use Rattle.std.specs.Prelude.{ℕ, ◌+◌, List, [], ◌∷◌}
 use Rattle.js_values.specs.Outcome.{Val, Out, converting}
-use Rattle.js_values.specs.Need.{row_ids, row_words, parts_ids, parts_words}
+use Rattle.js_values.specs.Need.{reads, parts}
 use Rattle.js_values.specs.Conversions.{to_string, text_units, first_text_units}
-use Rattle.js_calls.specs.Cutting.{within}
+use Rattle.js_calls.specs.Cutting.{bounded}
 
 -- the units of the arguments, of which the first two were converted by ToString
 abbrev pub two_text_units : List Val → ℕ
@@ -13,11 +13,11 @@ two_text_units (v ∷ vs) = text_units v + first_text_units vs
 
 -- a string in which p matches were replaced; none counts as one
 abbrev pub replacement : ℕ → ℕ → ℕ → List ℕ → Out Val
-replacement limit t p r = within limit (parts_ids p) (λ n. parts_words p (t + n)) r
+replacement limit t p r = bounded limit (λ n. parts p (t + n)) r
 
 -- the searched string and the template as strings, in this order, and then what they give: "String.prototype.replace",
 -- "String.prototype.replaceAll"
 abbrev pub replace_call : ℕ → ℕ → ℕ → ℕ → (List ℕ → ℕ) → (List ℕ → List ℕ → List ℕ) → Val → Val → Out Val
 replace_call limit o m t count replaced w template =
-    converting row_ids (row_words o) (to_string limit w) (λ x.
-    converting row_ids (row_words m) (to_string limit template) (λ y. replacement limit t (count x) (replaced x y)))
+    converting (reads o) (to_string limit w) (λ x.
+    converting (reads m) (to_string limit template) (λ y. replacement limit t (count x) (replaced x y)))

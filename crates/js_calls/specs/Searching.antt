@@ -3,8 +3,8 @@
 use Rattle.std.specs.Prelude.{ℕ, List, Option, Some, None, pos, negsuc}
 use Rattle.js_number.specs.declared.Num.{Num}
 use Rattle.js_number.specs.declared.Num.TheVariants.{Int}
-use Rattle.js_values.specs.Outcome.{Val, number, Converted, Out, converting, gives, converts}
-use Rattle.js_values.specs.Need.{row_ids, row_words}
+use Rattle.js_values.specs.Outcome.{Val, number, Converted, Out, converting, needing, converts}
+use Rattle.js_values.specs.Need.{reads}
 use Rattle.js_values.specs.Conversions.{to_string}
 
 -- a place, or -1
@@ -17,9 +17,9 @@ place_value k = number (place_number k)
 
 -- what a number gives
 abbrev pub found : {N : Type 0} → ℕ → (N → Val) → Converted N → Out Val
-found t answer n = converts row_ids (row_words t) n (λ k. gives (answer k) row_ids (row_words t))
+found t answer n = converts (reads t) n (λ k. needing (reads t) (answer k))
 
 -- the first argument as a string, and then what it and a number give: "String.prototype.includes", "String.prototype.indexOf",
 -- "String.prototype.lastIndexOf", "String.prototype.startsWith", and "String.prototype.endsWith", where the number may be missing
 abbrev pub search_call : {N : Type 0} → ℕ → ℕ → ℕ → (List ℕ → N → Val) → Val → Converted N → Out Val
-search_call limit o t answer w n = converting row_ids (row_words o) (to_string limit w) (λ x. found t (answer x) n)
+search_call limit o t answer w n = converting (reads o) (to_string limit w) (λ x. found t (answer x) n)

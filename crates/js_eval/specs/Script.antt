@@ -3,8 +3,8 @@ use Rattle.std.specs.Prelude.{ℕ, ◌+◌, List, [], ◌∷◌, ◌++◌, lengt
 use Rattle.js_print.specs.Printing.{line}
 use Rattle.js_tree.specs.Tree.{Exprs, StmtTree, print, Stmts, no_stmts, stmt, Tree}
 use Rattle.js_values.specs.declared.value.Kind.TheVariants.{RangeError}
-use Rattle.js_values.specs.Outcome.{Val, Out, gave, ended, threw, after, bind, converting, each, free, ledger_of}
-use Rattle.js_values.specs.Need.{row_ids, row_words, parts_ids, parts_words}
+use Rattle.js_values.specs.Outcome.{Val, Out, gave, ended, threw, after, bind, converting, each, free, cost, ledger_of}
+use Rattle.js_values.specs.Need.{reads, parts, ids_in, words_in}
 use Rattle.js_values.specs.Conversions.{to_string, string_units, text_units, all_units, all_text_units}
 use Rattle.js_eval.specs.Expression.{Scope, Bound, exprs_out}
 
@@ -32,7 +32,7 @@ reached_units limit (v ∷ vs) = reached (to_string limit v) (text_units v + rea
 
 -- the line of a `print`: all its arguments, then their texts
 abbrev pub line_out : ℕ → List Val → Out (List ℕ)
-line_out limit vs = converting (parts_ids (length vs)) (parts_words (length vs) (reached_units limit vs)) (each (to_string limit) vs []) (λ us. gave (line us) (record { interned = []; texts = []; ids = parts_ids (length vs); words = parts_words (length vs) (all_text_units vs) }))
+line_out limit vs = converting (parts (length vs) (reached_units limit vs)) (each (to_string limit) vs []) (λ us. gave (line us) (cost (parts (length vs) (all_text_units vs))))
 
 abbrev pub print_out : Exprs → Scope → Out (List ℕ)
 print_out args s = bind (exprs_out args s []) (λ vs. line_out s.limit vs)
@@ -56,7 +56,7 @@ stmts_flow (stmt first rest) s = then_flow (stmt_flow first s) (λ bs. stmts_flo
 abbrev pub literal_out : ℕ → List ℕ → Out (List ℕ)
 literal_out limit u =
     if nat_le (length u) limit
-    then gave u (record { interned = u ∷ []; texts = []; ids = row_ids; words = row_words (length u) })
+    then gave u (record { interned = u ∷ []; texts = []; ids = ids_in (reads (length u)); words = words_in (reads (length u)) })
     else ended (threw RangeError) free
 
 -- the literals first, and then what has them

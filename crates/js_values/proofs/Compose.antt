@@ -10,6 +10,7 @@ use Rattle.js_store.specs.declared.faults.StoreFault.{StoreFault}
 use Rattle.js_store.specs.declared.faults.StoreFault.TheVariants.{Full, Memory}
 use Rattle.js_values.specs.declared.value.Stop.{Stop}
 use Rattle.js_values.specs.declared.value.Stop.TheVariants.{Threw, Unsupported, Store}
+use Rattle.js_values.specs.Need.{Row, ids_in, words_in}
 use Rattle.js_values.specs.Outcome.{Ledger, both, free, cost, Out, gave, ended, threw, unsupported, after, bind, converting, ledger_of}
 use Rattle.js_store.specs.Answers.{full_part}
 use Rattle.js_store.specs.declared.faults.MethodFault.TheVariants.{Store as MethodStore}
@@ -231,20 +232,20 @@ ran_of_text {a = a} {b = b} ids words w n z s h p q = record {
 }
 
 -- a conversion within an operation, and then what is done with its value
-pub did_convert : {F V A W B : Type 0} (ids words : ℕ) (a b c : State F) (see : State F → V → A) (fine : State F → V → Type 0) (see' : State F → W → B) (fine' : State F → W → Type 0) (v : V) (r : Result W Stop) (o : Out A) (go : A → Out B) → Did a b see fine (Ok v) o → Did b c see' fine' r (go (see b v)) → Did a c see' fine' r (converting ids words o go)
-did_convert ids words a b c see fine see' fine' v r (gave x l) go d e =
+pub did_convert : {F V A W B : Type 0} (row : Row) (a b c : State F) (see : State F → V → A) (fine : State F → V → Type 0) (see' : State F → W → B) (fine' : State F → W → Type 0) (v : V) (r : Result W Stop) (o : Out A) (go : A → Out B) → Did a b see fine (Ok v) o → Did b c see' fine' r (go (see b v)) → Did a c see' fine' r (converting row o go)
+did_convert row a b c see fine see' fine' v r (gave x l) go d e =
     did_after a b c see' fine' l r (go x) d.ran (subst (λ y. Did b c see' fine' r (go y)) d.is e)
-did_convert ids words a b c see fine see' fine' v r (ended (threw n) l) go d e = absurd d
-did_convert ids words a b c see fine see' fine' v r (ended (unsupported n) l) go d e = absurd d
+did_convert row a b c see fine see' fine' v r (ended (threw n) l) go d e = absurd d
+did_convert row a b c see fine see' fine' v r (ended (unsupported n) l) go d e = absurd d
 
 -- a conversion that stops an operation
-pub did_fail : {F V A W B : Type 0} (ids words : ℕ) (a b : State F) (see : State F → V → A) (fine : State F → V → Type 0) (see' : State F → W → B) (fine' : State F → W → Type 0) (s : Stop) (o : Out A) (go : A → Out B) → Did a b see fine (Err s) o → Did a b see' fine' (Err s) (converting ids words o go)
-did_fail ids words a b see fine see' fine' (Threw k) (gave x l) go d = absurd d
-did_fail ids words a b see fine see' fine' (Threw k) (ended (threw n) l) go d = (d.0, ran_both d.1 (ran_of_step ids words (step_refl b) refl (omega arith) (omega arith)))
-did_fail ids words a b see fine see' fine' (Threw k) (ended (unsupported n) l) go d = absurd d
-did_fail ids words a b see fine see' fine' (Unsupported k) (gave x l) go d = absurd d
-did_fail ids words a b see fine see' fine' (Unsupported k) (ended (threw n) l) go d = absurd d
-did_fail ids words a b see fine see' fine' (Unsupported k) (ended (unsupported n) l) go d = d
-did_fail ids words a b see fine see' fine' (Store f) (gave x l) go d = cut_after l (go x) d
-did_fail ids words a b see fine see' fine' (Store f) (ended (threw n) l) go d = cut_more (cost ids words) d
-did_fail ids words a b see fine see' fine' (Store f) (ended (unsupported n) l) go d = d
+pub did_fail : {F V A W B : Type 0} (row : Row) (a b : State F) (see : State F → V → A) (fine : State F → V → Type 0) (see' : State F → W → B) (fine' : State F → W → Type 0) (s : Stop) (o : Out A) (go : A → Out B) → Did a b see fine (Err s) o → Did a b see' fine' (Err s) (converting row o go)
+did_fail row a b see fine see' fine' (Threw k) (gave x l) go d = absurd d
+did_fail row a b see fine see' fine' (Threw k) (ended (threw n) l) go d = (d.0, ran_both d.1 (ran_of_step (ids_in row) (words_in row) (step_refl b) refl (omega arith) (omega arith)))
+did_fail row a b see fine see' fine' (Threw k) (ended (unsupported n) l) go d = absurd d
+did_fail row a b see fine see' fine' (Unsupported k) (gave x l) go d = absurd d
+did_fail row a b see fine see' fine' (Unsupported k) (ended (threw n) l) go d = absurd d
+did_fail row a b see fine see' fine' (Unsupported k) (ended (unsupported n) l) go d = d
+did_fail row a b see fine see' fine' (Store f) (gave x l) go d = cut_after l (go x) d
+did_fail row a b see fine see' fine' (Store f) (ended (threw n) l) go d = cut_more (cost row) d
+did_fail row a b see fine see' fine' (Store f) (ended (unsupported n) l) go d = d

@@ -5,12 +5,12 @@ use Rattle.js_number.specs.declared.Num.TheVariants.{Int, NaN, PosInf, NegInf}
 use Rattle.js_number.specs.Arith.{text_of}
 use Rattle.js_texts.specs.Joined.{joined as joined_list}
 use Rattle.js_values.specs.declared.value.Kind.TheVariants.{RangeError}
-use Rattle.js_values.specs.Outcome.{Val, undefined, null, bool, number, text, list, Converted, into, fails, Out, gave, ended, threw, unsupported, free}
-use Rattle.js_values.specs.Need.{row_ids, row_words, parts_ids, parts_words}
+use Rattle.js_values.specs.Outcome.{Val, undefined, null, bool, number, text, list, Converted, into, fails, Out, gave, unsupported, free, cost, throwing}
+use Rattle.js_values.specs.Need.{reads, parts}
 
 -- a new string of these units
 abbrev pub spelled : List ℕ → Out (List ℕ)
-spelled u = gave u (record { interned = []; texts = []; ids = row_ids; words = row_words (length u) })
+spelled u = gave u (cost (reads (length u)))
 
 abbrev pub word_of : Bool → List ℕ
 word_of true = codes "true"
@@ -30,8 +30,8 @@ comma_joined us = joined_list (44 ∷ []) us
 abbrev pub list_string : ℕ → List (List ℕ) → Out (List ℕ)
 list_string limit us =
     if nat_le (length (comma_joined us)) limit
-    then gave (comma_joined us) (record { interned = []; texts = []; ids = parts_ids (length us); words = parts_words (length us) (list_units us + length (comma_joined us)) })
-    else ended (threw RangeError) (record { interned = []; texts = []; ids = parts_ids (length us); words = parts_words (length us) (list_units us) })
+    then gave (comma_joined us) (cost (parts (length us) (list_units us + length (comma_joined us))))
+    else throwing (parts (length us) (list_units us)) RangeError
 
 -- ECMA-262, "ToString"
 abbrev pub to_string : ℕ → Val → Out (List ℕ)

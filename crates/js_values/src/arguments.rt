@@ -81,11 +81,7 @@ fn is_missing<S: Strings>(_store: &S, value: &Value<S::Ref>) -> bool
 }
 
 /// ToNumber of the first argument, of a call at the byte offset `at`.
-pub fn first_number<S: Strings>(
-    store: &S,
-    at: u32,
-    args: &[Value<S::Ref>],
-) -> Result<Num, Refusal>
+pub fn first_number<S: Strings>(store: &S, at: u32, args: &[Value<S::Ref>]) -> Result<Num, Refusal>
     requires { AllFine (S.state store.now) S.number args.now }
     ensures value { converted_of result ≡ to_number at (first_of (all_seen (S.state store.now) S.number args.now)) }
     ensures lawful { IfOk result IsLawful }
@@ -97,11 +93,7 @@ pub fn first_number<S: Strings>(
 }
 
 /// ToNumber of the second argument, of a call at the byte offset `at`.
-pub fn second_number<S: Strings>(
-    store: &S,
-    at: u32,
-    args: &[Value<S::Ref>],
-) -> Result<Num, Refusal>
+pub fn second_number<S: Strings>(store: &S, at: u32, args: &[Value<S::Ref>]) -> Result<Num, Refusal>
     requires { AllFine (S.state store.now) S.number args.now }
     ensures value { converted_of result ≡ to_number at (second_of (all_seen (S.state store.now) S.number args.now)) }
     ensures lawful { IfOk result IsLawful }

@@ -4,7 +4,7 @@ use Rattle.js_store.specs.State.{text}
 use Rattle.js_methods.specs.Searching.{ends_at}
 use Rattle.js_values.specs.Outcome.{bool}
 use Rattle.js_values.specs.Conversions.{to_string, all_units, first_text_units}
-use Rattle.js_values.specs.Need.{row_ids, row_words}
+use Rattle.js_values.specs.Need.{reads}
 use Rattle.js_values.specs.Arguments.{first_of}
 use Rattle.js_values.specs.Stops.{converted_of}
 use Rattle.js_calls.specs.Searching.{found}
@@ -21,7 +21,7 @@ returns-in_err-w-clause-did g c =
     let u = text a (number c.args.s) in
     let v = c.second_or_none-end.ensures.value in
     let p = err_from_is_err_and c.from_residual.result c.from_residual.ensures.1 in
-    rw (p.1, p.2, ← v) (text_fails number row_ids (row_words (length u + all_units vs)) a (state c.first_text.new.store) c.in_err-w.field-0.0 (to_string a.limit (first_of vs)) (λ x. found (length u + first_text_units vs) (λ e. bool (ends_at u x e)) (converted_of c.second_or_none-end.result)) c.in_err-w.ensures.did)
+    rw (p.1, p.2, ← v) (text_fails number (reads (length u + all_units vs)) a (state c.first_text.new.store) c.in_err-w.field-0.0 (to_string a.limit (first_of vs)) (λ x. found (length u + first_text_units vs) (λ e. bool (ends_at u x e)) (converted_of c.second_or_none-end.result)) c.in_err-w.ensures.did)
 
 pub returns-clause-did : goal.returns-clause-did
 returns-clause-did g c =
