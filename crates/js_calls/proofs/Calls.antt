@@ -1,16 +1,17 @@
 -- Calls of methods: an argument as a string, and then what is done with it.
-use Rattle.std.proofs.Common.{arith, ◌≡◌, ℕ, ◌+◌, ◌≤◌, ◌<◌, List, subst, sym, Option, length, get_or, drop, Result, Ok, Err}
+use Rattle.std.proofs.Common.{arith, ◌≡◌, ℕ, ◌+◌, ◌≤◌, ◌<◌, List, subst, sym, length, get_or, drop, Result, Ok, Err}
 use Rattle.js_store.specs.State.{State, Grows, IsKnown, text}
 use Rattle.js_store.proofs.Laws.{text_still}
 use Rattle.js_values.specs.declared.value.Value.{Value}
 use Rattle.js_values.specs.declared.value.Stop.{Stop}
-use Rattle.js_values.specs.Outcome.{Val, Out, bind}
-use Rattle.js_values.specs.Conversions.{to_string, text_units}
+use Rattle.js_values.specs.Outcome.{Val, Converted, Out, bind, converting}
+use Rattle.js_values.specs.Need.{Row, reads}
+use Rattle.js_values.specs.Conversions.{to_string, text_units, string_units}
 use Rattle.js_calls.specs.Searching.{found, search_call}
 use Rattle.js_calls.specs.Building.{joined_text, one_joined, concat_call}
 use Rattle.js_values.specs.Seen.{seen, IsFine, all_seen, AllFine}
 use Rattle.js_values.specs.Does.{Does, GivesText}
-use Rattle.js_values.proofs.Compose.{did_bind, did_stop}
+use Rattle.js_values.proofs.Compose.{did_bind, did_stop, did_convert, did_fail}
 use Rattle.js_texts.proofs.Lists.{drop_at, every_at}
 use Rattle.js_values.proofs.Still.{seen_still}
 
@@ -22,14 +23,21 @@ module _ {F R : Type 0} (name : R → ℕ) where
   pub text_stops : (a b : State F) (n : Stop) (o : Out (List ℕ)) (go : List ℕ → Out Val) → GivesText name a b (Err n) o → Does name a b (Err n) (bind o go)
   text_stops a b n o go d = did_stop a b (λ s v. text s (name v)) (λ s v. IsKnown s (name v)) (λ s v. seen s name v) (λ s v. IsFine s name v) n o go d
 
+  -- the same within an operation, whose operands need so much where it throws
+  pub text_converts : (row : Row) (a b c : State F) (w : R) (r : Result (Value R) Stop) (o : Out (List ℕ)) (go : List ℕ → Out Val) → GivesText name a b (Ok w) o → Does name b c r (go (text b (name w))) → Does name a c r (converting row o go)
+  text_converts row a b c w r o go d e = did_convert row a b c (λ s v. text s (name v)) (λ s v. IsKnown s (name v)) (λ s v. seen s name v) (λ s v. IsFine s name v) w r o go d e
+
+  pub text_fails : (row : Row) (a b : State F) (n : Stop) (o : Out (List ℕ)) (go : List ℕ → Out Val) → GivesText name a b (Err n) o → Does name a b (Err n) (converting row o go)
+  text_fails row a b n o go d = did_fail row a b (λ s v. text s (name v)) (λ s v. IsKnown s (name v)) (λ s v. seen s name v) (λ s v. IsFine s name v) n o go d
+
   -- a string to look for, and then what it and a number give
-  pub search_does : {N : Type 0} (a b c : State F) (s w : R) (r : Result (Value R) Stop) (at n : ℕ) (answer : List ℕ → List ℕ → N → Val) (v : Val) (q : Option N) → Grows a b → IsKnown a (name s) → length (text b (name w)) ≤ n + 40 → GivesText name a b (Ok w) (to_string a.limit v) → ((t : ℕ) → length (text b (name s)) + length (text b (name w)) ≤ t + 40 → Does name b c r (found at t (answer (text b (name s)) (text b (name w))) q)) → Does name a c r (search_call at a.limit (length (text a (name s)) + n) (answer (text a (name s))) v q)
-  search_does a b c s w r at n answer v q g k h d f =
+  pub search_does : {N : Type 0} (a b c : State F) (s w : R) (r : Result (Value R) Stop) (m n : ℕ) (answer : List ℕ → List ℕ → N → Val) (v : Val) (q : Converted N) → Grows a b → IsKnown a (name s) → length (text b (name w)) ≤ n + 40 → GivesText name a b (Ok w) (to_string a.limit v) → ((t : ℕ) → length (text b (name s)) + length (text b (name w)) ≤ t + 40 → Does name b c r (found t (answer (text b (name s)) (text b (name w))) q)) → Does name a c r (search_call a.limit m (length (text a (name s)) + n) (answer (text a (name s))) v q)
+  search_does a b c s w r m n answer v q g k h d f =
       let same : text b (name s) ≡ text a (name s) = text_still g (name s) k in
       let t : ℕ = length (text a (name s)) + n in
-      let z : Does name b c r (found at t (answer (text b (name s)) (text b (name w))) q) = f t (rw same (omega (arith, h))) in
-      text_then a b c w r (to_string a.limit v) (λ x. found at t (answer (text a (name s)) x) q) d
-      (subst (λ (u : List ℕ). Does name b c r (found at t (answer u (text b (name w))) q)) same z)
+      let z : Does name b c r (found t (answer (text b (name s)) (text b (name w))) q) = f t (rw same (omega (arith, h))) in
+      text_converts (reads m) a b c w r (to_string a.limit v) (λ x. found t (answer (text a (name s)) x) q) d
+      (subst (λ (u : List ℕ). Does name b c r (found t (answer u (text b (name w))) q)) same z)
 
   -- one more argument of `concat`
   pub join_does : (a b c : State F) (s w : R) (v : Value R) (r : Result R Stop) → Grows a b → IsKnown a (name s) → length (text b (name w)) ≤ text_units (seen a name v) + 40 → GivesText name a b (Ok w) (to_string a.limit (seen a name v)) → ((t : ℕ) → length (text b (name s)) + length (text b (name w)) ≤ t + 40 → GivesText name b c r (joined_text b.limit t (text b (name s)) (text b (name w)))) → GivesText name a c r (one_joined a.limit (text a (name s)) (seen a name v))
@@ -37,11 +45,11 @@ module _ {F R : Type 0} (name : R → ℕ) where
       let same : text b (name s) ≡ text a (name s) = text_still g (name s) k in
       let t : ℕ = length (text a (name s)) + text_units (seen a name v) in
       let z : GivesText name b c r (joined_text b.limit t (text b (name s)) (text b (name w))) = f t (rw same (omega (arith, h))) in
-      did_bind a b c (λ o e. text o (name e)) (λ o e. IsKnown o (name e)) (λ o e. text o (name e)) (λ o e. IsKnown o (name e)) w r (to_string a.limit (seen a name v)) (λ x. joined_text a.limit t (text a (name s)) x) d
+      did_convert (reads (length (text a (name s)) + string_units (seen a name v))) a b c (λ o e. text o (name e)) (λ o e. IsKnown o (name e)) (λ o e. text o (name e)) (λ o e. IsKnown o (name e)) w r (to_string a.limit (seen a name v)) (λ x. joined_text a.limit t (text a (name s)) x) d
       (subst (λ (p : ℕ × List ℕ). GivesText name b c r (joined_text p.0 t p.1 (text b (name w)))) (cc (g.limit, same)) z)
 
   pub join_stops : (a b : State F) (s : R) (v : Value R) (n : Stop) → GivesText name a b (Err n) (to_string a.limit (seen a name v)) → GivesText name a b (Err n) (one_joined a.limit (text a (name s)) (seen a name v))
-  join_stops a b s v n d = did_stop a b (λ o e. text o (name e)) (λ o e. IsKnown o (name e)) (λ o e. text o (name e)) (λ o e. IsKnown o (name e)) n (to_string a.limit (seen a name v)) (λ x. joined_text a.limit (length (text a (name s)) + text_units (seen a name v)) (text a (name s)) x) d
+  join_stops a b s v n d = did_fail (reads (length (text a (name s)) + string_units (seen a name v))) a b (λ o e. text o (name e)) (λ o e. IsKnown o (name e)) (λ o e. text o (name e)) (λ o e. IsKnown o (name e)) n (to_string a.limit (seen a name v)) (λ x. joined_text a.limit (length (text a (name s)) + text_units (seen a name v)) (text a (name s)) x) d
 
   module _ (a b d : State F) (vs : List (Value R)) (i : ℕ) (v : Value R) (t : R) (g : Grows a b) (h : AllFine a name vs) (l : i < length vs) (p : v ≡ get_or vs i v) where
     same_value : seen b name v ≡ seen a name v

@@ -8,12 +8,12 @@ use Rattle.js_texts.specs.Use.{settling}
 use Rattle.js_values.specs.declared.value.Value.{Value}
 use Rattle.js_values.specs.declared.value.Stop.{Stop}
 use Rattle.js_values.specs.Outcome.{Val}
-use Rattle.js_values.specs.Need.{parts_words}
-use Rattle.js_values.specs.Conversions.{to_string, list_units, first_text_units}
+use Rattle.js_values.specs.Need.{parts, parts_words}
+use Rattle.js_values.specs.Conversions.{to_string, list_units, all_units, first_text_units}
 use Rattle.js_values.specs.Arguments.{first_of, is_undefined}
 use Rattle.js_calls.specs.Arrays.{joined_with, join_call}
 use Rattle.js_values.specs.Does.{Does, GivesText}
-use Rattle.js_calls.proofs.Calls.{text_then}
+use Rattle.js_calls.proofs.Calls.{text_converts}
 use Rattle.js_values.proofs.Needs.{some_most, settle_few}
 
 module _ {F R : Type 0} (name : R → ℕ) where
@@ -33,4 +33,4 @@ module _ {F R : Type 0} (name : R → ℕ) where
       let first : Does name b c r (joined_with b.limit t (texts b name rs) (text b (name w))) = f t fits in
       let second : Does name b c r (joined_with a.limit t (texts b name rs) (text b (name w))) = subst (λ (q : ℕ). Does name b c r (joined_with q t (texts b name rs) (text b (name w)))) g.limit first in
       let third : Does name b c r (joined_with a.limit t (texts a name rs) (text b (name w))) = subst (λ (q : List (List ℕ)). Does name b c r (joined_with a.limit t q (text b (name w)))) same second in
-      rw e (text_then name a b c w r (to_string a.limit (first_of vs)) (λ u. joined_with a.limit t (texts a name rs) u) d third)
+      rw e (text_converts name (parts (length (texts a name rs)) (list_units (texts a name rs) + all_units vs)) a b c w r (to_string a.limit (first_of vs)) (λ u. joined_with a.limit t (texts a name rs) u) d third)

@@ -3,11 +3,14 @@ use Rattle.std.proofs.Common.{arith, ◌≡◌, ℕ, ◌<◌, ◌≤◌, List, l
 use Rattle.js_number.specs.declared.Num.{Num}
 use Rattle.js_number.specs.declared.Num.TheVariants.{Int, NaN, PosInf, NegInf}
 use Rattle.js_store.specs.State.{State, Grows, Has, IsKnown, text}
-use Rattle.js_store.specs.Faults.{Step, NeverSlots}
+use Rattle.js_store.specs.Faults.{Step, NeverSlots, method_part}
+use Rattle.js_store.specs.Answers.{IsLong}
+use Rattle.js_store.specs.declared.faults.MethodFault.{MethodFault}
+use Rattle.js_store.specs.declared.faults.MethodFault.TheVariants as method
 use Rattle.js_store.specs.declared.faults.StoreFault.{StoreFault}
 use Rattle.js_store.specs.declared.faults.Cause.{Cause}
 use Rattle.js_store.proofs.Laws.{text_still}
-use Rattle.js_methods.specs.Repeating.{is_count, repeat_of, made, IsCountFault}
+use Rattle.js_methods.specs.Repeating.{is_count, repeat_of, made, IsCountFault, IsRepeatFault}
 use Rattle.js_values.specs.declared.value.Value.{Value}
 use Rattle.js_values.specs.declared.value.Value.TheVariants.{Text}
 use Rattle.js_values.specs.declared.value.Kind.TheVariants.{RangeError}
@@ -19,14 +22,15 @@ use Rattle.js_values.specs.Conversions.{to_string, string_units}
 use Rattle.js_calls.specs.Cutting.{within}
 use Rattle.js_values.specs.Arguments.{is_undefined, second_of}
 use Rattle.js_values.proofs.Still.{values_still}
-use Rattle.js_values.specs.Need.{repeat_ids, repeat_words, pad_ids, pad_words}
+use Rattle.js_values.specs.Stops.{stop_of}
+use Rattle.js_values.specs.Need.{pads, repeat_ids, repeat_words, pad_ids, pad_words}
 use Rattle.js_calls.specs.Padding.{repeated, filled, padded}
 use Rattle.js_values.specs.Seen.{seen, IsFine, all_seen, AllFine}
 use Rattle.js_values.specs.Ran.{Cut}
 use Rattle.js_values.specs.Does.{Does, GivesText}
 use Rattle.js_values.proofs.Compose.{cut_of_step, ran_of_step, did_before}
-use Rattle.js_calls.proofs.Within.{within_given, within_thrown}
-use Rattle.js_calls.proofs.Calls.{text_then, text_stops}
+use Rattle.js_calls.proofs.Within.{within_thrown}
+use Rattle.js_calls.proofs.Calls.{text_converts, text_fails}
 
 made_most : (limit n : ℕ) → made limit n ≤ n
 made_most limit n = elim (nat_le n limit) as (λ v. (if v then n else 0) ≤ n) [
@@ -43,17 +47,15 @@ module _ {F : Type 0} {a b : State F} {i : ℕ} (limit ids : ℕ) (use_words wor
         | false ↦ λ s n. cut_of_step _ s h n p (q 0)
       ]
 
-  pub made_given : {R : Type 0} (name : R → ℕ) (r : R) → Has b (name r) w → length w ≤ limit → Step a b None i (use_words (made limit (length w))) → Does name a b (Ok (Text r)) (within limit ids words w)
-  made_given name r z l s =
-      let fits : nat_le (length w) limit ≡ true = grind (arith, l) in
-      let s' : Step a b None i (use_words (length w)) = rw fits at s in
-      within_given name a b limit ids words w r z l s' h p (q (length w))
-
   pub made_thrown : {R : Type 0} (name : R → ℕ) → limit < length w → Step a b None i (use_words (made limit (length w))) → Does name a b (Err (Threw RangeError)) (within limit ids words w)
   made_thrown name l s =
       let past : nat_le (length w) limit ≡ false = grind (arith, l) in
       let s' : Step a b None i (use_words 0) = rw past at s in
       within_thrown name a b limit ids words w l s' h p (q 0)
+
+  pub made_stops : {R : Type 0} (name : R → ℕ) (f : MethodFault) → IsLong f limit (length w) → Step a b (method_part f) i (use_words (made limit (length w))) → NeverSlots (method_part f) → Does name a b (Err (stop_of f)) (within limit ids words w)
+  made_stops name (method.Store f) l s n = made_cut f s n
+  made_stops name (method.RangeError c) l s n = made_thrown name l.0 s
 
 no_copies : (u : List ℕ) (n : Num) → is_count n ≡ false → length (repeat_of u n) ≡ 0
 no_copies u (Int (pos k)) e = absurd (grind (arith, e))
@@ -73,15 +75,16 @@ module _ {F : Type 0} {a b : State F} (limit : ℕ) (u : List ℕ) (n : Num) (h 
   pub repeat_cut : (f : StoreFault) → Step a b (Some f) repeat_ids (repeat_words (length u) (made limit (length (repeat_of u n)))) → NeverSlots (Some f) → Cut a b f (ledger_of (repeated (is_count n) limit u n))
   repeat_cut f s m = repeat_cut_by (is_count n) refl f s m
 
-  pub repeat_given : {R : Type 0} (name : R → ℕ) (r : R) → Has b (name r) (repeat_of u n) → is_count n ≡ true → length (repeat_of u n) ≤ limit → Step a b None repeat_ids (repeat_words (length u) (made limit (length (repeat_of u n)))) → Does name a b (Ok (Text r)) (repeated (is_count n) limit u n)
-  repeat_given name r z e l s = rw e (made_given limit repeat_ids (repeat_words (length u)) (repeat_words (length u)) (repeat_of u n) h (omega arith) (λ k. omega arith) name r z l s)
-
   repeat_thrown_by : {R : Type 0} (name : R → ℕ) (c : Cause) (v : Bool) → is_count n ≡ v → IsCountFault v c limit (length (repeat_of u n)) → Step a b None repeat_ids (repeat_words (length u) (made limit (length (repeat_of u n)))) → Does name a b (Err (Threw RangeError)) (repeated v limit u n)
   repeat_thrown_by name c true e l s = made_thrown limit repeat_ids (repeat_words (length u)) (repeat_words (length u)) (repeat_of u n) h (omega arith) (λ k. omega arith) name l.0 s
   repeat_thrown_by name c false e l s = (refl, ran_of_step repeat_ids (repeat_words (length u) 0) s h (omega arith) (nothing_made limit u n e))
 
   pub repeat_thrown : {R : Type 0} (name : R → ℕ) (c : Cause) → IsCountFault (is_count n) c limit (length (repeat_of u n)) → Step a b None repeat_ids (repeat_words (length u) (made limit (length (repeat_of u n)))) → Does name a b (Err (Threw RangeError)) (repeated (is_count n) limit u n)
   repeat_thrown name c l s = repeat_thrown_by name c (is_count n) refl l s
+
+  pub repeat_stops : {R : Type 0} (name : R → ℕ) (f : MethodFault) → IsRepeatFault f (is_count n) limit (length (repeat_of u n)) → Step a b (method_part f) repeat_ids (repeat_words (length u) (made limit (length (repeat_of u n)))) → NeverSlots (method_part f) → Does name a b (Err (stop_of f)) (repeated (is_count n) limit u n)
+  repeat_stops name (method.Store f) l s m = repeat_cut f s m
+  repeat_stops name (method.RangeError c) l s m = repeat_thrown name c l s
 
 module _ {F R : Type 0} (name : R → ℕ) (a b c : State F) (pad : List ℕ → ℕ → List ℕ → List ℕ) (s : R) (m : ℕ) (f : Val) where
   -- a string that has as many units
@@ -95,11 +98,11 @@ module _ {F R : Type 0} (name : R → ℕ) (a b c : State F) (pad : List ℕ →
   -- a filler that is given, as a string
   pub fills_text : (w : R) (r : Result (Value R) Stop) → Grows a b → IsKnown a (name s) → is_undefined f ≡ false → GivesText name a b (Ok w) (to_string a.limit f) → Does name b c r (within b.limit pad_ids (pad_words (length (text b (name s))) (length (text b (name w)))) (pad (text b (name s)) m (text b (name w)))) → Does name a c r (filled a.limit (pad (text a (name s))) (text a (name s)) m f)
   fills_text w r g k e x d =
-      rw e (text_then name a b c w r (to_string a.limit f) (λ v. within a.limit pad_ids (pad_words (length (text a (name s))) (length v)) (pad (text a (name s)) m v)) x
+      rw e (text_converts name (pads (length (text a (name s))) (string_units f) 0) a b c w r (to_string a.limit f) (λ v. within a.limit pad_ids (pad_words (length (text a (name s))) (length v)) (pad (text a (name s)) m v)) x
       (subst (λ (q : ℕ × List ℕ). Does name b c r (within q.0 pad_ids (pad_words (length q.1) (length (text b (name w)))) (pad q.1 m (text b (name w))))) (cc (g.limit, text_still g (name s) k)) d))
 
   pub fill_stops : (n : Stop) → is_undefined f ≡ false → GivesText name a b (Err n) (to_string a.limit f) → Does name a b (Err n) (filled a.limit (pad (text a (name s))) (text a (name s)) m f)
-  fill_stops n e x = rw e (text_stops name a b n (to_string a.limit f) (λ v. within a.limit pad_ids (pad_words (length (text a (name s))) (length v)) (pad (text a (name s)) m v)) x)
+  fill_stops n e x = rw e (text_fails name (pads (length (text a (name s))) (string_units f) 0) a b n (to_string a.limit f) (λ v. within a.limit pad_ids (pad_words (length (text a (name s))) (length v)) (pad (text a (name s)) m v)) x)
 
 -- a string that has fewer units, where the filler is the second argument
 pub pads_more : {F R : Type 0} (name : R → ℕ) (a b c : State F) (pad : List ℕ → ℕ → List ℕ → List ℕ) (s : R) (m : ℕ) (vs : List (Value R)) (r : Result (Value R) Stop) → Step a b None 0 0 → b.history ≡ a.history → IsKnown a (name s) → AllFine a name vs → length (text a (name s)) < m → Does name b c r (filled b.limit (pad (text b (name s))) (text b (name s)) m (second_of (all_seen b name vs))) → Does name a c r (padded a.limit (pad (text a (name s))) (text a (name s)) m (second_of (all_seen a name vs)))

@@ -1,9 +1,9 @@
 -- Methods that give a part of a string, or the string with units replaced. The operands of a call have t units.
-use Rattle.std.specs.Prelude.{ℕ, ◌+◌, List, length, Option, Some, None, nat_le, if◌then◌else◌}
+use Rattle.std.specs.Prelude.{ℕ, ◌+◌, List, length, Option, nat_le, if◌then◌else◌}
 use Rattle.js_number.specs.declared.Num.{Num}
 use Rattle.js_values.specs.declared.value.Kind.TheVariants.{RangeError}
-use Rattle.js_values.specs.Outcome.{Val, text, Out, gives, throws, refuses}
-use Rattle.js_values.specs.Need.{row_ids, row_words}
+use Rattle.js_values.specs.Outcome.{Val, text, Converted, Out, gives, throws, needing, throwing, converts}
+use Rattle.js_values.specs.Need.{Row, reads}
 
 -- a string, unless it is longer than a string may be; it needs so many ids, and words by the units of the result, of which
 -- there are none where it throws
@@ -13,11 +13,16 @@ within limit ids words w =
     then gives (text w) ids (words (length w))
     else throws RangeError ids (words 0)
 
+-- the same by the row of the operation, where its result has so many units
+abbrev pub bounded : ℕ → (ℕ → Row) → List ℕ → Out Val
+bounded limit row w =
+    if nat_le (length w) limit
+    then needing (row (length w)) (text w)
+    else throwing (row 0) RangeError
+
 abbrev pub limited : ℕ → ℕ → List ℕ → Out Val
-limited limit t w = within limit row_ids (λ r. row_words (t + r)) w
+limited limit t w = bounded limit (λ r. reads (t + r)) w
 
 -- "String.prototype.slice", "String.prototype.substring", "String.prototype.substr": the part of two numbers, of which the second may be missing
-abbrev pub cut_call : ℕ → ℕ → ℕ → (Num → Option Num → List ℕ) → Option Num → Option (Option Num) → Out Val
-cut_call at limit t part (Some a) (Some e) = limited limit t (part a e)
-cut_call at limit t part (Some a) None = refuses at
-cut_call at limit t part None e = refuses at
+abbrev pub cut_call : ℕ → ℕ → (Num → Option Num → List ℕ) → Converted Num → Converted (Option Num) → Out Val
+cut_call limit t part start end = converts (reads t) start (λ m. converts (reads t) end (λ n. limited limit t (part m n)))

@@ -1,8 +1,8 @@
 // Members and methods of values (ECMA-262, "Properties of the String Prototype Object").
 ghost use Rattle.std.specs.Prelude.{ℕ, ◌+◌, ◌≤◌, length, IfOk};
 ghost use Rattle.js_store.specs.State.{Grows, IsKnown, text};
-ghost use Rattle.js_values.specs.Outcome.{gives};
-ghost use Rattle.js_values.specs.Need.{row_ids, row_words};
+ghost use Rattle.js_values.specs.Outcome.{needing};
+ghost use Rattle.js_values.specs.Need.{reads};
 ghost use Rattle.js_values.specs.Outcome;
 ghost use Rattle.js_methods.specs.WellFormed.{all_paired};
 ghost use Rattle.js_values.specs.Conversions.{all_units};
@@ -20,7 +20,7 @@ use crate::replacing::{Replace, call_replace};
 use crate::searching::{Search, call_ends_with, call_search};
 use crate::splitting::call_split;
 use js_number::Num;
-use js_store::{MethodFault, Strings};
+use js_store::Strings;
 use js_tree::Method;
 use js_values::{Kind, Stop, Value, number_value};
 use std::alloc::Global;
@@ -125,11 +125,8 @@ fn call_is_well_formed<S: Strings>(store: &mut S, s: S::Ref) -> Result<Value<S::
     requires { IsKnown (S.state store.old) (S.number s) }
     ensures grows { Grows (S.state store.old) (S.state store.new) }
     ensures fine { IfOk result (λ v. IsFine (S.state store.new) S.number v) }
-    ensures did { (t : ℕ) → length (text (S.state store.old) (S.number s)) ≤ t → Does S.number (S.state store.old) (S.state store.new) result (gives (Outcome.bool (all_paired (text (S.state store.old) (S.number s)))) row_ids (row_words t)) }
+    ensures did { (t : ℕ) → length (text (S.state store.old) (S.number s)) ≤ t → Does S.number (S.state store.old) (S.state store.new) result (needing (reads t) (Outcome.bool (all_paired (text (S.state store.old) (S.number s))))) }
 {
-    match js_methods::is_well_formed(store, s) {
-        Ok(holds) => Ok(Value::Bool(holds)),
-        Err(MethodFault::Store(fault)) => Err(Stop::Store(fault)),
-        Err(MethodFault::RangeError(_)) => Err(Stop::Threw(Kind::RangeError)),
-    }
+    let holds = js_methods::is_well_formed(store, s)?;
+    Ok(Value::Bool(holds))
 }

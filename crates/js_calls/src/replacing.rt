@@ -4,7 +4,7 @@ ghost use Rattle.js_store.specs.State.{Has, Grows, IsKnown, text};
 ghost use Rattle.js_store.specs.Faults.{Step, NeverSlots};
 ghost use Rattle.js_store.specs.Answers.{ThrowsLong, full_of};
 ghost use Rattle.js_texts.specs.Use.{settling, made_words};
-ghost use Rattle.js_values.specs.Conversions.{text_units};
+ghost use Rattle.js_values.specs.Conversions.{text_units, all_units, first_text_units};
 ghost use Rattle.js_values.specs.Arguments.{first_of, second_of};
 ghost use Rattle.js_calls.specs.Replacing.{two_text_units, replacement, replace_call};
 ghost use Rattle.js_calls.specs.Groups.{replaced_of, match_count};
@@ -12,7 +12,7 @@ ghost use Rattle.js_values.specs.Seen.{seen, IsFine, all_seen, AllFine};
 ghost use Rattle.js_values.specs.Does.{Does};
 
 use js_store::{MethodFault, Strings};
-use js_values::{Kind, Stop, Value, to_text};
+use js_values::{Stop, Value, to_text};
 use std::alloc::Global;
 
 /// Which matches a method replaces.
@@ -34,7 +34,7 @@ pub fn call_replace<S: Strings>(
     requires args { AllFine (S.state store.old) S.number args.now }
     ensures grows { Grows (S.state store.old) (S.state store.new) }
     ensures fine { IfOk result (λ v. IsFine (S.state store.new) S.number v) }
-    ensures did { Does S.number (S.state store.old) (S.state store.new) result (replace_call (S.state store.old).limit (length (text (S.state store.old) (S.number s)) + two_text_units (all_seen (S.state store.old) S.number args.now)) (match_count replace (text (S.state store.old) (S.number s))) (replaced_of replace (text (S.state store.old) (S.number s))) (first_of (all_seen (S.state store.old) S.number args.now)) (second_of (all_seen (S.state store.old) S.number args.now))) }
+    ensures did { Does S.number (S.state store.old) (S.state store.new) result (replace_call (S.state store.old).limit (length (text (S.state store.old) (S.number s)) + all_units (all_seen (S.state store.old) S.number args.now)) (length (text (S.state store.old) (S.number s)) + first_text_units (all_seen (S.state store.old) S.number args.now)) (length (text (S.state store.old) (S.number s)) + two_text_units (all_seen (S.state store.old) S.number args.now)) (match_count replace (text (S.state store.old) (S.number s))) (replaced_of replace (text (S.state store.old) (S.number s))) (first_of (all_seen (S.state store.old) S.number args.now)) (second_of (all_seen (S.state store.old) S.number args.now))) }
 {
     match args {
         [w, template, ..] => replace_values(alloc, store, replace, s, w, template),
@@ -50,7 +50,8 @@ pub fn call_replace<S: Strings>(
     }
 }
 
-// The same with both arguments, where the operands of the call have t units.
+// The same with both arguments, where the operands of the call have o units as they are, m where the
+// first one was converted, and t where both were.
 fn replace_values<S: Strings>(
     alloc: Global,
     store: &mut S,
@@ -64,7 +65,7 @@ fn replace_values<S: Strings>(
     requires template { IsFine (S.state store.old) S.number template.now }
     ensures grows { Grows (S.state store.old) (S.state store.new) }
     ensures fine { IfOk result (λ v. IsFine (S.state store.new) S.number v) }
-    ensures did { (t : ℕ) → length (text (S.state store.old) (S.number s)) + (text_units (seen (S.state store.old) S.number searched.now) + text_units (seen (S.state store.old) S.number template.now)) ≤ t → Does S.number (S.state store.old) (S.state store.new) result (replace_call (S.state store.old).limit t (match_count replace (text (S.state store.old) (S.number s))) (replaced_of replace (text (S.state store.old) (S.number s))) (seen (S.state store.old) S.number searched.now) (seen (S.state store.old) S.number template.now)) }
+    ensures did { (o m t : ℕ) → length (text (S.state store.old) (S.number s)) + (text_units (seen (S.state store.old) S.number searched.now) + text_units (seen (S.state store.old) S.number template.now)) ≤ t → Does S.number (S.state store.old) (S.state store.new) result (replace_call (S.state store.old).limit o m t (match_count replace (text (S.state store.old) (S.number s))) (replaced_of replace (text (S.state store.old) (S.number s))) (seen (S.state store.old) S.number searched.now) (seen (S.state store.old) S.number template.now)) }
 {
     let w = to_text(alloc, store, searched)?;
     let by = to_text(alloc, store, template)?;
@@ -88,11 +89,8 @@ fn give_replaced<S: Strings>(
     ensures fine { IfOk result (λ v. IsFine (S.state store.new) S.number v) }
     ensures did { (t : ℕ) → length (text (S.state store.old) (S.number s)) + (length (text (S.state store.old) (S.number w)) + length (text (S.state store.old) (S.number template))) ≤ t + 80 → Does S.number (S.state store.old) (S.state store.new) result (replacement (S.state store.old).limit t (match_count replace (text (S.state store.old) (S.number s)) (text (S.state store.old) (S.number w))) (replaced_of replace (text (S.state store.old) (S.number s)) (text (S.state store.old) (S.number w)) (text (S.state store.old) (S.number template)))) }
 {
-    match replaced(alloc, store, replace, s, w, template) {
-        Ok(r) => Ok(Value::Text(r)),
-        Err(MethodFault::Store(fault)) => Err(Stop::Store(fault)),
-        Err(MethodFault::RangeError(_)) => Err(Stop::Threw(Kind::RangeError)),
-    }
+    let r = replaced(alloc, store, replace, s, w, template)?;
+    Ok(Value::Text(r))
 }
 
 fn replaced<S: Strings>(

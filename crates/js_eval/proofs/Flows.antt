@@ -13,19 +13,20 @@ use Rattle.js_values.specs.declared.value.Stop.{Stop}
 use Rattle.js_values.specs.declared.value.Stop.TheVariants.{Threw, Unsupported, Store}
 use Rattle.js_eval.specs.declared.env.Binding.{Binding}
 use Rattle.js_eval.specs.declared.env.Scope.{Scope as CodeScope}
-use Rattle.js_values.specs.Outcome.{Val, Ledger, Out, gave, ended, threw, unsupported, after, bind, each, ledger_of}
-use Rattle.js_values.specs.Need.{parts_ids, parts_words}
+use Rattle.js_values.specs.Outcome.{Val, Ledger, Out, gave, ended, threw, unsupported, after, bind, converting, cost, each, ledger_of}
+use Rattle.js_values.specs.Need.{Row, parts, ids_in, words_in, parts_ids, parts_words}
 use Rattle.js_values.specs.Conversions.{to_string, all_text_units}
 use Rattle.js_eval.specs.Expression.{Bound, Scope, exprs_out}
 use Rattle.js_texts.specs.Texts.{AllKnown, texts as texts_seen, full_only, settle_most}
 use Rattle.js_print.specs.Printing.{line}
-use Rattle.js_eval.specs.Script.{Flow, then_flow, go_on, line_out, print_out, printed, with_bindings, stmt_flow, stmts_flow, literal_out, with_literals}
+use Rattle.js_eval.specs.Script.{reached_units, Flow, then_flow, go_on, line_out, print_out, printed, with_bindings, stmt_flow, stmts_flow, literal_out, with_literals}
 use Rattle.js_values.specs.Seen.{AllFine, all_seen}
 use Rattle.js_eval.specs.Bindings.{EnvFine, ScopeFine, bindings_of, scope_of}
 use Rattle.js_values.specs.Ran.{Ran, Cut, Did}
 use Rattle.js_eval.specs.Flows.{WroteSome, Wrote, Leaves, Went}
 use Rattle.js_values.specs.Does.{GivesTexts, GivesAll, string_words}
-use Rattle.js_values.proofs.Compose.{did_after, cut_after, cut_more, cut_of_full, ran_of_step}
+use Rattle.js_store.proofs.Laws.{step_refl}
+use Rattle.js_values.proofs.Compose.{did_after, cut_after, cut_more, cut_of_full, ran_both, ran_of_step}
 use Rattle.js_texts.proofs.Lists.{drop_at}
 use Rattle.js_eval.proofs.Scopes.{scope_still, bindings_still}
 use Rattle.js_values.proofs.Needs.{some_most}
@@ -104,6 +105,25 @@ printed_halt a b x see fine (Unsupported k) bs (ended (unsupported n) l) go d = 
 printed_halt a b x see fine (Store f) bs (gave q l) go d = record { did = cut_printed bs l (go q) d; wrote = wrote_none x (printed (after l (go q)) bs).lines; leaves = tt }
 printed_halt a b x see fine (Store f) bs (ended e l) go d = record { did = d; wrote = wrote_none x []; leaves = tt }
 
+-- the same where the texts are made within the operation
+module _ {F V A : Type 0} (row : Row) where
+  pub printed_converts : (a b c : State F) (x y : List ℕ) (see : State F → V → A) (fine : State F → V → Type 0) (v : V) (r : Result (Unit {0}) Stop) (bs : List Bound) (o : Out A) (go : A → Out (List ℕ)) → Did a b see fine (Ok v) o → Went b c x y r bs (printed (go (see b v)) bs) → Went a c x y r bs (printed (converting row o go) bs)
+  printed_converts a b c x y see fine v r bs (gave q l) go d w =
+      printed_after a b c x y r bs l (go q) d.ran (subst (λ p. Went b c x y r bs (printed (go p) bs)) d.is w)
+  printed_converts a b c x y see fine v r bs (ended (threw n) l) go d w = absurd d
+  printed_converts a b c x y see fine v r bs (ended (unsupported n) l) go d w = absurd d
+
+  pub printed_fails : (a b : State F) (x : List ℕ) (see : State F → V → A) (fine : State F → V → Type 0) (n : Stop) (bs : List Bound) (o : Out A) (go : A → Out (List ℕ)) → Did a b see fine (Err n) o → Went a b x x (Err n) bs (printed (converting row o go) bs)
+  printed_fails a b x see fine (Threw k) bs (gave q l) go d = absurd d
+  printed_fails a b x see fine (Threw k) bs (ended (threw n) l) go d = record { did = (d.0, ran_both d.1 (ran_of_step (ids_in row) (words_in row) (step_refl b) refl (omega arith) (omega arith))); wrote = sym (append-nil x); leaves = refl }
+  printed_fails a b x see fine (Threw k) bs (ended (unsupported n) l) go d = absurd d
+  printed_fails a b x see fine (Unsupported k) bs (gave q l) go d = absurd d
+  printed_fails a b x see fine (Unsupported k) bs (ended (threw n) l) go d = absurd d
+  printed_fails a b x see fine (Unsupported k) bs (ended (unsupported n) l) go d = record { did = d; wrote = sym (append-nil x); leaves = refl }
+  printed_fails a b x see fine (Store f) bs (gave q l) go d = record { did = cut_printed bs l (go q) d; wrote = wrote_none x (printed (after l (go q)) bs).lines; leaves = tt }
+  printed_fails a b x see fine (Store f) bs (ended (threw n) l) go d = record { did = cut_more (cost row) d; wrote = wrote_none x []; leaves = tt }
+  printed_fails a b x see fine (Store f) bs (ended (unsupported n) l) go d = record { did = d; wrote = wrote_none x []; leaves = tt }
+
 -- the need of a line covers the settling of its strings
 string_words_most : (vs : List Val) → string_words vs ≤ all_text_units vs + length vs
 string_words_most [] = omega arith
@@ -172,17 +192,17 @@ module _ {F R : Type 0} (name : R → ℕ) where
   -- the texts of values, and then their line
   pub values_went : (a b c : State F) (x y : List ℕ) (vs : List (Value R)) (us : Vec R Global) (bs : List Bound) → GivesTexts name a b (Ok us) (each (to_string a.limit) (all_seen a name vs) []) → Step b c None 0 (settle_most b name us.items) → c.history ≡ b.history → settle_most b name us.items ≤ string_words (all_seen a name vs) → y ≡ x ++ line (texts_seen b name us.items) → Went a c x y (Ok tt) bs (printed (line_out a.limit (all_seen a name vs)) bs)
   values_went a b c x y vs us bs d s h k e =
-      printed_on a b c x y (λ o (v : Vec R Global). texts_seen o name v.items) (λ o (v : Vec R Global). AllKnown o name v.items) us (Ok tt) bs (each (to_string a.limit) (all_seen a name vs) []) (λ ts. gave (line ts) (record { interned = []; texts = []; ids = parts_ids (length (all_seen a name vs)); words = parts_words (length (all_seen a name vs)) (all_text_units (all_seen a name vs)) })) d
+      printed_converts (parts (length (all_seen a name vs)) (reached_units a.limit (all_seen a name vs))) a b c x y (λ o (v : Vec R Global). texts_seen o name v.items) (λ o (v : Vec R Global). AllKnown o name v.items) us (Ok tt) bs (each (to_string a.limit) (all_seen a name vs) []) (λ ts. gave (line ts) (record { interned = []; texts = []; ids = parts_ids (length (all_seen a name vs)); words = parts_words (length (all_seen a name vs)) (all_text_units (all_seen a name vs)) })) d
       (line_went b c x y bs (texts_seen b name us.items) (all_seen a name vs) (settle_most b name us.items) s h k e)
 
   pub values_halt : (a b c : State F) (x y : List ℕ) (vs : List (Value R)) (us : Vec R Global) (bs : List Bound) (f : StoreFault) → GivesTexts name a b (Ok us) (each (to_string a.limit) (all_seen a name vs) []) → Step b c (full_only f) 0 (settle_most b name us.items) → NeverSlots (full_only f) → c.history ≡ b.history → settle_most b name us.items ≤ string_words (all_seen a name vs) → y ≡ x → Went a c x y (Err (Store f)) bs (printed (line_out a.limit (all_seen a name vs)) bs)
   values_halt a b c x y vs us bs f d s n h k e =
-      printed_on a b c x y (λ o (v : Vec R Global). texts_seen o name v.items) (λ o (v : Vec R Global). AllKnown o name v.items) us (Err (Store f)) bs (each (to_string a.limit) (all_seen a name vs) []) (λ ts. gave (line ts) (record { interned = []; texts = []; ids = parts_ids (length (all_seen a name vs)); words = parts_words (length (all_seen a name vs)) (all_text_units (all_seen a name vs)) })) d
+      printed_converts (parts (length (all_seen a name vs)) (reached_units a.limit (all_seen a name vs))) a b c x y (λ o (v : Vec R Global). texts_seen o name v.items) (λ o (v : Vec R Global). AllKnown o name v.items) us (Err (Store f)) bs (each (to_string a.limit) (all_seen a name vs) []) (λ ts. gave (line ts) (record { interned = []; texts = []; ids = parts_ids (length (all_seen a name vs)); words = parts_words (length (all_seen a name vs)) (all_text_units (all_seen a name vs)) })) d
       (line_halts b c x y bs (texts_seen b name us.items) (all_seen a name vs) (settle_most b name us.items) f s n h k e)
 
   pub texts_halt : (a b : State F) (x : List ℕ) (vs : List (Value R)) (bs : List Bound) (n : Stop) → GivesTexts name a b (Err n) (each (to_string a.limit) (all_seen a name vs) []) → Went a b x x (Err n) bs (printed (line_out a.limit (all_seen a name vs)) bs)
   texts_halt a b x vs bs n d =
-      printed_halt {V = Vec R Global} a b x (λ o (v : Vec R Global). texts_seen o name v.items) (λ o (v : Vec R Global). AllKnown o name v.items) n bs (each (to_string a.limit) (all_seen a name vs) []) (λ ts. gave (line ts) (record { interned = []; texts = []; ids = parts_ids (length (all_seen a name vs)); words = parts_words (length (all_seen a name vs)) (all_text_units (all_seen a name vs)) })) d
+      printed_fails {V = Vec R Global} (parts (length (all_seen a name vs)) (reached_units a.limit (all_seen a name vs))) a b x (λ o (v : Vec R Global). texts_seen o name v.items) (λ o (v : Vec R Global). AllKnown o name v.items) n bs (each (to_string a.limit) (all_seen a name vs) []) (λ ts. gave (line ts) (record { interned = []; texts = []; ids = parts_ids (length (all_seen a name vs)); words = parts_words (length (all_seen a name vs)) (all_text_units (all_seen a name vs)) })) d
 
   -- the arguments of a `print`, and then their line
   pub print_went : (a b c : State F) (x y : List ℕ) (es : Exprs) (scope : CodeScope R) (vs : Vec (Value R) Global) (r : Result (Unit {0}) Stop) (bs : List Bound) → Grows a b → GivesAll name a b (Ok vs) (exprs_out es (scope_of a name scope) []) → Went b c x y r bs (printed (line_out b.limit (all_seen b name vs.items)) bs) → Went a c x y r bs (printed (print_out es (scope_of a name scope)) bs)

@@ -4,7 +4,8 @@ use Rattle.js_number.specs.declared.Num.TheVariants.{NaN, PosInf}
 use Rattle.js_tree.specs.declared.tree.Method.{Method}
 use Rattle.js_tree.specs.Tree as tree
 use Rattle.js_tree.specs.Tree.{ExprTree, Links, no_links, link, Steps, no_steps, length_step, call_step, index_step, Exprs, no_exprs, expr, LinkTree, StepTree, of_length, of_call, of_index}
-use Rattle.js_values.specs.Outcome.{Val, undefined, null, bool, number, Out, gave, bind, free, number_of, gives}
+use Rattle.js_values.specs.Outcome.{Val, undefined, null, bool, number, Out, gave, bind, free, number_of, needing}
+use Rattle.js_values.specs.Need.{nothing}
 use Rattle.js_values.specs.Operators.{operated, unary_out}
 use Rattle.js_calls.specs.Reading.{maybe_text}
 use Rattle.js_calls.specs.Members.{length_of, present, called, built}
@@ -24,13 +25,13 @@ pub record Scope : Type 0 where
 
 abbrev mutual
   pub expr_out : ExprTree → Scope → Out Val
-  expr_out (tree.literal n) s = gives (maybe_text (slice_get s.literals n)) 0 0
-  expr_out (tree.number n) s = gives (number_of n) 0 0
-  expr_out tree.undefined s = gives undefined 0 0
-  expr_out tree.null s = gives null 0 0
-  expr_out (tree.bool b) s = gives (bool b) 0 0
-  expr_out tree.nan s = gives (number NaN) 0 0
-  expr_out tree.infinity s = gives (number PosInf) 0 0
+  expr_out (tree.literal n) s = needing nothing (maybe_text (slice_get s.literals n))
+  expr_out (tree.number n) s = needing nothing (number_of n)
+  expr_out tree.undefined s = needing nothing undefined
+  expr_out tree.null s = needing nothing null
+  expr_out (tree.bool b) s = needing nothing (bool b)
+  expr_out tree.nan s = needing nothing (number NaN)
+  expr_out tree.infinity s = needing nothing (number PosInf)
   expr_out (tree.unary at minus of) s = bind (expr_out of s) (λ v. unary_out minus at v)
   expr_out (tree.chain first rest) s = bind (expr_out first s) (λ v. links_out rest s v)
   expr_out (tree.post of steps) s = bind (expr_out of s) (λ v. steps_out steps s v)

@@ -1,11 +1,11 @@
 -- What statements and a script mean: how they end, the lines that they print, and the bindings that they leave.
-use Rattle.std.specs.Prelude.{ℕ, List, [], ◌∷◌, ◌++◌, length, nat_le, if◌then◌else◌}
+use Rattle.std.specs.Prelude.{ℕ, ◌+◌, List, [], ◌∷◌, ◌++◌, length, nat_le, if◌then◌else◌}
 use Rattle.js_print.specs.Printing.{line}
 use Rattle.js_tree.specs.Tree.{Exprs, StmtTree, print, Stmts, no_stmts, stmt, Tree}
 use Rattle.js_values.specs.declared.value.Kind.TheVariants.{RangeError}
-use Rattle.js_values.specs.Outcome.{Val, Out, gave, ended, threw, after, bind, each, free, ledger_of}
-use Rattle.js_values.specs.Need.{row_ids, row_words, parts_ids, parts_words}
-use Rattle.js_values.specs.Conversions.{to_string, all_text_units}
+use Rattle.js_values.specs.Outcome.{Val, Out, gave, ended, threw, after, bind, converting, each, free, cost, ledger_of}
+use Rattle.js_values.specs.Need.{reads, parts, ids_in, words_in}
+use Rattle.js_values.specs.Conversions.{to_string, string_units, text_units, all_units, all_text_units}
 use Rattle.js_eval.specs.Expression.{Scope, Bound, exprs_out}
 
 pub record Flow : Type 0 where
@@ -21,9 +21,18 @@ go_on (ended e l) ls bs go = record { out = ended e l; lines = ls; bindings = bs
 abbrev pub then_flow : Flow → (List Bound → Flow) → Flow
 then_flow f go = go_on f.out f.lines f.bindings go
 
+-- the units of values of which the first ones were converted by ToString, up to one whose conversion throws
+abbrev pub reached : Out (List ℕ) → ℕ → ℕ → ℕ
+reached (gave u l) converted plain = converted
+reached (ended e l) converted plain = plain
+
+abbrev pub reached_units : ℕ → List Val → ℕ
+reached_units limit [] = 0
+reached_units limit (v ∷ vs) = reached (to_string limit v) (text_units v + reached_units limit vs) (string_units v + all_units vs)
+
 -- the line of a `print`: all its arguments, then their texts
 abbrev pub line_out : ℕ → List Val → Out (List ℕ)
-line_out limit vs = bind (each (to_string limit) vs []) (λ us. gave (line us) (record { interned = []; texts = []; ids = parts_ids (length vs); words = parts_words (length vs) (all_text_units vs) }))
+line_out limit vs = converting (parts (length vs) (reached_units limit vs)) (each (to_string limit) vs []) (λ us. gave (line us) (cost (parts (length vs) (all_text_units vs))))
 
 abbrev pub print_out : Exprs → Scope → Out (List ℕ)
 print_out args s = bind (exprs_out args s []) (λ vs. line_out s.limit vs)
@@ -47,7 +56,7 @@ stmts_flow (stmt first rest) s = then_flow (stmt_flow first s) (λ bs. stmts_flo
 abbrev pub literal_out : ℕ → List ℕ → Out (List ℕ)
 literal_out limit u =
     if nat_le (length u) limit
-    then gave u (record { interned = u ∷ []; texts = []; ids = row_ids; words = row_words (length u) })
+    then gave u (record { interned = u ∷ []; texts = []; ids = ids_in (reads (length u)); words = words_in (reads (length u)) })
     else ended (threw RangeError) free
 
 -- the literals first, and then what has them

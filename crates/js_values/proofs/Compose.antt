@@ -1,16 +1,17 @@
 -- One evaluation after another.
-use Rattle.std.proofs.Common.{◌≡◌, ℕ, ◌+◌, ◌<◌, ◌≤◌, zero, suc, slice_index_or, List, [], ◌∷◌, ◌++◌, refl, ap, ◌∙◌, sym, subst, arith, append_assoc, Some, None, Result, Ok, Err, Contains, inl, inr}
+use Rattle.std.proofs.Common.{◌≡◌, ℕ, ◌<◌, ◌≤◌, zero, suc, slice_index_or, List, [], ◌∷◌, ◌++◌, refl, ap, ◌∙◌, sym, subst, arith, append_assoc, Some, None, Result, Ok, Err, Contains, inl, inr}
 use Rattle.std.proofs.lemmas.List.Elements.{Contains-append_cases}
 use Rattle.std.proofs.lemmas.List.{map-append, append-nil}
 use Rattle.js_store.specs.State.{State, Has}
 use Rattle.js_store.specs.Faults.{Honest, Step, NeverSlots}
-use Rattle.js_store.proofs.Laws.{grows_trans, has_still, grows_refl}
+use Rattle.js_store.proofs.Laws.{grows_trans, has_still, grows_refl, step_refl}
 use Rattle.js_store.specs.declared.faults.FullReport.TheVariants.{Ids, Words, Slots}
 use Rattle.js_store.specs.declared.faults.StoreFault.{StoreFault}
 use Rattle.js_store.specs.declared.faults.StoreFault.TheVariants.{Full, Memory}
 use Rattle.js_values.specs.declared.value.Stop.{Stop}
 use Rattle.js_values.specs.declared.value.Stop.TheVariants.{Threw, Unsupported, Store}
-use Rattle.js_values.specs.Outcome.{Ledger, both, free, Out, gave, ended, threw, unsupported, after, bind, ledger_of}
+use Rattle.js_values.specs.Need.{Row, ids_in, words_in}
+use Rattle.js_values.specs.Outcome.{Ledger, both, free, cost, Out, gave, ended, threw, unsupported, after, bind, converting, ledger_of}
 use Rattle.js_store.specs.Answers.{full_part}
 use Rattle.js_store.specs.declared.faults.MethodFault.TheVariants.{Store as MethodStore}
 use Rattle.js_texts.specs.Texts.{full_only}
@@ -229,3 +230,22 @@ ran_of_text {a = a} {b = b} ids words w n z s h p q = record {
   within_ids = let e = s.within_ids in omega arith;
   within_words = let e = s.within_words in omega arith;
 }
+
+-- a conversion within an operation, and then what is done with its value
+pub did_convert : {F V A W B : Type 0} (row : Row) (a b c : State F) (see : State F → V → A) (fine : State F → V → Type 0) (see' : State F → W → B) (fine' : State F → W → Type 0) (v : V) (r : Result W Stop) (o : Out A) (go : A → Out B) → Did a b see fine (Ok v) o → Did b c see' fine' r (go (see b v)) → Did a c see' fine' r (converting row o go)
+did_convert row a b c see fine see' fine' v r (gave x l) go d e =
+    did_after a b c see' fine' l r (go x) d.ran (subst (λ y. Did b c see' fine' r (go y)) d.is e)
+did_convert row a b c see fine see' fine' v r (ended (threw n) l) go d e = absurd d
+did_convert row a b c see fine see' fine' v r (ended (unsupported n) l) go d e = absurd d
+
+-- a conversion that stops an operation
+pub did_fail : {F V A W B : Type 0} (row : Row) (a b : State F) (see : State F → V → A) (fine : State F → V → Type 0) (see' : State F → W → B) (fine' : State F → W → Type 0) (s : Stop) (o : Out A) (go : A → Out B) → Did a b see fine (Err s) o → Did a b see' fine' (Err s) (converting row o go)
+did_fail row a b see fine see' fine' (Threw k) (gave x l) go d = absurd d
+did_fail row a b see fine see' fine' (Threw k) (ended (threw n) l) go d = (d.0, ran_both d.1 (ran_of_step (ids_in row) (words_in row) (step_refl b) refl (omega arith) (omega arith)))
+did_fail row a b see fine see' fine' (Threw k) (ended (unsupported n) l) go d = absurd d
+did_fail row a b see fine see' fine' (Unsupported k) (gave x l) go d = absurd d
+did_fail row a b see fine see' fine' (Unsupported k) (ended (threw n) l) go d = absurd d
+did_fail row a b see fine see' fine' (Unsupported k) (ended (unsupported n) l) go d = d
+did_fail row a b see fine see' fine' (Store f) (gave x l) go d = cut_after l (go x) d
+did_fail row a b see fine see' fine' (Store f) (ended (threw n) l) go d = cut_more (cost row) d
+did_fail row a b see fine see' fine' (Store f) (ended (unsupported n) l) go d = d

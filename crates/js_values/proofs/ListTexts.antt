@@ -2,14 +2,17 @@
 use Rattle.std.proofs.Common.{arith, ◌≡◌, ℕ, ◌+◌, ◌*◌, ◌<◌, ◌≤◌, List, length, [], refl, Bool, true, false, nat_le, if◌then◌else◌, None, Ok, Err}
 use Rattle.js_store.specs.State.{State, Has}
 use Rattle.js_store.specs.Faults.{Step, NeverSlots}
-use Rattle.js_store.specs.Answers.{full_part}
+use Rattle.js_store.specs.Answers.{full_part, IsLong}
 use Rattle.js_store.specs.declared.faults.StoreFault.{StoreFault}
+use Rattle.js_store.specs.declared.faults.MethodFault.{MethodFault}
 use Rattle.js_store.specs.declared.faults.MethodFault.TheVariants.{Store as MethodStore}
+use Rattle.js_store.specs.declared.faults.MethodFault.TheVariants as method
 use Rattle.js_store.proofs.Laws.{has_text, has_known}
 use Rattle.js_texts.specs.Use.{made_words}
 use Rattle.js_values.specs.declared.value.Kind.TheVariants.{RangeError}
 use Rattle.js_values.specs.declared.value.Stop.TheVariants.{Threw}
 use Rattle.js_values.specs.Outcome.{gave, ended, threw, ledger_of}
+use Rattle.js_values.specs.Stops.{stop_of}
 use Rattle.js_values.specs.Need.{parts_ids, parts_words}
 use Rattle.js_values.specs.Conversions.{list_units, comma_joined, list_string}
 use Rattle.js_values.specs.Ran.{Cut}
@@ -38,7 +41,7 @@ module _ {F : Type 0} {a b : State F} (limit k : ℕ) (us : List (List ℕ)) (h 
       let l : limit < length (comma_joined us) = grind (arith, e) in
       cut_of_part f _ s h n (ids_fit limit k us q) (words_fit_long limit k us q l)
 
-  pub list_cut : (f : StoreFault) → Step a b (full_part (MethodStore f)) 2 (k + made_words limit (comma_joined us) + 1) → NeverSlots (full_part (MethodStore f)) → Cut a b f (ledger_of (list_string limit us))
+  list_cut : (f : StoreFault) → Step a b (full_part (MethodStore f)) 2 (k + made_words limit (comma_joined us) + 1) → NeverSlots (full_part (MethodStore f)) → Cut a b f (ledger_of (list_string limit us))
   list_cut f s n = cut_by (nat_le (length (comma_joined us)) limit) refl f s n
 
   pub list_given : {R : Type 0} (name : R → ℕ) (r : R) → Has b (name r) (comma_joined us) → length (comma_joined us) ≤ limit → Step a b None 2 (k + made_words limit (comma_joined us) + 1) → GivesText name a b (Ok r) (list_string limit us)
@@ -46,7 +49,11 @@ module _ {F : Type 0} {a b : State F} (limit k : ℕ) (us : List (List ℕ)) (h 
       let fits : nat_le (length (comma_joined us)) limit ≡ true = grind (arith, l) in
       rw fits (record { is = has_text b (name r) (comma_joined us) z; good = has_known b (name r) (comma_joined us) z; ran = ran_of_step (parts_ids (length us)) (parts_words (length us) (list_units us + length (comma_joined us))) s h (ids_fit limit k us q) (words_fit limit k us q) })
 
-  pub list_thrown : {R : Type 0} (name : R → ℕ) → limit < length (comma_joined us) → Step a b None 2 (k + made_words limit (comma_joined us) + 1) → GivesText {R = R} name a b (Err (Threw RangeError)) (list_string limit us)
+  list_thrown : {R : Type 0} (name : R → ℕ) → limit < length (comma_joined us) → Step a b None 2 (k + made_words limit (comma_joined us) + 1) → GivesText {R = R} name a b (Err (Threw RangeError)) (list_string limit us)
   list_thrown name l s =
       let past : nat_le (length (comma_joined us)) limit ≡ false = grind (arith, l) in
       rw past (refl, ran_of_step (parts_ids (length us)) (parts_words (length us) (list_units us)) s h (ids_fit limit k us q) (words_fit_long limit k us q l))
+
+  pub list_stops : {R : Type 0} (name : R → ℕ) (f : MethodFault) → IsLong f limit (length (comma_joined us)) → Step a b (full_part f) 2 (k + made_words limit (comma_joined us) + 1) → NeverSlots (full_part f) → GivesText {R = R} name a b (Err (stop_of f)) (list_string limit us)
+  list_stops name (method.Store f) l s n = list_cut f s n
+  list_stops name (method.RangeError c) l s n = list_thrown name l.0 s

@@ -1,16 +1,16 @@
 -- Conversions of values.
-use Rattle.std.specs.Prelude.{ℕ, ◌+◌, List, [], ◌∷◌, length, Option, Some, None, nat_eq, nat_le, if◌then◌else◌, pos, Bool, true, false, not, codes}
+use Rattle.std.specs.Prelude.{ℕ, ◌+◌, List, [], ◌∷◌, length, nat_eq, nat_le, if◌then◌else◌, pos, Bool, true, false, not, codes}
 use Rattle.js_number.specs.declared.Num.{Num}
 use Rattle.js_number.specs.declared.Num.TheVariants.{Int, NaN, PosInf, NegInf}
 use Rattle.js_number.specs.Arith.{text_of}
 use Rattle.js_texts.specs.Joined.{joined as joined_list}
 use Rattle.js_values.specs.declared.value.Kind.TheVariants.{RangeError}
-use Rattle.js_values.specs.Outcome.{Val, undefined, null, bool, number, text, list, Out, gave, ended, threw, free}
-use Rattle.js_values.specs.Need.{row_ids, row_words, parts_ids, parts_words}
+use Rattle.js_values.specs.Outcome.{Val, undefined, null, bool, number, text, list, Converted, into, fails, Out, gave, unsupported, free, cost, throwing}
+use Rattle.js_values.specs.Need.{reads, parts}
 
 -- a new string of these units
 abbrev pub spelled : List ℕ → Out (List ℕ)
-spelled u = gave u (record { interned = []; texts = []; ids = row_ids; words = row_words (length u) })
+spelled u = gave u (cost (reads (length u)))
 
 abbrev pub word_of : Bool → List ℕ
 word_of true = codes "true"
@@ -30,8 +30,8 @@ comma_joined us = joined_list (44 ∷ []) us
 abbrev pub list_string : ℕ → List (List ℕ) → Out (List ℕ)
 list_string limit us =
     if nat_le (length (comma_joined us)) limit
-    then gave (comma_joined us) (record { interned = []; texts = []; ids = parts_ids (length us); words = parts_words (length us) (list_units us + length (comma_joined us)) })
-    else ended (threw RangeError) (record { interned = []; texts = []; ids = parts_ids (length us); words = parts_words (length us) (list_units us) })
+    then gave (comma_joined us) (cost (parts (length us) (list_units us + length (comma_joined us))))
+    else throwing (parts (length us) (list_units us)) RangeError
 
 -- ECMA-262, "ToString"
 abbrev pub to_string : ℕ → Val → Out (List ℕ)
@@ -52,14 +52,15 @@ abbrev pub one_or_zero : Bool → Num
 one_or_zero true = Int (pos 1)
 one_or_zero false = Int (pos 0)
 
--- ECMA-262, "ToNumber"; of a string or an array it is left out of the profile
-abbrev pub to_number : Val → Option Num
-to_number undefined = Some NaN
-to_number null = Some (Int (pos 0))
-to_number (bool b) = Some (one_or_zero b)
-to_number (number n) = Some n
-to_number (text u) = None
-to_number (list us) = None
+-- ECMA-262, "ToNumber", in an operation at a place, where the script ends with a string or an array, of which the profile leaves
+-- it out
+abbrev pub to_number : ℕ → Val → Converted Num
+to_number at undefined = into NaN
+to_number at null = into (Int (pos 0))
+to_number at (bool b) = into (one_or_zero b)
+to_number at (number n) = into n
+to_number at (text u) = fails (unsupported at)
+to_number at (list us) = fails (unsupported at)
 
 abbrev pub number_truth : Num → Bool
 number_truth (Int (pos n)) = not (nat_eq n 0)

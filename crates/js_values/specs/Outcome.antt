@@ -3,6 +3,7 @@ use Rattle.std.specs.Prelude.{ℕ, ◌+◌, List, [], ◌∷◌, ◌++◌, Bool,
 use Rattle.js_number.specs.declared.Num.{Num}
 use Rattle.js_number.specs.declared.Num.TheVariants.{Int}
 use Rattle.js_values.specs.declared.value.Kind.{Kind}
+use Rattle.js_values.specs.Need.{Row, ids_in, words_in}
 
 -- the language values of the profile, where a string is its list of units, and an array, whose elements are all strings, is
 -- the list of these (ECMA-262, "ECMAScript Language Types")
@@ -32,6 +33,11 @@ both l m = record { interned = l.interned ++ m.interned; texts = l.texts ++ m.te
 pub data Ending : Type 0 where
   threw : Kind → Ending
   unsupported : ℕ → Ending
+
+-- a conversion that makes nothing comes to a value, or it ends the script
+pub data Converted (A : Type 0) : Type 0 where
+  into : A → Converted A
+  fails : Ending → Converted A
 
 pub data Out (A : Type 0) : Type 0 where
   gave : A → Ledger → Out A
@@ -71,6 +77,32 @@ gives v ids words = gave v (record { interned = []; texts = texts_of v; ids = id
 abbrev pub throws : Kind → ℕ → ℕ → Out Val
 throws k ids words = ended (threw k) (record { interned = []; texts = []; ids = ids; words = words })
 
+-- the same by the row of the operation
+abbrev pub needing : Row → Val → Out Val
+needing row v = gives v (ids_in row) (words_in row)
+
+abbrev pub cost : Row → Ledger
+cost row = record { interned = []; texts = []; ids = ids_in row; words = words_in row }
+
+abbrev pub throwing : {A : Type 0} → Row → Kind → Out A
+throwing row k = ended (threw k) (cost row)
+
 -- the place can't be evaluated in the profile
 abbrev pub refuses : {A : Type 0} → ℕ → Out A
 refuses at = ended (unsupported at) free
+
+-- an operation that a conversion ends: where it throws, the operands count, by this row
+abbrev pub ends : {A : Type 0} → Row → Ending → Out A
+ends row (threw k) = throwing row k
+ends row (unsupported at) = refuses at
+
+-- a conversion within an operation, and then what has its value
+abbrev pub converts : {A B : Type 0} → Row → Converted A → (A → Out B) → Out B
+converts row (into x) go = go x
+converts row (fails e) go = ends row e
+
+-- the same where the conversion makes a string
+abbrev pub converting : {A B : Type 0} → Row → Out A → (A → Out B) → Out B
+converting row (gave x l) go = after l (go x)
+converting row (ended (threw k) l) go = ended (threw k) (both l (cost row))
+converting row (ended (unsupported at) l) go = ended (unsupported at) l

@@ -1,4 +1,5 @@
-use Rattle.js_eval.proofs.Flows.{values_went, values_halt}
+use Rattle.std.proofs.lemmas.Result.{err_from_is_err_and}
+use Rattle.js_eval.proofs.Flows.{values_went, values_halt, texts_halt}
 use Rattle.js_eval.proofs.script.print_values.Goals as goal
 
 pub returns-in-Ok-clause-went : goal.returns-in-Ok-clause-went
@@ -19,3 +20,9 @@ returns-clause-went g c = λ bs.
     let e = c.in-Err.ensures in
     let s = e.step in
     values_halt g.S.Strings.number (state c.args.store.now) (state c.texts.new.store) (state c.print_line.new.store) c.args.lines.now c.print_line.new.lines c.args.values.now c.in_ok-texts.texts bs c.in-Err.fault t.did (rw d at s) e.slots e.history t.settles e.unchanged
+
+pub returns-in_err-texts-clause-went : goal.returns-in_err-texts-clause-went
+returns-in_err-texts-clause-went g c = λ bs.
+    let state = g.S.Strings.state in
+    let p = err_from_is_err_and c.from_residual.result c.from_residual.ensures.1 in
+    rw (p.1, p.2) (texts_halt g.S.Strings.number (state c.args.store.now) (state c.texts.new.store) c.args.lines.now c.args.values.now bs c.in_err-texts.field-0.0 c.in_err-texts.ensures.did)
