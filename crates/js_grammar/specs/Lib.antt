@@ -1,0 +1,2 @@
+pub mod Lang
+pub mod Reader
