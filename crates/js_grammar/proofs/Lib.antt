@@ -4,3 +4,7 @@ pub mod Wider
 pub mod Bound
 pub mod Series
 pub mod Part
+pub mod Whole
+pub mod One
+pub mod Heads
+pub mod Loops

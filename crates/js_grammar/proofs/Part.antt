@@ -1,7 +1,7 @@
 -- All that is known of a reader and its language in one record, and how it is put together.
 use Rattle.std.proofs.Common.{◌≡◌, ◌<◌, List, [], ◌∷◌, ◌++◌, length, Bool, true, false, cond, Option, Some, None, refl, sym, ap, ◌∙◌, subst, arith, length-append}
 use Rattle.js_grammar.specs.Lang.{Lang, One, one, Then, both, Bind, bound, Mapped, mapped, Nothing, nothing, Either, left, right, Many, end, Never, if_room, second_of, ◌▸◌}
-use Rattle.js_grammar.specs.Reader.{Got, Bad, Reader, ◌>>=◌, Kind, Wrong, TooDeep, wrong, too_deep, map_by, and_then, and_bind, take_or, one_of, succeed, opens, choose, all_of, is_some, heads, heads_two, allowed}
+use Rattle.js_grammar.specs.Reader.{Got, Bad, Reader, ◌>>=◌, Kind, TooDeep, wrong, too_deep, map_by, and_then, and_bind, take_or, one_of, succeed, opens, choose, all_of, is_some, heads, heads_two, allowed}
 use Rattle.js_grammar.proofs.Laws.{IsLawful, Holds, then_lawful, one_lawful, map_lawful, choose_lawful, loop_lawful, within, succeed_lawful, no_room_lawful, wrong_lawful}
 use Rattle.js_grammar.proofs.Local.{same_front, Stands, IsLocal, IsTest, IsEating, then_local, one_local, map_local, choose_local, loop_local, deep_local, wrong_local, succeed_local}
 use Rattle.js_grammar.proofs.Wider.{IsIn, itself, then_wider, mapped_wider, either_wider, many_wider, some_of, is_some_of}
@@ -92,7 +92,7 @@ module _ {T : Type 0} where
     -- what ends anywhere ends there
     pub sooner : {stops' : List T → Bool} → ((s : List T) → stops' s ≡ true → stops s ≡ true) → Branch P V L D stops r r' → Branch P V L D stops' r r'
     sooner h b = record {
-      lawful = record { sound = b.lawful.sound; complete = λ ts x rest m e. b.lawful.complete ts x rest m (h rest e); viable = b.lawful.viable; deep = b.lawful.deep  };
+      lawful = record { sound = b.lawful.sound; complete = λ ts x rest m e. b.lawful.complete ts x rest m (h rest e); viable = b.lawful.viable; deep = b.lawful.deep };
       wider = b.wider;
       local = b.local;
     }
@@ -275,7 +275,7 @@ module _ {T : Type 0} where
         (record { tokens = []; value = z; spells = right [] z (nothing z refl) })
       where
         sooner_lawful : IsLawful (One v ▸ B') (One v ▸ B') (One v ▸ BD) (no_such v) (and_then second_of (one_of v) b)
-        sooner_lawful = let l = (next_part second_of pv pb).lawful in record { sound = l.sound; complete = λ ts x rest m e. l.complete ts x rest m refl; viable = l.viable; deep = l.deep  }
+        sooner_lawful = let l = (next_part second_of pv pb).lawful in record { sound = l.sound; complete = λ ts x rest m e. l.complete ts x rest m refl; viable = l.viable; deep = l.deep }
 
         hit : (ts : List T) (x : B) (rest : List T) → (One v ▸ B') ts x → heads v (ts ++ rest) ≡ true
         hit _ _ rest (both _ d x y (one t x2 e) hd) = is_some_of (v t) x2 e

@@ -1,2 +1,3 @@
 pub mod Lang
 pub mod Reader
+pub mod Refused

@@ -1,5 +1,6 @@
 -- Readers: what reading from the front gives.
-use Rattle.std.specs.Prelude.{ℕ, zero, suc, List, [], ◌∷◌, length, Bool, true, false, cond, Option, Some, None}
+use Rattle.std.specs.Prelude.{ℕ, zero, suc, List, [], ◌∷◌, ◌++◌, length, Bool, true, false, cond, Option, Some, None}
+use Rattle.js_grammar.specs.Lang.{first_of}
 
 -- what is wrong at a token: it can't stand there, or it could but for the limit on nesting
 pub data Kind : Type 0 where
@@ -84,7 +85,16 @@ module _ {T : Type 0} where
   at_end [] = Got tt []
   at_end (t ∷ s) = Bad Wrong (t ∷ s)
 
+  -- this and nothing after it
+  abbrev pub read_whole : {A : Type 0} → Reader T A → Reader T A
+  read_whole r = and_then first_of r at_end
+
   -- where there is leave to
   abbrev pub allowed : {A : Type 0} → Bool → Reader T A → Reader T A
   allowed true r = r
   allowed false r = wrong
+
+  -- front, and then what the answer has
+  abbrev pub with_front : {A : Type 0} → List A → Answer T (List A) → Answer T (List A)
+  with_front front (Got xs rest) = Got (front ++ xs) rest
+  with_front front (Bad k rest) = Bad k rest
