@@ -1,0 +1,4 @@
+pub mod Tree
+pub mod Outline
+pub mod Terminals
+pub mod Grammar
