@@ -1,18 +1,17 @@
 -- The readers of expressions are lawful and local, one level over the one below.
-use Rattle.std.proofs.Common.{◌≡◌, ℕ, ◌<◌, ◌≤◌, List, [], ◌∷◌, ◌++◌, length, Bool, true, false, nat_lt, Option, Some, None, refl, sym, ap, ◌∙◌, subst, arith, append_assoc}
+use Rattle.std.proofs.Common.{◌≡◌, ℕ, ◌≤◌, List, [], ◌∷◌, ◌++◌, Bool, true, false, nat_lt, Option, Some, None, refl, ap, ◌∙◌, arith, append_assoc}
 use Rattle.js_lex.specs.declared.token.Mark.TheVariants as mark
 use Rattle.js_grammar.specs.Lang.{Lang, One, one, Then, both, Mapped, mapped, Nothing, nothing, Either, left, right, Many, end, more, if_room, first_of, second_of, ◌▸◌, ◌◂◌}
-use Rattle.js_grammar.specs.Reader.{Reader, Kind, map_by, and_then, one_of, opens, choose, heads}
+use Rattle.js_grammar.specs.Reader.{Reader, Kind, map_by, and_then, one_of, choose, heads}
 use Rattle.js_grammar.proofs.Laws.{Holds}
-use Rattle.js_grammar.proofs.Wider.{Begins, Starts, one_starts, then_starts, mapped_starts, either_starts, head_gives, is_some_of, some_of}
-use Rattle.js_grammar.proofs.Part.{anything, Branch, Part, both_hold, one_part, then_part, next_part, map_part, branch, part_of, choose_branch, nothing_branch, heads_test, Rooms, then_strict, open_branch, many_part}
+use Rattle.js_grammar.proofs.Wider.{Begins, Starts, one_starts, then_starts, either_starts, head_gives, some_of}
+use Rattle.js_grammar.proofs.Part.{anything, Part, both_hold, one_part, then_part, next_part, map_part, branch, part_of, choose_branch, nothing_branch, heads_test, Rooms, then_strict, open_branch, many_part}
 use Rattle.js_grammar.proofs.Heads.{one_heads, then_heads, mapped_heads, then_some, begins_length, room_of, in_room, deeper, over, then_lacks, lacks, one_over, first_over, lower}
 use Rattle.js_syntax.specs.declared.token.Token.{Token}
 use Rattle.js_syntax.specs.declared.token.Token.TheVariants as token
 use Rattle.js_syntax.specs.declared.token.Word.TheVariants as word
 use Rattle.js_syntax.specs.declared.token.Property.TheVariants as property
 use Rattle.js_syntax.specs.declared.tree.Op.{Op}
-use Rattle.js_syntax.specs.declared.tree.Method.{Method}
 use Rattle.js_syntax.specs.declared.tree.Method.TheVariants as methods
 use Rattle.js_syntax.specs.declared.tree.Builtin.{Builtin}
 use Rattle.js_syntax.specs.Tree as tree

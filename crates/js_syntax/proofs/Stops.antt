@@ -1,15 +1,13 @@
 -- What may follow an expression, by the level of the next token; and what begins a primary.
-use Rattle.std.proofs.Common.{◌≡◌, ℕ, ◌≤◌, List, [], ◌∷◌, Bool, true, false, Option, Some, None, refl, sym, ap, ◌∙◌, nat_lt, arith}
+use Rattle.std.proofs.Common.{◌≡◌, ℕ, ◌≤◌, List, [], ◌∷◌, Bool, true, false, Option, Some, None, refl, nat_lt, arith}
 use Rattle.std.proofs.lemmas.Bool.Decides.{nat_tests}
 use Rattle.js_lex.specs.declared.token.Mark.TheVariants as mark
 use Rattle.js_grammar.specs.Reader.{is_some, heads}
-use Rattle.js_grammar.proofs.Local.{SameHead, IsTest}
 use Rattle.js_grammar.proofs.Heads.{IsOf}
 use Rattle.js_syntax.specs.declared.token.Token.{Token}
 use Rattle.js_syntax.specs.declared.token.Token.TheVariants as token
 use Rattle.js_syntax.specs.declared.token.Word.TheVariants as word
 use Rattle.js_syntax.specs.declared.token.Property.TheVariants as property
-use Rattle.js_syntax.specs.declared.tree.Op.{Op}
 use Rattle.js_syntax.specs.declared.tree.Method.{Method}
 use Rattle.js_syntax.specs.Tree.{ExprTree, StepTree}
 use Rattle.js_syntax.specs.Terminals.{string_word, symbol_word, json_word, member_word, method, opening, closing, open_bracket, close_bracket, comma, point, question, colon, sign, or_op, and_op, equal_op, compare_op, sum_op, simple, constant}

@@ -1,5 +1,5 @@
 -- The grammar of scripts, one line a production.
-use Rattle.std.specs.Prelude.{ℕ, zero, suc, Bool, true, false, List, [], ◌∷◌, ◌++◌, Option, Some, None, get_or, map}
+use Rattle.std.specs.Prelude.{ℕ, zero, suc, Bool, true, false, List, [], ◌∷◌, ◌++◌, Option, Some, None, get_or}
 use Rattle.js_grammar.specs.Lang.{Lang, One, Then, Bind, Mapped, Nothing, Either, Many, Never, if_room, ◌▸◌, ◌◂◌}
 use Rattle.js_syntax.specs.declared.token.Token.{Token}
 use Rattle.js_syntax.specs.declared.tree.Op.{Op}

@@ -6,7 +6,6 @@ use Rattle.js_grammar.specs.Reader.{Reader, wrong, map_by, and_then, and_bind, o
 use Rattle.js_syntax.specs.declared.token.Token.{Token}
 use Rattle.js_syntax.specs.declared.token.Token.TheVariants as token
 use Rattle.js_syntax.specs.declared.tree.Op.{Op}
-use Rattle.js_syntax.specs.declared.tree.Builtin.{Builtin}
 use Rattle.js_syntax.specs.Tree.{ExprTree, StepTree}
 use Rattle.js_syntax.specs.Outline.{Ident}
 use Rattle.js_syntax.specs.Terminals.{directive, let_word, const_word, print_word, if_word, else_word, for_word, string_word, symbol_word, json_word, name, the_name, member_word, method, from_word, symbol_function, stringify_word, opening, closing, open_bracket, close_bracket, open_brace, close_brace, comma, point, semicolon, question, colon, less, assign_mark, assign_op, increment, sign, or_op, and_op, equal_op, compare_op, sum_op, nought, bound_number, simple}

@@ -1,9 +1,7 @@
 -- What each token is to the grammar. A terminal is a function from a token to an optional value; so one word may be
 -- a name at one place and a property at another.
 use Rattle.std.specs.Prelude.{ℕ, Bool, true, false, nat_eq, nat_lt, List, [], Option, Some, None, get_or}
-use Rattle.js_lex.specs.declared.token.Mark.{Mark}
 use Rattle.js_lex.specs.declared.token.Mark.TheVariants as mark
-use Rattle.js_grammar.specs.Reader.{Kind, Wrong, TooDeep}
 use Rattle.js_syntax.specs.declared.token.Token.{Token}
 use Rattle.js_syntax.specs.declared.token.Token.TheVariants as token
 use Rattle.js_syntax.specs.declared.token.Word.{Word}

@@ -49,11 +49,30 @@ pub enum Property {
 #[derive(Clone, Copy, Debug, PartialEq, Eq)]
 pub enum Token {
     /// The first token of the text where it is a string that is spelled as the directive.
-    Directive { at: u32 },
+    Directive {
+        at: u32,
+    },
     /// A string, by its number among the script's literals.
-    Text { at: u32, literal: u32 },
-    Number { at: u32, value: u64 },
-    Name { at: u32, number: u32, property: Property },
-    Word { at: u32, word: Word },
-    Mark { at: u32, mark: Mark, after_line: bool },
+    Text {
+        at: u32,
+        literal: u32,
+    },
+    Number {
+        at: u32,
+        value: u64,
+    },
+    Name {
+        at: u32,
+        number: u32,
+        property: Property,
+    },
+    Word {
+        at: u32,
+        word: Word,
+    },
+    Mark {
+        at: u32,
+        mark: Mark,
+        after_line: bool,
+    },
 }
