@@ -12,9 +12,9 @@ use Rattle.js_grammar.proofs.Whole.{Shallow, Family}
 use Rattle.js_syntax.specs.declared.token.Token.{Token}
 use Rattle.js_syntax.specs.declared.token.Token.TheVariants as token
 use Rattle.js_syntax.specs.Tree as tree
-use Rattle.js_syntax.specs.Tree.{ExprTree}
+use Rattle.js_syntax.specs.Tree.{ExprTree, StmtTree}
 use Rattle.js_syntax.specs.Terminals.{else_word, directive}
-use Rattle.js_syntax.specs.Grammar.{Told, Whole, Operand, within_room, Expression, Statement, Statements}
+use Rattle.js_syntax.specs.Grammar.{Whole, Operand, within_room, Expression, Statement, Statements}
 use Rattle.js_syntax.specs.Reading.{goes_on, read_within, read_at, read_statements}
 use Rattle.js_syntax.proofs.Stops.{stops, begins_unary}
 use Rattle.js_syntax.proofs.Expressions as expressions
@@ -101,7 +101,7 @@ module _ (names : List (List ℕ)) where
       abbrev pub Level : ℕ → ℕ → Type 0
       Level n m = Part P (Statement names prints n) (Statement names prints (suc n)) (no_such else_word) (read_at names prints n) (read_at names prints m)
 
-      nowhere : (m : ℕ) (i' : Reader Token ExprTree) (s' : Reader Token Told) → Levels P 0 m → statements.Inner P false (Expression names 0) (Expression names 1) Never (Expression names 0) Never (Statement names prints 0) (read_within names 0 Whole) (read_within names m Whole) wrong i' wrong s'
+      nowhere : (m : ℕ) (i' : Reader Token ExprTree) (s' : Reader Token StmtTree) → Levels P 0 m → statements.Inner P false (Expression names 0) (Expression names 1) Never (Expression names 0) Never (Statement names prints 0) (read_within names 0 Whole) (read_within names m Whole) wrong i' wrong s'
       nowhere m i' s' l = record {
         here = l.whole;
         test = λ h. let q : false ≡ true = h in cc;
@@ -134,7 +134,7 @@ module _ (names : List (List ℕ)) where
       -- scripts
 
       -- what stands behind the directive doesn't begin with one
-      no_directive : (n : ℕ) (b : List Token) (y : List Told) (rest : List Token) → Many (Statement names prints n) b y → no_more rest ≡ true → no_such directive (b ++ rest) ≡ true
+      no_directive : (n : ℕ) (b : List Token) (y : List StmtTree) (rest : List Token) → Many (Statement names prints n) b y → no_more rest ≡ true → no_such directive (b ++ rest) ≡ true
       no_directive n _ _ rest end s = at_end rest s
         where
           at_end : (rest : List Token) → no_more rest ≡ true → no_such directive rest ≡ true
@@ -157,13 +157,13 @@ module _ (names : List (List ℕ)) where
 
     -- a text is a script exactly where the reader gives it, and is refused where and as the reader says
 
-    pub reads_all : (n : ℕ) (ts : List Token) (x : List Told) → Statements names prints n ts x → read_whole (read_statements names prints n) ts ≡ Got x []
+    pub reads_all : (n : ℕ) (ts : List Token) (x : List StmtTree) → Statements names prints n ts x → read_whole (read_statements names prints n) ts ≡ Got x []
     reads_all = whole.reads_all scripts
 
-    pub all_read : (n : ℕ) (ts : List Token) (x : List Told) (rest : List Token) → read_whole (read_statements names prints n) ts ≡ Got x rest → Statements names prints n ts x
+    pub all_read : (n : ℕ) (ts : List Token) (x : List StmtTree) (rest : List Token) → read_whole (read_statements names prints n) ts ≡ Got x rest → Statements names prints n ts x
     all_read = whole.all_read scripts
 
-    pub one_list : (n m : ℕ) (ts : List Token) (x y : List Told) → Statements names prints n ts x → Statements names prints m ts y → x ≡ y
+    pub one_list : (n m : ℕ) (ts : List Token) (x y : List StmtTree) → Statements names prints n ts x → Statements names prints m ts y → x ≡ y
     one_list = whole.one_script scripts
 
     pub refuses : (n : ℕ) (ts : List Token) (k : Kind) (rest : List Token) → read_whole (read_statements names prints n) ts ≡ Bad k rest → IsRefused (Statements names prints) n ts k rest

@@ -13,11 +13,10 @@ use Rattle.js_syntax.specs.declared.token.Token.{Token}
 use Rattle.js_syntax.specs.declared.token.Token.TheVariants as token
 use Rattle.js_syntax.specs.declared.token.Word.TheVariants as word
 use Rattle.js_syntax.specs.declared.token.Property.TheVariants as property
-use Rattle.js_syntax.specs.Tree.{ExprTree}
-use Rattle.js_syntax.specs.Outline.{Ident}
-use Rattle.js_syntax.specs.Terminals.{when, directive, let_word, const_word, print_word, if_word, else_word, for_word, name, the_name, opening, open_brace, close_brace, semicolon, less, assign_mark, assign_op, increment, nought, bound_number}
+use Rattle.js_syntax.specs.Tree.{ExprTree, StmtTree, BlockTree, ArmTree, block}
+use Rattle.js_syntax.specs.Terminals.{Ident, when, directive, let_word, const_word, print_word, if_word, else_word, for_word, name, the_name, opening, open_brace, close_brace, semicolon, less, assign_mark, assign_op, increment, nought, bound_number}
 use Rattle.js_syntax.specs.Grammar
-use Rattle.js_syntax.specs.Grammar.{pair_of, Told, Inside, ToldArm, inside_of, no_inside, block_line_of, print_of, arm_of, more_of, if_of, header_of, let_of, const_of, assign_of, for_of}
+use Rattle.js_syntax.specs.Grammar.{pair_of, inside_of, no_inside, print_of, arm_of, more_of, if_of, header_of, let_of, const_of, assign_of, for_of}
 use Rattle.js_syntax.specs.Reading.{goes_on, read_args, read_parens, read_block, read_init, read_let, read_const, read_assign, read_print, read_arm, read_rest, read_if, read_turns, read_header, read_for, read_statement, read_strict}
 use Rattle.js_syntax.proofs.Stops.{stops, level_of, HasLevel, begins_unary}
 use Rattle.js_syntax.proofs.Expressions.{one_stops, heads_stop, parens_part, args_part, no_args, held_parens, opening_part, closing_part}
@@ -120,7 +119,7 @@ goes_over t s e = ap (λ b. cond b false true) (none_over first close_brace 0 0 
 abbrev pub no_more : List Token → Bool
 no_more s = cond (goes_on s) false true
 
-pub list_item : (S : Lang Token Told) → Starts S (over first 0) → IsItem goes_on (no_such else_word) no_more S
+pub list_item : (S : Lang Token StmtTree) → Starts S (over first 0) → IsItem goes_on (no_such else_word) no_more S
 list_item S st = record {
   test = goes_test;
   none = refl;
@@ -142,7 +141,7 @@ list_item S st = record {
     at_end (_ ∷ s) e = refl
 
 -- what is known of an expression at this level, and of an expression and a statement where one more is open
-pub record Inner (P : Kind → Type 0) (room : Bool) (E H I J : Lang Token ExprTree) (S F : Lang Token Told) (e e' i i' : Reader Token ExprTree) (s s' : Reader Token Told) : Type 0 where
+pub record Inner (P : Kind → Type 0) (room : Bool) (E H I J : Lang Token ExprTree) (S F : Lang Token StmtTree) (e e' i i' : Reader Token ExprTree) (s s' : Reader Token StmtTree) : Type 0 where
   pub here : Part P E H (stops 1) e e'
   pub test : room ≡ true → Part P I J (stops 1) i i'
   pub first_test : room ≡ true → Starts I begins_unary
@@ -165,23 +164,23 @@ at_semicolon_no_assign (_ ∷ s) h = refl
 
 -- what a statement begins with
 
-module _ (names : List (List ℕ)) (prints room : Bool) (E I : Lang Token ExprTree) (S : Lang Token Told) where
+module _ (names : List (List ℕ)) (prints room : Bool) (E I : Lang Token ExprTree) (S : Lang Token StmtTree) where
   for_starts : (k : ℕ) → nat_lt k 7 ≡ true → Starts (if_room room (Grammar.for_statement names S)) (over first k)
   for_starts k lt = record { by = λ ts x h. (then_starts (for_of names) Grammar.for_header (Grammar.block_part S) (over first k) (first_over first for_word 7 k for_first lt)).by ts x (room_of room (Grammar.for_statement names S) ts x h) }
 
-  abbrev pub From_if : Lang Token Told
+  abbrev pub From_if : Lang Token StmtTree
   From_if = Either (if_room room (Grammar.if_statement I S)) (if_room room (Grammar.for_statement names S))
 
-  abbrev pub From_print : Lang Token Told
+  abbrev pub From_print : Lang Token StmtTree
   From_print = Either (if_room prints (if_room room (Grammar.print_line I))) From_if
 
-  abbrev pub From_assign : Lang Token Told
+  abbrev pub From_assign : Lang Token StmtTree
   From_assign = Either (Grammar.assign_line names E) From_print
 
-  abbrev pub From_const : Lang Token Told
+  abbrev pub From_const : Lang Token StmtTree
   From_const = Either (Grammar.const_line names E) From_assign
 
-  abbrev pub From_let : Lang Token Told
+  abbrev pub From_let : Lang Token StmtTree
   From_let = Either (Grammar.let_line names E) From_const
 
   if_starts : Starts From_if (over first 5)
@@ -207,17 +206,17 @@ module _ (names : List (List ℕ)) (prints room : Bool) (E I : Lang Token ExprTr
   let_starts = either_starts (Grammar.let_line names E) From_const (over first 1) (first_over first let_word 2 1 let_first refl) (lower first 2 1 refl const_starts)
 
   pub statement_starts : Starts (Grammar.statement names prints room E I S) (over first 0)
-  statement_starts = either_starts (if_room room (Mapped block_line_of (Grammar.block_part S))) From_let (over first 0)
-      (record { by = λ ts x h. (mapped_starts block_line_of (Grammar.block_part S) (over first 0) (first_over first open_brace 1 0 open_brace_of refl)).by ts x (room_of room (Mapped block_line_of (Grammar.block_part S)) ts x h) })
+  statement_starts = either_starts (if_room room (Mapped block (Grammar.block_part S))) From_let (over first 0)
+      (record { by = λ ts x h. (mapped_starts block (Grammar.block_part S) (over first 0) (first_over first open_brace 1 0 open_brace_of refl)).by ts x (room_of room (Mapped block (Grammar.block_part S)) ts x h) })
       (lower first 1 0 refl let_starts)
 
-  block_heads : (ts : List Token) (x : Told) (rest : List Token) → Mapped block_line_of (Grammar.block_part S) ts x → heads open_brace (ts ++ rest) ≡ true
+  block_heads : (ts : List Token) (x : StmtTree) (rest : List Token) → Mapped block (Grammar.block_part S) ts x → heads open_brace (ts ++ rest) ≡ true
   block_heads _ _ rest (mapped a x h) = then_heads open_brace a x rest h
 
-  if_heads : (ts : List Token) (x : Told) (rest : List Token) → Grammar.if_statement I S ts x → heads if_word (ts ++ rest) ≡ true
+  if_heads : (ts : List Token) (x : StmtTree) (rest : List Token) → Grammar.if_statement I S ts x → heads if_word (ts ++ rest) ≡ true
   if_heads _ _ rest (both a b x y ha hb) = rw (append_assoc a b rest) (then_heads if_word a x (b ++ rest) ha)
 
-  for_heads : (ts : List Token) (x : Told) (rest : List Token) → Grammar.for_statement names S ts x → heads for_word (ts ++ rest) ≡ true
+  for_heads : (ts : List Token) (x : StmtTree) (rest : List Token) → Grammar.for_statement names S ts x → heads for_word (ts ++ rest) ≡ true
   for_heads _ _ rest (both a b x y ha hb) = rw (append_assoc a b rest) (then_heads for_word a x (b ++ rest) ha)
 
 module _ (P : Kind → Type 0) where
@@ -289,7 +288,7 @@ module _ (P : Kind → Type 0) where
     assign_line_part : Part P (Grammar.assign_line names E) (Grammar.assign_line names H) anything (read_assign names e) (read_assign names e')
     assign_line_part = next_part (assign_of names) name_part (next_part pair_of (one_part P assign_op (token.Mark 0 mark.Assign false) None refl) ended_part)
 
-  module _ (names : List (List ℕ)) {I J : Lang Token ExprTree} {i i' : Reader Token ExprTree} {S F : Lang Token Told} {s s' : Reader Token Told} (q : Part P I J (stops 1) i i') (p : Part P S F (no_such else_word) s s') (st : Starts S (over first 0)) where
+  module _ (names : List (List ℕ)) {I J : Lang Token ExprTree} {i i' : Reader Token ExprTree} {S F : Lang Token StmtTree} {s s' : Reader Token StmtTree} (q : Part P I J (stops 1) i i') (p : Part P S F (no_such else_word) s s') (st : Starts S (over first 0)) where
     pub block_part : Part P (Grammar.block_part S) (Grammar.block_part F) anything (read_block s) (read_block s')
     block_part = next_part second_of open_brace_part (map_part inside_of (then_part first_of (many_part goes_on no_more p (list_item S st)) close_brace_part closes))
       where
@@ -299,7 +298,7 @@ module _ (P : Kind → Type 0) where
     arm_part : Part P (Grammar.if_arm I S) (Grammar.if_arm J F) anything (read_arm i s) (read_arm i' s')
     arm_part = next_part second_of if_part (next_part arm_of (parens_part P q) block_part)
 
-    block_no_if : (ts : List Token) (x : Inside) (rest : List Token) → Grammar.block_part S ts x → heads if_word (ts ++ rest) ≡ false
+    block_no_if : (ts : List Token) (x : BlockTree) (rest : List Token) → Grammar.block_part S ts x → heads if_word (ts ++ rest) ≡ false
     block_no_if ts x rest h = then_lacks first if_first open_brace_of (λ q. omega arith) ts x rest h
 
     if_statement_part : Part P (Grammar.if_statement I S) (Grammar.if_statement J F) (no_such else_word) (read_if i s) (read_if i' s')
@@ -310,23 +309,23 @@ module _ (P : Kind → Type 0) where
 
   -- { } is a block at each level
 
-  no_statements : (L : Lang Token Told) → Holds (Mapped inside_of (Many L ◂ One close_brace))
+  no_statements : (L : Lang Token StmtTree) → Holds (Mapped inside_of (Many L ◂ One close_brace))
   no_statements L =
       let m = both_hold first_of (record { tokens = []; value = []; spells = end }) close_brace_part.some in
       record { tokens = m.tokens; value = inside_of m.value; spells = mapped m.tokens m.value m.spells }
 
-  body : (L : Lang Token Told) → Holds (Grammar.block_part L)
+  body : (L : Lang Token StmtTree) → Holds (Grammar.block_part L)
   body L = both_hold second_of open_brace_part.some (no_statements L)
 
-  block_rest : (L : Lang Token Told) (t : Token) (y : Unit {0}) → open_brace t ≡ Some y → (tail : List Token) × (x : Told) × Mapped block_line_of (Grammar.block_part L) (t ∷ tail) x
-  block_rest L t y e = let d = deeper second_of open_brace (no_statements L) t y e in (d.0, block_line_of d.1, mapped (t ∷ d.0) d.1 d.2)
+  block_rest : (L : Lang Token StmtTree) (t : Token) (y : Unit {0}) → open_brace t ≡ Some y → (tail : List Token) × (x : StmtTree) × Mapped block (Grammar.block_part L) (t ∷ tail) x
+  block_rest L t y e = let d = deeper second_of open_brace (no_statements L) t y e in (d.0, block d.1, mapped (t ∷ d.0) d.1 d.2)
 
-  if_rest : {J : Lang Token ExprTree} (L : Lang Token Told) → Holds J → (t : Token) (y : Unit {0}) → if_word t ≡ Some y → (tail : List Token) × (x : Told) × Grammar.if_statement J L (t ∷ tail) x
+  if_rest : {J : Lang Token ExprTree} (L : Lang Token StmtTree) → Holds J → (t : Token) (y : Unit {0}) → if_word t ≡ Some y → (tail : List Token) × (x : StmtTree) × Grammar.if_statement J L (t ∷ tail) x
   if_rest L held t y e =
       let d = deeper second_of if_word (both_hold arm_of (held_parens P held) (body L)) t y e in
       (d.0 ++ [], if_of d.1 ([], no_inside), both (t ∷ d.0) [] d.1 ([], no_inside) d.2 (both [] [] [] no_inside end (right [] no_inside (nothing no_inside refl))))
 
-  for_rest : (names : List (List ℕ)) (L : Lang Token Told) (t : Token) (y : Unit {0}) → for_word t ≡ Some y → (tail : List Token) × (x : Told) × Grammar.for_statement names L (t ∷ tail) x
+  for_rest : (names : List (List ℕ)) (L : Lang Token StmtTree) (t : Token) (y : Unit {0}) → for_word t ≡ Some y → (tail : List Token) × (x : StmtTree) × Grammar.for_statement names L (t ∷ tail) x
   for_rest names L t y e =
       let d = deeper second_of for_word from_opening.some t y e in
       let b = body L in
@@ -334,15 +333,15 @@ module _ (P : Kind → Type 0) where
 
   -- one level
 
-  module _ (names : List (List ℕ)) (prints room room' : Bool) (rs : Rooms P room room') (E H I J : Lang Token ExprTree) (S F : Lang Token Told) (e e' i i' : Reader Token ExprTree) (s s' : Reader Token Told) (k : Inner P room E H I J S F e e' i i' s s') where
+  module _ (names : List (List ℕ)) (prints room room' : Bool) (rs : Rooms P room room') (E H I J : Lang Token ExprTree) (S F : Lang Token StmtTree) (e e' i i' : Reader Token ExprTree) (s s' : Reader Token StmtTree) (k : Inner P room E H I J S F e e' i i' s s') where
     some_statement : Holds (Grammar.statement names prints room E I S)
     some_statement = let m = (let_line_part names k.here).some in record { tokens = m.tokens; value = m.value; spells = right m.tokens m.value (left m.tokens m.value m.spells) }
 
-    block_branch : Branch P (Grammar.statement names prints room E I S) (if_room room (Mapped block_line_of (Grammar.block_part S))) (Mapped block_line_of (Grammar.block_part F)) (no_such else_word) (opens room (heads open_brace) (map_by block_line_of (read_block s))) (opens room' (heads open_brace) (map_by block_line_of (read_block s')))
+    block_branch : Branch P (Grammar.statement names prints room E I S) (if_room room (Mapped block (Grammar.block_part S))) (Mapped block (Grammar.block_part F)) (no_such else_word) (opens room (heads open_brace) (map_by block (read_block s))) (opens room' (heads open_brace) (map_by block (read_block s')))
     block_branch = open_branch room room' rs open_brace
-        (λ r. sooner (λ q h. refl) (branch (map_part block_line_of (block_part names (k.test r) (k.law r) (k.starts r))) (λ ts x h. left ts x (in_room room (Mapped block_line_of (Grammar.block_part S)) r ts x h))))
+        (λ r. sooner (λ q h. refl) (branch (map_part block (block_part names (k.test r) (k.law r) (k.starts r))) (λ ts x h. left ts x (in_room room (Mapped block (Grammar.block_part S)) r ts x h))))
         some_statement (block_rest F)
-        (map_strict block_line_of open_brace (read_block s') (then_strict second_of open_brace (map_by inside_of (and_then first_of (all_of goes_on s') (one_of close_brace)))))
+        (map_strict block open_brace (read_block s') (then_strict second_of open_brace (map_by inside_of (and_then first_of (all_of goes_on s') (one_of close_brace)))))
 
     print_branch : Branch P (Grammar.statement names prints room E I S) (if_room prints (if_room room (Grammar.print_line I))) (if_room prints (Grammar.print_line J)) (no_such else_word) (allowed prints (opens room (heads print_word) (read_print i))) (allowed prints (opens room' (heads print_word) (read_print i')))
     print_branch = never_branch prints some_statement (λ a. open_branch room room' rs print_word
@@ -379,7 +378,7 @@ module _ (P : Kind → Type 0) where
         let assigns = choose_branch (heads name) (heads_test name) (sooner (λ q h. refl) (branch (assign_line_part names k.here) (λ ts x h. right ts x (right ts x (right ts x (left ts x h)))))) prints' (λ ts x rest h. then_heads name ts x rest h) (λ ts x rest h q. lacks first name 4 4 name_first (omega arith) (print_starts names prints room E I S) ts x rest h) in
         let consts = choose_branch (heads const_word) (heads_test const_word) (sooner (λ q h. refl) (branch (const_line_part names k.here) (λ ts x h. right ts x (right ts x (left ts x h))))) assigns (λ ts x rest h. then_heads const_word ts x rest h) (λ ts x rest h q. lacks first const_word 3 3 const_first (omega arith) (assign_starts names prints room E I S) ts x rest h) in
         let lets = choose_branch (heads let_word) (heads_test let_word) (sooner (λ q h. refl) (branch (let_line_part names k.here) (λ ts x h. right ts x (left ts x h)))) consts (λ ts x rest h. then_heads let_word ts x rest h) (λ ts x rest h q. lacks first let_word 2 2 let_first (omega arith) (const_starts names prints room E I S) ts x rest h) in
-        part_of (choose_branch (heads open_brace) (heads_test open_brace) block_branch lets (λ ts x rest h. block_heads names prints room E I S ts x rest (room_of room (Mapped block_line_of (Grammar.block_part S)) ts x h)) (λ ts x rest h q. lacks first open_brace 1 1 open_brace_of (omega arith) (let_starts names prints room E I S) ts x rest h)) some_statement
+        part_of (choose_branch (heads open_brace) (heads_test open_brace) block_branch lets (λ ts x rest h. block_heads names prints room E I S ts x rest (room_of room (Mapped block (Grammar.block_part S)) ts x h)) (λ ts x rest h q. lacks first open_brace 1 1 open_brace_of (omega arith) (let_starts names prints room E I S) ts x rest h)) some_statement
 
   -- [ Directive ]
   pub strict_part : Part P Grammar.strict Grammar.strict (no_such directive) read_strict read_strict

@@ -6,10 +6,9 @@ use Rattle.js_syntax.specs.declared.tree.Op.{Op}
 use Rattle.js_syntax.specs.declared.tree.Method.{Method}
 use Rattle.js_syntax.specs.declared.tree.Builtin.{Builtin}
 use Rattle.js_syntax.specs.declared.tree.Builtin.TheVariants as builtin
-use Rattle.js_syntax.specs.Terminals.{directive, let_word, const_word, print_word, if_word, else_word, for_word, string_word, symbol_word, json_word, name, the_name, member_word, method, from_word, symbol_function, stringify_word, opening, closing, open_bracket, close_bracket, open_brace, close_brace, comma, point, semicolon, question, colon, less, assign_mark, assign_op, increment, sign, or_op, and_op, equal_op, compare_op, sum_op, nought, bound_number, simple}
+use Rattle.js_syntax.specs.Terminals.{Ident, directive, let_word, const_word, print_word, if_word, else_word, for_word, string_word, symbol_word, json_word, name, the_name, member_word, method, from_word, symbol_function, stringify_word, opening, closing, open_bracket, close_bracket, open_brace, close_brace, comma, point, semicolon, question, colon, less, assign_mark, assign_op, increment, sign, or_op, and_op, equal_op, compare_op, sum_op, nought, bound_number, simple}
 use Rattle.js_syntax.specs.Tree as tree
 use Rattle.js_syntax.specs.Tree.{ExprTree, LinkTree, StepTree, links, steps, exprs, StmtTree, BlockTree, block_of, ArmTree, arms, stmts}
-use Rattle.js_syntax.specs.Outline.{Ident, Outline, declares, assigns, block, loop, outlines}
 
 -- the trees of expressions
 
@@ -63,24 +62,11 @@ abbrev pub cond_of : ExprTree → Option (ExprTree × ExprTree) → ExprTree
 cond_of t None = t
 cond_of t (Some b) = tree.conditional t b.0 b.1
 
--- statements, each with the outline of what it declares and assigns
-
-pub record Told : Type 0 where
-  pub tree : StmtTree
-  pub scopes : List Outline
-
--- the statements of a block
-pub record Inside : Type 0 where
-  pub tree : BlockTree
-  pub scopes : List Outline
-
-pub record ToldArm : Type 0 where
-  pub tree : ArmTree
-  pub scopes : List Outline
+-- the trees of statements
 
 abbrev pub own_name : StmtTree → List (List ℕ)
-own_name (tree.let_line name init) = name ∷ []
-own_name (tree.const_line name init) = name ∷ []
+own_name (tree.let_line at name init) = name ∷ []
+own_name (tree.const_line at name init) = name ∷ []
 own_name _ = []
 
 -- the names that are declared directly among them
@@ -88,43 +74,24 @@ abbrev pub own_names : List StmtTree → List (List ℕ)
 own_names [] = []
 own_names (s ∷ ss) = own_name s ++ own_names ss
 
-abbrev pub trees_told : List Told → List StmtTree
-trees_told [] = []
-trees_told (s ∷ ss) = s.tree ∷ trees_told ss
-
-abbrev pub scopes_told : List Told → List Outline
-scopes_told [] = []
-scopes_told (s ∷ ss) = s.scopes ++ scopes_told ss
-
-abbrev pub inside_of : List Told → Inside
-inside_of ss = record { tree = block_of (own_names (trees_told ss)) (stmts (trees_told ss)); scopes = block (outlines (scopes_told ss)) ∷ [] }
+abbrev pub inside_of : List StmtTree → BlockTree
+inside_of ss = block_of (own_names ss) (stmts ss)
 
 -- no block
-abbrev pub no_inside : Inside
-no_inside = record { tree = block_of [] tree.no_stmts; scopes = [] }
+abbrev pub no_inside : BlockTree
+no_inside = block_of [] tree.no_stmts
 
-abbrev pub block_line_of : Inside → Told
-block_line_of b = record { tree = tree.block b.tree; scopes = b.scopes }
+abbrev pub print_of : List ExprTree → StmtTree
+print_of ts = tree.print (exprs ts)
 
-abbrev pub print_of : List ExprTree → Told
-print_of ts = record { tree = tree.print (exprs ts); scopes = [] }
+abbrev pub arm_of : ExprTree → BlockTree → ArmTree
+arm_of e b = record { test = e; body = b }
 
-abbrev pub arm_of : ExprTree → Inside → ToldArm
-arm_of e b = record { tree = record { test = e; body = b.tree }; scopes = b.scopes }
-
-abbrev pub arm_trees : List ToldArm → List ArmTree
-arm_trees [] = []
-arm_trees (a ∷ more) = a.tree ∷ arm_trees more
-
-abbrev pub arm_scopes : List ToldArm → List Outline
-arm_scopes [] = []
-arm_scopes (a ∷ more) = a.scopes ++ arm_scopes more
-
-abbrev pub more_of : List ToldArm → Inside → List ToldArm × Inside
+abbrev pub more_of : List ArmTree → BlockTree → List ArmTree × BlockTree
 more_of others rest = (others, rest)
 
-abbrev pub if_of : ToldArm → List ToldArm × Inside → Told
-if_of a p = record { tree = tree.if_line (arms (a.tree ∷ arm_trees p.0)) p.1.tree; scopes = a.scopes ++ arm_scopes p.0 ++ p.1.scopes }
+abbrev pub if_of : ArmTree → List ArmTree × BlockTree → StmtTree
+if_of a p = tree.if_line (arms (a ∷ p.0)) p.1
 
 abbrev pub header_of : Ident → ℕ → Ident × ℕ
 header_of x bound = (x, bound)
@@ -134,21 +101,21 @@ module _ (names : List (List ℕ)) where
   abbrev pub letters : Ident → List ℕ
   letters x = get_or names x.number []
 
-  abbrev pub let_of : Ident → Option ExprTree → Told
-  let_of x init = record { tree = tree.let_line (letters x) init; scopes = declares x ∷ [] }
+  abbrev pub let_of : Ident → Option ExprTree → StmtTree
+  let_of x init = tree.let_line x.at (letters x) init
 
-  abbrev pub const_of : Ident → ExprTree → Told
-  const_of x init = record { tree = tree.const_line (letters x) init; scopes = declares x ∷ [] }
+  abbrev pub const_of : Ident → ExprTree → StmtTree
+  const_of x init = tree.const_line x.at (letters x) init
 
-  abbrev pub assigned : List ℕ → Option ℕ → ExprTree → StmtTree
-  assigned x None e = tree.assign x e
-  assigned x (Some at) e = tree.append at x e
+  abbrev pub assigned : Ident → Option ℕ → ExprTree → StmtTree
+  assigned x None e = tree.assign x.at (letters x) e
+  assigned x (Some at) e = tree.append at x.at (letters x) e
 
-  abbrev pub assign_of : Ident → Option ℕ × ExprTree → Told
-  assign_of x p = record { tree = assigned (letters x) p.0 p.1; scopes = assigns x ∷ [] }
+  abbrev pub assign_of : Ident → Option ℕ × ExprTree → StmtTree
+  assign_of x p = assigned x p.0 p.1
 
-  abbrev pub for_of : Ident × ℕ → Inside → Told
-  for_of h b = record { tree = tree.for_line (letters h.0) h.1 b.tree; scopes = loop h.0 (outlines b.scopes) ∷ [] }
+  abbrev pub for_of : Ident × ℕ → BlockTree → StmtTree
+  for_of h b = tree.for_line (letters h.0) h.1 b
 
 -- expressions, over what an expression E and an operand U are where one more is open
 
@@ -249,27 +216,27 @@ Expression names n = within_room names n Whole
 -- statements, over an expression E at this level, and what an expression I and a statement S are where one more is open
 
 -- { { Statement } }
-abbrev pub block_part : Lang Token Told → Lang Token Inside
+abbrev pub block_part : Lang Token StmtTree → Lang Token BlockTree
 block_part S = One open_brace ▸ Mapped inside_of (Many S ◂ One close_brace)
 
-abbrev pub let_line : List (List ℕ) → Lang Token ExprTree → Lang Token Told
+abbrev pub let_line : List (List ℕ) → Lang Token ExprTree → Lang Token StmtTree
 let_line names E = One let_word ▸ Then (let_of names) (One name) (Either (Mapped Some (One assign_mark ▸ E)) (Nothing None)) ◂ One semicolon
 
-abbrev pub const_line : List (List ℕ) → Lang Token ExprTree → Lang Token Told
+abbrev pub const_line : List (List ℕ) → Lang Token ExprTree → Lang Token StmtTree
 const_line names E = One const_word ▸ Then (const_of names) (One name) (One assign_mark ▸ E ◂ One semicolon)
 
-abbrev pub assign_line : List (List ℕ) → Lang Token ExprTree → Lang Token Told
+abbrev pub assign_line : List (List ℕ) → Lang Token ExprTree → Lang Token StmtTree
 assign_line names E = Then (assign_of names) (One name) (Then pair_of (One assign_op) (E ◂ One semicolon))
 
-abbrev pub print_line : Lang Token ExprTree → Lang Token Told
+abbrev pub print_line : Lang Token ExprTree → Lang Token StmtTree
 print_line I = One print_word ▸ Mapped print_of (args I ◂ One semicolon)
 
 -- if ( I ) B
-abbrev pub if_arm : Lang Token ExprTree → Lang Token Told → Lang Token ToldArm
+abbrev pub if_arm : Lang Token ExprTree → Lang Token StmtTree → Lang Token ArmTree
 if_arm I S = One if_word ▸ Then arm_of (parens I) (block_part S)
 
 -- if ( I ) B { else if ( I ) B } [ else B ]
-abbrev pub if_statement : Lang Token ExprTree → Lang Token Told → Lang Token Told
+abbrev pub if_statement : Lang Token ExprTree → Lang Token StmtTree → Lang Token StmtTree
 if_statement I S = Then if_of (if_arm I S) (Then more_of (Many (One else_word ▸ if_arm I S)) (Either (One else_word ▸ block_part S) (Nothing no_inside)))
 
 -- = 0 ; x < Bound ; x ++ ), where x is the name before it
@@ -280,13 +247,13 @@ turns x = One assign_mark ▸ One nought ▸ One semicolon ▸ One (the_name x.n
 abbrev pub for_header : Lang Token (Ident × ℕ)
 for_header = One for_word ▸ One opening ▸ One let_word ▸ Bind header_of (One name) turns
 
-abbrev pub for_statement : List (List ℕ) → Lang Token Told → Lang Token Told
+abbrev pub for_statement : List (List ℕ) → Lang Token StmtTree → Lang Token StmtTree
 for_statement names S = Then (for_of names) for_header (block_part S)
 
 -- with prints, or without
-abbrev pub statement : List (List ℕ) → Bool → Bool → Lang Token ExprTree → Lang Token ExprTree → Lang Token Told → Lang Token Told
+abbrev pub statement : List (List ℕ) → Bool → Bool → Lang Token ExprTree → Lang Token ExprTree → Lang Token StmtTree → Lang Token StmtTree
 statement names prints room E I S =
-    Either (if_room room (Mapped block_line_of (block_part S)))
+    Either (if_room room (Mapped tree.block (block_part S)))
     (Either (let_line names E)
     (Either (const_line names E)
     (Either (assign_line names E)
@@ -295,7 +262,7 @@ statement names prints room E I S =
     (if_room room (for_statement names S)))))))
 
 -- with room for so many that are open
-abbrev pub Statement : List (List ℕ) → Bool → ℕ → Lang Token Told
+abbrev pub Statement : List (List ℕ) → Bool → ℕ → Lang Token StmtTree
 Statement names prints zero = statement names prints false (Expression names 0) Never Never
 Statement names prints (suc n) = statement names prints true (Expression names (suc n)) (Expression names n) (Statement names prints n)
 
@@ -304,7 +271,7 @@ abbrev pub strict : Lang Token (Unit {0})
 strict = Either (One directive ▸ One semicolon) (Nothing tt)
 
 -- [ Directive ] { Statement }
-abbrev pub Statements : List (List ℕ) → Bool → ℕ → Lang Token (List Told)
+abbrev pub Statements : List (List ℕ) → Bool → ℕ → Lang Token (List StmtTree)
 Statements names prints n = strict ▸ Many (Statement names prints n)
 
 -- so many may be open

@@ -6,10 +6,9 @@ use Rattle.js_grammar.specs.Reader.{Reader, wrong, map_by, and_then, and_bind, o
 use Rattle.js_syntax.specs.declared.token.Token.{Token}
 use Rattle.js_syntax.specs.declared.token.Token.TheVariants as token
 use Rattle.js_syntax.specs.declared.tree.Op.{Op}
-use Rattle.js_syntax.specs.Tree.{ExprTree, StepTree}
-use Rattle.js_syntax.specs.Outline.{Ident}
-use Rattle.js_syntax.specs.Terminals.{directive, let_word, const_word, print_word, if_word, else_word, for_word, string_word, symbol_word, json_word, name, the_name, member_word, method, from_word, symbol_function, stringify_word, opening, closing, open_bracket, close_bracket, open_brace, close_brace, comma, point, semicolon, question, colon, less, assign_mark, assign_op, increment, sign, or_op, and_op, equal_op, compare_op, sum_op, nought, bound_number, simple}
-use Rattle.js_syntax.specs.Grammar.{list_of, none_of, single_of, pair_of, index_of, call_of, builtin_of, plain_string, post_of, unary_of, link_of, chain_of, branches_of, cond_of, Told, Inside, ToldArm, inside_of, no_inside, block_line_of, print_of, arm_of, more_of, if_of, header_of, let_of, const_of, assign_of, for_of, Which, Whole, Operand}
+use Rattle.js_syntax.specs.Tree.{ExprTree, StepTree, StmtTree, BlockTree, ArmTree, block}
+use Rattle.js_syntax.specs.Terminals.{Ident, directive, let_word, const_word, print_word, if_word, else_word, for_word, string_word, symbol_word, json_word, name, the_name, member_word, method, from_word, symbol_function, stringify_word, opening, closing, open_bracket, close_bracket, open_brace, close_brace, comma, point, semicolon, question, colon, less, assign_mark, assign_op, increment, sign, or_op, and_op, equal_op, compare_op, sum_op, nought, bound_number, simple}
+use Rattle.js_syntax.specs.Grammar.{list_of, none_of, single_of, pair_of, index_of, call_of, builtin_of, plain_string, post_of, unary_of, link_of, chain_of, branches_of, cond_of, inside_of, no_inside, print_of, arm_of, more_of, if_of, header_of, let_of, const_of, assign_of, for_of, Which, Whole, Operand}
 
 -- expressions
 
@@ -99,31 +98,31 @@ abbrev pub goes_on : List Token → Bool
 goes_on [] = false
 goes_on (t ∷ s) = cond (is_some (close_brace t)) false true
 
-abbrev pub read_block : Reader Token Told → Reader Token Inside
+abbrev pub read_block : Reader Token StmtTree → Reader Token BlockTree
 read_block s = and_then second_of (one_of open_brace) (map_by inside_of (and_then first_of (all_of goes_on s) (one_of close_brace)))
 
 abbrev pub read_init : Reader Token ExprTree → Reader Token (Option ExprTree)
 read_init e = choose (heads assign_mark) (map_by Some (and_then second_of (one_of assign_mark) e)) (succeed None)
 
-abbrev pub read_let : List (List ℕ) → Reader Token ExprTree → Reader Token Told
+abbrev pub read_let : List (List ℕ) → Reader Token ExprTree → Reader Token StmtTree
 read_let names e = and_then second_of (one_of let_word) (and_then first_of (and_then (let_of names) (one_of name) (read_init e)) (one_of semicolon))
 
-abbrev pub read_const : List (List ℕ) → Reader Token ExprTree → Reader Token Told
+abbrev pub read_const : List (List ℕ) → Reader Token ExprTree → Reader Token StmtTree
 read_const names e = and_then second_of (one_of const_word) (and_then (const_of names) (one_of name) (and_then second_of (one_of assign_mark) (and_then first_of e (one_of semicolon))))
 
-abbrev pub read_assign : List (List ℕ) → Reader Token ExprTree → Reader Token Told
+abbrev pub read_assign : List (List ℕ) → Reader Token ExprTree → Reader Token StmtTree
 read_assign names e = and_then (assign_of names) (one_of name) (and_then pair_of (one_of assign_op) (and_then first_of e (one_of semicolon)))
 
-abbrev pub read_print : Reader Token ExprTree → Reader Token Told
+abbrev pub read_print : Reader Token ExprTree → Reader Token StmtTree
 read_print e = and_then second_of (one_of print_word) (map_by print_of (and_then first_of (read_args e) (one_of semicolon)))
 
-abbrev pub read_arm : Reader Token ExprTree → Reader Token Told → Reader Token ToldArm
+abbrev pub read_arm : Reader Token ExprTree → Reader Token StmtTree → Reader Token ArmTree
 read_arm e s = and_then second_of (one_of if_word) (and_then arm_of (read_parens e) (read_block s))
 
-abbrev pub read_rest : Reader Token Told → Reader Token Inside
+abbrev pub read_rest : Reader Token StmtTree → Reader Token BlockTree
 read_rest s = choose (heads else_word) (and_then second_of (one_of else_word) (read_block s)) (succeed no_inside)
 
-abbrev pub read_if : Reader Token ExprTree → Reader Token Told → Reader Token Told
+abbrev pub read_if : Reader Token ExprTree → Reader Token StmtTree → Reader Token StmtTree
 read_if e s = and_then if_of (read_arm e s) (and_then more_of (all_of (heads_two else_word if_word) (and_then second_of (one_of else_word) (read_arm e s))) (read_rest s))
 
 abbrev pub read_turns : Ident → Reader Token ℕ
@@ -132,12 +131,12 @@ read_turns x = and_then second_of (one_of assign_mark) (and_then second_of (one_
 abbrev pub read_header : Reader Token (Ident × ℕ)
 read_header = and_then second_of (one_of for_word) (and_then second_of (one_of opening) (and_then second_of (one_of let_word) (and_bind header_of (one_of name) read_turns)))
 
-abbrev pub read_for : List (List ℕ) → Reader Token Told → Reader Token Told
+abbrev pub read_for : List (List ℕ) → Reader Token StmtTree → Reader Token StmtTree
 read_for names s = and_then (for_of names) read_header (read_block s)
 
-abbrev pub read_statement : List (List ℕ) → Bool → Bool → Reader Token ExprTree → Reader Token ExprTree → Reader Token Told → Reader Token Told
+abbrev pub read_statement : List (List ℕ) → Bool → Bool → Reader Token ExprTree → Reader Token ExprTree → Reader Token StmtTree → Reader Token StmtTree
 read_statement names prints room e i s =
-    choose (heads open_brace) (opens room (heads open_brace) (map_by block_line_of (read_block s)))
+    choose (heads open_brace) (opens room (heads open_brace) (map_by block (read_block s)))
     (choose (heads let_word) (read_let names e)
     (choose (heads const_word) (read_const names e)
     (choose (heads name) (read_assign names e)
@@ -145,12 +144,12 @@ read_statement names prints room e i s =
     (choose (heads if_word) (opens room (heads if_word) (read_if i s))
     (opens room (heads for_word) (read_for names s)))))))
 
-abbrev pub read_at : List (List ℕ) → Bool → ℕ → Reader Token Told
+abbrev pub read_at : List (List ℕ) → Bool → ℕ → Reader Token StmtTree
 read_at names prints zero = read_statement names prints false (read_within names 0 Whole) wrong wrong
 read_at names prints (suc n) = read_statement names prints true (read_within names (suc n) Whole) (read_within names n Whole) (read_at names prints n)
 
 abbrev pub read_strict : Reader Token (Unit {0})
 read_strict = choose (heads directive) (and_then second_of (one_of directive) (one_of semicolon)) (succeed tt)
 
-abbrev pub read_statements : List (List ℕ) → Bool → ℕ → Reader Token (List Told)
+abbrev pub read_statements : List (List ℕ) → Bool → ℕ → Reader Token (List StmtTree)
 read_statements names prints n = and_then second_of read_strict (all_of goes_on (read_at names prints n))

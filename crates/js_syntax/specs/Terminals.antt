@@ -15,7 +15,11 @@ use Rattle.js_syntax.specs.declared.tree.Builtin.{Builtin}
 use Rattle.js_syntax.specs.declared.tree.Builtin.TheVariants as builtin
 use Rattle.js_syntax.specs.Tree as tree
 use Rattle.js_syntax.specs.Tree.{ExprTree, StepTree}
-use Rattle.js_syntax.specs.Outline.{Ident}
+
+-- a name where it stands: its offset, and the number of its letters
+pub record Ident : Type 0 where
+  pub at : ℕ
+  pub number : ℕ
 
 abbrev pub when : {A : Type 0} → Bool → A → Option A
 when true x = Some x

@@ -127,10 +127,10 @@ init_tree (Some e) = Some (expr_tree e)
 mutual
   pub data StmtTree : Type 0 where
     block : (inner : BlockTree) → StmtTree
-    let_line : (name : List ℕ) (init : Option ExprTree) → StmtTree
-    const_line : (name : List ℕ) (init : ExprTree) → StmtTree
-    assign : (name : List ℕ) (value : ExprTree) → StmtTree
-    append : (at : ℕ) (name : List ℕ) (value : ExprTree) → StmtTree
+    let_line : (at : ℕ) (name : List ℕ) (init : Option ExprTree) → StmtTree
+    const_line : (at : ℕ) (name : List ℕ) (init : ExprTree) → StmtTree
+    assign : (at : ℕ) (name : List ℕ) (value : ExprTree) → StmtTree
+    append : (at name_at : ℕ) (name : List ℕ) (value : ExprTree) → StmtTree
     print : (args : Exprs) → StmtTree
     if_line : (arms : Arms) (rest : BlockTree) → StmtTree
     for_line : (name : List ℕ) (bound : ℕ) (body : BlockTree) → StmtTree
@@ -162,10 +162,10 @@ arms (a ∷ more) = arm a.test a.body (arms more)
 
 abbrev pub stmt_layer : Stmt-F StmtTree ArmTree BlockTree → StmtTree
 stmt_layer (Stmt-F.Block inner) = block inner
-stmt_layer (Stmt-F.Let name init) = let_line name (init_tree init)
-stmt_layer (Stmt-F.Const name init) = const_line name (expr_tree init)
-stmt_layer (Stmt-F.Assign name value) = assign name (expr_tree value)
-stmt_layer (Stmt-F.Append at name value) = append at name (expr_tree value)
+stmt_layer (Stmt-F.Let at name init) = let_line at name (init_tree init)
+stmt_layer (Stmt-F.Const at name init) = const_line at name (expr_tree init)
+stmt_layer (Stmt-F.Assign at name value) = assign at name (expr_tree value)
+stmt_layer (Stmt-F.Append at name_at name value) = append at name_at name (expr_tree value)
 stmt_layer (Stmt-F.Print args) = print (exprs_tree args.items)
 stmt_layer (Stmt-F.If tests rest) = if_line (arms tests.items) rest
 stmt_layer (Stmt-F.For name bound body) = for_line name bound body

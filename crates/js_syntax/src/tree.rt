@@ -9,7 +9,8 @@ use std::marker::Model;
 ///
 /// `literals` has one entry for each string token, in the order of the text, without the
 /// directive. In the whole tree an `at` is a byte offset in the file: that of the operator, of the
-/// method's word, of the `[`, or of the first word of a built-in call.
+/// method's word, of the `[`, of the first word of a built-in call, or of the name that is declared or
+/// assigned; of an `Append` that of its `+=`, and `name_at` that of its name.
 #[derive(Drop)]
 pub struct Script {
     pub literals: Vec<Units>,
@@ -22,10 +23,10 @@ pub struct Script {
 #[derive(Drop)]
 pub enum Stmt {
     Block { inner: Block },
-    Let { name: Name, init: Option<Expr> },
-    Const { name: Name, init: Expr },
-    Assign { name: Name, value: Expr },
-    Append { at: u32, name: Name, value: Expr },
+    Let { at: u32, name: Name, init: Option<Expr> },
+    Const { at: u32, name: Name, init: Expr },
+    Assign { at: u32, name: Name, value: Expr },
+    Append { at: u32, name_at: u32, name: Name, value: Expr },
     Print { args: Vec<Expr> },
     /// The arms are tried in order; `rest` is what `else` leads to, or an empty block.
     If { arms: Vec<Arm>, rest: Block },
