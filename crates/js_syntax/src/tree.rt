@@ -1,5 +1,5 @@
 // The tree of a script.
-ghost use Rattle.std.specs.Prelude.{◌≡◌, [], IfOk};
+ghost use Rattle.std.specs.Prelude.{◌≡◌, ◌∷◌, ◌++◌, [], IfOk, OnOk, OnErr};
 
 use js_units::{NoMemory, Units};
 use std::alloc::Global;
@@ -195,6 +195,20 @@ impl Model for Name {
 }
 
 impl Name {
+    /// The name with these letters.
+    pub fn new(bytes: Vec<u8>) -> Name
+        ensures { result ≡ bytes.items }
+    {
+        Name { bytes }
+    }
+
+    /// The letters.
+    pub fn as_bytes(&self) -> &[u8]
+        ensures { result.now ≡ self.now }
+    {
+        self.bytes.as_slice()
+    }
+
     /// The same name once more.
     pub fn copy(&self) -> Result<Name, NoMemory>
         ensures { IfOk result (λ name. name ≡ self.now) }
@@ -227,6 +241,22 @@ impl Names {
         Names {
             items: Vec::new(alloc),
         }
+    }
+
+    /// Adds a name at the end; unchanged on refusal.
+    pub fn push(&mut self, name: Name) -> Result<(), NoMemory>
+        ensures added { OnOk result (self.new ≡ self.old ++ name ∷ []) }
+        ensures refused { OnErr result (self.new ≡ self.old) }
+    {
+        self.items.push(name)?;
+        Ok(())
+    }
+
+    /// The names, in order.
+    pub fn as_slice(&self) -> &[Name]
+        ensures { result.now ≡ self.now }
+    {
+        self.items.as_slice()
     }
 }
 

@@ -1,0 +1,7 @@
+//! Reads tokens into the tree of a script, with the place of every fault.
+#![tactic(auto)]
+
+mod fault;
+mod look;
+
+pub use fault::Fault;
