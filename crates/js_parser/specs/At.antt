@@ -4,15 +4,19 @@ use Rattle.js_grammar.specs.Lang.{second_of}
 use Rattle.js_grammar.specs.Reader.{Reader, ◌>>=◌, Got, wrong, and_then, map_by, one_of, choose, all_of, heads, heads_two, succeed}
 use Rattle.js_syntax.specs.declared.token.Token.{Token}
 use Rattle.js_syntax.specs.declared.token.Token.TheVariants as token
+use Rattle.js_lex.specs.declared.token.Mark.TheVariants as mark
+use Rattle.js_syntax.specs.declared.token.Word.TheVariants as word
 use Rattle.js_syntax.specs.declared.tree.Op.{Op}
 use Rattle.js_syntax.specs.declared.tree.Builtin.{Builtin}
 use Rattle.js_syntax.specs.declared.tree.Builtin.TheVariants as builtin
 use Rattle.js_syntax.specs.Tree.{ExprTree, StepTree, StmtTree, BlockTree, ArmTree}
 use Rattle.js_syntax.specs.Terminals.{or_op, and_op, equal_op, compare_op, sum_op, else_word, if_word, string_word, symbol_word, json_word, point, from_word, symbol_function, stringify_word, directive, let_word, const_word, print_word, for_word, opening, closing, close_bracket, open_brace, close_brace, comma, semicolon, colon, question, less, assign_mark, increment, nought}
-use Rattle.js_syntax.specs.Grammar.{Which, Whole, Operand, single_of, no_inside}
+use Rattle.js_syntax.specs.Grammar.{Which, Whole, Operand, single_of, pair_of, no_inside}
 use Rattle.js_syntax.specs.Reading.{read_within, read_parens, read_args, read_string, read_symbol, read_json, read_primary, read_member, read_step, read_post, read_unary, read_sum, read_comparison, read_equality, read_conjunction, read_disjunction, read_conditional, goes_on, read_block, read_init, read_let, read_const, read_assign, read_print, read_arm, read_rest, read_if, read_for, read_statement, read_at}
 use Rattle.js_parser.specs.declared.look.Level.{Level}
 use Rattle.js_parser.specs.declared.look.Level.TheVariants as level
+use Rattle.js_parser.specs.declared.look.Opener.{Opener}
+use Rattle.js_parser.specs.declared.look.Opener.TheVariants as opener
 use Rattle.js_parser.specs.declared.look.Fixed.{Fixed}
 use Rattle.js_parser.specs.declared.look.Fixed.TheVariants as fixed
 
@@ -52,6 +56,32 @@ operators level.Equal = equal_op
 operators level.Compare = compare_op
 operators level.Sum = sum_op
 
+-- what a primary of several tokens begins with
+abbrev pub opener_of : Token → Option Opener
+opener_of (token.Mark at mark.OpenParen l) = Some opener.Paren
+opener_of (token.Word at word.String) = Some opener.Builtin
+opener_of (token.Word at word.Symbol) = Some opener.Builtin
+opener_of (token.Word at word.Json) = Some opener.Builtin
+opener_of _ = None
+
+abbrev pub openers : List Token → Option Opener
+openers [] = None
+openers (t ∷ s) = opener_of t
+
+-- the function that is called
+
+abbrev pub read_string_called : Reader Token Builtin
+read_string_called = choose (heads point) (and_then second_of (one_of point) (one_of from_word)) (succeed builtin.String)
+
+abbrev pub read_symbol_called : Reader Token Builtin
+read_symbol_called = and_then second_of (one_of point) (one_of symbol_function)
+
+abbrev pub read_json_called : Reader Token Builtin
+read_json_called = and_then second_of (one_of point) (one_of stringify_word)
+
+abbrev pub read_called : Reader Token (ℕ × Builtin)
+read_called = choose (heads string_word) (and_then pair_of (one_of string_word) read_string_called) (choose (heads symbol_word) (and_then pair_of (one_of symbol_word) read_symbol_called) (and_then pair_of (one_of json_word) read_json_called))
+
 module _ (names : List (List ℕ)) where
   -- an expression or an operand where one more is open
   abbrev pub inner : ℕ → Which → Reader Token ExprTree
@@ -64,14 +94,13 @@ module _ (names : List (List ℕ)) where
   unfoldable pub args_at : ℕ → Reader Token (List ExprTree)
   args_at n = read_args (inner n Whole)
 
-  unfoldable pub string_at : ℕ → Reader Token ExprTree
-  string_at n = read_string (inner n Whole)
+  -- the arguments of a built-in function: JSON.stringify has one
+  unfoldable pub given_at : ℕ → Builtin → Reader Token (List ExprTree)
+  given_at n builtin.Stringify = map_by single_of (read_parens (inner n Whole))
+  given_at n _ = read_args (inner n Whole)
 
-  unfoldable pub symbol_at : ℕ → Reader Token ExprTree
-  symbol_at n = read_symbol (inner n Whole)
-
-  unfoldable pub json_at : ℕ → Reader Token ExprTree
-  json_at n = read_json (inner n Whole)
+  unfoldable pub builtin_at : ℕ → Reader Token ExprTree
+  builtin_at n = choose (heads string_word) (read_string (inner n Whole)) (choose (heads symbol_word) (read_symbol (inner n Whole)) (read_json (inner n Whole)))
 
   unfoldable pub primary_at : ℕ → Reader Token ExprTree
   primary_at n = read_primary names (has_room n) (inner n Whole)

@@ -3,5 +3,6 @@
 
 mod fault;
 mod look;
+mod node;
 
 pub use fault::Fault;

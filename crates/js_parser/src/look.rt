@@ -5,13 +5,13 @@ ghost use Rattle.js_syntax.specs.Tree.{expr_tree, step_tree};
 ghost use Rattle.js_syntax.specs.Terminals as terminals;
 ghost use Rattle.js_syntax.specs.Terminals.{Ident};
 ghost use Rattle.js_syntax.specs.Reading.{step_mark, goes_on};
-ghost use Rattle.js_parser.specs.At.{terminal, operators};
+ghost use Rattle.js_parser.specs.At.{terminal, operators, openers, read_string_called, read_symbol_called, read_json_called, read_called};
 ghost use Rattle.js_parser.specs.Gives.{Gives};
-ghost use Rattle.js_parser.specs.declared.fault.Fault.TheVariants.{Memory};
 
 use crate::fault::{Fault, refused};
 use js_lex::Mark;
 use js_syntax::{Builtin, Expr, Method, Name, Op, PostStep, Property, Token, Word};
+use js_units::NoMemory;
 use std::alloc::Global;
 
 /// A word or mark that is nothing but itself.
@@ -167,12 +167,188 @@ pub(crate) fn operator(level: Level, tokens: &[Token]) -> Option<((u32, Op), &[T
 }
 
 /// The letters of a name by its number.
-fn letters(alloc: Global, names: &[Name], number: u32) -> Result<Name, Fault<'static>>
-    ensures found { IfOk result (λ name. name ≡ get_or names.now number []) }
-    ensures refused { IfErr result (λ fault. fault ≡ Memory) }
+pub(crate) fn letters(alloc: Global, names: &[Name], number: u32) -> Result<Name, NoMemory>
+    ensures { IfOk result (λ name. name ≡ get_or names.now number []) }
 {
     match names.get(number as usize) {
-        Some(name) => Ok(name.copy()?),
+        Some(name) => name.copy(),
         None => Ok(Name::new(Vec::new(alloc))),
+    }
+}
+
+fn constant(word: Word) -> Option<Expr>
+    ensures { MatchOption result (terminals.constant word ≡ None) (λ found. terminals.constant word ≡ Some (expr_tree found)) }
+{
+    match word {
+        Word::Undefined => Some(Expr::Undefined),
+        Word::Null => Some(Expr::Null),
+        Word::True => Some(Expr::Bool { value: true }),
+        Word::False => Some(Expr::Bool { value: false }),
+        Word::NaN => Some(Expr::NaN),
+        Word::Infinity => Some(Expr::Infinity),
+        _ => None,
+    }
+}
+
+/// A token that is an expression alone.
+pub(crate) fn simple<'a>(
+    alloc: Global,
+    names: &[Name],
+    tokens: &'a [Token],
+) -> Result<Option<(Expr, &'a [Token])>, NoMemory>
+    ensures { IfOk result (λ found. MatchOption found (heads (terminals.simple names.now) tokens.now ≡ false) (λ one. one_of (terminals.simple names.now) tokens.now ≡ Got (expr_tree one.0) one.1.now)) }
+{
+    let Some((token, rest)) = next(tokens) else {
+        return Ok(None);
+    };
+    match token {
+        Token::Text { literal, .. } => Ok(Some((Expr::Literal { number: literal }, rest))),
+        Token::Number { value, .. } => Ok(Some((Expr::Number { value }, rest))),
+        Token::Name { number, .. } => {
+            let name = letters(alloc, names, number)?;
+            Ok(Some((Expr::Variable { name }, rest)))
+        }
+        Token::Word { word, .. } => match constant(word) {
+            Some(value) => Ok(Some((value, rest))),
+            None => Ok(None),
+        },
+        Token::Directive { .. } | Token::Mark { .. } => Ok(None),
+    }
+}
+
+/// What a primary of several tokens begins with.
+#[derive(Clone, Copy, Debug, PartialEq, Eq)]
+pub(crate) enum Opener {
+    Paren,
+    Builtin,
+}
+
+pub(crate) fn next_opener(tokens: &[Token]) -> Option<Opener>
+    ensures { result ≡ openers tokens.now }
+{
+    match next(tokens) {
+        Some((Token::Mark { mark: Mark::OpenParen, .. }, _)) => Some(Opener::Paren),
+        Some((Token::Word { word: Word::String | Word::Symbol | Word::Json, .. }, _)) => {
+            Some(Opener::Builtin)
+        }
+        _ => None,
+    }
+}
+
+/// The mark `[`: its offset.
+pub(crate) fn open_bracket(tokens: &[Token]) -> Option<(u32, &[Token])>
+    ensures { MatchOption result (heads terminals.open_bracket tokens.now ≡ false) (λ found. one_of terminals.open_bracket tokens.now ≡ Got found.0 found.1.now) }
+{
+    match next(tokens) {
+        Some((Token::Mark { at, mark: Mark::OpenBracket, .. }, rest)) => Some((at, rest)),
+        _ => None,
+    }
+}
+
+/// `length` or `description`.
+pub(crate) fn member(tokens: &[Token]) -> Option<(PostStep, &[Token])>
+    ensures { MatchOption result (heads terminals.member_word tokens.now ≡ false) (λ found. one_of terminals.member_word tokens.now ≡ Got (step_tree found.0) found.1.now) }
+{
+    match next(tokens) {
+        Some((Token::Name { property: Property::Length, .. }, rest)) => {
+            Some((PostStep::Length, rest))
+        }
+        Some((Token::Name { property: Property::Description, .. }, rest)) => {
+            Some((PostStep::Description, rest))
+        }
+        _ => None,
+    }
+}
+
+/// A method with its offset.
+pub(crate) fn method(tokens: &[Token]) -> Option<((u32, Method), &[Token])>
+    ensures { MatchOption result (heads terminals.method tokens.now ≡ false) (λ found. one_of terminals.method tokens.now ≡ Got (found.0.0, found.0.1) found.1.now) }
+{
+    match next(tokens) {
+        Some((Token::Name { at, property: Property::Method(method), .. }, rest)) => {
+            Some(((at, method), rest))
+        }
+        _ => None,
+    }
+}
+
+fn string_function(tokens: &[Token]) -> Result<(Builtin, &[Token]), Fault<'_>>
+    ensures { Gives (λ found. found.0) (λ found. found.1.now) result (one_of terminals.from_word tokens.now) }
+{
+    match next(tokens) {
+        Some((Token::Name { property: Property::FromCharCode, .. }, rest)) => {
+            Ok((Builtin::FromCharCode, rest))
+        }
+        Some((Token::Name { property: Property::FromCodePoint, .. }, rest)) => {
+            Ok((Builtin::FromCodePoint, rest))
+        }
+        _ => Err(refused(tokens)),
+    }
+}
+
+fn symbol_function(tokens: &[Token]) -> Result<(Builtin, &[Token]), Fault<'_>>
+    ensures { Gives (λ found. found.0) (λ found. found.1.now) result (one_of terminals.symbol_function tokens.now) }
+{
+    match next(tokens) {
+        Some((Token::Word { word: Word::For, .. }, rest)) => Ok((Builtin::SymbolFor, rest)),
+        Some((Token::Name { property: Property::KeyFor, .. }, rest)) => Ok((Builtin::KeyFor, rest)),
+        _ => Err(refused(tokens)),
+    }
+}
+
+fn json_function(tokens: &[Token]) -> Result<(Builtin, &[Token]), Fault<'_>>
+    ensures { Gives (λ found. found.0) (λ found. found.1.now) result (one_of terminals.stringify_word tokens.now) }
+{
+    match next(tokens) {
+        Some((Token::Name { property: Property::Stringify, .. }, rest)) => {
+            Ok((Builtin::Stringify, rest))
+        }
+        _ => Err(refused(tokens)),
+    }
+}
+
+// String, and perhaps a point and a function of it.
+fn string_called(tokens: &[Token]) -> Result<(Builtin, &[Token]), Fault<'_>>
+    ensures { Gives (λ found. found.0) (λ found. found.1.now) result (read_string_called tokens.now) }
+{
+    match behind(tokens, Fixed::Point) {
+        Some(rest) => string_function(rest),
+        None => Ok((Builtin::String, tokens)),
+    }
+}
+
+fn symbol_called(tokens: &[Token]) -> Result<(Builtin, &[Token]), Fault<'_>>
+    ensures { Gives (λ found. found.0) (λ found. found.1.now) result (read_symbol_called tokens.now) }
+{
+    let rest = take(tokens, Fixed::Point)?;
+    symbol_function(rest)
+}
+
+fn json_called(tokens: &[Token]) -> Result<(Builtin, &[Token]), Fault<'_>>
+    ensures { Gives (λ found. found.0) (λ found. found.1.now) result (read_json_called tokens.now) }
+{
+    let rest = take(tokens, Fixed::Point)?;
+    json_function(rest)
+}
+
+/// The built-in function that is called, with the offset of its first word: `String`,
+/// `String . fromCharCode`, `String . fromCodePoint`, `Symbol . for`, `Symbol . keyFor`, `JSON . stringify`.
+pub(crate) fn called(tokens: &[Token]) -> Result<((u32, Builtin), &[Token]), Fault<'_>>
+    ensures { Gives (λ found. (found.0.0, found.0.1)) (λ found. found.1.now) result (read_called tokens.now) }
+{
+    match next(tokens) {
+        Some((Token::Word { at, word: Word::String }, rest)) => {
+            let (which, rest) = string_called(rest)?;
+            Ok(((at, which), rest))
+        }
+        Some((Token::Word { at, word: Word::Symbol }, rest)) => {
+            let (which, rest) = symbol_called(rest)?;
+            Ok(((at, which), rest))
+        }
+        Some((Token::Word { at, word: Word::Json }, rest)) => {
+            let (which, rest) = json_called(rest)?;
+            Ok(((at, which), rest))
+        }
+        _ => Err(refused(tokens)),
     }
 }

@@ -2,3 +2,4 @@ pub mod Stops
 pub mod Expressions
 pub mod Statements
 pub mod Scripts
+pub mod Trees
