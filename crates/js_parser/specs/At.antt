@@ -1,7 +1,7 @@
 -- The readers with room for so many that are open, as the parser's functions give them.
 use Rattle.std.specs.Prelude.{ℕ, zero, suc, Bool, true, false, List, [], ◌∷◌, Option, Some, None}
 use Rattle.js_grammar.specs.Lang.{second_of}
-use Rattle.js_grammar.specs.Reader.{Reader, ◌>>=◌, Got, wrong, and_then, map_by, one_of, choose, all_of, heads, heads_two, succeed}
+use Rattle.js_grammar.specs.Reader.{Reader, ◌>>=◌, Got, wrong, and_then, map_by, one_of, choose, all_of, opens, heads, heads_two, succeed}
 use Rattle.js_syntax.specs.declared.token.Token.{Token}
 use Rattle.js_syntax.specs.declared.token.Token.TheVariants as token
 use Rattle.js_lex.specs.declared.token.Mark.TheVariants as mark
@@ -10,9 +10,9 @@ use Rattle.js_syntax.specs.declared.tree.Op.{Op}
 use Rattle.js_syntax.specs.declared.tree.Builtin.{Builtin}
 use Rattle.js_syntax.specs.declared.tree.Builtin.TheVariants as builtin
 use Rattle.js_syntax.specs.Tree.{ExprTree, StepTree, StmtTree, BlockTree, ArmTree}
-use Rattle.js_syntax.specs.Terminals.{or_op, and_op, equal_op, compare_op, sum_op, else_word, if_word, string_word, symbol_word, json_word, point, from_word, symbol_function, stringify_word, directive, let_word, const_word, print_word, for_word, opening, closing, close_bracket, open_brace, close_brace, comma, semicolon, colon, question, less, assign_mark, increment, nought}
-use Rattle.js_syntax.specs.Grammar.{Which, Whole, Operand, single_of, pair_of, no_inside}
-use Rattle.js_syntax.specs.Reading.{read_within, read_parens, read_args, read_string, read_symbol, read_json, read_primary, read_member, read_step, read_post, read_unary, read_sum, read_comparison, read_equality, read_conjunction, read_disjunction, read_conditional, goes_on, read_block, read_init, read_let, read_const, read_assign, read_print, read_arm, read_rest, read_if, read_for, read_statement, read_at}
+use Rattle.js_syntax.specs.Terminals.{member_word, method, or_op, and_op, equal_op, compare_op, sum_op, else_word, if_word, string_word, symbol_word, json_word, point, from_word, symbol_function, stringify_word, directive, let_word, const_word, print_word, for_word, opening, closing, close_bracket, open_brace, close_brace, comma, semicolon, colon, question, less, assign_mark, increment, nought}
+use Rattle.js_syntax.specs.Grammar.{Which, Whole, Operand, single_of, pair_of, call_of, cond_of, no_inside}
+use Rattle.js_syntax.specs.Reading.{read_within, read_parens, read_args, read_string, read_symbol, read_json, read_primary, read_branches, read_step, read_post, read_unary, read_sum, read_comparison, read_equality, read_conjunction, read_disjunction, read_conditional, goes_on, read_block, read_init, read_let, read_const, read_assign, read_print, read_arm, read_rest, read_if, read_for, read_statement, read_at}
 use Rattle.js_parser.specs.declared.look.Level.{Level}
 use Rattle.js_parser.specs.declared.look.Level.TheVariants as level
 use Rattle.js_parser.specs.declared.look.Opener.{Opener}
@@ -105,8 +105,9 @@ module _ (names : List (List ℕ)) where
   unfoldable pub primary_at : ℕ → Reader Token ExprTree
   primary_at n = read_primary names (has_room n) (inner n Whole)
 
+  -- what stands behind a point
   unfoldable pub member_at : ℕ → Reader Token StepTree
-  member_at n = read_member (has_room n) (inner n Whole)
+  member_at n = choose (heads member_word) (one_of member_word) (opens (has_room n) (heads method) (and_then call_of (one_of method) (read_args (inner n Whole))))
 
   unfoldable pub step_at : ℕ → Reader Token StepTree
   step_at n = read_step (has_room n) (inner n Whole)
@@ -131,6 +132,10 @@ module _ (names : List (List ℕ)) where
   chain_at n level.Equal = read_equality names (has_room n) (inner n Whole) (inner n Operand)
   chain_at n level.And = read_conjunction names (has_room n) (inner n Whole) (inner n Operand)
   chain_at n level.Or = read_disjunction names (has_room n) (inner n Whole) (inner n Operand)
+
+  -- [ ? E : E ], behind a test
+  unfoldable pub branches_at : ℕ → ExprTree → Reader Token ExprTree
+  branches_at n t s = choose (heads question) (opens (has_room n) (heads question) (read_branches (inner n Whole))) (succeed None) s >>= λ b r. Got (cond_of t b) r
 
   unfoldable pub expression_at : ℕ → Reader Token ExprTree
   expression_at n = read_conditional names (has_room n) (inner n Whole) (inner n Operand)

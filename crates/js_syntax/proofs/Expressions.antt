@@ -331,12 +331,20 @@ module _ (P : Kind → Type 0) where
         follows _ _ rest (left b y h) s = then_stops question 1 2 question_level refl b y rest (room_of room (Grammar.branches E) b y h)
         follows _ _ rest (right b y h) s = nothing_stops b y rest h s
 
+    pub sum_starts : Starts (Grammar.sum names room E U) begins_unary
+    sum_starts = then_starts chain_of (Grammar.unary names room E U) (Many (Then link_of (One sum_op) (Grammar.unary names room E U))) begins_unary (unary_starts names room room' rs E U F G e u e' u' i)
+
+    pub comparison_starts : Starts (Grammar.comparison names room E U) begins_unary
+    comparison_starts = then_starts chain_of (Grammar.sum names room E U) (Many (Then link_of (One compare_op) (Grammar.sum names room E U))) begins_unary sum_starts
+
+    pub equality_starts : Starts (Grammar.equality names room E U) begins_unary
+    equality_starts = then_starts chain_of (Grammar.comparison names room E U) (Many (Then link_of (One equal_op) (Grammar.comparison names room E U))) begins_unary comparison_starts
+
+    pub conjunction_starts : Starts (Grammar.conjunction names room E U) begins_unary
+    conjunction_starts = then_starts chain_of (Grammar.equality names room E U) (Many (Then link_of (One and_op) (Grammar.equality names room E U))) begins_unary equality_starts
+
+    pub disjunction_starts : Starts (Grammar.disjunction names room E U) begins_unary
+    disjunction_starts = then_starts chain_of (Grammar.conjunction names room E U) (Many (Then link_of (One or_op) (Grammar.conjunction names room E U))) begins_unary conjunction_starts
+
     pub whole_starts : Starts (Grammar.conditional names room E U) begins_unary
-    whole_starts =
-        let units = unary_starts names room room' rs E U F G e u e' u' i in
-        let sums = then_starts chain_of (Grammar.unary names room E U) (Many (Then link_of (One sum_op) (Grammar.unary names room E U))) begins_unary units in
-        let comparisons = then_starts chain_of (Grammar.sum names room E U) (Many (Then link_of (One compare_op) (Grammar.sum names room E U))) begins_unary sums in
-        let equalities = then_starts chain_of (Grammar.comparison names room E U) (Many (Then link_of (One equal_op) (Grammar.comparison names room E U))) begins_unary comparisons in
-        let conjunctions = then_starts chain_of (Grammar.equality names room E U) (Many (Then link_of (One and_op) (Grammar.equality names room E U))) begins_unary equalities in
-        let disjunctions = then_starts chain_of (Grammar.conjunction names room E U) (Many (Then link_of (One or_op) (Grammar.conjunction names room E U))) begins_unary conjunctions in
-        then_starts cond_of (Grammar.disjunction names room E U) (Either (if_room room (Grammar.branches E)) (Nothing None)) begins_unary disjunctions
+    whole_starts = then_starts cond_of (Grammar.disjunction names room E U) (Either (if_room room (Grammar.branches E)) (Nothing None)) begins_unary disjunction_starts
