@@ -1,3 +1,4 @@
 pub mod Rooms
 pub mod Eats
 pub mod Turns
+pub mod Parts

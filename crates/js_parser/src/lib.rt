@@ -1,6 +1,7 @@
 //! Reads tokens into the tree of a script, with the place of every fault.
 #![tactic(auto)]
 
+mod expr;
 mod fault;
 mod look;
 mod node;
