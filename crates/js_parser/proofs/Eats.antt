@@ -17,7 +17,7 @@ use Rattle.js_parser.specs.declared.look.Level.{Level}
 use Rattle.js_parser.specs.declared.look.Level.TheVariants as level
 use Rattle.js_parser.specs.At.{has_room, inner, operators, step_at, operand_at}
 
-abbrev Any : Kind → Type 0
+abbrev pub Any : Kind → Type 0
 Any k = Unit {0}
 
 module _ (names : List (List ℕ)) where

@@ -4,8 +4,8 @@ ghost use Rattle.js_grammar.specs.Reader.{Got, one_of, heads, heads_two};
 ghost use Rattle.js_syntax.specs.Tree.{expr_tree, step_tree};
 ghost use Rattle.js_syntax.specs.Terminals as terminals;
 ghost use Rattle.js_syntax.specs.Terminals.{Ident};
-ghost use Rattle.js_syntax.specs.Reading.{step_mark, goes_on};
-ghost use Rattle.js_parser.specs.At.{terminal, operators, openers, read_string_called, read_symbol_called, read_json_called, read_called};
+ghost use Rattle.js_syntax.specs.Reading.{step_mark, goes_on, read_header};
+ghost use Rattle.js_parser.specs.At.{terminal, operators, openers, read_string_called, read_symbol_called, read_json_called, read_called, ident};
 ghost use Rattle.js_parser.specs.Gives.{Gives};
 
 use crate::fault::{Fault, refused};
@@ -350,5 +350,97 @@ pub(crate) fn called(tokens: &[Token]) -> Result<((u32, Builtin), &[Token]), Fau
             Ok(((at, which), rest))
         }
         _ => Err(refused(tokens)),
+    }
+}
+
+/// A name where it stands: its offset, and the number of its letters.
+#[derive(Clone, Copy, Debug, PartialEq, Eq)]
+pub(crate) struct Ident {
+    pub at: u32,
+    pub number: u32,
+}
+
+/// A name, which has to come next.
+pub(crate) fn name(tokens: &[Token]) -> Result<(Ident, &[Token]), Fault<'_>>
+    ensures { Gives (λ found. ident found.0.at found.0.number) (λ found. found.1.now) result (one_of terminals.name tokens.now) }
+{
+    match next(tokens) {
+        Some((Token::Name { at, number, .. }, rest)) => Ok((Ident { at, number }, rest)),
+        _ => Err(refused(tokens)),
+    }
+}
+
+fn same_name(tokens: &[Token], name: Ident) -> Result<&[Token], Fault<'_>>
+    ensures { Gives (λ _. tt) (λ rest. rest.now) result (one_of (terminals.the_name name.number) tokens.now) }
+{
+    match next(tokens) {
+        Some((Token::Name { number, .. }, rest)) if number == name.number => Ok(rest),
+        _ => Err(refused(tokens)),
+    }
+}
+
+fn bound(tokens: &[Token]) -> Result<(u32, &[Token]), Fault<'_>>
+    ensures { Gives (λ found. found.0) (λ found. found.1.now) result (one_of terminals.bound_number tokens.now) }
+{
+    match next(tokens) {
+        Some((Token::Number { value, .. }, rest)) if value <= 1_000_000 => {
+            Ok((value as u32, rest))
+        }
+        _ => Err(refused(tokens)),
+    }
+}
+
+/// `for ( let Name = 0 ; Name < Bound ; Name ++ )`
+pub(crate) fn header(tokens: &[Token]) -> Result<((Ident, u32), &[Token]), Fault<'_>>
+    ensures { Gives (λ found. (ident found.0.0.at found.0.0.number, found.0.1)) (λ found. found.1.now) result (read_header tokens.now) }
+{
+    let rest = take(tokens, Fixed::For)?;
+    let rest = take(rest, Fixed::OpenParen)?;
+    let rest = take(rest, Fixed::Let)?;
+    let (name, rest) = name(rest)?;
+    let rest = take(rest, Fixed::Assign)?;
+    let rest = take(rest, Fixed::Nought)?;
+    let rest = take(rest, Fixed::Semicolon)?;
+    let rest = same_name(rest, name)?;
+    let rest = take(rest, Fixed::Less)?;
+    let (bound, rest) = bound(rest)?;
+    let rest = take(rest, Fixed::Semicolon)?;
+    let rest = same_name(rest, name)?;
+    let rest = take(rest, Fixed::Increment)?;
+    let rest = take(rest, Fixed::CloseParen)?;
+    Ok(((name, bound), rest))
+}
+
+/// `=`, or the offset of a `+=`.
+pub(crate) fn assign_op(tokens: &[Token]) -> Result<(Option<u32>, &[Token]), Fault<'_>>
+    ensures { Gives (λ found. found.0) (λ found. found.1.now) result (one_of terminals.assign_op tokens.now) }
+{
+    match next(tokens) {
+        Some((Token::Mark { mark: Mark::Assign, .. }, rest)) => Ok((None, rest)),
+        Some((Token::Mark { at, mark: Mark::AddAssign, .. }, rest)) => Ok((Some(at), rest)),
+        _ => Err(refused(tokens)),
+    }
+}
+
+/// Whether statements go on: up to the end of a block or of the tokens.
+pub(crate) fn goes_on(tokens: &[Token]) -> bool
+    ensures { result ≡ goes_on tokens.now }
+{
+    !matches!(
+        next(tokens),
+        None | Some((Token::Mark { mark: Mark::CloseBrace, .. }, _))
+    )
+}
+
+/// The rest behind an `else` that an `if` follows.
+pub(crate) fn else_if(tokens: &[Token]) -> Option<&[Token]>
+    ensures { MatchOption result (heads_two terminals.else_word terminals.if_word tokens.now ≡ false) (λ rest. (one_of terminals.else_word tokens.now ≡ Got tt rest.now) × (heads_two terminals.else_word terminals.if_word tokens.now ≡ true)) }
+{
+    let Some((Token::Word { word: Word::Else, .. }, rest)) = next(tokens) else {
+        return None;
+    };
+    match next(rest) {
+        Some((Token::Word { word: Word::If, .. }, _)) => Some(rest),
+        _ => None,
     }
 }

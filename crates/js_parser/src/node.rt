@@ -1,10 +1,14 @@
 // The nodes of the tree.
-ghost use Rattle.std.specs.Prelude.{◌≡◌, ◌++◌, ◌∷◌, [], map, IfOk, OnOk, OnErr};
-ghost use Rattle.js_syntax.specs.Tree.{expr_tree, link_tree, step_tree};
-ghost use Rattle.js_syntax.specs.Grammar.{call_of, index_of, builtin_of, post_of, unary_of, link_of, chain_of};
+ghost use Rattle.std.specs.Prelude.{◌≡◌, ◌++◌, ◌∷◌, [], map, take, IfOk, OnOk, OnErr, MatchOption};
+ghost use Rattle.js_syntax.specs.Tree.{expr_tree, link_tree, step_tree, init_tree, stmt_tree, arm_tree, block_tree, arms as arms_tree};
+ghost use Rattle.js_syntax.specs.Grammar.{call_of, index_of, builtin_of, post_of, unary_of, link_of, chain_of, own_name, own_names, inside_of, no_inside, print_of, arm_of, let_of, const_of, assign_of, for_of};
+ghost use Rattle.js_parser.specs.At.{ident};
 ghost use Rattle.js_syntax.specs.Tree as tree;
 
-use js_syntax::{Builtin, Expr, Link, Method, Op, PostStep};
+use crate::look::{Ident, letters};
+use js_syntax::{
+    Arm, Block, Builtin, Expr, Link, Method, Name, Names, Op, PostStep, Stmt,
+};
 use js_units::NoMemory;
 use std::alloc::{AllocError, Global};
 
@@ -107,5 +111,154 @@ pub(crate) fn post(alloc: Global, of: Expr, steps: Vec<PostStep>) -> Result<Expr
     Ok(Expr::Post {
         of: Box::new(alloc, of)?,
         steps,
+    })
+}
+
+pub(crate) fn let_line(
+    alloc: Global,
+    names: &[Name],
+    name: Ident,
+    init: Option<Expr>,
+) -> Result<Stmt, NoMemory>
+    ensures { IfOk result (λ s. stmt_tree s ≡ let_of names.now (ident name.at name.number) (init_tree init)) }
+{
+    Ok(Stmt::Let {
+        at: name.at,
+        name: letters(alloc, names, name.number)?,
+        init,
+    })
+}
+
+pub(crate) fn const_line(
+    alloc: Global,
+    names: &[Name],
+    name: Ident,
+    init: Expr,
+) -> Result<Stmt, NoMemory>
+    ensures { IfOk result (λ s. stmt_tree s ≡ const_of names.now (ident name.at name.number) (expr_tree init)) }
+{
+    Ok(Stmt::Const {
+        at: name.at,
+        name: letters(alloc, names, name.number)?,
+        init,
+    })
+}
+
+/// An assignment, or with the offset of a `+=` what appends.
+pub(crate) fn assignment(
+    alloc: Global,
+    names: &[Name],
+    name: Ident,
+    append: Option<u32>,
+    value: Expr,
+) -> Result<Stmt, NoMemory>
+    ensures { IfOk result (λ s. stmt_tree s ≡ assign_of names.now (ident name.at name.number) (append, expr_tree value)) }
+{
+    let letters = letters(alloc, names, name.number)?;
+    match append {
+        None => Ok(Stmt::Assign {
+            at: name.at,
+            name: letters,
+            value,
+        }),
+        Some(at) => Ok(Stmt::Append {
+            at,
+            name_at: name.at,
+            name: letters,
+            value,
+        }),
+    }
+}
+
+pub(crate) fn print(args: Vec<Expr>) -> Stmt
+    ensures { stmt_tree result ≡ print_of (map expr_tree args.items) }
+{
+    Stmt::Print { args }
+}
+
+pub(crate) fn arm(test: Expr, body: Block) -> Arm
+    ensures { arm_tree result ≡ arm_of (expr_tree test) (block_tree body) }
+{
+    Arm { test, body }
+}
+
+pub(crate) fn conditions(arms: Vec<Arm>, rest: Block) -> Stmt
+    ensures { stmt_tree result ≡ tree.if_line (arms_tree (map arm_tree arms.items)) (block_tree rest) }
+{
+    Stmt::If { arms, rest }
+}
+
+pub(crate) fn for_line(
+    alloc: Global,
+    names: &[Name],
+    header: (Ident, u32),
+    body: Block,
+) -> Result<Stmt, NoMemory>
+    ensures { IfOk result (λ s. stmt_tree s ≡ for_of names.now (ident header.0.at header.0.number, header.1) (block_tree body)) }
+{
+    Ok(Stmt::For {
+        name: letters(alloc, names, header.0.number)?,
+        bound: header.1,
+        body,
+    })
+}
+
+pub(crate) fn block_line(inner: Block) -> Stmt
+    ensures { stmt_tree result ≡ tree.block (block_tree inner) }
+{
+    Stmt::Block { inner }
+}
+
+/// Where there is no `else`.
+pub(crate) fn no_block(alloc: Global) -> Block
+    ensures { block_tree result ≡ no_inside }
+{
+    Block {
+        names: Names::new(alloc),
+        body: Vec::new(alloc),
+    }
+}
+
+// The name that the statement declares, if it declares one.
+fn declares(stmt: &Stmt) -> Option<&Name>
+    ensures { MatchOption result (own_name (stmt_tree stmt.now) ≡ []) (λ name. own_name (stmt_tree stmt.now) ≡ name.now ∷ []) }
+{
+    match stmt {
+        Stmt::Let { name, .. } | Stmt::Const { name, .. } => Some(name),
+        Stmt::Block { .. }
+        | Stmt::Assign { .. }
+        | Stmt::Append { .. }
+        | Stmt::Print { .. }
+        | Stmt::If { .. }
+        | Stmt::For { .. } => None,
+    }
+}
+
+fn add_declared(names: &mut Names, stmt: &Stmt) -> Result<(), NoMemory>
+    ensures { OnOk result (names.new ≡ names.old ++ own_name (stmt_tree stmt.now)) }
+{
+    match declares(stmt) {
+        Some(name) => names.push(name.copy()?),
+        None => Ok(()),
+    }
+}
+
+// The names that are declared directly among the statements.
+fn declared(alloc: Global, body: &[Stmt]) -> Result<Names, NoMemory>
+    ensures { IfOk result (λ names. names ≡ own_names (map stmt_tree body.now)) }
+{
+    let mut names = Names::new(alloc);
+    for stmt in body {
+        add_declared(&mut names, stmt)?;
+    }
+    Ok(names)
+}
+
+pub(crate) fn block(alloc: Global, body: Vec<Stmt>) -> Result<Block, NoMemory>
+    ensures { IfOk result (λ b. block_tree b ≡ inside_of (map stmt_tree body.items)) }
+{
+    Ok(Block {
+        names: declared(alloc, &body)?,
+        body,
     })
 }

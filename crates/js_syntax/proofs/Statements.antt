@@ -238,7 +238,7 @@ module _ (P : Kind → Type 0) where
   let_part : Part P (One let_word) (One let_word) anything (one_of let_word) (one_of let_word)
   let_part = one_part P let_word (token.Word 0 word.Let) tt refl
 
-  else_part : Part P (One else_word) (One else_word) anything (one_of else_word) (one_of else_word)
+  pub else_part : Part P (One else_word) (One else_word) anything (one_of else_word) (one_of else_word)
   else_part = one_part P else_word (token.Word 0 word.Else) tt refl
 
   if_part : Part P (One if_word) (One if_word) anything (one_of if_word) (one_of if_word)
@@ -295,7 +295,7 @@ module _ (P : Kind → Type 0) where
         closes : (b : List Token) (y : Unit {0}) (rest : List Token) → One close_brace b y → anything rest ≡ true → no_more (b ++ rest) ≡ true
         closes _ _ rest (one t y e) h = ap (λ o. cond (cond (is_some o) false true) false true) e
 
-    arm_part : Part P (Grammar.if_arm I S) (Grammar.if_arm J F) anything (read_arm i s) (read_arm i' s')
+    pub arm_part : Part P (Grammar.if_arm I S) (Grammar.if_arm J F) anything (read_arm i s) (read_arm i' s')
     arm_part = next_part second_of if_part (next_part arm_of (parens_part P q) block_part)
 
     block_no_if : (ts : List Token) (x : BlockTree) (rest : List Token) → Grammar.block_part S ts x → heads if_word (ts ++ rest) ≡ false
