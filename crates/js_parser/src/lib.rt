@@ -5,5 +5,6 @@ mod expr;
 mod fault;
 mod look;
 mod node;
+mod statement;
 
 pub use fault::Fault;
