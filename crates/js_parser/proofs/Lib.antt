@@ -5,3 +5,4 @@ pub mod Parts
 pub mod Declared
 pub mod Lines
 pub mod Lists
+pub mod Whole

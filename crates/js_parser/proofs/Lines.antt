@@ -2,15 +2,15 @@
 use Rattle.std.proofs.Common.{◌≡◌, ℕ, zero, suc, ◌-◌, ◌<◌, Bool, true, false, List, [], ◌∷◌, Option, Some, None, refl, sym, ap, ◌∙◌, subst, arith}
 use Rattle.js_lex.specs.declared.token.Mark.TheVariants as mark
 use Rattle.js_grammar.specs.Lang.{first_of, second_of}
-use Rattle.js_grammar.specs.Reader.{Answer, Got, Bad, TooDeep, Reader, ◌>>=◌, wrong, too_deep, and_then, map_by, one_of, all_of, heads}
+use Rattle.js_grammar.specs.Reader.{Answer, Got, Bad, TooDeep, Reader, ◌>>=◌, wrong, too_deep, and_then, map_by, one_of, all_of, heads, at_end, read_whole}
 use Rattle.js_syntax.specs.declared.token.Token.{Token}
 use Rattle.js_syntax.specs.declared.token.Token.TheVariants as token
 use Rattle.js_syntax.specs.declared.token.Word.TheVariants as word
 use Rattle.js_syntax.specs.declared.token.Property.{Property}
 use Rattle.js_syntax.specs.Tree.{ExprTree, StmtTree, BlockTree, ArmTree, block}
-use Rattle.js_syntax.specs.Terminals.{Ident, name, opening, closing, semicolon, assign_mark, assign_op, let_word, const_word, print_word, open_brace, close_brace, else_word, if_word}
+use Rattle.js_syntax.specs.Terminals.{Ident, directive, name, opening, closing, semicolon, assign_mark, assign_op, let_word, const_word, print_word, open_brace, close_brace, else_word, if_word}
 use Rattle.js_syntax.specs.Grammar.{pair_of, arm_of, more_of, if_of, inside_of, no_inside, print_of, let_of, const_of, assign_of, for_of, Whole}
-use Rattle.js_syntax.specs.Reading.{goes_on, read_at, read_args, read_header}
+use Rattle.js_syntax.specs.Reading.{goes_on, read_at, read_args, read_header, read_strict, read_statements}
 use Rattle.js_parser.specs.At.{has_room, inner, inner_statement, expression_at, args_at, parens_at, init_at, let_at, const_at, assign_at, print_at, statement_at, statements_at, block_at, arm_at, others_at, rest_at, if_at, for_at}
 use Rattle.js_parser.proofs.Rooms.{room_for, no_room_for, bind_got, bind_bind, word_then, head_of, less_one}
 
@@ -183,3 +183,23 @@ other_here names prints n (token.Word at word.If) r e = let z : ⊥ = cc in absu
 other_here names prints n (token.Word at word.For) r e = let z : ⊥ = cc in absurd z
 other_here names prints zero _ r e = refl
 other_here names prints (suc n) _ r e = refl
+
+-- scripts
+
+pub strict_none : (s : List Token) → heads directive s ≡ false → read_strict s ≡ Got tt s
+strict_none s h = rw h refl
+
+pub strict_some : (s r : List Token) → one_of directive s ≡ Got tt r → read_strict s ≡ one_of semicolon r
+strict_some s r o = rw (head_of directive s tt r o, o) (bind_got (one_of semicolon r))
+
+pub whole_is : (names : List (List ℕ)) (prints : Bool) (n : ℕ) (s : List Token) → read_whole (read_statements names prints n) s ≡ (read_strict s >>= λ _ r. statements_at names prints n r >>= λ ts r'. at_end r' >>= λ _ r''. Got ts r'')
+unfolding statements_at
+whole_is names prints n s = flat (read_strict s)
+  where
+    ends : (a : Answer Token (List StmtTree)) → ((a >>= λ y r'. Got y r') >>= λ ts r. at_end r >>= λ _ r''. Got ts r'') ≡ (a >>= λ ts r'. at_end r' >>= λ _ r''. Got ts r'')
+    ends (Got y r) = refl
+    ends (Bad k r) = refl
+
+    flat : (a : Answer Token (Unit {0})) → ((a >>= λ _ r. all_of goes_on (read_at names prints n) r >>= λ y r'. Got y r') >>= λ ts r. at_end r >>= λ _ r''. Got ts r'') ≡ (a >>= λ _ r. all_of goes_on (statement_at names prints n) r >>= λ ts r'. at_end r' >>= λ _ r''. Got ts r'')
+    flat (Bad k r) = refl
+    flat (Got y r) = ends (all_of goes_on (read_at names prints n) r) ∙ ap (λ q. all_of goes_on q r >>= λ ts r'. at_end r' >>= λ _ r''. Got ts r'') (statement_is names prints n)

@@ -10,8 +10,10 @@ use Rattle.js_grammar.proofs.Loops.{keeps_on, fails_on, ends_on}
 use Rattle.js_syntax.specs.declared.token.Token.{Token}
 use Rattle.js_syntax.specs.declared.tree.Stmt.{Stmt}
 use Rattle.js_syntax.specs.declared.tree.Arm.{Arm}
-use Rattle.js_syntax.specs.Tree.{StmtTree, BlockTree, ArmTree, stmt_tree, arm_tree, if_line, arms}
-use Rattle.js_syntax.specs.Terminals.{else_word, if_word}
+use Rattle.js_syntax.specs.declared.tree.Expr.{Expr}
+use Rattle.std.specs.Prelude.{Some}
+use Rattle.js_syntax.specs.Tree.{StmtTree, BlockTree, ArmTree, expr_tree, init_tree, stmt_tree, arm_tree, if_line, arms}
+use Rattle.js_syntax.specs.Terminals.{else_word, if_word, assign_mark}
 use Rattle.js_syntax.specs.Grammar
 use Rattle.js_syntax.specs.Grammar.{if_of, Expression, Statement}
 use Rattle.js_syntax.specs.Reading.{goes_on}
@@ -19,10 +21,10 @@ use Rattle.js_syntax.proofs.Statements.{first, arm_part, else_part}
 use Rattle.js_syntax.proofs.Scripts.{same_expressions, same_levels, starts_at}
 use Rattle.js_parser.specs.declared.fault.Fault.{Fault}
 use Rattle.js_parser.specs.Gives.{Fails}
-use Rattle.js_parser.specs.At.{statement_at, statements_at, arm_at, others_at, rest_at, if_at}
+use Rattle.js_parser.specs.At.{expression_at, init_at, statement_at, statements_at, arm_at, others_at, rest_at, if_at}
 use Rattle.js_parser.proofs.Eats.{Any}
 use Rattle.js_parser.proofs.Turns.{handed_on}
-use Rattle.js_parser.proofs.Lines.{statement_is, if_is}
+use Rattle.js_parser.proofs.Lines.{statement_is, if_is, init_some}
 
 module _ (names : List (List ℕ)) (prints : Bool) where
   pub statement_eats : (n : ℕ) → IsEating (statement_at names prints n)
@@ -105,3 +107,11 @@ module _ (names : List (List ℕ)) (prints : Bool) where
 
       pub if_done : (r2 : List Token) (b : BlockTree) (t : StmtTree) → rest_at names prints n r1 ≡ Got b r2 → t ≡ if_line (arms (map arm_tree xs)) b → if_at names prints n s ≡ Got t r2
       if_done r2 b t h e = if_is names prints n s ∙ rw (got, all_arms.1, h) (ap (λ t. Got t r2) (ap (λ l. if_line (arms l) b) all_arms.2 ∙ sym e))
+
+-- [ = E ]
+
+pub init_fails : (names : List (List ℕ)) (n : ℕ) (s r : List Token) → one_of assign_mark s ≡ Got tt r → (e : Fault) → Fails e (expression_at names n r) → Fails e (init_at names n s)
+init_fails names n s r o e h = handed_on e (expression_at names n r) (init_at names n s) (λ k r' bad. init_some names n s r o ∙ rw bad refl) h
+
+pub init_done : (names : List (List ℕ)) (n : ℕ) (s r r' : List Token) (x : Expr) → one_of assign_mark s ≡ Got tt r → expression_at names n r ≡ Got (expr_tree x) r' → init_at names n s ≡ Got (init_tree (Some x)) r'
+init_done names n s r r' x o h = init_some names n s r o ∙ rw h refl

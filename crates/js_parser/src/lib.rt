@@ -8,3 +8,4 @@ mod node;
 mod statement;
 
 pub use fault::Fault;
+pub use statement::statements;

@@ -279,3 +279,53 @@ fn statement<'a>(
         _ => Err(refused(tokens)),
     }
 }
+
+// [ Directive ]
+#[tactic(auto, using(crate::proofs::Lines::strict_none, crate::proofs::Lines::strict_some))]
+fn strict(tokens: &[Token]) -> Result<&[Token], Fault<'_>>
+    ensures { Gives (λ _. tt) (λ rest. rest.now) result (read_strict tokens.now) }
+{
+    match behind(tokens, Fixed::Directive) {
+        Some(rest) => take(rest, Fixed::Semicolon),
+        None => Ok(tokens),
+    }
+}
+
+// [ Directive ] { Statement }, and nothing after it
+#[tactic(auto, using(crate::proofs::Lines::whole_is))]
+fn whole<'a>(
+    alloc: Global,
+    names: &[Name],
+    tokens: &'a [Token],
+    prints: bool,
+    room: u32,
+) -> Result<Vec<Stmt>, Fault<'a>>
+    ensures { Gives (λ body. map stmt_tree body.items) (λ _. []) result (read_whole (read_statements names.now prints room) tokens.now) }
+{
+    let rest = strict(tokens)?;
+    let (body, rest) = list(alloc, names, rest, prints, room)?;
+    match next(rest) {
+        None => Ok(body),
+        Some(_) => Err(refused(rest)),
+    }
+}
+
+fn limit() -> u32
+    ensures { result ≡ most }
+{
+    200
+}
+
+/// The statements that the tokens spell, with or without `print`, where a name's number is its place among `names`.
+pub fn statements<'a>(
+    alloc: Global,
+    names: &[Name],
+    tokens: &'a [Token],
+    prints: bool,
+) -> Result<Vec<Stmt>, Fault<'a>>
+    ensures spells { IfOk result (λ body. Statements names.now prints most tokens.now (map stmt_tree body.items)) }
+    ensures found { (x : List StmtTree) → Statements names.now prints most tokens.now x → IsOrMemory (λ body. map stmt_tree body.items) result x }
+    ensures refused { OnFault result (IsRefused (Statements names.now prints) most tokens.now) }
+{
+    whole(alloc, names, tokens, prints, limit())
+}
