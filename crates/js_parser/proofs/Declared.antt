@@ -1,5 +1,5 @@
 -- The names that statements declare, one statement after the other.
-use Rattle.std.proofs.Common.{◌≡◌, ℕ, ◌+◌, ◌<◌, List, [], ◌∷◌, ◌++◌, length, map, take, get_or, refl, sym, ap, ◌∙◌, append_assoc, append-nil}
+use Rattle.std.proofs.Common.{◌≡◌, ℕ, ◌+◌, ◌<◌, List, [], ◌∷◌, ◌++◌, length, map, take, get_or, sym, ap, ◌∙◌, append_assoc, append-nil}
 use Rattle.std.proofs.lemmas.List.{map_push, take_more}
 use Rattle.js_syntax.specs.declared.tree.Stmt.{Stmt}
 use Rattle.js_syntax.specs.Tree.{StmtTree, stmt_tree}

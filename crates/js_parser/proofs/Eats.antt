@@ -1,7 +1,7 @@
 -- What the parser's loops read is something.
-use Rattle.std.proofs.Common.{◌≡◌, ℕ, zero, suc, ◌<◌, List, [], ◌∷◌, length, Bool, true, false, Option, Some, None, refl, sym, ap, ◌∙◌, subst, arith}
+use Rattle.std.proofs.Common.{ℕ, zero, suc, List}
 use Rattle.js_grammar.specs.Lang.{Lang, Never, second_of}
-use Rattle.js_grammar.specs.Reader.{Answer, Got, Bad, Kind, Reader, wrong, and_then, one_of}
+use Rattle.js_grammar.specs.Reader.{Answer, Kind, wrong, and_then, one_of}
 use Rattle.js_grammar.proofs.Local.{IsEating}
 use Rattle.js_grammar.proofs.Part.{Rooms, same_room, same_end, eats_by}
 use Rattle.js_grammar.proofs.Heads.{begins_length}

@@ -2,16 +2,16 @@
 use Rattle.std.proofs.Common.{◌≡◌, ℕ, zero, suc, ◌-◌, ◌<◌, Bool, true, false, List, [], ◌∷◌, Option, Some, None, refl, sym, ap, ◌∙◌, subst, arith}
 use Rattle.js_lex.specs.declared.token.Mark.TheVariants as mark
 use Rattle.js_grammar.specs.Lang.{first_of, second_of}
-use Rattle.js_grammar.specs.Reader.{Answer, Got, Bad, TooDeep, Reader, ◌>>=◌, wrong, too_deep, and_then, map_by, one_of, all_of, heads, at_end, read_whole}
+use Rattle.js_grammar.specs.Reader.{Answer, Got, Bad, Reader, ◌>>=◌, wrong, too_deep, and_then, map_by, one_of, all_of, heads, at_end, read_whole}
 use Rattle.js_syntax.specs.declared.token.Token.{Token}
 use Rattle.js_syntax.specs.declared.token.Token.TheVariants as token
 use Rattle.js_syntax.specs.declared.token.Word.TheVariants as word
 use Rattle.js_syntax.specs.declared.token.Property.{Property}
-use Rattle.js_syntax.specs.Tree.{ExprTree, StmtTree, BlockTree, ArmTree, block}
-use Rattle.js_syntax.specs.Terminals.{Ident, directive, name, opening, closing, semicolon, assign_mark, assign_op, let_word, const_word, print_word, open_brace, close_brace, else_word, if_word}
-use Rattle.js_syntax.specs.Grammar.{pair_of, arm_of, more_of, if_of, inside_of, no_inside, print_of, let_of, const_of, assign_of, for_of, Whole}
-use Rattle.js_syntax.specs.Reading.{goes_on, read_at, read_args, read_header, read_strict, read_statements}
-use Rattle.js_parser.specs.At.{has_room, inner, inner_statement, expression_at, args_at, parens_at, init_at, let_at, const_at, assign_at, print_at, statement_at, statements_at, block_at, arm_at, others_at, rest_at, if_at, for_at}
+use Rattle.js_syntax.specs.Tree.{StmtTree, ArmTree, block}
+use Rattle.js_syntax.specs.Terminals.{Ident, directive, name, semicolon, assign_mark, assign_op, let_word, const_word, print_word, open_brace, close_brace, else_word, if_word}
+use Rattle.js_syntax.specs.Grammar.{pair_of, arm_of, more_of, if_of, inside_of, no_inside, print_of, let_of, const_of, assign_of, for_of}
+use Rattle.js_syntax.specs.Reading.{goes_on, read_at, read_header, read_strict, read_statements}
+use Rattle.js_parser.specs.At.{inner_statement, expression_at, args_at, parens_at, init_at, let_at, const_at, assign_at, print_at, statement_at, statements_at, block_at, arm_at, others_at, rest_at, if_at, for_at}
 use Rattle.js_parser.proofs.Rooms.{room_for, no_room_for, bind_got, bind_bind, word_then, head_of, less_one}
 
 closed_by : {A B : Type 0} (f : A → B) (v : A) (a : Answer Token (Unit {0})) → ((a >>= λ _ r. Got v r) >>= λ v r. Got (f v) r) ≡ (a >>= λ _ r. Got (f v) r)

@@ -1,6 +1,6 @@
 -- The functions of expressions without a loop, over plain values.
-use Rattle.std.proofs.Common.{◌≡◌, ℕ, ◌-◌, ◌<◌, List, [], ◌∷◌, Bool, false, refl, sym, ap, ◌∙◌}
-use Rattle.js_grammar.specs.Reader.{Answer, Got, Bad, Kind, ◌>>=◌, one_of, heads}
+use Rattle.std.proofs.Common.{◌≡◌, ℕ, ◌-◌, ◌<◌, List, Bool, false, refl, sym, ap, ◌∙◌}
+use Rattle.js_grammar.specs.Reader.{Got, one_of, heads}
 use Rattle.js_syntax.specs.declared.token.Token.{Token}
 use Rattle.js_syntax.specs.declared.tree.Method.{Method}
 use Rattle.js_syntax.specs.Tree as tree

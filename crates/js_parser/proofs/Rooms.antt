@@ -2,20 +2,19 @@
 use Rattle.std.proofs.Common.{◌≡◌, ℕ, zero, suc, ◌-◌, ◌<◌, Bool, true, false, List, [], ◌∷◌, Option, Some, None, refl, sym, ap, ◌∙◌, subst, arith}
 use Rattle.js_lex.specs.declared.token.Mark.TheVariants as mark
 use Rattle.js_grammar.specs.Lang.{first_of, second_of}
-use Rattle.js_grammar.specs.Reader.{Answer, Got, Bad, Kind, Wrong, TooDeep, Reader, ◌>>=◌, wrong, too_deep, and_then, map_by, take_or, one_of, choose, opens, heads, is_some}
+use Rattle.js_grammar.specs.Reader.{Answer, Got, Bad, Wrong, Reader, ◌>>=◌, wrong, too_deep, and_then, map_by, take_or, one_of, choose, opens, heads, is_some}
 use Rattle.js_grammar.proofs.Part.{then_strict}
 use Rattle.js_syntax.specs.declared.token.Token.{Token}
 use Rattle.js_syntax.specs.declared.token.Token.TheVariants as token
 use Rattle.js_syntax.specs.declared.token.Word.TheVariants as word
 use Rattle.js_syntax.specs.declared.token.Property.TheVariants as property
-use Rattle.js_syntax.specs.declared.tree.Op.{Op}
 use Rattle.js_syntax.specs.declared.tree.Method.{Method}
 use Rattle.js_syntax.specs.declared.tree.Builtin.{Builtin}
 use Rattle.js_syntax.specs.declared.tree.Builtin.TheVariants as builtin
 use Rattle.js_syntax.specs.Tree as tree
 use Rattle.js_syntax.specs.Tree.{ExprTree, StepTree}
 use Rattle.js_syntax.specs.Terminals.{member_word, method, opening, closing, open_bracket, close_bracket, point, question, colon, sign, simple, string_word, symbol_word, json_word, from_word, symbol_function, stringify_word}
-use Rattle.js_syntax.specs.Grammar.{Which, Whole, Operand, pair_of, single_of, plain_string, builtin_of, call_of, index_of, unary_of, branches_of, cond_of}
+use Rattle.js_syntax.specs.Grammar.{Whole, Operand, pair_of, single_of, plain_string, builtin_of, call_of, index_of, unary_of, branches_of, cond_of}
 use Rattle.js_syntax.specs.Reading.{read_within, read_parens, read_args, read_index, read_json}
 use Rattle.js_parser.specs.declared.look.Level.TheVariants as level
 use Rattle.js_parser.specs.declared.look.Opener.{Opener}

@@ -1,5 +1,5 @@
 -- The loops of expressions, over plain values.
-use Rattle.std.proofs.Common.{◌≡◌, ℕ, ◌-◌, ◌<◌, List, [], ◌∷◌, ◌++◌, length, map, Bool, true, false, Option, Some, None, refl, sym, ap, ◌∙◌, subst}
+use Rattle.std.proofs.Common.{◌≡◌, ℕ, ◌-◌, ◌<◌, List, [], ◌∷◌, ◌++◌, length, map, true, false, refl, sym, ap, ◌∙◌, subst}
 use Rattle.std.proofs.lemmas.List.{map_push}
 use Rattle.js_grammar.specs.Lang.{second_of}
 use Rattle.js_grammar.specs.Reader.{Answer, Got, Bad, Kind, Wrong, TooDeep, Reader, ◌>>=◌, one_of, all_of, and_then, heads, with_front}

@@ -11,7 +11,7 @@ use Rattle.js_syntax.specs.declared.tree.Builtin.{Builtin}
 use Rattle.js_syntax.specs.declared.tree.Builtin.TheVariants as builtin
 use Rattle.js_syntax.specs.Tree.{ExprTree, StepTree, StmtTree, BlockTree, ArmTree}
 use Rattle.js_syntax.specs.Terminals.{Ident, member_word, method, or_op, and_op, equal_op, compare_op, sum_op, else_word, if_word, string_word, symbol_word, json_word, point, from_word, symbol_function, stringify_word, directive, let_word, const_word, print_word, for_word, opening, closing, close_bracket, open_brace, close_brace, comma, semicolon, colon, question, less, assign_mark, increment, nought}
-use Rattle.js_syntax.specs.Grammar.{Which, Whole, Operand, single_of, pair_of, call_of, cond_of, no_inside}
+use Rattle.js_syntax.specs.Grammar.{Which, Whole, Operand, single_of, pair_of, call_of, cond_of}
 use Rattle.js_syntax.specs.Reading.{read_within, read_parens, read_args, read_string, read_symbol, read_json, read_primary, read_branches, read_step, read_post, read_unary, read_sum, read_comparison, read_equality, read_conjunction, read_disjunction, read_conditional, goes_on, read_block, read_init, read_let, read_const, read_assign, read_print, read_arm, read_rest, read_if, read_for, read_statement, read_at}
 use Rattle.js_parser.specs.declared.look.Level.{Level}
 use Rattle.js_parser.specs.declared.look.Level.TheVariants as level

@@ -65,27 +65,136 @@ fn is(fixed: Fixed, token: Token) -> Option<()>
     ensures { result ≡ terminal fixed token }
 {
     match (fixed, token) {
-        (Fixed::OpenParen, Token::Mark { mark: Mark::OpenParen, .. }) => Some(()),
-        (Fixed::CloseParen, Token::Mark { mark: Mark::CloseParen, .. }) => Some(()),
-        (Fixed::CloseBracket, Token::Mark { mark: Mark::CloseBracket, .. }) => Some(()),
-        (Fixed::OpenBrace, Token::Mark { mark: Mark::OpenBrace, .. }) => Some(()),
-        (Fixed::CloseBrace, Token::Mark { mark: Mark::CloseBrace, .. }) => Some(()),
-        (Fixed::Comma, Token::Mark { mark: Mark::Comma, .. }) => Some(()),
-        (Fixed::Point, Token::Mark { mark: Mark::Point, .. }) => Some(()),
-        (Fixed::Semicolon, Token::Mark { mark: Mark::Semicolon, .. }) => Some(()),
-        (Fixed::Question, Token::Mark { mark: Mark::Question, .. }) => Some(()),
-        (Fixed::Colon, Token::Mark { mark: Mark::Colon, .. }) => Some(()),
-        (Fixed::Less, Token::Mark { mark: Mark::Less, .. }) => Some(()),
-        (Fixed::Assign, Token::Mark { mark: Mark::Assign, .. }) => Some(()),
-        (Fixed::Increment, Token::Mark { mark: Mark::Increment, after_line: false, .. }) => Some(()),
+        (
+            Fixed::OpenParen,
+            Token::Mark {
+                mark: Mark::OpenParen,
+                ..
+            },
+        ) => Some(()),
+        (
+            Fixed::CloseParen,
+            Token::Mark {
+                mark: Mark::CloseParen,
+                ..
+            },
+        ) => Some(()),
+        (
+            Fixed::CloseBracket,
+            Token::Mark {
+                mark: Mark::CloseBracket,
+                ..
+            },
+        ) => Some(()),
+        (
+            Fixed::OpenBrace,
+            Token::Mark {
+                mark: Mark::OpenBrace,
+                ..
+            },
+        ) => Some(()),
+        (
+            Fixed::CloseBrace,
+            Token::Mark {
+                mark: Mark::CloseBrace,
+                ..
+            },
+        ) => Some(()),
+        (
+            Fixed::Comma,
+            Token::Mark {
+                mark: Mark::Comma,
+                ..
+            },
+        ) => Some(()),
+        (
+            Fixed::Point,
+            Token::Mark {
+                mark: Mark::Point,
+                ..
+            },
+        ) => Some(()),
+        (
+            Fixed::Semicolon,
+            Token::Mark {
+                mark: Mark::Semicolon,
+                ..
+            },
+        ) => Some(()),
+        (
+            Fixed::Question,
+            Token::Mark {
+                mark: Mark::Question,
+                ..
+            },
+        ) => Some(()),
+        (
+            Fixed::Colon,
+            Token::Mark {
+                mark: Mark::Colon,
+                ..
+            },
+        ) => Some(()),
+        (
+            Fixed::Less,
+            Token::Mark {
+                mark: Mark::Less,
+                ..
+            },
+        ) => Some(()),
+        (
+            Fixed::Assign,
+            Token::Mark {
+                mark: Mark::Assign,
+                ..
+            },
+        ) => Some(()),
+        (
+            Fixed::Increment,
+            Token::Mark {
+                mark: Mark::Increment,
+                after_line: false,
+                ..
+            },
+        ) => Some(()),
         (Fixed::Nought, Token::Number { value: 0, .. }) => Some(()),
         (Fixed::Directive, Token::Directive { .. }) => Some(()),
-        (Fixed::Let, Token::Word { word: Word::Let, .. }) => Some(()),
-        (Fixed::Const, Token::Word { word: Word::Const, .. }) => Some(()),
-        (Fixed::Print, Token::Word { word: Word::Print, .. }) => Some(()),
+        (
+            Fixed::Let,
+            Token::Word {
+                word: Word::Let,
+                ..
+            },
+        ) => Some(()),
+        (
+            Fixed::Const,
+            Token::Word {
+                word: Word::Const,
+                ..
+            },
+        ) => Some(()),
+        (
+            Fixed::Print,
+            Token::Word {
+                word: Word::Print,
+                ..
+            },
+        ) => Some(()),
         (Fixed::If, Token::Word { word: Word::If, .. }) => Some(()),
-        (Fixed::Else, Token::Word { word: Word::Else, .. }) => Some(()),
-        (Fixed::For, Token::Word { word: Word::For, .. }) => Some(()),
+        (
+            Fixed::Else,
+            Token::Word {
+                word: Word::Else,
+                ..
+            },
+        ) => Some(()),
+        (
+            Fixed::For,
+            Token::Word {
+                word: Word::For,
+                ..
+            },
+        ) => Some(()),
         _ => None,
     }
 }
@@ -119,7 +228,13 @@ pub(crate) fn begins_step(tokens: &[Token]) -> bool
 {
     matches!(
         next(tokens),
-        Some((Token::Mark { mark: Mark::Point | Mark::OpenBracket, .. }, _))
+        Some((
+            Token::Mark {
+                mark: Mark::Point | Mark::OpenBracket,
+                ..
+            },
+            _
+        ))
     )
 }
 
@@ -128,8 +243,26 @@ pub(crate) fn sign(tokens: &[Token]) -> Option<((u32, bool), &[Token])>
     ensures { MatchOption result (heads terminals.sign tokens.now ≡ false) (λ found. one_of terminals.sign tokens.now ≡ Got (found.0.0, found.0.1) found.1.now) }
 {
     match next(tokens) {
-        Some((Token::Mark { at, mark: Mark::Minus, .. }, rest)) => Some(((at, true), rest)),
-        Some((Token::Mark { at, mark: Mark::Not, .. }, rest)) => Some(((at, false), rest)),
+        Some(
+            (
+                Token::Mark {
+                    at,
+                    mark: Mark::Minus,
+                    ..
+                },
+                rest,
+            ),
+        ) => Some(((at, true), rest)),
+        Some(
+            (
+                Token::Mark {
+                    at,
+                    mark: Mark::Not,
+                    ..
+                },
+                rest,
+            ),
+        ) => Some(((at, false), rest)),
         _ => None,
     }
 }
@@ -227,10 +360,24 @@ pub(crate) fn next_opener(tokens: &[Token]) -> Option<Opener>
     ensures { result ≡ openers tokens.now }
 {
     match next(tokens) {
-        Some((Token::Mark { mark: Mark::OpenParen, .. }, _)) => Some(Opener::Paren),
-        Some((Token::Word { word: Word::String | Word::Symbol | Word::Json, .. }, _)) => {
-            Some(Opener::Builtin)
-        }
+        Some(
+            (
+                Token::Mark {
+                    mark: Mark::OpenParen,
+                    ..
+                },
+                _,
+            ),
+        ) => Some(Opener::Paren),
+        Some(
+            (
+                Token::Word {
+                    word: Word::String | Word::Symbol | Word::Json,
+                    ..
+                },
+                _,
+            ),
+        ) => { Some(Opener::Builtin) }
         _ => None,
     }
 }
@@ -240,7 +387,16 @@ pub(crate) fn open_bracket(tokens: &[Token]) -> Option<(u32, &[Token])>
     ensures { MatchOption result (heads terminals.open_bracket tokens.now ≡ false) (λ found. one_of terminals.open_bracket tokens.now ≡ Got found.0 found.1.now) }
 {
     match next(tokens) {
-        Some((Token::Mark { at, mark: Mark::OpenBracket, .. }, rest)) => Some((at, rest)),
+        Some(
+            (
+                Token::Mark {
+                    at,
+                    mark: Mark::OpenBracket,
+                    ..
+                },
+                rest,
+            ),
+        ) => Some((at, rest)),
         _ => None,
     }
 }
@@ -250,12 +406,24 @@ pub(crate) fn member(tokens: &[Token]) -> Option<(PostStep, &[Token])>
     ensures { MatchOption result (heads terminals.member_word tokens.now ≡ false) (λ found. one_of terminals.member_word tokens.now ≡ Got (step_tree found.0) found.1.now) }
 {
     match next(tokens) {
-        Some((Token::Name { property: Property::Length, .. }, rest)) => {
-            Some((PostStep::Length, rest))
-        }
-        Some((Token::Name { property: Property::Description, .. }, rest)) => {
-            Some((PostStep::Description, rest))
-        }
+        Some(
+            (
+                Token::Name {
+                    property: Property::Length,
+                    ..
+                },
+                rest,
+            ),
+        ) => { Some((PostStep::Length, rest)) }
+        Some(
+            (
+                Token::Name {
+                    property: Property::Description,
+                    ..
+                },
+                rest,
+            ),
+        ) => { Some((PostStep::Description, rest)) }
         _ => None,
     }
 }
@@ -265,9 +433,16 @@ pub(crate) fn method(tokens: &[Token]) -> Option<((u32, Method), &[Token])>
     ensures { MatchOption result (heads terminals.method tokens.now ≡ false) (λ found. one_of terminals.method tokens.now ≡ Got (found.0.0, found.0.1) found.1.now) }
 {
     match next(tokens) {
-        Some((Token::Name { at, property: Property::Method(method), .. }, rest)) => {
-            Some(((at, method), rest))
-        }
+        Some(
+            (
+                Token::Name {
+                    at,
+                    property: Property::Method(method),
+                    ..
+                },
+                rest,
+            ),
+        ) => { Some(((at, method), rest)) }
         _ => None,
     }
 }
@@ -276,12 +451,24 @@ fn string_function(tokens: &[Token]) -> Result<(Builtin, &[Token]), Fault<'_>>
     ensures { Gives (λ found. found.0) (λ found. found.1.now) result (one_of terminals.from_word tokens.now) }
 {
     match next(tokens) {
-        Some((Token::Name { property: Property::FromCharCode, .. }, rest)) => {
-            Ok((Builtin::FromCharCode, rest))
-        }
-        Some((Token::Name { property: Property::FromCodePoint, .. }, rest)) => {
-            Ok((Builtin::FromCodePoint, rest))
-        }
+        Some(
+            (
+                Token::Name {
+                    property: Property::FromCharCode,
+                    ..
+                },
+                rest,
+            ),
+        ) => { Ok((Builtin::FromCharCode, rest)) }
+        Some(
+            (
+                Token::Name {
+                    property: Property::FromCodePoint,
+                    ..
+                },
+                rest,
+            ),
+        ) => { Ok((Builtin::FromCodePoint, rest)) }
         _ => Err(refused(tokens)),
     }
 }
@@ -290,8 +477,24 @@ fn symbol_function(tokens: &[Token]) -> Result<(Builtin, &[Token]), Fault<'_>>
     ensures { Gives (λ found. found.0) (λ found. found.1.now) result (one_of terminals.symbol_function tokens.now) }
 {
     match next(tokens) {
-        Some((Token::Word { word: Word::For, .. }, rest)) => Ok((Builtin::SymbolFor, rest)),
-        Some((Token::Name { property: Property::KeyFor, .. }, rest)) => Ok((Builtin::KeyFor, rest)),
+        Some(
+            (
+                Token::Word {
+                    word: Word::For,
+                    ..
+                },
+                rest,
+            ),
+        ) => Ok((Builtin::SymbolFor, rest)),
+        Some(
+            (
+                Token::Name {
+                    property: Property::KeyFor,
+                    ..
+                },
+                rest,
+            ),
+        ) => Ok((Builtin::KeyFor, rest)),
         _ => Err(refused(tokens)),
     }
 }
@@ -300,9 +503,15 @@ fn json_function(tokens: &[Token]) -> Result<(Builtin, &[Token]), Fault<'_>>
     ensures { Gives (λ found. found.0) (λ found. found.1.now) result (one_of terminals.stringify_word tokens.now) }
 {
     match next(tokens) {
-        Some((Token::Name { property: Property::Stringify, .. }, rest)) => {
-            Ok((Builtin::Stringify, rest))
-        }
+        Some(
+            (
+                Token::Name {
+                    property: Property::Stringify,
+                    ..
+                },
+                rest,
+            ),
+        ) => { Ok((Builtin::Stringify, rest)) }
         _ => Err(refused(tokens)),
     }
 }
@@ -337,15 +546,39 @@ pub(crate) fn called(tokens: &[Token]) -> Result<((u32, Builtin), &[Token]), Fau
     ensures { Gives (λ found. (found.0.0, found.0.1)) (λ found. found.1.now) result (read_called tokens.now) }
 {
     match next(tokens) {
-        Some((Token::Word { at, word: Word::String }, rest)) => {
+        Some(
+            (
+                Token::Word {
+                    at,
+                    word: Word::String,
+                },
+                rest,
+            ),
+        ) => {
             let (which, rest) = string_called(rest)?;
             Ok(((at, which), rest))
         }
-        Some((Token::Word { at, word: Word::Symbol }, rest)) => {
+        Some(
+            (
+                Token::Word {
+                    at,
+                    word: Word::Symbol,
+                },
+                rest,
+            ),
+        ) => {
             let (which, rest) = symbol_called(rest)?;
             Ok(((at, which), rest))
         }
-        Some((Token::Word { at, word: Word::Json }, rest)) => {
+        Some(
+            (
+                Token::Word {
+                    at,
+                    word: Word::Json,
+                },
+                rest,
+            ),
+        ) => {
             let (which, rest) = json_called(rest)?;
             Ok(((at, which), rest))
         }
@@ -416,8 +649,25 @@ pub(crate) fn assign_op(tokens: &[Token]) -> Result<(Option<u32>, &[Token]), Fau
     ensures { Gives (λ found. found.0) (λ found. found.1.now) result (one_of terminals.assign_op tokens.now) }
 {
     match next(tokens) {
-        Some((Token::Mark { mark: Mark::Assign, .. }, rest)) => Ok((None, rest)),
-        Some((Token::Mark { at, mark: Mark::AddAssign, .. }, rest)) => Ok((Some(at), rest)),
+        Some(
+            (
+                Token::Mark {
+                    mark: Mark::Assign,
+                    ..
+                },
+                rest,
+            ),
+        ) => Ok((None, rest)),
+        Some(
+            (
+                Token::Mark {
+                    at,
+                    mark: Mark::AddAssign,
+                    ..
+                },
+                rest,
+            ),
+        ) => Ok((Some(at), rest)),
         _ => Err(refused(tokens)),
     }
 }
@@ -428,7 +678,13 @@ pub(crate) fn goes_on(tokens: &[Token]) -> bool
 {
     !matches!(
         next(tokens),
-        None | Some((Token::Mark { mark: Mark::CloseBrace, .. }, _))
+        None | Some((
+            Token::Mark {
+                mark: Mark::CloseBrace,
+                ..
+            },
+            _
+        ))
     )
 }
 
@@ -436,7 +692,16 @@ pub(crate) fn goes_on(tokens: &[Token]) -> bool
 pub(crate) fn else_if(tokens: &[Token]) -> Option<&[Token]>
     ensures { MatchOption result (heads_two terminals.else_word terminals.if_word tokens.now ≡ false) (λ rest. (one_of terminals.else_word tokens.now ≡ Got tt rest.now) × (heads_two terminals.else_word terminals.if_word tokens.now ≡ true)) }
 {
-    let Some((Token::Word { word: Word::Else, .. }, rest)) = next(tokens) else {
+    let Some(
+        (
+            Token::Word {
+                word: Word::Else,
+                ..
+            },
+            rest,
+        ),
+    ) = next(tokens)
+    else {
         return None;
     };
     match next(rest) {

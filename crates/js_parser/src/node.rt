@@ -6,9 +6,7 @@ ghost use Rattle.js_parser.specs.At.{ident};
 ghost use Rattle.js_syntax.specs.Tree as tree;
 
 use crate::look::{Ident, letters};
-use js_syntax::{
-    Arm, Block, Builtin, Expr, Link, Method, Name, Names, Op, PostStep, Stmt,
-};
+use js_syntax::{Arm, Block, Builtin, Expr, Link, Method, Name, Names, Op, PostStep, Stmt};
 use js_units::NoMemory;
 use std::alloc::{AllocError, Global};
 

@@ -245,17 +245,49 @@ fn statement<'a>(
     ensures { Gives (λ found. stmt_tree found.0) (λ found. found.1.now) result (statement_at names.now prints room tokens.now) }
 {
     match next(tokens) {
-        Some((Token::Word { word: Word::Let, .. }, _)) => declaration(alloc, names, tokens, room),
-        Some((Token::Word { word: Word::Const, .. }, _)) => constant(alloc, names, tokens, room),
+        Some(
+            (
+                Token::Word {
+                    word: Word::Let,
+                    ..
+                },
+                _,
+            ),
+        ) => declaration(alloc, names, tokens, room),
+        Some(
+            (
+                Token::Word {
+                    word: Word::Const,
+                    ..
+                },
+                _,
+            ),
+        ) => constant(alloc, names, tokens, room),
         Some((Token::Name { .. }, _)) => assign(alloc, names, tokens, room),
-        Some((Token::Mark { mark: Mark::OpenBrace, .. }, _)) => {
+        Some(
+            (
+                Token::Mark {
+                    mark: Mark::OpenBrace,
+                    ..
+                },
+                _,
+            ),
+        ) => {
             if room == 0 {
                 return Err(too_deep(tokens));
             }
             let (inner, rest) = inside(alloc, names, tokens, prints, room)?;
             Ok((block_line(inner), rest))
         }
-        Some((Token::Word { word: Word::Print, .. }, _)) => {
+        Some(
+            (
+                Token::Word {
+                    word: Word::Print,
+                    ..
+                },
+                _,
+            ),
+        ) => {
             if !prints {
                 return Err(refused(tokens));
             }
@@ -270,7 +302,15 @@ fn statement<'a>(
             }
             if_statement(alloc, names, tokens, prints, room)
         }
-        Some((Token::Word { word: Word::For, .. }, _)) => {
+        Some(
+            (
+                Token::Word {
+                    word: Word::For,
+                    ..
+                },
+                _,
+            ),
+        ) => {
             if room == 0 {
                 return Err(too_deep(tokens));
             }

@@ -13,7 +13,7 @@ use Rattle.js_syntax.specs.declared.token.Token.{Token}
 use Rattle.js_syntax.specs.declared.token.Token.TheVariants as token
 use Rattle.js_syntax.specs.declared.token.Word.TheVariants as word
 use Rattle.js_syntax.specs.declared.token.Property.TheVariants as property
-use Rattle.js_syntax.specs.Tree.{ExprTree, StmtTree, BlockTree, ArmTree, block}
+use Rattle.js_syntax.specs.Tree.{ExprTree, StmtTree, BlockTree, block}
 use Rattle.js_syntax.specs.Terminals.{Ident, when, directive, let_word, const_word, print_word, if_word, else_word, for_word, name, the_name, opening, open_brace, close_brace, semicolon, less, assign_mark, assign_op, increment, nought, bound_number}
 use Rattle.js_syntax.specs.Grammar
 use Rattle.js_syntax.specs.Grammar.{pair_of, inside_of, no_inside, print_of, arm_of, more_of, if_of, header_of, let_of, const_of, assign_of, for_of}

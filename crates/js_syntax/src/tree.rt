@@ -22,16 +22,44 @@ pub struct Script {
 #[cycle(statements)]
 #[derive(Drop)]
 pub enum Stmt {
-    Block { inner: Block },
-    Let { at: u32, name: Name, init: Option<Expr> },
-    Const { at: u32, name: Name, init: Expr },
-    Assign { at: u32, name: Name, value: Expr },
-    Append { at: u32, name_at: u32, name: Name, value: Expr },
-    Print { args: Vec<Expr> },
+    Block {
+        inner: Block,
+    },
+    Let {
+        at: u32,
+        name: Name,
+        init: Option<Expr>,
+    },
+    Const {
+        at: u32,
+        name: Name,
+        init: Expr,
+    },
+    Assign {
+        at: u32,
+        name: Name,
+        value: Expr,
+    },
+    Append {
+        at: u32,
+        name_at: u32,
+        name: Name,
+        value: Expr,
+    },
+    Print {
+        args: Vec<Expr>,
+    },
     /// The arms are tried in order; `rest` is what `else` leads to, or an empty block.
-    If { arms: Vec<Arm>, rest: Block },
+    If {
+        arms: Vec<Arm>,
+        rest: Block,
+    },
     /// The name counts from 0 to below the bound, anew for each turn.
-    For { name: Name, bound: u32, body: Block },
+    For {
+        name: Name,
+        bound: u32,
+        body: Block,
+    },
 }
 
 /// A condition and what is done where it holds.

@@ -1,4 +1,4 @@
-use Rattle.std.proofs.Common.{rules, ◌≡◌, ◌∙◌, sym, ap, ◌++◌}
+use Rattle.std.proofs.Common.{◌∙◌, sym, ap, ◌++◌}
 use Rattle.js_syntax.specs.Tree.{stmt_tree}
 use Rattle.js_syntax.specs.Grammar.{own_name}
 use Rattle.js_parser.proofs.Declared.{one_more}
