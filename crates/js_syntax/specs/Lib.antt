@@ -2,3 +2,4 @@ pub mod Tree
 pub mod Terminals
 pub mod Grammar
 pub mod Reading
+pub mod Names
