@@ -2,7 +2,7 @@
 """Measures the methods of strings in the built program: units a second, and how the time grows with the text.
 
 Usage: bench/methods.py [WORD]. With a word only the methods whose name holds it are measured. Build the
-program first, as tools/jsstr does. It belongs to no gate: run it on a machine that does nothing else.
+program first, by tools/jsstr --build. It belongs to no gate: run it on a machine that does nothing else.
 Each figure is the median of many runs, less that of a script that makes the same text without the call. Where
 node is installed its time for the same script is printed beside it, less that of its own start.
 """

@@ -2,7 +2,7 @@
 """Measures the built program: its start-up beside /bin/true, and the bytes of a script that it takes a second.
 
 Usage: bench/speed.py [WORD]. With a word only the shapes whose name holds it are measured. Build the
-program first, as tools/jsstr does. It belongs to no gate: run it on a machine that does nothing else.
+program first, by tools/jsstr --build. It belongs to no gate: run it on a machine that does nothing else.
 Each figure is the median of many runs; a run writes to /dev/null. Where a C compiler is there, blocks.c is
 measured too: what the memory of the shorter print statements alone costs.
 """
@@ -96,7 +96,7 @@ def measure_blocks(folder):
 def asked():
     """The word of the command line, empty where there is none; ends where the program isn't built."""
     if not os.access(PROGRAM, os.X_OK):
-        sys.exit("the program isn't built: run tools/jsstr demo/hello.js")
+        sys.exit("the program isn't built: run tools/jsstr --build")
     return sys.argv[1] if len(sys.argv) > 1 else ""
 
 

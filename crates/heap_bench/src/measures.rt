@@ -1,10 +1,10 @@
 // What is timed: making flat strings, and reading units.
 ghost use Rattle.std.specs.Prelude.{◌≡◌, ℕ, List, length};
-ghost use Rattle.heap_core.specs.Maps.{Has};
-ghost use Rattle.heap_core.specs.Views.{IsSettled};
+ghost use Rattle.heap_rule.specs.Maps.{Has};
+ghost use Rattle.heap_rule.specs.Views.{IsSettled};
 ghost use Rattle.heap_table.specs.Agents.{Belongs, view_of};
 
-use heap_core::HeapSize;
+use heap_rule::HeapSize;
 use heap_table::Heap;
 use heap_text::{JsStr, Text};
 use std::alloc::Global;

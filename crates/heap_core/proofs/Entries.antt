@@ -4,11 +4,11 @@ use Rattle.std.specs.Prelude.{IfSome, IsNone}
 use Rattle.std.specs.Option.{option_copied}
 use Rattle.std.specs.FinMap.{get}
 use mathlib.Core.Option.{some-injective}
-use Rattle.heap_core.specs.declared.view.View.{View}
-use Rattle.heap_core.specs.Sound.{At}
+use Rattle.heap_rule.specs.declared.view.View.{View}
+use Rattle.heap_rule.specs.Sound.{At}
 use Rattle.heap_core.specs.Core.{Core}
 use Rattle.heap_core.specs.Events.{HasEntry}
-use Rattle.heap_core.proofs.ListLemmas.{at_within}
+use Rattle.heap_rule.proofs.ListLemmas.{at_within}
 
 pub no_view : (s : Core) (j k : ℕ) → length s.views ≤ j → (us : List ℕ) → HasEntry s j k us → ⊥
 no_view s j k h us e = let l = at_within s.views j e.0 e.2 in absurd (omega arith)

@@ -2,11 +2,11 @@
 use Rattle.std.proofs.Common.{List, [], ◌∷◌, inl, inr, ⊎_elim, sym, refl, ap, ◌∙◌}
 use mathlib.Core.Option.{some-ne-none}
 use lib.ListN.{get_elem?}
-use Rattle.heap_core.specs.declared.view.View.{View}
-use Rattle.heap_core.specs.Sound.{AreLegal}
+use Rattle.heap_rule.specs.declared.view.View.{View}
+use Rattle.heap_rule.specs.Sound.{AreLegal}
 use Rattle.heap_core.specs.Core.{Core}
 use Rattle.heap_core.specs.Events.{HasNoHeap, IsCore, IsSoundCore, after, RunsAreSound, MadeRunsAreSound, RunsKeepUnits, RunsAreLegal}
-use Rattle.heap_core.proofs.Legal.{legal}
+use Rattle.heap_rule.proofs.Legal.{legal}
 use Rattle.heap_core.proofs.Kept.{enabled_keeps}
 
 pub runs_sound : RunsAreSound

@@ -1,40 +1,34 @@
 -- Each enabled event keeps the rule, and the units of the born ids.
-use Rattle.std.proofs.Common.{◌≡◌, ℕ, ◌+◌, ◌<◌, ◌≤◌, inr, ⊎_elim, Bool, true, false, cond, List, [], get_or, set, sym, refl, ap, ◌∙◌, subst, arith, Option, Result, Ok, Err, eqb, eqb-true}
+use Rattle.std.proofs.Common.{◌≡◌, ℕ, ◌+◌, ◌<◌, ◌≤◌, inr, ⊎_elim, cond, List, [], get_or, set, sym, refl, ap, ◌∙◌, subst, arith, Option, Result, Ok, Err, eqb, eqb-true}
 use Rattle.std.specs.Prelude.{unwrap_or, IfOk, OnErr}
-use Rattle.std.proofs.lemmas.List.{set-get_or}
 use Rattle.js_header.specs.Form.{word_of}
 use Rattle.js_header.specs.declared.form.Form.{Form}
 use Rattle.js_header.specs.declared.form.Form.TheVariants.{Unborn, Flat, Cons, Sliced, Thin}
-use Rattle.heap_core.specs.declared.view.View.{View}
-use Rattle.heap_core.specs.declared.size.Counter.{Counter}
+use Rattle.heap_rule.specs.declared.view.View.{View}
 use Rattle.heap_core.specs.declared.event.Refusal.{Refusal}
 use Rattle.heap_core.specs.declared.event.Refusal.TheVariants.{NotEnabled, Memory}
 use Rattle.heap_core.specs.declared.event.Event.{Event}
 use Rattle.heap_core.specs.declared.event.Event.TheVariants.{Make, Split, Join, LoadCounter, Claim, StoreWord, StoreLength, Birth, LoadHeader, LoadWord}
-use Rattle.heap_core.specs.Layout.{counter_at, content_at, length_at, form_at, form, IsBorn}
-use Rattle.heap_core.specs.Maps.{HasKey}
-use Rattle.heap_core.specs.Sound.{At, total}
+use Rattle.heap_rule.specs.Layout.{counter_at, content_at, length_at, form_at, form, IsBorn}
+use Rattle.heap_rule.specs.Maps.{HasKey}
+use Rattle.heap_rule.specs.Sound.{total}
 use Rattle.heap_core.specs.Core.{Core, core}
 use Rattle.heap_core.specs.Events.{IsCore, IsSoundCore, LiveAt, view_at, Enabled, after, found, Applied, KeepsUnits, Kept, BornBy}
-use Rattle.heap_core.specs.Claims.{loaded_counter, MayClaim, won_claim}
-use Rattle.heap_core.specs.Births.{stored_word, MayStoreLength, stored_length, MayBear, born_with, born}
-use Rattle.heap_core.specs.Views.{IsKnown}
-use Rattle.heap_core.specs.Learning.{MayLearn}
-use Rattle.heap_core.specs.Loads.{MayLoadWord, loaded_word}
-use Rattle.heap_core.specs.Agents.{spent, MayJoin}
-use Rattle.heap_core.proofs.ListLemmas.{at_index}
-use Rattle.heap_core.proofs.Agreement.{Agrees, born_then, units_stay}
-use Rattle.heap_core.proofs.Making.{keeps_making}
-use Rattle.heap_core.proofs.Steps.{keeps_loaded_counter, keeps_won_claim, agrees_won_claim, keeps_stored_word, agrees_stored_word, keeps_stored_length, agrees_stored_length}
-use Rattle.heap_core.proofs.Birth.{keeps_birth, agrees, born_now}
+use Rattle.heap_rule.specs.Claims.{loaded_counter, MayClaim, won_claim}
+use Rattle.heap_rule.specs.Births.{stored_word, MayStoreLength, stored_length, MayBear, born_with, born}
+use Rattle.heap_rule.specs.Views.{IsKnown}
+use Rattle.heap_rule.specs.Learning.{MayLearn}
+use Rattle.heap_rule.specs.Loads.{MayLoadWord, loaded_word}
+use Rattle.heap_rule.specs.Agents.{spent, MayJoin}
+use Rattle.heap_rule.proofs.ListLemmas.{at_index}
+use Rattle.heap_rule.proofs.Making.{keeps_making}
+use Rattle.heap_rule.proofs.KindsKept.{counter_kept, claim_by, word_stored, length_stored, birth_by}
+use Rattle.heap_rule.proofs.Birth.{born_now}
 use Rattle.heap_core.proofs.StateLemmas.{sound_of}
 use Rattle.heap_core.proofs.KnowingKept.{split_kept, join_kept, load_header_kept, load_word_kept}
 
 same_kept : (s : Core) → KeepsUnits s s
 same_kept s i b = (b, refl)
-
-pub units_by_agrees : (s : Core) (W' : List ℕ) (vs' : List View) → IsSoundCore s → Agrees s.size s.words s.views W' vs' → KeepsUnits s (core s.size s.agents W' vs')
-units_by_agrees s W' vs' h a i b = (born_then s.size s.words s.views h.standing W' vs' a i b, units_stay s.size s.words s.views h.standing W' vs' a i b)
 
 -- nothing is born where there is no view
 none_born : (s : Core) → IsCore s → s.views ≡ [] → (i : ℕ) → IsBorn s.size s.words i → ⊥
@@ -42,37 +36,25 @@ none_born s h e i b = ⊎_elim (λ (n : (s.words ≡ []) × (s.views ≡ [])). b
     (λ (g : IsSoundCore s). let below = (g.standing i b).below in let added = (g.added).ids in
     let none = subst (λ (vs : List View). get_or s.words 0 0 ≡ total (λ v. v.used.ids) vs) e added in absurd (omega arith)) h
 
--- the words that a load or a lost claim leaves are the old ones
-loaded_kept : (s : Core) (j : ℕ) (v : View) (k : Counter) → IsSoundCore s → At s.views j v → v.live ≡ true → Kept s (core s.size s.agents s.words (set s.views j (loaded_counter v k (get_or s.words (counter_at k) 0))))
-loaded_kept s j v k h at live = (keeps_loaded_counter s.size s.agents s.words s.views h j v at live k (get_or s.words (counter_at k) 0) refl, λ i b. (b, refl))
-
-claim_kept : (s : Core) (j : ℕ) (v : View) (k : Counter) (a want : ℕ) (b : Bool) → IsSoundCore s → At s.views j v → v.live ≡ true → MayClaim v k a want → (b ≡ true → get_or s.words (counter_at k) 0 ≡ a)
-    → Kept s (core s.size s.agents (set s.words (counter_at k) (cond b (a + want) (get_or s.words (counter_at k) 0))) (set s.views j (cond b (won_claim v k a want) (loaded_counter v k (get_or s.words (counter_at k) 0)))))
-claim_kept s j v k a want true h at live may won = (
-  keeps_won_claim s.size s.agents s.words s.views h j v at live k a want may (sym (won refl)),
-  units_by_agrees s (set s.words (counter_at k) (a + want)) (set s.views j (won_claim v k a want)) h (agrees_won_claim s.size s.agents s.words s.views h j v at live k a want (sym (won refl))),
-)
-claim_kept s j v k a want false h at live may won = subst (λ (ws : List ℕ). Kept s (core s.size s.agents ws (set s.views j (loaded_counter v k (get_or s.words (counter_at k) 0))))) (sym (set-get_or s.words (counter_at k) 0)) (loaded_kept s j v k h at live)
-
 pub enabled_keeps : (s : Core) (e : Event) → IsCore s → Enabled s e → Kept s (after s e)
 enabled_keeps s (Make z agents) h en = (keeps_making z agents en.1 en.2, λ i b. absurd (none_born s h en.0 i b))
 enabled_keeps s (Split j give) h en = split_kept s j give (sound_of s j (λ v. (1 ≤ give) × (give < v.share)) h en) en
 enabled_keeps s (Join j other) h en = join_kept s j other (sound_of s j (λ v. LiveAt s other (λ b. MayJoin v b)) h en.1) en
 enabled_keeps s (LoadCounter j k) h en = let g : IsSoundCore s = sound_of s j (λ v. Unit {0}) h en in
-    subst (λ (v : View). Kept s (core s.size s.agents s.words (set s.views j (loaded_counter v k (get_or s.words (counter_at k) 0))))) (sym (at_index s.views j en.0 spent en.1)) (loaded_kept s j en.0 k g en.1 en.2)
+    subst (λ (v : View). Kept s (core s.size s.agents s.words (set s.views j (loaded_counter v k (get_or s.words (counter_at k) 0))))) (sym (at_index s.views j en.0 spent en.1)) (counter_kept s.size s.agents s.words s.views g j en.0 en.1 en.2 k)
 enabled_keeps s (Claim j k a want) h en = let g : IsSoundCore s = sound_of s j (λ v. MayClaim v k a want) h en in let x : ℕ = get_or s.words (counter_at k) 0 in
     subst (λ (v : View). Kept s (core s.size s.agents (set s.words (counter_at k) (cond (eqb x a) (a + want) x)) (set s.views j (cond (eqb x a) (won_claim v k a want) (loaded_counter v k x))))) (sym (at_index s.views j en.0 spent en.1))
-    (claim_kept s j en.0 k a want (eqb x a) g en.1 en.2 en.3 (eqb-true x a))
+    (claim_by s.size s.agents s.words s.views g j en.0 en.1 en.2 k a want (eqb x a) en.3 (eqb-true x a))
 enabled_keeps s (StoreWord j c n) h en = let g : IsSoundCore s = sound_of s j (λ v. HasKey v.own_words c) h en in
     subst (λ (v : View). Kept s (core s.size s.agents (set s.words (content_at s.size c) n) (set s.views j (stored_word v c n)))) (sym (at_index s.views j en.0 spent en.1))
-    (keeps_stored_word s.size s.agents s.words s.views g j en.0 en.1 en.2 c n en.3, units_by_agrees s (set s.words (content_at s.size c) n) (set s.views j (stored_word en.0 c n)) g (agrees_stored_word s.size s.agents s.words s.views g j en.0 en.1 en.2 c n en.3))
+    (word_stored s.size s.agents s.words s.views g j en.0 en.1 en.2 c n en.3)
 enabled_keeps s (StoreLength j i n) h en = let g : IsSoundCore s = sound_of s j (λ v. MayStoreLength v i n) h en in
     subst (λ (v : View). Kept s (core s.size s.agents (set s.words (length_at s.size i) n) (set s.views j (stored_length v i n)))) (sym (at_index s.views j en.0 spent en.1))
-    (keeps_stored_length s.size s.agents s.words s.views g j en.0 en.1 en.2 i n en.3, units_by_agrees s (set s.words (length_at s.size i) n) (set s.views j (stored_length en.0 i n)) g (agrees_stored_length s.size s.agents s.words s.views g j en.0 en.1 en.2 i n en.3.0))
+    (length_stored s.size s.agents s.words s.views g j en.0 en.1 en.2 i n en.3)
 enabled_keeps s (Birth j i (Flat wide start fixed)) h (tt, live) = let f : Form = Flat wide start fixed in let g : IsSoundCore s = sound_of s j (λ v. MayBear v i f) h live in let n : ℕ = live.3.0 in let v : View = live.0 in
     let is : born (view_at s j) i f ≡ born_with v i n f = ap (λ (u : View). born u i f) (at_index s.views j v spent live.1) ∙ ap (λ (o : Option ℕ). born_with v i (unwrap_or o 0) f) live.3.1 in
     subst (λ (w : View). Kept s (core s.size s.agents (set s.words (form_at s.size i) (word_of f)) (set s.views j w))) (sym is)
-    (keeps_birth s.size s.agents s.words s.views g j v live.1 live.2 i n live.3.1 wide start fixed live.3.2, units_by_agrees s (set s.words (form_at s.size i) (word_of f)) (set s.views j (born_with v i n f)) g (agrees s.size s.agents s.words s.views g j v live.1 live.2 i n live.3.1 wide start fixed live.3.2))
+    (birth_by s.size s.agents s.words s.views g j v live.1 live.2 i n f live.3.1 live.3.2)
 enabled_keeps s (Birth j i Unborn) h (no', live) = absurd no'
 enabled_keeps s (Birth j i (Cons a b c)) h (no', live) = absurd no'
 enabled_keeps s (Birth j i (Sliced a b c)) h (no', live) = absurd no'

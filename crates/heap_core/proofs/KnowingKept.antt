@@ -1,28 +1,22 @@
 -- Splitting, joining and loading keep the rule: they change what views know, and no word.
-use Rattle.std.proofs.Common.{◌≡◌, ℕ, Bool, true, false, cond, List, [], ◌∷◌, ◌++◌, get_or, set, sym, refl, ap, ◌∙◌, subst}
+use Rattle.std.proofs.Common.{◌≡◌, ℕ, Bool, true, false, cond, List, [], ◌∷◌, ◌++◌, get_or, set, sym, refl, ◌∙◌, subst}
 use Rattle.std.specs.FinMap.{insert, contains_key}
-use Rattle.heap_core.specs.declared.view.View.{View}
-use Rattle.heap_core.specs.Layout.{form_at, length_at, content_at}
-use Rattle.heap_core.specs.Learning.{learned}
-use Rattle.heap_core.specs.Loads.{loaded_form, loaded_length, loaded_word}
-use Rattle.heap_core.specs.Agents.{spent, left_after_split, right_after_split, joined}
-use Rattle.heap_core.specs.Sound.{At, IsSound}
+use Rattle.heap_rule.specs.declared.view.View.{View}
+use Rattle.heap_rule.specs.Layout.{form_at, length_at, content_at}
+use Rattle.heap_rule.specs.Learning.{learned}
+use Rattle.heap_rule.specs.Loads.{loaded_form, loaded_length, loaded_word}
+use Rattle.heap_rule.specs.Agents.{spent, left_after_split, right_after_split, joined}
+use Rattle.heap_rule.specs.Sound.{IsSound}
 use Rattle.heap_core.specs.Core.{Core, core}
 use Rattle.heap_core.specs.Events.{IsSoundCore, CanSplit, after_split, CanJoin, after_join, CanLoadHeader, after_load_header, CanLoadWord, after_load_word, Kept}
-use Rattle.heap_core.proofs.ListLemmas.{at_index, set_there}
-use Rattle.heap_core.proofs.Loading.{keeps_loaded_form}
-use Rattle.heap_core.proofs.Loads.{keeps_loaded_length, keeps_loaded_word}
-use Rattle.heap_core.proofs.Splitting.{set_twice, keeps_learned, keeps_split}
-use Rattle.heap_core.proofs.Joining.{keeps_joined}
+use Rattle.heap_rule.proofs.ListLemmas.{at_index}
+use Rattle.heap_rule.proofs.KindsKept.{form_loaded, length_loaded, word_loaded}
+use Rattle.heap_rule.proofs.Splitting.{keeps_split}
+use Rattle.heap_rule.proofs.Joining.{keeps_joined}
 
 -- a step that changes no word
 pub still : (s : Core) (vs' : List View) → IsSound s.size s.agents s.words vs' → Kept s (core s.size s.agents s.words vs')
 still s vs' h = (h, λ i b. (b, refl))
-
--- a step of one view, and what it learns
-pub then_learns : (s : Core) (j : ℕ) (v w : View) (names : List ℕ) → At s.views j v → w.live ≡ true → IsSound s.size s.agents s.words (set s.views j w) → Kept s (core s.size s.agents s.words (set s.views j (learned w names)))
-then_learns s j v w names at live h = still s (set s.views j (learned w names))
-    (subst (IsSound s.size s.agents s.words) (set_twice s.views j w (learned w names)) (keeps_learned s.size s.agents s.words (set s.views j w) h j w (set_there s.views j w v at) live names))
 
 pub split_kept : (s : Core) (j give : ℕ) → IsSoundCore s → CanSplit s j give → Kept s (after_split s j give)
 split_kept s j give h can = let v : View = can.0 in
@@ -37,10 +31,10 @@ join_kept s j other h can = let l = can.1 in let v : View = l.0 in let t = l.3 i
 pub load_header_kept : (s : Core) (j i : ℕ) (len : Bool) (names : List ℕ) → IsSoundCore s → CanLoadHeader s j i len names → Kept s (after_load_header s j i len names)
 load_header_kept s j i true names h can = let l = can.0 in let v : View = l.0 in let x : ℕ = get_or s.words (length_at s.size i) 0 in
     subst (λ (u : View). Kept s (core s.size s.agents s.words (set s.views j (learned (loaded_length u i x) names)))) (sym (at_index s.views j v spent l.1))
-    (then_learns s j v (loaded_length v i x) names l.1 l.2 (keeps_loaded_length s.size s.agents s.words s.views h j v l.1 l.2 i l.3))
+    (length_loaded s.size s.agents s.words s.views h j v l.1 l.2 i names l.3)
 load_header_kept s j i false names h can = let l = can.0 in let v : View = l.0 in let x : ℕ = get_or s.words (form_at s.size i) 0 in
     subst (λ (u : View). Kept s (core s.size s.agents s.words (set s.views j (learned (loaded_form u i x) names)))) (sym (at_index s.views j v spent l.1))
-    (still s _ (keeps_loaded_form s.size s.agents s.words s.views h j v l.1 l.2 i l.3 names))
+    (form_loaded s.size s.agents s.words s.views h j v l.1 l.2 i names l.3)
 
 same_live : (v : View) (c x : ℕ) (b : Bool) → (cond b v (record v { frozen = insert v.frozen c x })).live ≡ v.live
 same_live v c x true = refl
@@ -52,4 +46,4 @@ word_live v c x l = same_live v c x (contains_key v.own_words c) ∙ l
 pub load_word_kept : (s : Core) (j c : ℕ) (names : List ℕ) → IsSoundCore s → CanLoadWord s j c names → Kept s (after_load_word s j c names)
 load_word_kept s j c names h l = let v : View = l.0 in let x : ℕ = get_or s.words (content_at s.size c) 0 in
     subst (λ (u : View). Kept s (core s.size s.agents s.words (set s.views j (learned (loaded_word u c x) names)))) (sym (at_index s.views j v spent l.1))
-    (then_learns s j v (loaded_word v c x) names l.1 (same_live v c x (contains_key v.own_words c) ∙ l.2) (keeps_loaded_word s.size s.agents s.words s.views h j v l.1 l.2 c l.3.0))
+    (word_loaded s.size s.agents s.words s.views h j v l.1 l.2 c names l.3.0)

@@ -1,32 +1,29 @@
 -- What the executable loads do to the machine, as plain data.
-use Rattle.std.proofs.Common.{◌≡◌, ℕ, ◌+◌, ◌^◌, ◌<◌, ◌≤◌, ⊎_elim, Bool, true, false, List, [], length, get_or, set, sym, refl, ap, ◌∙◌, subst, arith, IsTrue, Option, Some, Result, Ok, Err}
+use Rattle.std.proofs.Common.{◌≡◌, ℕ, ◌<◌, ◌≤◌, ⊎_elim, Bool, true, false, List, [], length, get_or, set, sym, ap, ◌∙◌, subst, arith, IsTrue, Some, Result, Ok, Err}
 use mathlib.Core.Option.{some-injective}
 use Rattle.js_units.specs.Lanes.{words_over}
-use Rattle.js_header.specs.Form.{form_of}
-use Rattle.js_header.specs.declared.form.Form.{Form}
 use Rattle.js_header.specs.declared.form.Form.TheVariants.{Flat}
 use Rattle.std.specs.Global.{Vec}
-use Rattle.heap_core.specs.declared.view.View.{View}
-use Rattle.heap_core.specs.declared.load.Load.{Load}
-use Rattle.heap_core.specs.declared.load.Load.TheVariants.{SeenForm, SeenLength, SeenWord, Own}
-use Rattle.heap_core.specs.declared.size.HeapSize.{HeapSize}
+use Rattle.heap_rule.specs.declared.view.View.{View}
+use Rattle.heap_views.specs.declared.load.Load.{Load}
+use Rattle.heap_rule.specs.declared.size.HeapSize.{HeapSize}
 use Rattle.heap_core.specs.declared.event.Refusal.{Refusal}
 use Rattle.heap_core.specs.declared.event.Refusal.TheVariants.{NotEnabled, Memory}
 use Rattle.heap_core.specs.declared.event.Event.TheVariants.{LoadHeader, LoadWord}
-use Rattle.heap_core.specs.Layout.{MAX, IsLawful, IsBorn, form, length_word, form_at, length_at, content_at, content}
-use Rattle.heap_core.specs.Maps.{Has, HasKey}
-use Rattle.heap_core.specs.Views.{IsKnown, IsFrozen}
-use Rattle.heap_core.specs.Learning.{learned, MayLearn}
-use Rattle.heap_core.specs.Loads.{with_form, added_loads, loaded_form, loaded_length, MayLoadWord, loaded_word}
-use Rattle.heap_core.specs.Loading.{loaded_by, IsHeaderLoad, HasRoom}
-use Rattle.heap_core.specs.Agents.{spent}
-use Rattle.heap_core.specs.Sound.{At, IsSound, AreStanding}
+use Rattle.heap_rule.specs.Layout.{IsLawful, IsBorn, form, length_word, form_at, length_at, content_at, content}
+use Rattle.heap_rule.specs.Views.{IsKnown}
+use Rattle.heap_rule.specs.Learning.{learned, MayLearn}
+use Rattle.heap_rule.specs.Loads.{with_form, added_loads, loaded_form, loaded_length, MayLoadWord, loaded_word}
+use Rattle.heap_views.specs.Loading.{loaded_by, HasRoom}
+use Rattle.heap_core.specs.Headers.{IsHeaderLoad}
+use Rattle.heap_rule.specs.Agents.{spent}
+use Rattle.heap_rule.specs.Sound.{At, IsSound, AreStanding}
 use Rattle.heap_core.specs.Core.{Core, core}
 use Rattle.heap_core.specs.Events.{IsCore, IsSoundCore, LiveIn, view_at, header_at, header_seen, CanLoadHeader, CanLoadWord, after_load_header, after_load_word, LoadedHeader, LoadedWord, Applied}
-use Rattle.heap_core.proofs.MapLemmas.{has_key}
-use Rattle.heap_core.proofs.ListLemmas.{at_index, set_there}
-use Rattle.heap_core.proofs.Loading.{known_born, keeps_loaded_form}
-use Rattle.heap_core.proofs.Loads.{keeps_loaded_length, keeps_loaded_word, frozen_right}
+use Rattle.heap_rule.proofs.MapLemmas.{has_key}
+use Rattle.heap_rule.proofs.ListLemmas.{at_index, set_there}
+use Rattle.heap_rule.proofs.Loading.{known_born, keeps_loaded_form}
+use Rattle.heap_rule.proofs.Loads.{keeps_loaded_length, keeps_loaded_word, frozen_right}
 use Rattle.heap_core.proofs.KnowingKept.{word_live}
 use Rattle.heap_core.proofs.StateLemmas.{sound_of, Tells}
 

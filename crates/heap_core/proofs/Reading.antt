@@ -4,12 +4,12 @@ use Rattle.std.specs.Prelude.{OnOk}
 use Rattle.js_header.specs.Form.{form_of}
 use Rattle.js_header.specs.declared.form.Form.{Form}
 use Rattle.js_header.specs.declared.form.Form.TheVariants.{Flat, Cons, Sliced}
-use Rattle.heap_core.specs.declared.size.HeapSize.{HeapSize}
-use Rattle.heap_core.specs.Layout.{form, length_word, content, IsBorn}
-use Rattle.heap_core.specs.Contents.{units_of, span}
-use Rattle.heap_core.specs.Sound.{AreStanding, Stands, Shows}
-use Rattle.heap_core.proofs.Birth.{length_span}
-use Rattle.heap_core.proofs.Loading.{stands_shows}
+use Rattle.heap_rule.specs.declared.size.HeapSize.{HeapSize}
+use Rattle.heap_rule.specs.Layout.{form, length_word, content, IsBorn}
+use Rattle.heap_rule.specs.Contents.{units_of, span}
+use Rattle.heap_rule.specs.Sound.{AreStanding, Stands, Shows}
+use Rattle.heap_rule.proofs.Birth.{length_span}
+use Rattle.heap_rule.proofs.Loading.{stands_shows}
 
 take_span : (f : ℕ → ℕ) (wide : Bool) (start k m n : ℕ) → n ≤ m → take n (span f wide start k m) ≡ span f wide start k n
 take_span f wide start k m zero l = refl

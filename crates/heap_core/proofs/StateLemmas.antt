@@ -8,33 +8,28 @@ use mathlib.Core.Option.{some, some-injective}
 use Rattle.js_header.specs.Form.{word_of}
 use Rattle.js_header.specs.declared.form.Form.{Form}
 use Rattle.js_header.specs.declared.form.Form.TheVariants.{Flat}
-use Rattle.heap_core.specs.declared.view.View.{View}
-use Rattle.heap_core.specs.declared.size.HeapSize.{HeapSize}
-use Rattle.heap_core.specs.declared.size.Counter.{Counter}
-use Rattle.heap_core.specs.declared.size.Counter.TheVariants.{Ids, Words}
+use Rattle.heap_rule.specs.declared.view.View.{View}
+use Rattle.heap_rule.specs.declared.size.HeapSize.{HeapSize}
+use Rattle.heap_rule.specs.declared.size.Counter.{Counter}
+use Rattle.heap_rule.specs.declared.size.Counter.TheVariants.{Ids, Words}
 use Rattle.heap_core.specs.declared.event.Event.{Event}
 use Rattle.heap_core.specs.declared.event.Event.TheVariants.{Split, Join, LoadCounter, Claim, StoreWord, StoreLength, Birth}
-use Rattle.heap_core.specs.Layout.{counter_at, content_at, length_at, form_at, form, end_of, MAX, count_in, IsLawful}
-use Rattle.heap_core.specs.Maps.{Has, HasKey}
-use Rattle.heap_core.specs.Sound.{At, EachLive, total}
+use Rattle.heap_rule.specs.Layout.{counter_at, content_at, length_at, form_at, form, end_of, MAX, count_in, IsLawful}
+use Rattle.heap_rule.specs.Maps.{Has, HasKey}
+use Rattle.heap_rule.specs.Sound.{At, EachLive, total}
 use Rattle.heap_core.specs.Core.{Core, core}
 use Rattle.heap_core.specs.Events.{IsCore, IsSoundCore, LiveIn, view_at, Enabled, Applied}
-use Rattle.heap_core.specs.Claims.{loaded_counter, MayClaim, won_claim}
-use Rattle.heap_core.specs.Births.{stored_word, MayStoreLength, stored_length, MayBear, born_with, born}
-use Rattle.heap_core.specs.Agents.{nothing_used, spent, left_after_split, right_after_split, MayJoin, joined}
-use Rattle.heap_core.proofs.MapLemmas.{has_key}
-use Rattle.heap_core.proofs.ListLemmas.{at_within, at_index, set_else, total_set}
-use Rattle.heap_core.proofs.Joining.{total_gone}
+use Rattle.heap_rule.specs.Claims.{loaded_counter, MayClaim, won_claim}
+use Rattle.heap_rule.specs.Births.{stored_word, MayStoreLength, stored_length, MayBear, born_with, born}
+use Rattle.heap_rule.specs.Agents.{nothing_used, spent, left_after_split, right_after_split, MayJoin, joined}
+use Rattle.heap_rule.proofs.MapLemmas.{has_key}
+use Rattle.heap_rule.proofs.ListLemmas.{any_default, at_within, at_index, set_else, total_set}
+use Rattle.heap_rule.proofs.Joining.{total_gone}
 
 pub at_here : {A : Type 0} (l : List A) (i : ℕ) (a : A) → i < length l → a ≡ get_or l i a → At l i a
 at_here [] i a h e = absurd (omega arith)
 at_here (x ∷ xs) zero a h e = ap some (sym e)
 at_here (x ∷ xs) (suc i) a h e = at_here xs i a (omega arith) e
-
-pub any_default : {A : Type 0} (l : List A) (i : ℕ) (d e : A) → i < length l → get_or l i d ≡ get_or l i e
-any_default [] i d e h = absurd (omega arith)
-any_default (x ∷ xs) zero d e h = refl
-any_default (x ∷ xs) (suc i) d e h = any_default xs i d e (omega arith)
 
 pub live_here : (vs : List View) (j : ℕ) (v : View) → j < length vs → v ≡ get_or vs j v → (IsTrue v.live → LiveIn vs j (λ v. Unit {0})) × (LiveIn vs j (λ v. Unit {0}) → IsTrue v.live)
 live_here vs j v h e = (

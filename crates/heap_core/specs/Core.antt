@@ -1,7 +1,7 @@
 -- The machine as plain data: one heap's sizes, its number of agents, its words, and the view of each agent that there ever was.
 use Rattle.std.specs.Prelude.{ℕ, List}
-use Rattle.heap_core.specs.declared.view.View.{View}
-use Rattle.heap_core.specs.declared.size.HeapSize.{HeapSize}
+use Rattle.heap_rule.specs.declared.view.View.{View}
+use Rattle.heap_rule.specs.declared.size.HeapSize.{HeapSize}
 
 pub record Core : Type 0 where
   pub size : HeapSize

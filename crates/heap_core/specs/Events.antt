@@ -1,25 +1,24 @@
 -- The machine: where each event may come, and what it does. An event is one atomic step of one agent on one word, but for the making of the heap.
 use Rattle.std.specs.Prelude.{◌≡◌, ◌≢◌, ℕ, ◌+◌, ◌<◌, ◌≤◌, ◌⊎◌, ◌==◌, Bool, true, false, if◌then◌else◌, List, [], ◌∷◌, ◌++◌, slice_index, slice_index_or, slice_set, replicate, Result, Ok, Err}
 use Rattle.js_header.specs.Form.{word_of}
-use Rattle.js_header.specs.declared.form.Form.{Form}
-use Rattle.js_header.specs.declared.form.Form.TheVariants.{Flat}
-use Rattle.heap_core.specs.declared.view.View.{View}
-use Rattle.heap_core.specs.declared.size.HeapSize.{HeapSize}
+use Rattle.heap_rule.specs.declared.view.View.{View}
+use Rattle.heap_rule.specs.declared.size.HeapSize.{HeapSize}
 use Rattle.heap_core.specs.declared.event.Refusal.{Refusal}
 use Rattle.heap_core.specs.declared.event.Refusal.TheVariants.{NotEnabled, Memory}
 use Rattle.heap_core.specs.declared.event.Event.{Event}
 use Rattle.heap_core.specs.declared.event.Event.TheVariants.{Make, Split, Join, LoadCounter, Claim, StoreWord, StoreLength, Birth, LoadHeader, LoadWord}
-use Rattle.heap_core.specs.Layout.{IsLawful, counter_at, form_at, length_at, content_at, word_count, IsBorn}
-use Rattle.heap_core.specs.Contents.{units_of}
-use Rattle.heap_core.specs.Maps.{Has, HasKey}
-use Rattle.heap_core.specs.Sound.{At, IsSound, AreLegal}
+use Rattle.heap_rule.specs.Layout.{IsLawful, counter_at, form_at, length_at, content_at, word_count, IsBorn}
+use Rattle.heap_rule.specs.Contents.{units_of}
+use Rattle.heap_rule.specs.Maps.{Has, HasKey}
+use Rattle.heap_rule.specs.Forms.{IsBuilt}
+use Rattle.heap_rule.specs.Sound.{At, IsSound, AreLegal}
 use Rattle.heap_core.specs.Core.{Core}
-use Rattle.heap_core.specs.Claims.{loaded_counter, MayClaim, claimed}
-use Rattle.heap_core.specs.Births.{stored_word, MayStoreLength, stored_length, MayBear, born}
-use Rattle.heap_core.specs.Views.{IsKnown}
-use Rattle.heap_core.specs.Learning.{learned, MayLearn}
-use Rattle.heap_core.specs.Loads.{loaded_form, loaded_length, MayLoadWord, loaded_word}
-use Rattle.heap_core.specs.Agents.{first_view, spent, left_after_split, right_after_split, MayJoin, joined}
+use Rattle.heap_rule.specs.Claims.{loaded_counter, MayClaim, claimed}
+use Rattle.heap_rule.specs.Births.{stored_word, MayStoreLength, stored_length, MayBear, born}
+use Rattle.heap_rule.specs.Views.{IsKnown}
+use Rattle.heap_rule.specs.Learning.{learned, MayLearn}
+use Rattle.heap_rule.specs.Loads.{loaded_form, loaded_length, MayLoadWord, loaded_word}
+use Rattle.heap_rule.specs.Agents.{first_view, spent, left_after_split, right_after_split, MayJoin, joined}
 
 abbrev pub IsSoundCore : Core → Type 0
 IsSoundCore s = IsSound s.size s.agents s.words s.views
@@ -91,11 +90,6 @@ module _ (s : Core) where
 
   abbrev pub after_load_word : ℕ → ℕ → List ℕ → Core
   after_load_word j c names = looked s j (learned (loaded_word (view_at s j) c (slice_index s.words (content_at s.size c))) names)
-
--- the forms whose births are built: a Flat alone, until there are ropes
-abbrev pub IsBuilt : Form → Type 0
-IsBuilt (Flat wide start fixed) = Unit {0}
-IsBuilt _ = ⊥
 
 -- where an event may come: a making where there is no view yet, every other where its view is live and its kind's condition holds
 abbrev pub Enabled : Core → Event → Type 0

@@ -4,14 +4,13 @@ use Rattle.std.specs.Prelude.{ℕ, ◌+◌, ◌<◌, List, slice_index, Option}
 use Rattle.js_header.specs.Form.{word_of}
 use Rattle.js_header.specs.declared.form.Form.{Form}
 use Rattle.js_header.specs.declared.form.Form.TheVariants.{Thin}
-use Rattle.heap_core.specs.declared.view.View.{View}
-use Rattle.heap_core.specs.Layout.{slot_at, form_at}
+use Rattle.heap_rule.specs.Layout.{slot_at, form_at}
 use Rattle.heap_core.specs.Core.{Core}
-use Rattle.heap_core.specs.Births.{MayBear, born}
+use Rattle.heap_rule.specs.Births.{MayBear, born}
 use Rattle.heap_core.specs.Events.{IsSoundCore, LiveAt, view_at, moved, looked, exchanged, Kept}
-use Rattle.heap_core.specs.Learning.{learned, MayLearn}
-use Rattle.heap_core.specs.Moves.{MayFlatten, flattened, MayThin, thinned}
-use Rattle.heap_core.specs.Slots.{MayEnter, loaded_slot, MayTakeSlot, took_slot}
+use Rattle.heap_rule.specs.Learning.{learned, MayLearn}
+use Rattle.heap_rule.specs.HeaderMoves.{MayFlatten, flattened, MayThin, thinned}
+use Rattle.heap_rule.specs.Slots.{MayEnter, loaded_slot, MayTakeSlot, took_slot}
 
 module _ (s : Core) where
   -- flattening

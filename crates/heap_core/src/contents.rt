@@ -1,12 +1,14 @@
 // The units of an id, read from the words.
 ghost use Rattle.std.specs.Prelude.{◌≡◌, ℕ, List, ◌+◌, ◌<◌, ◌≤◌, ◌^◌, ◌++◌, slice_index, Some, IfSome, IsSome, OnOk};
 ghost use Rattle.js_header.specs.Form.{form_of, IsInRange};
-ghost use Rattle.heap_core.specs.Layout.{content, form, length_word, IsBorn, MAX};
-ghost use Rattle.heap_core.specs.Contents.{span, lane_in, units_of};
-ghost use Rattle.heap_core.specs.Forms.{IsSolidForm};
-ghost use Rattle.heap_core.specs.Sound.{AreStanding};
+ghost use Rattle.heap_rule.specs.Layout.{content, form, length_word, IsBorn, MAX};
+ghost use Rattle.heap_rule.specs.Contents.{span, lane_in, units_of};
+ghost use Rattle.heap_rule.specs.Forms.{IsSolidForm};
+ghost use Rattle.heap_rule.specs.Sound.{AreStanding};
+ghost use Rattle.heap_core.specs.Headers.{IsHeaderLoad};
 
-use crate::size::HeapSize;
+use heap_rule::HeapSize;
+use heap_views::load::Load;
 use js_header::{Form, decode};
 use js_units::{NoMemory, Units, lane, lanes};
 
@@ -31,7 +33,7 @@ fn content(size: HeapSize, words: &[u64], at: u32) -> u64
 }
 
 /// Lane `o` of a span.
-#[tactic(auto, unfolding(crate::specs::Contents::lane_in))]
+#[tactic(auto, unfolding(heap_rule::specs::Contents::lane_in))]
 fn lane_at(size: HeapSize, words: &[u64], wide: bool, start: u32, o: u32) -> u16
     requires { start + o < 2 ^ 32 }
     ensures { result ≡ lane_in (content size words.now) wide start o }
@@ -105,6 +107,22 @@ pub(crate) fn header(size: HeapSize, words: &[u64], id: u32) -> (Form, u32)
         Some(form) => (form, length),
         None => unreachable!(),
     }
+}
+
+/// What a load of a header word of a born string adds.
+pub(crate) fn header_load(size: HeapSize, words: &[u64], id: u32, length: bool) -> Load
+    requires stand { AreStanding size words.now }
+    requires born { IsBorn size words.now id }
+    ensures { IsHeaderLoad size words.now id length result }
+{
+    let found = header(size, words, id);
+    if length {
+        return Load::SeenLength {
+            id,
+            length: found.1,
+        };
+    }
+    Load::SeenForm { id, form: found.0 }
 }
 
 /// Adds the units of a born id.

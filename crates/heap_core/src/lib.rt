@@ -7,24 +7,11 @@
 //! definitions are in `specs/`, in reading order. Nothing here runs in threads.
 #![tactic(auto)]
 
-mod agents;
 mod contents;
 mod event;
-mod kinds;
-mod knowing;
-mod laying;
-mod load;
-mod maps;
-mod moves;
-mod runs;
-mod size;
+mod play;
 mod state;
-#[cfg(test)]
-mod tests;
-mod view;
 
 pub use event::{Event, Refusal};
-pub use maps::{History, IdMap};
-pub use size::{Counter, Counters, HeapSize, MAX};
-pub use state::{CoreState, apply, enabled, every_later_kind, every_run};
-pub use view::View;
+pub use heap_rule::{Counter, Counters, HeapSize, History, IdMap, MAX, View};
+pub use state::{CoreState, apply, enabled, every_event, every_later_kind, every_run};

@@ -1,15 +1,15 @@
 // The machine: its words, its views, and the events that it plays.
 ghost use Rattle.std.specs.Prelude.{◌≡◌, ◌↔◌, List, ℕ, IsTrue, IfOk, OnErr, IfSome, IsNone, Err};
-ghost use Rattle.heap_core.specs.Layout.{IsBorn};
-ghost use Rattle.heap_core.specs.Contents.{units_of};
+ghost use Rattle.heap_rule.specs.Layout.{IsBorn};
+ghost use Rattle.heap_rule.specs.Contents.{units_of};
 ghost use Rattle.heap_core.specs.Events.{HasNoHeap, IsSoundCore, Enabled, after, found, KeepsUnits, BornBy, HasEntry, RunsAreSound, MadeRunsAreSound, RunsKeepUnits, RunsAreLegal};
+ghost use Rattle.heap_core.specs.Steps.{EventsAreSteps};
 ghost use Rattle.heap_core.specs.Later.{FlatteningKeeps, ThinningKeeps, LoadingSlotsKeeps, TakingSlotsKeeps, BirthsKeep};
 ghost use Rattle.heap_core.specs.declared.event.Refusal.TheVariants as refusal;
 
 use crate::event::{Event, Refusal};
-use crate::size::HeapSize;
-use crate::view::View;
-use crate::{contents, moves};
+use crate::{contents, play};
+use heap_rule::{HeapSize, View};
 use js_header::Form;
 use js_units::{NoMemory, Units};
 use std::alloc::Global;
@@ -28,7 +28,7 @@ pub struct CoreState {
 impl Model for CoreState {
     ghost use Rattle.heap_core.specs.Core.{Core, core};
     ghost use Rattle.heap_core.specs.Events.{IsCore};
-    ghost use Rattle.heap_core.specs.contracts.view.View as v;
+    ghost use Rattle.heap_rule.specs.contracts.view.View as v;
     ghost use Rattle.std.specs.Coded.{codes};
 
     ghost Value = { Core };
@@ -97,23 +97,23 @@ pub fn enabled(state: &CoreState, event: &Event) -> bool
 {
     let views = state.views.as_slice();
     match event {
-        Event::Make { size, agents } => moves::may_make(views, *size, *agents),
-        Event::Split { view, give } => moves::may_split(views, *view, *give),
-        Event::Join { view, other } => moves::may_join(views, *view, *other),
-        Event::LoadCounter { view, counter: _ } => moves::is_live(views, *view),
+        Event::Make { size, agents } => play::may_make(views, *size, *agents),
+        Event::Split { view, give } => play::may_split(views, *view, *give),
+        Event::Join { view, other } => play::may_join(views, *view, *other),
+        Event::LoadCounter { view, counter: _ } => play::is_live(views, *view),
         Event::Claim {
             view,
             counter,
             at,
             want,
-        } => moves::may_claim(views, *view, *counter, *at, *want),
-        Event::StoreWord { view, at, word: _ } => moves::may_store_word(views, *view, *at),
+        } => play::may_claim(views, *view, *counter, *at, *want),
+        Event::StoreWord { view, at, word: _ } => play::may_store_word(views, *view, *at),
         Event::StoreLength { view, id, length } => {
-            moves::may_store_length(views, *view, *id, *length)
+            play::may_store_length(views, *view, *id, *length)
         }
         Event::Birth { view, id, form } => match *form {
             Form::Flat { wide, start, fixed } => {
-                moves::may_bear(views, *view, *id, wide, start, fixed)
+                play::may_bear(views, *view, *id, wide, start, fixed)
             }
             _ => false,
         },
@@ -122,7 +122,7 @@ pub fn enabled(state: &CoreState, event: &Event) -> bool
             id,
             length,
             learn,
-        } => moves::may_load_header(
+        } => play::may_load_header(
             state.size,
             state.agents,
             state.words.as_slice(),
@@ -132,7 +132,7 @@ pub fn enabled(state: &CoreState, event: &Event) -> bool
             *length,
             learn.as_slice(),
         ),
-        Event::LoadWord { view, at, learn } => moves::may_load_word(
+        Event::LoadWord { view, at, learn } => play::may_load_word(
             state.size,
             state.agents,
             state.words.as_slice(),
@@ -157,7 +157,7 @@ pub fn apply(state: &mut CoreState, event: &Event) -> Result<u64, Refusal>
     ensures born { IfOk result (λ _. BornBy event.now state.new) }
 {
     let alloc = *state.words.allocator();
-    moves::step(
+    play::step(
         alloc,
         &mut state.size,
         &mut state.agents,
@@ -174,6 +174,13 @@ pub fn every_run()
     ensures made { MadeRunsAreSound }
     ensures units { RunsKeepUnits }
     ensures legal { RunsAreLegal }
+{}
+
+/// What each event on a word does to the machine is what its kind of step does to that word and to
+/// the agent's view, wherever it is enabled. The steps of the running heap are of the same kinds.
+/// The call does nothing.
+pub fn every_event()
+    ensures { EventsAreSteps }
 {}
 
 /// Each kind of event that the machine does not play yet keeps the rule and the units of every

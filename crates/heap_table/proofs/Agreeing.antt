@@ -7,18 +7,18 @@ use Rattle.std.specs.FinMap.{FinMap}
 use Rattle.js_header.specs.Form.{form_of}
 use Rattle.js_header.specs.declared.form.Form.{Form}
 use Rattle.js_header.specs.declared.form.Form.TheVariants.{Flat}
-use Rattle.heap_core.specs.declared.view.View.{View}
-use Rattle.heap_core.specs.declared.size.HeapSize.{HeapSize}
-use Rattle.heap_core.specs.Layout.{content, form, length_word, slot, IsBorn}
-use Rattle.heap_core.specs.Contents.{units_of}
-use Rattle.heap_core.specs.Maps.{Has, HasKey, upper_one}
-use Rattle.heap_core.specs.Forms.{IsLater, later_form}
-use Rattle.heap_core.specs.Agents.{joined, spent}
-use Rattle.heap_core.specs.Events.{IsBuilt}
-use Rattle.heap_core.specs.Sound.{At, IsSound, IsPossible, Knows, KnowsForm, OwnsIds, OwnsWords}
-use Rattle.heap_core.proofs.MapLemmas.{has_key, key_of}
-use Rattle.heap_core.proofs.ListLemmas.{set_else, set_there}
-use Rattle.heap_core.proofs.Joining.{keeps_joined, laid_keeps, laid_takes}
+use Rattle.heap_rule.specs.declared.view.View.{View}
+use Rattle.heap_rule.specs.declared.size.HeapSize.{HeapSize}
+use Rattle.heap_rule.specs.Layout.{content, form, length_word, slot, IsBorn}
+use Rattle.heap_rule.specs.Contents.{units_of}
+use Rattle.heap_rule.specs.Maps.{Has, HasKey, upper_one}
+use Rattle.heap_rule.specs.Forms.{IsLater, later_form}
+use Rattle.heap_rule.specs.Agents.{joined, spent}
+use Rattle.heap_rule.specs.Forms.{IsBuilt}
+use Rattle.heap_rule.specs.Sound.{At, IsSound, IsPossible, Knows, KnowsForm, OwnsIds, OwnsWords}
+use Rattle.heap_rule.proofs.MapLemmas.{has_key, key_of}
+use Rattle.heap_rule.proofs.ListLemmas.{set_else, set_there}
+use Rattle.heap_rule.proofs.Joining.{keeps_joined, laid_keeps, laid_takes}
 use Rattle.heap_table.specs.Rule.{AreBuilt}
 use Rattle.heap_table.specs.Known.{KeepsKnown, HasAll}
 use Rattle.heap_table.specs.Taken.{same_number, fits_form, has_all, agree, taken}
@@ -130,11 +130,13 @@ possible_agree v b p = some_share (agree v b) (v.share + b.share) (p.5.members p
 -- what the test says
 module _ (v w : View) (keys : HasKeys v w) (test : has_all v w ≡ true) where
   known_by : KeepsKnown v w
-  known_by = let a = and_parts _ _ test in let b = and_parts _ _ a.1 in let c = and_parts _ _ b.1 in record {
+  known_by = let a = and_parts _ _ test in let b = and_parts _ _ a.1 in let c = and_parts _ _ b.1 in let d = and_parts _ _ c.1 in record {
     units = same_met bytes_eq v.units w.units bytes_decides a.0;
     lengths = same_met same_number v.lengths w.lengths same_number_decides b.0;
     flats = λ q wide start fixed h. let t = fits_met fits_form v.forms w.forms c.0 q (Flat wide start fixed) h in t.1 ∙ ap Some (fits_flat wide start fixed t.0 t.2);
     settled = λ q h. let t = fits_met fits_form v.forms w.forms c.0 q h.0 h.1 in (t.0, t.1, fits_settled h.0 t.0 t.2 h.2);
+    frozen = same_met same_number v.frozen w.frozen same_number_decides d.0;
+    known = λ q h. ⊎_elim (λ (t : HasKey v.units q). inl (keys.units q t)) (λ (t : HasKey v.met q). inr (keys.met q t)) h;
   }
 
   all_by : HasAll v w

@@ -9,10 +9,10 @@ use Rattle.std.specs.Cmp.{unsigned_tied, booleans_Decides, unsigned_Decides}
 use Rattle.std.specs.FinMap.{FinMap, get, keys, contains_key-keys}
 use Rattle.js_header.specs.declared.form.Form.{Form}
 use Rattle.js_header.specs.declared.form.Form.TheVariants.{Unborn, Flat, Cons, Sliced, Thin}
-use Rattle.heap_core.specs.Maps.{Has}
-use Rattle.heap_core.specs.Forms.{IsCons, IsLater, is_later}
-use Rattle.heap_core.specs.Events.{IsBuilt}
-use Rattle.heap_core.proofs.MapLemmas.{key_of}
+use Rattle.heap_rule.specs.Maps.{Has}
+use Rattle.heap_rule.specs.Forms.{IsCons, IsLater, is_later}
+use Rattle.heap_rule.specs.Forms.{IsBuilt}
+use Rattle.heap_rule.proofs.MapLemmas.{key_of}
 use Rattle.heap_table.specs.Taken.{fits_there, fits_all, same_number, fits_form}
 
 pub false_true : false ≡ true → ⊥

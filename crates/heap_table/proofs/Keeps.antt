@@ -7,35 +7,35 @@ use lib.ListN.{get_elem?}
 use native.Mathlib.Decide.{ℕ_discrete}
 use prog.Atomic.{either}
 use Rattle.atomic_table.specs.Table.{State, step, keeps, Allows, Joins, Splits}
-use Rattle.heap_core.specs.declared.view.View.{View}
-use Rattle.heap_core.specs.declared.size.Counter.{Counter}
-use Rattle.heap_core.specs.declared.size.Counter.TheVariants.{Ids, Words}
-use Rattle.heap_core.specs.Layout.{IsLawful, counter_at, end_of, content_at, form_at, length_at, word_count, MAX}
-use Rattle.heap_core.specs.declared.size.HeapSize.{HeapSize}
-use Rattle.heap_core.specs.Agents.{joined, spent, noted, left_after_split, right_after_split}
-use Rattle.heap_core.specs.Loads.{with_form, loaded_form, loaded_length, loaded_word, MayLoadWord}
-use Rattle.heap_core.specs.Learning.{learned_all, all_named}
-use Rattle.heap_core.specs.Claims.{loaded_counter, claimed, won_claim, MayClaim}
-use Rattle.heap_core.specs.Births.{stored_word, MayStoreLength, stored_length, MayBear, born, born_with}
-use Rattle.heap_core.specs.Events.{IsBuilt}
-use Rattle.heap_core.specs.Sound.{IsSound, IsPossible}
-use Rattle.heap_core.specs.Maps.{Has, HasKey}
-use Rattle.heap_core.specs.Views.{IsKnown, shown}
+use Rattle.heap_rule.specs.declared.view.View.{View}
+use Rattle.heap_rule.specs.declared.size.Counter.{Counter}
+use Rattle.heap_rule.specs.declared.size.Counter.TheVariants.{Ids, Words}
+use Rattle.heap_rule.specs.Layout.{IsLawful, counter_at, end_of, content_at, form_at, length_at, word_count, MAX}
+use Rattle.heap_rule.specs.declared.size.HeapSize.{HeapSize}
+use Rattle.heap_rule.specs.Agents.{joined, spent, noted, left_after_split, right_after_split}
+use Rattle.heap_rule.specs.Loads.{with_form, loaded_form, loaded_length, loaded_word, MayLoadWord}
+use Rattle.heap_rule.specs.Learning.{learned_all, all_named}
+use Rattle.heap_rule.specs.Claims.{loaded_counter, claimed, won_claim, MayClaim}
+use Rattle.heap_rule.specs.Births.{stored_word, MayStoreLength, stored_length, MayBear, born, born_with}
+use Rattle.heap_rule.specs.Forms.{IsBuilt}
+use Rattle.heap_rule.specs.Sound.{IsSound, IsPossible}
+use Rattle.heap_rule.specs.Maps.{Has, HasKey}
+use Rattle.heap_rule.specs.Views.{IsKnown, shown}
 use Rattle.js_header.specs.Form.{IsInRange, form_of, word_of}
 use Rattle.js_header.specs.declared.form.Form.{Form}
 use Rattle.js_header.specs.declared.form.Form.TheVariants.{Unborn, Flat, Cons, Sliced, Thin}
 use Rattle.js_header.proofs.RoundTrip.{form_of-word_of}
 use Rattle.std.specs.FinMap.{contains_key, entries, get, insert}
-use Rattle.heap_core.proofs.Steps.{keeps_loaded_counter, keeps_won_claim, keeps_stored_word, keeps_stored_length, possible_within, counter_found, known_below, sizes_are}
-use Rattle.heap_core.proofs.Loading.{keeps_loaded_form, form_found, known_born}
-use Rattle.heap_core.proofs.Loads.{keeps_loaded_length, keeps_loaded_word}
-use Rattle.heap_core.proofs.Birth.{keeps_birth}
-use Rattle.heap_core.proofs.Splitting.{keeps_learned, keeps_noted, keeps_split, set_twice}
-use Rattle.heap_core.proofs.Whole.{share_within, whole_counter}
-use Rattle.heap_core.proofs.Joining.{keeps_joined}
-use Rattle.heap_core.proofs.Possible.{possible_frozen}
-use Rattle.heap_core.proofs.ListLemmas.{set_else, set_there}
-use Rattle.heap_core.proofs.MapLemmas.{insert_same, key_of}
+use Rattle.heap_rule.proofs.Steps.{keeps_loaded_counter, keeps_won_claim, keeps_stored_word, keeps_stored_length, possible_within, counter_found, known_below, sizes_are}
+use Rattle.heap_rule.proofs.Loading.{keeps_loaded_form, form_found, known_born}
+use Rattle.heap_rule.proofs.Loads.{keeps_loaded_length, keeps_loaded_word}
+use Rattle.heap_rule.proofs.Birth.{keeps_birth}
+use Rattle.heap_rule.proofs.Splitting.{keeps_learned, keeps_noted, keeps_split, set_twice}
+use Rattle.heap_rule.proofs.Whole.{share_within, whole_counter}
+use Rattle.heap_rule.proofs.Joining.{keeps_joined}
+use Rattle.heap_rule.proofs.Possible.{possible_frozen}
+use Rattle.heap_rule.proofs.ListLemmas.{set_else, set_there}
+use Rattle.heap_rule.proofs.MapLemmas.{insert_same, has_key, key_of}
 use Rattle.heap_table.specs.declared.rule.HeapKey.{HeapKey}
 use Rattle.heap_table.specs.Rule.{AreBuilt, KeepsHeap}
 use Rattle.heap_table.specs.Taken.{taken}
@@ -96,6 +96,8 @@ module _ (key : HeapKey) (slots id : ℕ) (me : Sat) (live : me.0.live ≡ true)
     grown = f.0;
     within = f.1;
     above = λ e i known. subst (λ (q : Counter). i < get_or s.words (counter_at q) 0) (sym e) (known_below key.size key.agents s.words s.views h id me.0 at live i known);
+    own_ids = λ e i own. subst (λ (q : Counter). i < get_or s.words (counter_at q) 0) (sym e) (let p = has_key me.0.own_ids i own in ((h.own_ids id me.0 at live).each i p.0 p.1).0);
+    own_words = λ e c own. subst (λ (q : Counter). c < get_or s.words (counter_at q) 0) (sym e) (let p = has_key me.0.own_words c own in ((h.own_words id me.0 at live).each c p.0 p.1).0);
     whole = whole_counter key.size key.agents s.words s.views h id me.0 at live k;
   }
 
@@ -248,7 +250,7 @@ module _ (key : HeapKey) (slots id : ℕ) (me : Sat) (live : me.0.live ≡ true)
         a_load (content_at z c) s w (kept, b),
         (
           record { slots = refl; sizes = t.0; live = t.1; share = t.2; possible = after_possible s at s.words w (t.1 ∙ live) kept },
-          known_word key.size key.agents s.words s.views h id me.0 at live c x kept,
+          known_word key.size key.agents s.words s.views h id me.0 at live c x (ap (λ (y : HeapSize). get_or s.words (content_at y c) 0) (sym same)) kept,
           λ d e. let is : c ≡ d = one_content z c d e in subst (λ (y : ℕ). (w ≡ learned_all (loaded_word me.0 y x)) × (x ≡ shown w y)) is (refl, word_shown c x (get me.0.own_words c) refl found),
         ),
       )

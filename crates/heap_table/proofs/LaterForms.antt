@@ -8,9 +8,9 @@ use Rattle.std.specs.Cmp.{unsigned_tied}
 use Rattle.std.specs.FinMap.{FinMap, get, insert, keys, contains_key-keys}
 use Rattle.js_header.specs.declared.form.Form.{Form}
 use Rattle.js_header.specs.declared.form.Form.TheVariants.{Unborn, Flat, Cons, Sliced, Thin}
-use Rattle.heap_core.specs.Maps.{Has, put_by, laid_at, laid_over}
-use Rattle.heap_core.specs.Forms.{IsLater, is_later, later_form}
-use Rattle.heap_core.proofs.MapLemmas.{insert_same, insert_other, key_of}
+use Rattle.heap_rule.specs.Maps.{Has, put_by, laid_at, laid_over}
+use Rattle.heap_rule.specs.Forms.{IsLater, is_later, later_form}
+use Rattle.heap_rule.proofs.MapLemmas.{insert_same, insert_other, key_of}
 use Rattle.heap_table.proofs.Fitting.{false_true, or_rest, not_self}
 
 -- of two forms only one is later than the other

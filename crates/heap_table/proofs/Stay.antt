@@ -1,5 +1,5 @@
 -- What stays as it is over a step: the forms whose births are built, and what the agent knew.
-use Rattle.std.proofs.Common.{◌≡◌, ◌≢◌, ℕ, zero, suc, ◌^◌, ◌<◌, ⊎_elim, Bool, true, false, cond, List, [], ◌∷◌, length, get_or, set, sym, refl, ap, ◌∙◌, subst, arith, get_or-set_other, get_or-set_same, Option, Some, None}
+use Rattle.std.proofs.Common.{◌≡◌, ◌≢◌, ℕ, zero, suc, ◌^◌, ◌<◌, inl, inr, ⊎_elim, Bool, true, false, cond, List, [], ◌∷◌, length, get_or, set, sym, refl, ap, ◌∙◌, subst, arith, get_or-set_other, get_or-set_same, Option, Some, None}
 use Rattle.std.specs.Prelude.{replicate, unwrap_or}
 use mathlib.Core.Logic.{dite}
 use native.Mathlib.Decide.{ℕ_discrete}
@@ -9,18 +9,19 @@ use Rattle.js_header.specs.Form.{form_of, word_of}
 use Rattle.js_header.specs.declared.form.Form.{Form}
 use Rattle.js_header.specs.declared.form.Form.TheVariants.{Unborn, Flat, Cons, Sliced, Thin}
 use Rattle.js_header.proofs.RoundTrip.{form_of-word_of}
-use Rattle.heap_core.specs.declared.view.View.{View}
-use Rattle.heap_core.specs.declared.size.HeapSize.{HeapSize}
-use Rattle.heap_core.specs.Layout.{form_at, form, length_word, word_count, IsBorn}
-use Rattle.heap_core.specs.Maps.{Has, HasKey}
-use Rattle.heap_core.specs.Forms.{IsCons, IsLater}
-use Rattle.heap_core.specs.Learning.{justified, learn_one, learn_into, learned_all, all_named}
-use Rattle.heap_core.specs.Loads.{with_form, added_loads, loaded_form, loaded_length, loaded_word}
-use Rattle.heap_core.specs.Births.{born, units_for}
-use Rattle.heap_core.specs.Events.{IsBuilt}
-use Rattle.heap_core.specs.Sound.{At, IsSound}
-use Rattle.heap_core.proofs.MapLemmas.{insert_same, insert_other, has_key, key_of}
-use Rattle.heap_core.proofs.ListLemmas.{set_there}
+use Rattle.heap_rule.specs.declared.view.View.{View}
+use Rattle.heap_rule.specs.declared.size.HeapSize.{HeapSize}
+use Rattle.js_units.specs.Lanes.{words_over}
+use Rattle.heap_rule.specs.Layout.{form_at, form, length_word, content, word_count, IsBorn}
+use Rattle.heap_rule.specs.Maps.{Has, HasKey, put_some, with_run_of}
+use Rattle.heap_rule.specs.Forms.{IsCons, IsLater}
+use Rattle.heap_rule.specs.Learning.{justified, learn_one, learn_into, learned_all, all_named}
+use Rattle.heap_rule.specs.Loads.{met_ids, with_form, added_loads, loaded_form, loaded_length, loaded_word}
+use Rattle.heap_rule.specs.Births.{born, units_for}
+use Rattle.heap_rule.specs.Forms.{IsBuilt}
+use Rattle.heap_rule.specs.Sound.{At, IsSound}
+use Rattle.heap_rule.proofs.MapLemmas.{insert_same, insert_other, has_key, key_of}
+use Rattle.heap_rule.proofs.ListLemmas.{set_there}
 use Rattle.heap_table.specs.Known.{KeepsKnown}
 use Rattle.heap_table.specs.Rule.{AreBuilt}
 
@@ -49,12 +50,34 @@ all_zero (suc n) (suc i) = all_zero n i
 pub built_zeros : (z : HeapSize) → AreBuilt z (zeros_of (word_count z))
 built_zeros z i f born e = absurd (born.1 (all_zero (word_count z) (form_at z i)))
 
+module _ {X : Type 0} where
+  -- an insertion takes no key away
+  key_stays : (m : FinMap nat_cmp X) (k q : ℕ) (x : X) → HasKey m q → HasKey (insert m k x) q
+  key_stays m k q x h = dite (ℕ_discrete q k)
+      (λ e. key_of (insert m k x) q x (ap (get (insert m k x)) e ∙ insert_same m k x))
+      (λ ne. let p = has_key m q h in key_of (insert m k x) q p.0 (insert_other m k q x ne ∙ p.1))
+
+  -- what is put over a map from another one leaves a key that the other has not
+  put_stays : (own m : FinMap nat_cmp X) (k q : ℕ) (x : X) (o : Option X) → get own k ≡ o → (HasKey own q → ⊥) → Has m q x → Has (put_some m k o) q x
+  put_stays own m k q x None e none h = h
+  put_stays own m k q x (Some y) e none h = insert_other m k q y (λ (s : q ≡ k). none (key_of own q y (ap (get own) s ∙ e))) ∙ h
+
+  run_stays : (own m : FinMap nat_cmp X) (k n q : ℕ) (x : X) → (HasKey own q → ⊥) → Has m q x → Has (with_run_of own m k n) q x
+  run_stays own m k zero q x none h = h
+  run_stays own m k (suc n) q x none h = run_stays own (put_some m k (get own k)) (suc k) n q x none (put_stays own m k q x (get own k) refl none h)
+
+-- a form that is seen takes no met id away
+met_stays : (m : FinMap nat_cmp (Unit {0})) (f : Form) (q : ℕ) → HasKey m q → HasKey (met_ids m f) q
+met_stays m Unborn q h = h
+met_stays m (Flat wide start fixed) q h = h
+met_stays m (Cons wide left right) q h = key_stays (insert m left tt) right q tt (key_stays m left q tt h)
+met_stays m (Sliced wide parent offset) q h = key_stays m parent q tt h
+met_stays m (Thin target) q h = key_stays m target q tt h
+
 -- learning takes no pair away
 key_learned : (f : ℕ → Option (List ℕ)) (m : FinMap nat_cmp (List ℕ)) (i : ℕ) (o : Option (List ℕ)) (q : ℕ) → HasKey m q → HasKey (learn_one m i o) q
 key_learned f m i None q h = h
-key_learned f m i (Some us) q h = dite (ℕ_discrete q i)
-    (λ e. key_of (insert m i us) q us (ap (get (insert m i us)) e ∙ insert_same m i us))
-    (λ ne. let p = has_key m q h in key_of (insert m i us) q p.0 (insert_other m i q us ne ∙ p.1))
+key_learned f m i (Some us) q h = key_stays m i q us h
 
 keys_learned : (f : ℕ → Option (List ℕ)) (names : List ℕ) (m : FinMap nat_cmp (List ℕ)) (q : ℕ) → HasKey m q → HasKey (learn_into f m names) q
 keys_learned f [] m q h = h
@@ -102,6 +125,8 @@ module _ (z : HeapSize) (agents : ℕ) (W : List ℕ) (vs : List View) (s : IsSo
     settled = λ q h. dite (ℕ_discrete q i)
         (λ (e : q ≡ i). (g, ap (get (insert v.forms i g)) e ∙ insert_same v.forms i g, not_cons g built'))
         (λ ne. (h.0, insert_other v.forms i q g ne ∙ h.1, h.2));
+    frozen = λ c x h. h;
+    known = λ q h. ⊎_elim (λ (t : HasKey v.units q). inl (with_learned v.units (justified w) (all_named (entries w.forms)) refl q t)) (λ (t : HasKey v.met q). inr (met_stays v.met g q t)) h;
   }
 
   pub known_form : (i x : ℕ) (f : Form) → form_of x ≡ Some f → form_of (form z W i) ≡ Some f → IsBuilt f → IsSound z agents W (set vs j (learned_all (loaded_form v i x))) → KeepsKnown v (learned_all (loaded_form v i x))
@@ -115,24 +140,32 @@ module _ (z : HeapSize) (agents : ℕ) (W : List ℕ) (vs : List View) (s : IsSo
         (λ ne. insert_other v.lengths i q x ne ∙ h);
     flats = λ q wide start fixed h. h;
     settled = λ q h. h;
+    frozen = λ c y h. h;
+    known = λ q h. ⊎_elim (λ (t : HasKey v.units q). inl (with_learned v.units (justified w) (all_named (entries w.forms)) refl q t)) (λ (t : HasKey v.met q). inr t) h;
   }
 
-  known_word_by : (b : Bool) (c x : ℕ) → IsSound z agents W (set vs j (learned_all (cond b v (record v { frozen = insert v.frozen c x })))) → KeepsKnown v (learned_all (cond b v (record v { frozen = insert v.frozen c x })))
-  known_word_by true c x kept = record {
+  known_word_by : (b : Bool) (c x : ℕ) → content z W c ≡ x → IsSound z agents W (set vs j (learned_all (cond b v (record v { frozen = insert v.frozen c x })))) → KeepsKnown v (learned_all (cond b v (record v { frozen = insert v.frozen c x })))
+  known_word_by true c x is kept = record {
     units = units_stay (learned_all v) live kept (with_learned v.units (justified v) (all_named (entries v.forms)) refl);
     lengths = λ q n h. h;
     flats = λ q wide start fixed h. h;
     settled = λ q h. h;
+    frozen = λ q y h. h;
+    known = λ q h. ⊎_elim (λ (t : HasKey v.units q). inl (with_learned v.units (justified v) (all_named (entries v.forms)) refl q t)) (λ (t : HasKey v.met q). inr t) h;
   }
-  known_word_by false c x kept = let w : View = record v { frozen = insert v.frozen c x } in record {
+  known_word_by false c x is kept = let w : View = record v { frozen = insert v.frozen c x } in record {
     units = units_stay (learned_all w) live kept (with_learned v.units (justified w) (all_named (entries w.forms)) refl);
     lengths = λ q n h. h;
     flats = λ q wide start fixed h. h;
     settled = λ q h. h;
+    frozen = λ q y h. dite (ℕ_discrete q c)
+        (λ (e : q ≡ c). let y_is : y ≡ x = sym ((s.knows j v at live).of_frozen q y h).1 ∙ (ap (content z W) e ∙ is) in ap (get (insert v.frozen c x)) e ∙ (insert_same v.frozen c x ∙ ap Some (sym y_is)))
+        (λ ne. insert_other v.frozen c q x ne ∙ h);
+    known = λ q h. ⊎_elim (λ (t : HasKey v.units q). inl (with_learned v.units (justified w) (all_named (entries w.forms)) refl q t)) (λ (t : HasKey v.met q). inr t) h;
   }
 
-  pub known_word : (c x : ℕ) → IsSound z agents W (set vs j (learned_all (loaded_word v c x))) → KeepsKnown v (learned_all (loaded_word v c x))
-  known_word c x kept = known_word_by (contains_key v.own_words c) c x kept
+  pub known_word : (c x : ℕ) → content z W c ≡ x → IsSound z agents W (set vs j (learned_all (loaded_word v c x))) → KeepsKnown v (learned_all (loaded_word v c x))
+  known_word c x is kept = known_word_by (contains_key v.own_words c) c x is kept
 
   -- an id that is born was no known one
   pub known_birth : (i : ℕ) (wide : Bool) (start : ℕ) (fixed : Bool) → HasKey v.own_ids i → KeepsKnown v (born v i (Flat wide start fixed))
@@ -143,4 +176,6 @@ module _ (z : HeapSize) (agents : ℕ) (W : List ℕ) (vs : List View) (s : IsSo
         lengths = λ q n h. insert_other v.lengths i q (unwrap_or (get v.own_ids i) 0) (other q (k.of_lengths q n h).0) ∙ h;
         flats = λ q b t x h. insert_other v.forms i q f (other q (k.of_forms q (Flat b t x) h).born) ∙ h;
         settled = λ q h. (h.0, insert_other v.forms i q f (other q (k.of_forms q h.0 h.1).born) ∙ h.1, h.2);
+        frozen = λ c x h. run_stays v.own_words v.frozen start (words_over wide (unwrap_or (get v.own_ids i) 0)) c x ((k.of_frozen c x h).0.free j v at live) h;
+        known = λ q h. ⊎_elim (λ (t : HasKey v.units q). inl (key_stays v.units i q (units_for v (unwrap_or (get v.own_ids i) 0) f) t)) (λ (t : HasKey v.met q). inr t) h;
       }

@@ -1,8 +1,8 @@
 -- What contracts see of an agent and of a heap.
 use Rattle.std.specs.Prelude.{◌≡◌, ℕ, true, []}
-use Rattle.heap_core.specs.declared.size.HeapSize.{HeapSize}
-use Rattle.heap_core.specs.declared.view.View.{View}
-use Rattle.heap_core.specs.Sound.{IsPossible}
+use Rattle.heap_rule.specs.declared.size.HeapSize.{HeapSize}
+use Rattle.heap_rule.specs.declared.view.View.{View}
+use Rattle.heap_rule.specs.Sound.{IsPossible}
 use Rattle.heap_table.specs.declared.agent.Agent.{Agent}
 use Rattle.heap_table.specs.declared.heap.Heap.{Heap}
 

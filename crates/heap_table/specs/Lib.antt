@@ -5,3 +5,4 @@ pub mod Taken
 pub mod Plays
 pub mod Agents
 pub mod Full
+pub mod Moments

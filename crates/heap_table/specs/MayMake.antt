@@ -1,7 +1,7 @@
 -- Which heaps may be made.
 use Rattle.std.specs.Prelude.{ℕ, ◌≤◌}
-use Rattle.heap_core.specs.declared.size.HeapSize.{HeapSize}
-use Rattle.heap_core.specs.Layout.{IsLawful}
+use Rattle.heap_rule.specs.declared.size.HeapSize.{HeapSize}
+use Rattle.heap_rule.specs.Layout.{IsLawful}
 
 -- lawful sizes, and 1 to 64 agents
 abbrev pub MayMake : HeapSize → ℕ → Type 0

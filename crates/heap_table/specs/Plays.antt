@@ -4,18 +4,19 @@ use Rattle.std.specs.Prelude.{Some, ◌≡◌, ℕ, ◌+◌, ◌<◌, ◌≤◌}
 use Rattle.atomic_table.specs.Table.{Step, Me}
 use Rattle.js_header.specs.Form.{IsInRange, form_of, word_of}
 use Rattle.js_header.specs.declared.form.Form.{Form}
-use Rattle.heap_core.specs.declared.view.View.{View}
-use Rattle.heap_core.specs.declared.size.Counter.{Counter}
-use Rattle.heap_core.specs.declared.size.Counter.TheVariants.{Ids}
-use Rattle.heap_core.specs.Layout.{counter_at, end_of, content_at, form_at, length_at, MAX, count_in}
-use Rattle.heap_core.specs.Views.{IsKnown, shown}
-use Rattle.heap_core.specs.Claims.{loaded_counter, claimed}
-use Rattle.heap_core.specs.Births.{stored_word, stored_length, born}
-use Rattle.heap_core.specs.Loads.{loaded_form, loaded_length, loaded_word}
-use Rattle.heap_core.specs.Learning.{learned_all}
-use Rattle.heap_core.specs.Agents.{noted}
-use Rattle.heap_core.specs.Events.{IsBuilt}
-use Rattle.heap_core.specs.Sound.{IsPossible}
+use Rattle.heap_rule.specs.declared.view.View.{View}
+use Rattle.heap_rule.specs.declared.size.Counter.{Counter}
+use Rattle.heap_rule.specs.declared.size.Counter.TheVariants.{Ids, Words}
+use Rattle.heap_rule.specs.Layout.{counter_at, end_of, content_at, form_at, length_at, MAX, count_in}
+use Rattle.heap_rule.specs.Maps.{HasKey}
+use Rattle.heap_rule.specs.Views.{IsKnown, shown}
+use Rattle.heap_rule.specs.Claims.{loaded_counter, claimed}
+use Rattle.heap_rule.specs.Births.{stored_word, stored_length, born}
+use Rattle.heap_rule.specs.Loads.{loaded_form, loaded_length, loaded_word}
+use Rattle.heap_rule.specs.Learning.{learned_all}
+use Rattle.heap_rule.specs.Agents.{noted}
+use Rattle.heap_rule.specs.Forms.{IsBuilt}
+use Rattle.heap_rule.specs.Sound.{IsPossible}
 use Rattle.heap_table.specs.Known.{KeepsKnown}
 
 -- a seat: its view, and the slots that it holds, of which there are none
@@ -23,11 +24,13 @@ abbrev pub Sat : Type 0
 Sat = Me (Unit {0}) View
 
 -- what the rule says of a counter that is found: it is no less than what was read before and lies within its end, an id to come is above every
--- known one, and an agent that holds the whole share claimed all of it
+-- known one and every own one, a content word to come above every own one, and an agent that holds the whole share claimed all of it
 pub record FoundCounter (v : View) (k : Counter) (x : ℕ) : Type 0 where
   pub grown : count_in v.low k ≤ x
   pub within : x ≤ end_of v.sizes k
   pub above : k ≡ Ids → (i : ℕ) → IsKnown v i → i < x
+  pub own_ids : k ≡ Ids → (i : ℕ) → HasKey v.own_ids i → i < x
+  pub own_words : k ≡ Words → (c : ℕ) → HasKey v.own_words c → c < x
   pub whole : v.share ≡ v.agents → x ≡ count_in v.used k
 
 -- what each step of one agent leaves as it is, and that the new view stands in a sound state

@@ -3,11 +3,11 @@ use Rattle.std.specs.Prelude.{◌≡◌, ℕ, List, Some}
 use Rattle.atomic_table.specs.Table.{State}
 use Rattle.js_header.specs.Form.{form_of}
 use Rattle.js_header.specs.declared.form.Form.{Form}
-use Rattle.heap_core.specs.declared.size.HeapSize.{HeapSize}
-use Rattle.heap_core.specs.declared.view.View.{View}
-use Rattle.heap_core.specs.Layout.{form, IsBorn}
-use Rattle.heap_core.specs.Events.{IsBuilt}
-use Rattle.heap_core.specs.Sound.{IsSound}
+use Rattle.heap_rule.specs.declared.size.HeapSize.{HeapSize}
+use Rattle.heap_rule.specs.declared.view.View.{View}
+use Rattle.heap_rule.specs.Layout.{form, IsBorn}
+use Rattle.heap_rule.specs.Forms.{IsBuilt}
+use Rattle.heap_rule.specs.Sound.{IsSound}
 use Rattle.heap_table.specs.declared.rule.HeapKey.{HeapKey}
 
 abbrev pub AreBuilt : HeapSize → List ℕ → Type 0

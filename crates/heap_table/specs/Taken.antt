@@ -7,8 +7,8 @@ use Rattle.std.specs.Ordering.{nat_cmp}
 use Rattle.std.specs.FinMap.{FinMap, get, keys}
 use Rattle.js_header.specs.declared.form.Form.{Form}
 use Rattle.js_header.specs.declared.form.Form.TheVariants.{Flat, Cons}
-use Rattle.heap_core.specs.declared.view.View.{View}
-use Rattle.heap_core.specs.Agents.{joined}
+use Rattle.heap_rule.specs.declared.view.View.{View}
+use Rattle.heap_rule.specs.Agents.{joined}
 
 module _ {X : Type 0} (fits : X → X → Bool) where
   -- what stands in the place of an entry fits it

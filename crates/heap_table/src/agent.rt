@@ -2,14 +2,14 @@
 ghost use Rattle.std.specs.Prelude.{◌≡◌, ℕ, ◌+◌, ◌++◌, ◌≤◌, ◌<◌};
 ghost use Rattle.heap_table.specs.Agents.{Belongs, share_of, view_of};
 ghost use Rattle.heap_table.specs.Known.{HasAll, KeepsKnown};
-ghost use Rattle.heap_core.specs.Claims.{loaded_counter};
-ghost use Rattle.heap_core.specs.Views.{history};
-ghost use Rattle.heap_core.specs.Agents.{MayJoin, joined, left_after_split, noted, right_after_split};
+ghost use Rattle.heap_rule.specs.Claims.{loaded_counter};
+ghost use Rattle.heap_rule.specs.Views.{history};
+ghost use Rattle.heap_rule.specs.Agents.{MayJoin, joined, left_after_split, noted, right_after_split};
 
 use crate::heap::Heap;
 use crate::rule::{ByNote, Looks, NotesShare, TakesOver};
 use atomic_table::Seat;
-use heap_core::{Counter, View};
+use heap_rule::{Counter, View};
 
 /// One user of a heap, which makes its steps from one thread at a time. It has a share of the
 /// heap's number of agents, and owns the ids and content words that it claimed.

@@ -1,8 +1,9 @@
 // Claims on the two counters.
 ghost use Rattle.std.specs.Prelude.{◌≡◌, ℕ, ◌+◌, ◌*◌, ◌≤◌, ◌<◌, IfOk, IfErr};
-ghost use Rattle.heap_core.specs.Layout.{count_in, end_of};
-ghost use Rattle.heap_core.specs.Views.{IsKnown};
-ghost use Rattle.heap_core.specs.Claims.{loaded_counter, MayClaim, claimed, won_claim};
+ghost use Rattle.heap_rule.specs.Layout.{count_in, end_of};
+ghost use Rattle.heap_rule.specs.Maps.{HasKey};
+ghost use Rattle.heap_rule.specs.Views.{IsKnown};
+ghost use Rattle.heap_rule.specs.Claims.{loaded_counter, MayClaim, claimed, won_claim};
 ghost use Rattle.heap_table.specs.Agents.{Belongs, view_of, size_of};
 ghost use Rattle.heap_table.specs.Plays.{FoundCounter};
 ghost use Rattle.heap_table.specs.Full.{IsFull};
@@ -10,7 +11,7 @@ ghost use Rattle.heap_table.specs.Full.{IsFull};
 use crate::agent::Agent;
 use crate::heap::Heap;
 use crate::rule::{Claims, LoadsCounter};
-use heap_core::Counter;
+use heap_rule::Counter;
 
 /// A counter that has no room: it stood at `at`, and `want` more pass `end`.
 #[derive(Clone, Copy, Debug, PartialEq, Eq)]
@@ -72,7 +73,8 @@ impl Agent {
         }
     }
 
-    /// The next id, now this agent's own. It is greater than every id that the agent knew.
+    /// The next id, now this agent's own. It is greater than every id that the agent knew
+    /// or owned.
     /// Refused where the counter that was read last stands at its end.
     pub fn claim_id(&mut self, heap: &Heap) -> Result<u32, CounterFull>
         requires { Belongs self.old heap.now }
@@ -81,6 +83,7 @@ impl Agent {
         ensures room { IfOk result (λ id. id < (size_of heap.now).ids) }
         ensures low { (view_of self.old).low.ids ≤ (view_of self.new).low.ids }
         ensures above { IfOk result (λ id. (i : ℕ) → IsKnown (view_of self.old) i → i < id) }
+        ensures above_own { IfOk result (λ id. (i : ℕ) → HasKey (view_of self.old).own_ids i → i < id) }
         ensures refused { IfErr result (λ f. (view_of self.new ≡ loaded_counter (view_of self.old) Counter.Ids f.at) × IsFull f 1 (size_of heap.now).ids) }
     {
         self.claim(heap, Counter::Ids, 1)
@@ -94,6 +97,7 @@ impl Agent {
         ensures belongs { Belongs self.new heap.now }
         ensures view { IfOk result (λ at. view_of self.new ≡ won_claim (view_of self.old) Counter.Words at want) }
         ensures room { IfOk result (λ at. at + want ≤ (size_of heap.now).words) }
+        ensures above_own { IfOk result (λ at. (c : ℕ) → HasKey (view_of self.old).own_words c → c < at) }
         ensures low { (view_of self.old).low.words ≤ (view_of self.new).low.words }
         ensures refused { IfErr result (λ f. (view_of self.new ≡ loaded_counter (view_of self.old) Counter.Words f.at) × IsFull f want (size_of heap.now).words) }
     {

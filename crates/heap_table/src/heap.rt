@@ -1,13 +1,13 @@
 // The table of a heap, and its making.
 ghost use Rattle.std.specs.Prelude.{◌≡◌, ℕ, ◌+◌, ◌*◌, ◌≤◌, ◌<◌, ◌^◌, ◌↔◌, [], IfOk, IsTrue, IsOk, Err};
-ghost use Rattle.heap_core.specs.Layout.{IsLawful, word_count};
-ghost use Rattle.heap_core.specs.Agents.{first_view};
+ghost use Rattle.heap_rule.specs.Layout.{IsLawful, word_count};
+ghost use Rattle.heap_rule.specs.Agents.{first_view};
 ghost use Rattle.heap_table.specs.MayMake.{MayMake};
 
 use crate::agent::Agent;
 use crate::rule::{HeapKey, HeapRule};
 use atomic_table::Table;
-use heap_core::{HeapSize, View};
+use heap_rule::{HeapSize, View};
 use std::alloc::Global;
 
 /// Why no heap was made.

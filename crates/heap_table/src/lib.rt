@@ -1,5 +1,7 @@
 //! The heap as threads run it: all its words lie in one table of atomic words, and each call of
-//! an [`Agent`] is one step of the machine of `heap_core` (a claim is a list of such steps).
+//! an [`Agent`] is one step of a kind that `heap_rule` describes. A claim is a list of such steps;
+//! [`Agent::totals`] loads both counters; [`Agent::split`] and [`Agent::join`] make one step more,
+//! which changes no word. [`every_moment`] and [`every_play`] are the laws of these steps.
 //!
 //! A [`Heap`] is shared by reference among threads; an [`Agent`] belongs to one heap and is moved
 //! to the thread that uses it. No call takes a lock or waits, and only [`Heap::make`] takes
@@ -9,6 +11,7 @@
 mod agent;
 mod claims;
 mod heap;
+mod laws;
 mod loads;
 mod rule;
 mod stores;
@@ -16,8 +19,6 @@ mod stores;
 pub use agent::Agent;
 pub use claims::CounterFull;
 pub use heap::{Heap, MakeFault};
+pub use laws::{every_moment, every_play};
 pub use rule::{HeapKey, HeapRule};
 pub use stores::Step;
-
-#[cfg(test)]
-mod tests;

@@ -1,11 +1,11 @@
 // Loads of headers and content words. Each also learns every pair that the view's new data
 // justify, which takes nothing at run time.
 ghost use Rattle.std.specs.Prelude.{◌≡◌, ℕ, ◌+◌, ◌*◌, ◌≤◌, ◌<◌, ◌^◌, Some};
-ghost use Rattle.heap_core.specs.Events.{IsBuilt};
-ghost use Rattle.heap_core.specs.Views.{IsKnown, shown};
-ghost use Rattle.heap_core.specs.Layout.{MAX};
-ghost use Rattle.heap_core.specs.Loads.{MayLoadWord, loaded_form, loaded_length, loaded_word};
-ghost use Rattle.heap_core.specs.Learning.{learned_all};
+ghost use Rattle.heap_rule.specs.Forms.{IsBuilt};
+ghost use Rattle.heap_rule.specs.Views.{IsKnown, shown};
+ghost use Rattle.heap_rule.specs.Layout.{MAX};
+ghost use Rattle.heap_rule.specs.Loads.{MayLoadWord, loaded_form, loaded_length, loaded_word};
+ghost use Rattle.heap_rule.specs.Learning.{learned_all};
 ghost use Rattle.js_header.specs.Form.{form_of};
 ghost use Rattle.heap_table.specs.Agents.{Belongs, view_of};
 ghost use Rattle.heap_table.specs.Known.{KeepsKnown};

@@ -1,6 +1,6 @@
 // The rule that the table keeps between any two steps, and what each step tells its caller.
 use atomic_table::{Join, Play, Split, TableRule};
-use heap_core::{HeapSize, View};
+use heap_rule::{HeapSize, View};
 
 /// What the table is told once, when it is made.
 #[derive(Clone, Copy)]
@@ -13,7 +13,7 @@ pub struct HeapKey {
 pub struct HeapRule;
 
 impl TableRule<(), View, HeapKey> for HeapRule {
-    ghost use Rattle.heap_core.specs.Agents.{first_view};
+    ghost use Rattle.heap_rule.specs.Agents.{first_view};
     ghost use Rattle.heap_table.specs.Rule.{KeepsHeap};
 
     ghost holds = { KeepsHeap };
@@ -107,7 +107,7 @@ impl Play<(), View> for NotesShare {
 pub struct ByNote;
 
 impl Split<View> for ByNote {
-    ghost use Rattle.heap_core.specs.Agents.{left_after_split, right_after_split};
+    ghost use Rattle.heap_rule.specs.Agents.{left_after_split, right_after_split};
 
     ghost left = { λ v. left_after_split v v.giving };
 
@@ -129,7 +129,7 @@ impl Play<(), View> for Looks {
 pub struct TakesOver;
 
 impl Join<View> for TakesOver {
-    ghost use Rattle.heap_core.specs.Agents.{spent};
+    ghost use Rattle.heap_rule.specs.Agents.{spent};
     ghost use Rattle.heap_table.specs.Taken.{taken};
 
     ghost both = { taken };

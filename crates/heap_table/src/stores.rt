@@ -1,8 +1,8 @@
 // Stores to what an agent owns, and births.
 ghost use Rattle.std.specs.Prelude.{◌≡◌, ℕ, ◌+◌, ◌*◌, ◌≤◌, ◌<◌, ◌^◌};
-ghost use Rattle.heap_core.specs.Events.{IsBuilt};
-ghost use Rattle.heap_core.specs.Maps.{HasKey};
-ghost use Rattle.heap_core.specs.Births.{MayBear, MayStoreLength, born, stored_length, stored_word};
+ghost use Rattle.heap_rule.specs.Forms.{IsBuilt};
+ghost use Rattle.heap_rule.specs.Maps.{HasKey};
+ghost use Rattle.heap_rule.specs.Births.{MayBear, MayStoreLength, born, stored_length, stored_word};
 ghost use Rattle.heap_table.specs.Agents.{Belongs, view_of};
 ghost use Rattle.heap_table.specs.Known.{KeepsKnown};
 

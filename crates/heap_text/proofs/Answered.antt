@@ -5,12 +5,12 @@ use Rattle.std.proofs.lemmas.List.{take_all}
 use mathlib.Core.Logic.{dite}
 use native.Mathlib.Decide.{ℕ_discrete, dec_le}
 use Rattle.js_header.specs.declared.form.Form.TheVariants.{Flat}
-use Rattle.heap_core.specs.declared.size.HeapSize.{HeapSize}
-use Rattle.heap_core.specs.declared.view.View.{View}
-use Rattle.heap_core.specs.Births.{part}
-use Rattle.heap_core.specs.Layout.{MAX}
-use Rattle.heap_core.specs.Maps.{Has}
-use Rattle.heap_core.specs.Views.{IsSettled}
+use Rattle.heap_rule.specs.declared.size.HeapSize.{HeapSize}
+use Rattle.heap_rule.specs.declared.view.View.{View}
+use Rattle.heap_rule.specs.Births.{part}
+use Rattle.heap_rule.specs.Layout.{MAX}
+use Rattle.heap_rule.specs.Maps.{Has}
+use Rattle.heap_rule.specs.Views.{IsSettled}
 use Rattle.heap_text.specs.declared.faults.TextFull.{TextFull}
 use Rattle.heap_text.specs.declared.string.JsStr.{JsStr}
 use Rattle.heap_text.specs.Joins.{IsCopy, IsCut, IsJoined, IsRefused}

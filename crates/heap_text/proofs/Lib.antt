@@ -1,5 +1,6 @@
 pub mod Loaded
 pub mod Showing
+pub mod Holding
 pub mod Listing
 pub mod Packing
 pub mod Going

@@ -1,9 +1,9 @@
 -- The units of a source stay over loads.
 use Rattle.std.proofs.Common.{◌≡◌, ℕ, List, [], ◌++◌, sym, refl, ap, ◌∙◌, subst, Option}
 use Rattle.std.specs.Prelude.{unwrap_or}
-use Rattle.heap_core.specs.declared.view.View.{View}
-use Rattle.heap_core.specs.Births.{part}
-use Rattle.heap_core.proofs.MapLemmas.{has_key, key_of}
+use Rattle.heap_rule.specs.declared.view.View.{View}
+use Rattle.heap_rule.specs.Births.{part}
+use Rattle.heap_rule.proofs.MapLemmas.{has_key, key_of}
 use Rattle.heap_table.specs.Known.{KeepsKnown}
 use Rattle.heap_text.specs.declared.source.Piece.{Piece}
 use Rattle.heap_text.specs.declared.source.Source.{Source}

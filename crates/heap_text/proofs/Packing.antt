@@ -1,9 +1,15 @@
 -- Units packed into words, the last lane first.
 use Rattle.std.proofs.Common.{◌≡◌, ℕ, zero, suc, ◌+◌, ◌-◌, ◌*◌, ◌/◌, ◌%◌, ◌^◌, ◌<◌, ◌≤◌, Bool, true, false, List, [], ◌∷◌, length, get_or, sym, refl, ap, ◌∙◌, arith}
-use Rattle.std.specs.Prelude.{nat_lt, ◌||◌}
+use Rattle.std.specs.Prelude.{min, nat_lt, ◌||◌}
+use Rattle.std.proofs.Math.Nat.{one-le-pow, pow-le-pow_right}
+use Rattle.std.proofs.lemmas.List.{get_or_past}
+use Rattle.std.proofs.lemmas.Nat.{div_below}
+use mathlib.Core.Logic.{dite}
+use native.Mathlib.Decide.{dec_le}
 use Rattle.std.proofs.lemmas.Bool.{lt-ltb}
 use Rattle.js_units.specs.Lanes.{lane_base, lane_count, lane_of, words_over}
 use Rattle.heap_text.specs.Texts.{is_wide}
+use Rattle.heap_text.specs.Written.{IsWordOf}
 
 pub first_lane : (wide : Bool) (word unit : ℕ) → unit < lane_base wide → lane_of wide (word * lane_base wide + unit) 0 ≡ unit
 unfolding lane_of
@@ -87,3 +93,22 @@ lanes_small false n at k s l m = (omega arith, omega arith)
 pub base_some : (wide : Bool) → 0 < lane_base wide
 base_some true = omega arith
 base_some false = omega arith
+
+pow_some : (wide : Bool) (q : ℕ) → 0 < lane_base wide ^ q
+pow_some wide q = let h = one-le-pow q (lane_base wide) (base_some wide) in omega arith
+
+none_above : (p x : ℕ) → 0 < p → x < p → x / p ≡ 0
+none_above p x s l = let h = div_below x p 1 s (omega arith) in omega arith
+
+-- the lanes past those of a word are 0
+pub lane_past : (wide : Bool) (d word q : ℕ) → word < lane_base wide ^ d → d ≤ q → lane_of wide word q ≡ 0
+unfolding lane_of
+lane_past true d word q w l = let h = pow-le-pow_right (base_some true) {i = d} {j = q} l in ap (λ (x : ℕ). x % 65536) (none_above (65536 ^ q) word (pow_some true q) (omega arith))
+lane_past false d word q w l = let h = pow-le-pow_right (base_some false) {i = d} {j = q} l in ap (λ (x : ℕ). x % 256) (none_above (256 ^ q) word (pow_some false q) (omega arith))
+
+-- a word packed of the units from `from` up to `to`, which are all that there are for its lanes
+pub word_packed : (wide : Bool) (us : List ℕ) (at from to word : ℕ) → from ≡ at * lane_count wide → to ≡ min (length us) (from + lane_count wide) → word < lane_base wide ^ (to - from)
+    → ((q : ℕ) → q < to - from → lane_of wide word q ≡ get_or us (from + q) 0) → IsWordOf wide us at word
+word_packed wide us at from to word f t small lanes k l = dite (dec_le (to - from) k)
+    (λ m. lane_past wide (to - from) word k small m ∙ sym (get_or_past us (at * lane_count wide + k) 0 (omega arith)))
+    (λ m. lanes k (omega arith) ∙ ap (λ (n : ℕ). get_or us (n + k) 0) f)

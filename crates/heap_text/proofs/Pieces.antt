@@ -3,20 +3,27 @@ use Rattle.std.proofs.Common.{◌≡◌, ℕ, ◌+◌, ◌<◌, ◌≤◌, ◌�
 use Rattle.std.specs.Prelude.{unwrap_or, Result, Ok, Err, IfOk, IfErr}
 use Rattle.std.proofs.lemmas.List.{length-drop, length-take-le, take_all}
 use Rattle.std.proofs.lemmas.Grind.{same_number_lists}
-use Rattle.heap_core.specs.declared.view.View.{View}
-use Rattle.heap_core.specs.declared.size.Counters.{Counters}
-use Rattle.heap_core.specs.Births.{part}
-use Rattle.heap_core.specs.Maps.{Has}
-use Rattle.heap_core.proofs.MapLemmas.{key_of}
+use Rattle.heap_rule.specs.declared.view.View.{View}
+use Rattle.heap_rule.specs.declared.size.Counters.{Counters}
+use Rattle.heap_rule.specs.Births.{part}
+use Rattle.heap_rule.specs.Maps.{Has, HasKey}
+use Rattle.heap_rule.proofs.MapLemmas.{key_of}
 use Rattle.heap_text.specs.declared.string.JsStr.{JsStr}
 use Rattle.heap_text.specs.declared.string.Window.{Window}
 use Rattle.heap_text.specs.Sources.{ShowsPiece, piece_units}
 use Rattle.heap_text.specs.Joins.{IsCopy, IsRefused}
-use Rattle.heap_text.specs.Texts.{Told, Uses, UsesAtMost, is_wide}
+use Rattle.heap_text.specs.Texts.{IsSpared, Reads, Told, Uses, is_wide}
 use Rattle.heap_text.specs.declared.faults.TextFull.{TextFull}
+use Rattle.heap_text.specs.declared.faults.TextFull.TheVariants.{Ids, Words}
+use Rattle.heap_rule.specs.declared.size.Counter.TheVariants as counter
+use Rattle.heap_rule.specs.Claims.{loaded_counter}
+use Rattle.heap_table.specs.Full.{IsFull}
+use Rattle.heap_table.specs.declared.claims.CounterFull.{CounterFull}
+use Rattle.std.specs.FinMap.{FinMap}
+use Rattle.std.specs.Ordering.{nat_cmp}
 use Rattle.js_units.specs.Lanes.{words_over}
 use Rattle.js_header.specs.declared.form.Form.TheVariants.{Flat}
-use Rattle.heap_core.specs.declared.size.HeapSize.{HeapSize}
+use Rattle.heap_rule.specs.declared.size.HeapSize.{HeapSize}
 use Rattle.heap_text.specs.Windows.{IsWindow}
 use Rattle.heap_text.proofs.Showing.{part_unit}
 
@@ -67,25 +74,53 @@ module _ (v : View) (s : JsStr) (us : List ℕ) (known : Has v.units s.id us) wh
 pub uses_after : (v u w : View) (ids words words' : ℕ) → u.used ≡ v.used → words ≡ words' → Uses u w ids words → Uses v w ids words'
 uses_after v u w ids words words' e f h = subst (λ (n : Counters). (w.used.ids ≡ n.ids + ids) × (w.used.words ≡ n.words + words')) e (subst (Uses u w ids) f h)
 
-pub at_most_after : (v u w : View) (ids words words' : ℕ) → u.used ≡ v.used → words ≡ words' → UsesAtMost u w ids words → UsesAtMost v w ids words'
-at_most_after v u w ids words words' e f h = subst (λ (n : Counters). (w.used.ids ≤ n.ids + ids) × (w.used.words ≤ n.words + words')) e (subst (UsesAtMost u w ids) f h)
+-- and so is what a refusal spares
+pub spared_after : (v u w : View) (words words' : ℕ) (f : TextFull) → Reads v u → words ≡ words' → IsSpared u w words f → IsSpared v w words' f
+spared_after v u w words words' f r e h = let a : u.used.words ≡ v.used.words = ap (λ (n : Counters). n.words) r.used in let b = h.used_words in record {
+  used_ids = h.used_ids ∙ ap (λ (n : Counters). n.ids) r.used;
+  used_words = omega arith;
+  own_ids = h.own_ids ∙ r.own_ids;
+  own_words = λ c k. h.own_words c (subst (λ (m : FinMap nat_cmp ℕ). HasKey m c) (sym r.own_words) k);
+  claimed = (h.claimed.0, h.claimed.1, h.claimed.2 ∙ ap (λ (n : ℕ). n + h.claimed.1) a, h.claimed.3);
+}
+
+-- a call refused for words, which claimed none; and one refused for an id, which keeps the words that it wrote
+pub spared_words : (v u w : View) (words end : ℕ) (f : CounterFull) → Reads v u → IsFull f words end → w.used.ids ≡ u.used.ids → w.used.words ≡ u.used.words → w.own_ids ≡ u.own_ids
+    → ((c : ℕ) → HasKey u.own_words c → HasKey w.own_words c) → IsSpared v w words (Words f)
+spared_words v u w words end f r full a b c k = let e = full.0 in spared_after v u w words words (Words f) r refl record {
+  used_ids = a;
+  used_words = omega arith;
+  own_ids = c;
+  own_words = k;
+  claimed = (0, 0, (omega arith), λ q l. absurd (omega arith));
+}
+
+pub spared_ids : (v u w x : View) (start words at : ℕ) (f : CounterFull) → Reads v u → x ≡ loaded_counter w counter.Ids at → w.used.ids ≡ u.used.ids → w.used.words ≡ u.used.words + words → w.own_ids ≡ u.own_ids
+    → ((c : ℕ) → HasKey u.own_words c → HasKey w.own_words c) → ((q : ℕ) → q < words → HasKey w.own_words (start + q)) → IsSpared v x words (Ids f)
+spared_ids v u w x start words at f r e a b c k own = subst (λ (y : View). IsSpared v y words (Ids f)) (sym e) (spared_after v u (loaded_counter w counter.Ids at) words words (Ids f) r refl record {
+  used_ids = a;
+  used_words = omega arith;
+  own_ids = c;
+  own_words = k;
+  claimed = (start, words, b, own);
+})
 
 -- the answer of a copy, after loads
-pub copy_answer : (v w x : View) (z : HeapSize) (r : Result JsStr TextFull) (xs us : List ℕ) (n : ℕ) → xs ≡ us → words_over (is_wide xs) n ≡ words_over (is_wide us) (length us) → w.used ≡ v.used
+pub copy_answer : (v w x : View) (z : HeapSize) (r : Result JsStr TextFull) (xs us : List ℕ) (n : ℕ) → xs ≡ us → words_over (is_wide xs) n ≡ words_over (is_wide us) (length us) → Reads v w
     → IfOk r (λ s. Has x.units s.id xs) → IfOk r (λ s. (start : ℕ) × Has x.forms s.id (Flat (is_wide xs) start false)) → IfOk r (λ s. Uses w x 1 (words_over (is_wide xs) n))
-    → IfErr r (λ f. Told x z (words_over (is_wide xs) n) f) → IfErr r (λ f. UsesAtMost w x 0 (words_over (is_wide xs) n))
+    → IfErr r (λ f. Told x z (words_over (is_wide xs) n) f) → IfErr r (λ f. IsSpared w x (words_over (is_wide xs) n) f)
     → ((t : JsStr) × (r ≡ Ok t) × IsCopy v x t us) ⊎ ((f : TextFull) × (r ≡ Err f) × IsRefused v x z us f)
-copy_answer v w x z (Ok s) xs us n all words used a b c d e = inl (
+copy_answer v w x z (Ok s) xs us n all words r a b c d e = inl (
   s,
   refl,
   (
     subst (Has x.units s.id) all a,
     (b.0, subst (λ (ys : List ℕ). Has x.forms s.id (Flat (is_wide ys) b.0 false)) all b.1),
-    uses_after v w x 1 (words_over (is_wide xs) n) (words_over (is_wide us) (length us)) used words c,
+    uses_after v w x 1 (words_over (is_wide xs) n) (words_over (is_wide us) (length us)) r.used words c,
   ),
 )
-copy_answer v w x z (Err f) xs us n all words used a b c d e = inr (
+copy_answer v w x z (Err f) xs us n all words r a b c d e = inr (
   f,
   refl,
-  (subst (λ (m : ℕ). Told x z m f) words d, at_most_after v w x 0 (words_over (is_wide xs) n) (words_over (is_wide us) (length us)) used words e),
+  (subst (λ (m : ℕ). Told x z m f) words d, spared_after v w x (words_over (is_wide xs) n) (words_over (is_wide us) (length us)) f r words e),
 )

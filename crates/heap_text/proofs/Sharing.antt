@@ -1,11 +1,11 @@
 -- Two agents that were split from one, and may be joined again; and a string that one of the two made.
 use Rattle.std.proofs.Common.{◌≡◌, ℕ, ◌++◌, true, [], sym, ap, ap₂, ◌∙◌, Option, Some, None, IfSome}
 use Rattle.std.proofs.lemmas.List.{append-nil}
-use Rattle.heap_core.specs.declared.view.View.{View}
-use Rattle.heap_core.specs.Agents.{MayJoin, joined, left_after_split, right_after_split}
-use Rattle.heap_core.specs.Maps.{HasKey}
-use Rattle.heap_core.specs.Paths.{Calls}
-use Rattle.heap_core.proofs.MapLemmas.{has_key, key_of}
+use Rattle.heap_rule.specs.declared.view.View.{View}
+use Rattle.heap_rule.specs.Agents.{MayJoin, joined, left_after_split, right_after_split}
+use Rattle.heap_rule.specs.Maps.{HasKey}
+use Rattle.heap_rule.specs.Paths.{Calls}
+use Rattle.heap_rule.proofs.MapLemmas.{has_key, key_of}
 use Rattle.heap_table.specs.Known.{KeepsKnown}
 use Rattle.heap_text.specs.declared.string.JsStr.{JsStr}
 use Rattle.heap_text.specs.Texts.{Continues}

@@ -1,19 +1,19 @@
 -- What a window shows.
-use Rattle.std.proofs.Common.{◌≡◌, ℕ, ◌+◌, ◌/◌, ◌^◌, ◌<◌, ◌≤◌, ◌⊎◌, inl, inr, Bool, true, false, List, length, drop, get_or, sym, ap, ◌∙◌, subst, arith, Option, Some, None}
+use Rattle.std.proofs.Common.{◌≡◌, ℕ, ◌+◌, ◌/◌, ◌%◌, ◌^◌, ◌<◌, ◌≤◌, ◌⊎◌, inl, inr, Bool, true, false, List, length, drop, get_or, sym, refl, ap, ◌∙◌, subst, arith, Option, Some, None}
 use Rattle.std.proofs.lemmas.List.{get_or-drop, get_or-take, length-drop, length-take-le}
-use Rattle.js_units.specs.Lanes.{lane_count, words_over}
-use Rattle.heap_core.specs.declared.view.View.{View}
-use Rattle.heap_core.specs.Contents.{lane_in}
-use Rattle.heap_core.specs.Maps.{Has, HasKey}
-use Rattle.heap_core.specs.Views.{IsFrozen, shown}
-use Rattle.heap_core.specs.Loads.{added_loads, loaded_form, with_form}
-use Rattle.heap_core.specs.Learning.{learned_all}
-use Rattle.heap_core.specs.Births.{part}
-use Rattle.heap_core.proofs.MapLemmas.{insert_same}
+use Rattle.js_units.specs.Lanes.{lane_count, lane_of, words_over}
+use Rattle.heap_rule.specs.declared.view.View.{View}
+use Rattle.heap_rule.specs.Contents.{lane_in}
+use Rattle.heap_rule.specs.Maps.{Has, HasKey}
+use Rattle.heap_rule.specs.Views.{IsFrozen, shown}
+use Rattle.heap_rule.specs.Loads.{added_loads, loaded_form, with_form}
+use Rattle.heap_rule.specs.Learning.{learned_all}
+use Rattle.heap_rule.specs.Births.{part}
+use Rattle.heap_rule.proofs.MapLemmas.{insert_same}
 use Rattle.js_header.specs.Form.{form_of}
 use Rattle.js_header.specs.declared.form.Form.{Form}
-use Rattle.heap_core.specs.Sound.{IsPossible}
-use Rattle.heap_core.proofs.Possible.{possible_frozen, possible_lane, possible_lawful}
+use Rattle.heap_rule.specs.Sound.{IsPossible}
+use Rattle.heap_rule.proofs.Possible.{possible_frozen, possible_lane, possible_lawful}
 use Rattle.heap_table.specs.Known.{KeepsKnown}
 use Rattle.heap_text.specs.declared.string.Window.{Window}
 use Rattle.heap_text.specs.Windows.{IsFrozenWindow, IsWindow}
@@ -75,3 +75,16 @@ form_by v i n (Some g) f e = insert_same v.forms i g ∙ e
 
 pub form_there : (v w : View) (i x : ℕ) (f : Form) → form_of x ≡ Some f → w ≡ learned_all (loaded_form v i x) → Has w.forms i f
 form_there v w i x f spelt e = subst (λ (u : View). Has u.forms i f) (sym e) (form_by v i (added_loads v.form_loads 1) (form_of x) f spelt)
+
+-- a lane with the number of lanes written out
+pub lane_here : (f : ℕ → ℕ) (wide b : Bool) (start o n word r : ℕ) → wide ≡ b → n ≡ lane_count wide → word ≡ f (start + o / n) → r ≡ lane_of b word (o % n) → r ≡ lane_in f wide start o
+unfolding lane_in
+lane_here f wide b start o n word r e m h g = g ∙ (λ i. lane_of (sym e i) ((h ∙ ap (λ (k : ℕ). f (start + o / k)) m) i) (o % m i))
+
+pub four_lanes : (wide : Bool) → wide ≡ true → 4 ≡ lane_count wide
+four_lanes true e = refl
+four_lanes false e = absurd (cc)
+
+pub eight_lanes : (wide : Bool) → wide ≡ false → 8 ≡ lane_count wide
+eight_lanes true e = absurd (cc)
+eight_lanes false e = refl

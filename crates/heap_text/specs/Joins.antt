@@ -2,24 +2,24 @@
 use Rattle.std.specs.Prelude.{◌≡◌, ℕ, ◌+◌, ◌-◌, ◌<◌, ◌≤◌, ◌++◌, ◌⊎◌, false, List, length, Result, Ok, Err}
 use Rattle.js_units.specs.Lanes.{words_over}
 use Rattle.js_header.specs.declared.form.Form.TheVariants.{Flat}
-use Rattle.heap_core.specs.declared.size.HeapSize.{HeapSize}
-use Rattle.heap_core.specs.declared.view.View.{View}
-use Rattle.heap_core.specs.Layout.{MAX}
-use Rattle.heap_core.specs.Births.{part}
-use Rattle.heap_core.specs.Maps.{Has}
+use Rattle.heap_rule.specs.declared.size.HeapSize.{HeapSize}
+use Rattle.heap_rule.specs.declared.view.View.{View}
+use Rattle.heap_rule.specs.Layout.{MAX}
+use Rattle.heap_rule.specs.Births.{part}
+use Rattle.heap_rule.specs.Maps.{Has}
 use Rattle.heap_text.specs.declared.faults.JoinFault.{JoinFault}
 use Rattle.heap_text.specs.declared.faults.JoinFault.TheVariants.{TooLong, Full}
 use Rattle.heap_text.specs.declared.faults.TextFull.{TextFull}
 use Rattle.heap_text.specs.declared.string.JsStr.{JsStr}
-use Rattle.heap_text.specs.Texts.{Uses, UsesAtMost, Told, is_wide}
+use Rattle.heap_text.specs.Texts.{IsSpared, Told, Uses, is_wide}
 
 -- a new flat string with these units: one id, and the words that hold them
 abbrev pub IsCopy : View → View → JsStr → List ℕ → Type 0
 IsCopy v w s us = Has w.units s.id us × ((start : ℕ) × Has w.forms s.id (Flat (is_wide us) start false)) × Uses v w 1 (words_over (is_wide us) (length us))
 
--- a call that was refused for want of ids or words: it told that there is no room, and used no id
+-- a call that was refused for want of ids or words: it told that there is no room, and no string has what it used
 abbrev pub IsRefused : View → View → HeapSize → List ℕ → TextFull → Type 0
-IsRefused v w z us f = Told w z (words_over (is_wide us) (length us)) f × UsesAtMost v w 0 (words_over (is_wide us) (length us))
+IsRefused v w z us f = Told w z (words_over (is_wide us) (length us)) f × IsSpared v w (words_over (is_wide us) (length us)) f
 
 -- the string s itself, for which nothing was used
 abbrev pub IsItself : View → View → JsStr → JsStr → Type 0

@@ -1,9 +1,9 @@
 -- The units that a new string is to have.
 use Rattle.std.specs.Prelude.{ℕ, List, [], ◌++◌, unwrap_or}
 use Rattle.std.specs.FinMap.{get}
-use Rattle.heap_core.specs.declared.view.View.{View}
-use Rattle.heap_core.specs.Births.{part}
-use Rattle.heap_core.specs.Maps.{HasKey}
+use Rattle.heap_rule.specs.declared.view.View.{View}
+use Rattle.heap_rule.specs.Births.{part}
+use Rattle.heap_rule.specs.Maps.{HasKey}
 use Rattle.heap_text.specs.declared.source.Piece.{Piece}
 use Rattle.heap_text.specs.declared.source.Source.{Source}
 use Rattle.heap_text.specs.declared.source.Source.TheVariants as source

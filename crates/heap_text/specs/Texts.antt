@@ -1,16 +1,21 @@
 -- What a call on a text leaves: what is known, what is used, and what a refusal tells.
-use Rattle.std.specs.Prelude.{◌≡◌, ℕ, ◌+◌, ◌≤◌, Bool, List, nat_lt}
+use Rattle.std.specs.Prelude.{◌≡◌, ℕ, ◌+◌, ◌<◌, ◌≤◌, Bool, List, nat_lt}
 use Rattle.std.specs.List.{list_any}
-use Rattle.heap_core.specs.declared.view.View.{View}
-use Rattle.heap_core.specs.declared.size.HeapSize.{HeapSize}
+use Rattle.heap_rule.specs.declared.view.View.{View}
+use Rattle.heap_rule.specs.declared.size.HeapSize.{HeapSize}
+use Rattle.heap_rule.specs.Maps.{HasKey}
+use Rattle.heap_rule.specs.Views.{IsKnown}
 use Rattle.heap_table.specs.Full.{IsFull}
 use Rattle.heap_table.specs.Known.{KeepsKnown}
 use Rattle.heap_text.specs.declared.faults.TextFull.{TextFull}
 use Rattle.heap_text.specs.declared.faults.TextFull.TheVariants.{Ids, Words}
 
--- a call that only loads: what the agent owns, used and read of the counters stays, and so does its history
+-- a call that only loads: what is known stays known, frozen words stay frozen, what the agent owns, used and read of the counters stays, and so
+-- does its history
 pub record Reads (v w : View) : Type 0 where
   pub known : KeepsKnown v w
+  pub ids : (i : ℕ) → IsKnown v i → IsKnown w i
+  pub frozen : (c : ℕ) → HasKey v.frozen c → HasKey w.frozen c
   pub sizes : w.sizes ≡ v.sizes
   pub agents : w.agents ≡ v.agents
   pub live : w.live ≡ v.live
@@ -23,9 +28,11 @@ pub record Reads (v w : View) : Type 0 where
   pub seen : w.seen ≡ v.seen
   pub mine : w.mine ≡ v.mine
 
--- any call: what is known stays known, counters and uses never fall, and the history stays
+-- any call: what is known stays known, frozen words stay frozen, counters and uses never fall, and the history stays
 pub record Continues (v w : View) : Type 0 where
   pub known : KeepsKnown v w
+  pub ids : (i : ℕ) → IsKnown v i → IsKnown w i
+  pub frozen : (c : ℕ) → HasKey v.frozen c → HasKey w.frozen c
   pub sizes : w.sizes ≡ v.sizes
   pub agents : w.agents ≡ v.agents
   pub live : w.live ≡ v.live
@@ -42,14 +49,24 @@ pub record Continues (v w : View) : Type 0 where
 abbrev pub Uses : View → View → ℕ → ℕ → Type 0
 Uses v w ids words = (w.used.ids ≡ v.used.ids + ids) × (w.used.words ≡ v.used.words + words)
 
--- at most so many ids and content words were claimed in between
-abbrev pub UsesAtMost : View → View → ℕ → ℕ → Type 0
-UsesAtMost v w ids words = (w.used.ids ≤ v.used.ids + ids) × (w.used.words ≤ v.used.words + words)
-
 -- The counter that was read last has no room for what the call wanted of it: one id, or that many content words.
 abbrev pub Told : View → HeapSize → ℕ → TextFull → Type 0
 Told w z words (Ids f) = IsFull f 1 z.ids × (w.low.ids ≡ f.at)
 Told w z words (Words f) = IsFull f words z.words × (w.low.words ≡ f.at)
+
+-- the content words that a report wants
+abbrev pub words_wanted : TextFull → ℕ
+words_wanted (Ids f) = 0
+words_wanted (Words f) = f.want
+
+-- A refused call used no id, and the words that it used are, with those that its report wants, at most the words of its row. What was the agent's
+-- own is so still, and so are the words that the call claimed: the n words from `start` on, which are in no string.
+pub record IsSpared (v w : View) (words : ℕ) (f : TextFull) : Type 0 where
+  pub used_ids : w.used.ids ≡ v.used.ids
+  pub used_words : w.used.words + words_wanted f ≤ v.used.words + words
+  pub own_ids : w.own_ids ≡ v.own_ids
+  pub own_words : (c : ℕ) → HasKey v.own_words c → HasKey w.own_words c
+  pub claimed : (start : ℕ) × (n : ℕ) × (w.used.words ≡ v.used.words + n) × ((q : ℕ) → q < n → HasKey w.own_words (start + q))
 
 -- two-byte lanes are taken exactly where a unit is over 255
 abbrev pub is_wide : List ℕ → Bool

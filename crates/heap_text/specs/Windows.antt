@@ -2,10 +2,10 @@
 use Rattle.std.specs.Prelude.{◌≡◌, ℕ, ◌+◌, ◌<◌, ◌≤◌, Bool, List, length}
 use Rattle.js_units.specs.Lanes.{words_over}
 use Rattle.js_header.specs.declared.form.Form.TheVariants.{Flat}
-use Rattle.heap_core.specs.declared.view.View.{View}
-use Rattle.heap_core.specs.Births.{part}
-use Rattle.heap_core.specs.Maps.{Has}
-use Rattle.heap_core.specs.Views.{IsFrozen}
+use Rattle.heap_rule.specs.declared.view.View.{View}
+use Rattle.heap_rule.specs.Births.{part}
+use Rattle.heap_rule.specs.Maps.{Has}
+use Rattle.heap_rule.specs.Views.{IsFrozen}
 use Rattle.heap_text.specs.declared.string.Window.{Window}
 
 -- each content word of the window is known to be frozen

@@ -1,8 +1,9 @@
 -- Content words that hold units.
-use Rattle.std.specs.Prelude.{◌≡◌, ℕ, ◌+◌, ◌*◌, ◌<◌, ◌^◌, Bool, List, length, slice_index}
+use Rattle.std.specs.Prelude.{◌≡◌, ℕ, ◌+◌, ◌*◌, ◌<◌, ◌≤◌, ◌^◌, Bool, List, length, slice_index}
 use Rattle.js_units.specs.Lanes.{lane_count, lane_of, words_over}
-use Rattle.heap_core.specs.declared.view.View.{View}
-use Rattle.heap_core.specs.Maps.{Has}
+use Rattle.heap_rule.specs.declared.view.View.{View}
+use Rattle.heap_rule.specs.Maps.{Has}
+use Rattle.heap_text.specs.declared.source.Held.{Held}
 
 -- word number q of the units, whose lanes past the last unit are 0
 abbrev pub IsWordOf : Bool → List ℕ → ℕ → ℕ → Type 0
@@ -17,3 +18,9 @@ pub record IsWritten (v : View) (wide : Bool) (start : ℕ) (us : List ℕ) : Ty
   pub small : start < 2 ^ 29
   pub words : AreWords v wide start us (words_over wide (length us))
   pub empty : length us ≡ 0 → start ≡ 0
+
+-- the word that is held shows units of a list: those that it says, in its lanes
+pub record Holds (us : List ℕ) (h : Held) : Type 0 where
+  pub lanes : h.lane + h.count ≤ lane_count h.wide
+  pub within : h.from + h.count ≤ length us
+  pub each : (k : ℕ) → k < h.count → lane_of h.wide h.word (h.lane + k) ≡ slice_index us (h.from + k)

@@ -2,12 +2,12 @@
 ghost use Rattle.std.specs.Prelude.{◌≡◌, ℕ, List, ◌+◌, ◌++◌, ◌*◌, ◌/◌, ◌%◌, ◌≤◌, ◌<◌, ◌^◌, ◌-◌, IfOk, IfErr, IsErr, Ok, Err, Some, false, true, slice_index, length};
 ghost use Rattle.js_units.specs.Lanes.{words_over};
 ghost use Rattle.js_header.specs.declared.form.Form.TheVariants.{Flat};
-ghost use Rattle.heap_core.specs.Layout.{MAX};
-ghost use Rattle.heap_core.specs.Births.{part};
-ghost use Rattle.heap_core.specs.Maps.{Has, HasKey};
-ghost use Rattle.heap_core.specs.Views.{IsSettled};
+ghost use Rattle.heap_rule.specs.Layout.{MAX};
+ghost use Rattle.heap_rule.specs.Births.{part};
+ghost use Rattle.heap_rule.specs.Maps.{Has, HasKey};
+ghost use Rattle.heap_rule.specs.Views.{IsSettled};
 ghost use Rattle.heap_table.specs.Agents.{Belongs, view_of, size_of};
-ghost use Rattle.heap_text.specs.Texts.{Continues, Uses, UsesAtMost, Told, is_wide};
+ghost use Rattle.heap_text.specs.Texts.{Continues, Uses, IsSpared, Told, is_wide};
 ghost use Rattle.heap_text.specs.Joins.{IsJoined, IsCut};
 
 use crate::faults::{JoinFault, TextFull};
@@ -31,7 +31,7 @@ impl<'h> Text<'h> {
         ensures form { IfOk result (λ s. (start : ℕ) × Has (view_of self.new.agent).forms s.id (Flat (is_wide units.now) start false)) }
         ensures used { IfOk result (λ s. Uses (view_of self.old.agent) (view_of self.new.agent) 1 (words_over (is_wide units.now) (length units.now))) }
         ensures refused { IfErr result (λ f. Told (view_of self.new.agent) (size_of self.old.heap.now) (words_over (is_wide units.now) (length units.now)) f) }
-        ensures at_most { IfErr result (λ f. UsesAtMost (view_of self.old.agent) (view_of self.new.agent) 0 (words_over (is_wide units.now) (length units.now))) }
+        ensures spared { IfErr result (λ f. IsSpared (view_of self.old.agent) (view_of self.new.agent) (words_over (is_wide units.now) (length units.now)) f) }
     {
         self.copy(&Source::Units(units), units.len() as u32)
     }

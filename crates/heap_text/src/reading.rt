@@ -1,9 +1,9 @@
 // Reading a string: its length, its window, its units.
 ghost use Rattle.std.specs.Prelude.{◌≡◌, ℕ, List, ◌+◌, ◌*◌, ◌/◌, ◌%◌, ◌≤◌, ◌<◌, IsOk, slice_index, length};
 ghost use Rattle.js_units.specs.Lanes.{words_over};
-ghost use Rattle.heap_core.specs.Contents.{lane_in};
-ghost use Rattle.heap_core.specs.Maps.{Has, HasKey};
-ghost use Rattle.heap_core.specs.Views.{IsSettled, shown};
+ghost use Rattle.heap_rule.specs.Contents.{lane_in};
+ghost use Rattle.heap_rule.specs.Maps.{Has, HasKey};
+ghost use Rattle.heap_rule.specs.Views.{IsSettled, shown};
 ghost use Rattle.heap_table.specs.Agents.{Belongs, view_of};
 ghost use Rattle.heap_text.specs.Texts.{Reads};
 ghost use Rattle.heap_text.specs.Windows.{IsFrozenWindow, IsWindow};
@@ -12,7 +12,7 @@ use crate::faults::TextFull;
 use crate::string::{JsStr, Window};
 use crate::text::Text;
 use js_header::Form;
-use js_units::{lane, lanes};
+use js_units::lane;
 
 impl<'h> Text<'h> {
     /// The length of a string, in units.
@@ -28,23 +28,21 @@ impl<'h> Text<'h> {
     }
 
     // A window on all units of a string.
-    pub(crate) fn window_on(&mut self, s: JsStr) -> Window
+    pub(crate) fn window_on(&mut self, of: JsStr) -> Window
         requires text { Belongs self.old.agent self.old.heap.now }
-        requires known { HasKey (view_of self.old.agent).units s.id }
+        requires known { HasKey (view_of self.old.agent).units of.id }
         ensures text { Belongs self.new.agent self.new.heap.now }
         ensures heap { self.new.heap ≡ self.old.heap }
         ensures reads { Reads (view_of self.old.agent) (view_of self.new.agent) }
-        ensures settled { IsSettled (view_of self.new.agent) s.id }
-        ensures shows { (us : List ℕ) → Has (view_of self.old.agent).units s.id us → IsWindow (view_of self.new.agent) result us × (result.len ≡ length us) }
+        ensures settled { IsSettled (view_of self.new.agent) of.id }
+        ensures shows { (us : List ℕ) → Has (view_of self.old.agent).units of.id us → IsWindow (view_of self.new.agent) result us × (result.len ≡ length us) }
     {
-        let form = self.agent.load_form(self.heap, s.id);
-        let len = self.agent.load_length(self.heap, s.id);
-        match form {
+        match self.agent.load_form(self.heap, of.id) {
             Form::Flat { wide, start, .. } => Window {
                 wide,
                 start,
                 offset: 0,
-                len,
+                len: self.agent.load_length(self.heap, of.id),
             },
             _ => unreachable!(),
         }
@@ -91,9 +89,13 @@ impl<'h> Text<'h> {
         ensures unit { (us : List ℕ) → IsWindow (view_of self.old.agent) w us → result ≡ slice_index us i }
     {
         let place = w.offset + i;
-        let lanes = lanes(w.wide);
-        let word = self.agent.load_word(self.heap, w.start + place / lanes);
-        lane(word, w.wide, place % lanes)
+        if w.wide {
+            let word = self.agent.load_word(self.heap, w.start + place / 4);
+            lane(word, true, place % 4)
+        } else {
+            let word = self.agent.load_word(self.heap, w.start + place / 8);
+            lane(word, false, place % 8)
+        }
     }
 
     /// Unit `i` of a settled string.

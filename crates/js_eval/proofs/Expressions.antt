@@ -1,27 +1,29 @@
 -- One lemma for each kind of expression, and for its early end.
 use Rattle.std.proofs.Common.{◌≡◌, ℕ, List, [], ◌∷◌, ◌++◌, refl, ap, ◌∙◌, sym, subst, ◌<◌, ◌+◌, length, get_or, drop, Bool, Vec, Global, Result, Ok, Err}
 use Rattle.js_store.specs.State.{State, Grows}
-use Rattle.js_parse.specs.declared.tree.Expr.{Expr}
-use Rattle.js_parse.specs.declared.tree.Link.{Link}
-use Rattle.js_parse.specs.declared.tree.PostStep.{PostStep}
-use Rattle.js_parse.specs.declared.tree.Method.{Method}
-use Rattle.js_parse.specs.declared.tree.Builtin.{Builtin}
-use Rattle.js_parse.specs.Tree.{ExprTree, chain, unary, post, builtin, Links, Steps, Exprs, LinkTree, StepTree, of_length, of_call, of_index, with_step, expr_tree, link_tree, links_tree, step_tree, steps_tree, exprs_tree}
-use Rattle.js_eval.specs.declared.value.Value.{Value}
-use Rattle.js_eval.specs.declared.value.Stop.{Stop}
+use Rattle.js_tree.specs.declared.tree.Expr.{Expr}
+use Rattle.js_tree.specs.declared.tree.Link.{Link}
+use Rattle.js_tree.specs.declared.tree.PostStep.{PostStep}
+use Rattle.js_tree.specs.declared.tree.Method.{Method}
+use Rattle.js_tree.specs.declared.tree.Builtin.{Builtin}
+use Rattle.js_tree.specs.Tree.{ExprTree, chain, unary, post, builtin, Links, Steps, Exprs, LinkTree, StepTree, of_length, of_call, of_index, with_step, expr_tree, link_tree, links_tree, step_tree, steps_tree, exprs_tree}
+use Rattle.js_values.specs.declared.value.Value.{Value}
+use Rattle.js_values.specs.declared.value.Stop.{Stop}
 use Rattle.js_eval.specs.declared.env.Scope.{Scope as CodeScope}
-use Rattle.js_eval.specs.Outcome.{Val, Out, bind, each}
-use Rattle.js_eval.specs.Operators.{operated, unary_out}
-use Rattle.js_eval.specs.Members.{present, called, built}
-use Rattle.js_eval.specs.Arrays.{indexed}
+use Rattle.js_values.specs.Outcome.{Val, Out, bind, each}
+use Rattle.js_values.specs.Operators.{operated, unary_out}
+use Rattle.js_calls.specs.Members.{present, called, built}
+use Rattle.js_calls.specs.Arrays.{indexed}
 use Rattle.js_eval.specs.Expression.{Scope, expr_out, links_out, link_out, steps_out, step_out, call_out, index_out, exprs_out}
-use Rattle.js_eval.specs.Seen.{seen, IsFine, all_seen, AllFine, ScopeFine, scope_of}
-use Rattle.js_eval.specs.Ran.{Did}
-use Rattle.js_eval.specs.Does.{Does, GivesAll}
+use Rattle.js_values.specs.Seen.{seen, IsFine, all_seen, AllFine}
+use Rattle.js_eval.specs.Bindings.{ScopeFine, scope_of}
+use Rattle.js_values.specs.Ran.{Did}
+use Rattle.js_values.specs.Does.{Does, GivesAll}
 use Rattle.js_texts.proofs.Lists.{drop_at}
-use Rattle.js_eval.proofs.Compose.{did_bind, did_stop}
-use Rattle.js_eval.proofs.Each.{bind_same}
-use Rattle.js_eval.proofs.Still.{seen_still, scope_still}
+use Rattle.js_values.proofs.Compose.{did_bind, did_stop}
+use Rattle.js_values.proofs.Each.{bind_same}
+use Rattle.js_values.proofs.Still.{seen_still}
+use Rattle.js_eval.proofs.Scopes.{scope_still}
 
 -- a step in front of others
 steps_step : (s : StepTree) (rest : Steps) (scope : Scope) (v : Val) → steps_out (with_step s rest) scope v ≡ bind (step_out s scope v) (λ x. steps_out rest scope x)

@@ -1,30 +1,34 @@
 -- What is printed, statements in order, and whole scripts.
-use Rattle.std.proofs.Common.{arith, ◌≡◌, ℕ, ◌+◌, ◌≤◌, ◌<◌, zero, suc, List, [], ◌∷◌, ◌++◌, length, get_or, drop, refl, ap, sym, ◌∙◌, subst, append_assoc, Vec, Global, Result, Ok, Err, None}
+use Rattle.std.proofs.Common.{arith, ◌≡◌, ℕ, ◌+◌, ◌≤◌, ◌<◌, List, [], ◌∷◌, ◌++◌, length, get_or, drop, refl, ap, sym, ◌∙◌, subst, append_assoc, Vec, Global, Result, Ok, Err, None}
 use Rattle.std.specs.List.{concat}
 use Rattle.std.proofs.lemmas.List.{append-nil}
 use Rattle.std.proofs.lemmas.List.Folds.{concat-append}
 use Rattle.js_store.specs.State.{State, Grows}
 use Rattle.js_store.specs.Faults.{Step, NeverSlots}
 use Rattle.js_store.specs.declared.faults.StoreFault.{StoreFault}
-use Rattle.js_parse.specs.declared.tree.Stmt.{Stmt}
-use Rattle.js_parse.specs.Tree.{Exprs, Stmts, stmt_tree, stmts_tree}
-use Rattle.js_eval.specs.declared.value.Value.{Value}
-use Rattle.js_eval.specs.declared.value.Stop.{Stop}
-use Rattle.js_eval.specs.declared.value.Stop.TheVariants.{Threw, Unsupported, Store}
+use Rattle.js_tree.specs.declared.tree.Stmt.{Stmt}
+use Rattle.js_tree.specs.Tree.{Exprs, Stmts, stmt_tree, stmts_tree}
+use Rattle.js_values.specs.declared.value.Value.{Value}
+use Rattle.js_values.specs.declared.value.Stop.{Stop}
+use Rattle.js_values.specs.declared.value.Stop.TheVariants.{Threw, Unsupported, Store}
 use Rattle.js_eval.specs.declared.env.Binding.{Binding}
 use Rattle.js_eval.specs.declared.env.Scope.{Scope as CodeScope}
-use Rattle.js_eval.specs.Outcome.{Val, Ledger, Out, gave, ended, threw, unsupported, after, bind, each, ledger_of, some_parts, parts_ids, parts_words}
-use Rattle.js_eval.specs.Conversions.{to_string, all_text_units}
+use Rattle.js_values.specs.Outcome.{Val, Ledger, Out, gave, ended, threw, unsupported, after, bind, each, ledger_of}
+use Rattle.js_values.specs.Need.{parts_ids, parts_words}
+use Rattle.js_values.specs.Conversions.{to_string, all_text_units}
 use Rattle.js_eval.specs.Expression.{Bound, Scope, exprs_out}
 use Rattle.js_texts.specs.Texts.{AllKnown, texts as texts_seen, full_only, settle_most}
-use Rattle.js_json.specs.Printing.{line}
+use Rattle.js_print.specs.Printing.{line}
 use Rattle.js_eval.specs.Script.{Flow, then_flow, go_on, line_out, print_out, printed, with_bindings, stmt_flow, stmts_flow, literal_out, with_literals}
-use Rattle.js_eval.specs.Seen.{AllFine, EnvFine, all_seen, ScopeFine, bindings_of, scope_of}
-use Rattle.js_eval.specs.Ran.{Ran, Cut, Did}
-use Rattle.js_eval.specs.Does.{WroteSome, Wrote, Leaves, Went, GivesTexts, GivesAll, string_words}
-use Rattle.js_eval.proofs.Compose.{did_after, cut_after, cut_more, cut_of_full, ran_of_step}
+use Rattle.js_values.specs.Seen.{AllFine, all_seen}
+use Rattle.js_eval.specs.Bindings.{EnvFine, ScopeFine, bindings_of, scope_of}
+use Rattle.js_values.specs.Ran.{Ran, Cut, Did}
+use Rattle.js_eval.specs.Flows.{WroteSome, Wrote, Leaves, Went}
+use Rattle.js_values.specs.Does.{GivesTexts, GivesAll, string_words}
+use Rattle.js_values.proofs.Compose.{did_after, cut_after, cut_more, cut_of_full, ran_of_step}
 use Rattle.js_texts.proofs.Lists.{drop_at}
-use Rattle.js_eval.proofs.Still.{scope_still, bindings_still}
+use Rattle.js_eval.proofs.Scopes.{scope_still, bindings_still}
+use Rattle.js_values.proofs.Needs.{some_most}
 
 one_after : (x y z : List ℕ) (us vs : List (List ℕ)) → y ≡ x ++ concat us → z ≡ y ++ concat vs → z ≡ x ++ concat (us ++ vs)
 one_after x y z us vs e h = h ∙ (ap (λ q. q ++ concat vs) e ∙ (append_assoc x (concat us) (concat vs) ∙ ap (λ q. x ++ q) (sym (concat-append us vs))))
@@ -104,10 +108,6 @@ printed_halt a b x see fine (Store f) bs (ended e l) go d = record { did = d; wr
 string_words_most : (vs : List Val) → string_words vs ≤ all_text_units vs + length vs
 string_words_most [] = omega arith
 string_words_most (v ∷ vs) = omega (arith, string_words_most vs)
-
-some_most : (p : ℕ) → p ≤ some_parts p
-some_most zero = omega arith
-some_most (suc p) = omega arith
 
 pub line_need : (vs : List Val) → string_words vs ≤ parts_words (length vs) (all_text_units vs)
 line_need vs = omega (arith, string_words_most vs, some_most (length vs))

@@ -1,15 +1,3 @@
-mod Still
-mod Compose
-mod Each
-mod Texts
-mod Calls
-mod Numbers
-mod Pads
-mod Parts
-mod Made
-mod Replacements
-mod Quoted
-mod ListTexts
-mod Elements
+mod Scopes
 mod Expressions
 mod Flows

@@ -5,14 +5,15 @@ use Rattle.js_store.specs.State.{State, Has}
 use Rattle.js_store.specs.Faults.{Honest, ids_wanted, words_wanted}
 use Rattle.js_store.specs.declared.faults.StoreFault.{StoreFault}
 use Rattle.js_store.specs.declared.faults.StoreFault.TheVariants as store
-use Rattle.js_eval.specs.declared.value.End.{End}
-use Rattle.js_eval.specs.declared.value.End.TheVariants.{Done, Threw, Unsupported, Full, Memory}
-use Rattle.js_eval.specs.Outcome.{Out, gave, ended, threw, unsupported, ledger_of}
+use Rattle.js_eval.specs.declared.ending.End.{End}
+use Rattle.js_eval.specs.declared.ending.End.TheVariants.{Done, Threw, Unsupported, Full, Memory}
+use Rattle.js_values.specs.Outcome.{Out, gave, ended, threw, unsupported}
 use Rattle.js_eval.specs.Expression.{Bound}
 use Rattle.js_texts.specs.Texts.{full_only}
-use Rattle.js_eval.specs.Script.{Flow}
-use Rattle.js_eval.specs.Ran.{Interns, InternsSome}
-use Rattle.js_eval.specs.Does.{WroteSome}
+use Rattle.js_eval.specs.Script as meant
+use Rattle.js_eval.specs.Script.{Flow, need_ids, need_words}
+use Rattle.js_values.specs.Ran.{Interns, InternsSome}
+use Rattle.js_eval.specs.Flows.{WroteSome}
 
 -- how a script ends by its meaning
 abbrev pub end_of : {A : Type 0} → Out A → End
@@ -26,10 +27,10 @@ pub record Finished {F : Type 0} (a b : State F) (x y : List ℕ) (after : List 
   pub end_is : end ≡ end_of m.out
   pub lines : y ≡ x ++ concat m.lines
   pub bindings : after ≡ m.bindings
-  pub interned : Interns a.history b.history (ledger_of m.out).interned
-  pub texts : (u : List ℕ) → Contains (ledger_of m.out).texts u → (n : ℕ) × Has b n u
-  pub within_ids : b.used_ids ≤ a.used_ids + (ledger_of m.out).ids
-  pub within_words : b.used_words ≤ a.used_words + (ledger_of m.out).words
+  pub interned : Interns a.history b.history (meant.interned m)
+  pub texts : (u : List ℕ) → Contains (meant.texts m) u → (n : ℕ) × Has b n u
+  pub within_ids : b.used_ids ≤ a.used_ids + need_ids m
+  pub within_words : b.used_words ≤ a.used_words + need_words m
 
 -- the store was full or memory was wanting: a full store's report is true, the first ones of the lines were written whole,
 -- the history grew by the first ones of what is meant to be interned (on a full string table the next one is shut), and what
@@ -37,9 +38,9 @@ pub record Finished {F : Type 0} (a b : State F) (x y : List ℕ) (after : List 
 pub record Interrupted {F : Type 0} (a b : State F) (x y : List ℕ) (f : StoreFault) (m : Flow) : Type 0 where
   pub honest : Honest b (full_only f)
   pub lines : WroteSome x y m.lines
-  pub interned : InternsSome b f a.history (ledger_of m.out).interned
-  pub within_ids : b.used_ids + ids_wanted (Some f) ≤ a.used_ids + (ledger_of m.out).ids
-  pub within_words : b.used_words + words_wanted (Some f) ≤ a.used_words + (ledger_of m.out).words
+  pub interned : InternsSome b f a.history (meant.interned m)
+  pub within_ids : b.used_ids + ids_wanted (Some f) ≤ a.used_ids + need_ids m
+  pub within_words : b.used_words + words_wanted (Some f) ≤ a.used_words + need_words m
 
 abbrev pub Evaluates : {F : Type 0} → State F → State F → List ℕ → List ℕ → List Bound → End → Flow → Type 0
 Evaluates a b x y after Done m = Finished a b x y after Done m

@@ -1,14 +1,14 @@
 -- What an expression means in a scope, by recursion over its tree.
 use Rattle.std.specs.Prelude.{ℕ, List, [], ◌∷◌, ◌++◌, slice_get, Bool}
 use Rattle.js_number.specs.declared.Num.TheVariants.{NaN, PosInf}
-use Rattle.js_parse.specs.declared.tree.Method.{Method}
-use Rattle.js_parse.specs.Tree as tree
-use Rattle.js_parse.specs.Tree.{ExprTree, Links, no_links, link, Steps, no_steps, length_step, call_step, index_step, Exprs, no_exprs, expr, LinkTree, StepTree, of_length, of_call, of_index}
-use Rattle.js_eval.specs.Outcome.{Val, undefined, null, bool, number, Out, gave, bind, free, number_of, gives}
-use Rattle.js_eval.specs.Operators.{operated, unary_out}
-use Rattle.js_eval.specs.Reading.{maybe_text}
-use Rattle.js_eval.specs.Members.{length_of, present, called, built}
-use Rattle.js_eval.specs.Arrays.{indexed}
+use Rattle.js_tree.specs.declared.tree.Method.{Method}
+use Rattle.js_tree.specs.Tree as tree
+use Rattle.js_tree.specs.Tree.{ExprTree, Links, no_links, link, Steps, no_steps, length_step, call_step, index_step, Exprs, no_exprs, expr, LinkTree, StepTree, of_length, of_call, of_index}
+use Rattle.js_values.specs.Outcome.{Val, undefined, null, bool, number, Out, gave, bind, free, number_of, gives}
+use Rattle.js_values.specs.Operators.{operated, unary_out}
+use Rattle.js_calls.specs.Reading.{maybe_text}
+use Rattle.js_calls.specs.Members.{length_of, present, called, built}
+use Rattle.js_calls.specs.Arrays.{indexed}
 
 -- a name that was declared and evaluated, whether by `const`, and its value
 pub record Bound : Type 0 where

@@ -1,10 +1,11 @@
 -- What statements and a script mean: how they end, the lines that they print, and the bindings that they leave.
 use Rattle.std.specs.Prelude.{ℕ, List, [], ◌∷◌, ◌++◌, length, nat_le, if◌then◌else◌}
-use Rattle.js_json.specs.Printing.{line}
-use Rattle.js_parse.specs.Tree.{Exprs, StmtTree, print, Stmts, no_stmts, stmt, Tree}
-use Rattle.js_eval.specs.declared.value.Kind.TheVariants.{RangeError}
-use Rattle.js_eval.specs.Outcome.{Val, Out, gave, ended, threw, after, bind, each, free, row_ids, row_words, parts_ids, parts_words}
-use Rattle.js_eval.specs.Conversions.{to_string, all_text_units}
+use Rattle.js_print.specs.Printing.{line}
+use Rattle.js_tree.specs.Tree.{Exprs, StmtTree, print, Stmts, no_stmts, stmt, Tree}
+use Rattle.js_values.specs.declared.value.Kind.TheVariants.{RangeError}
+use Rattle.js_values.specs.Outcome.{Val, Out, gave, ended, threw, after, bind, each, free, ledger_of}
+use Rattle.js_values.specs.Need.{row_ids, row_words, parts_ids, parts_words}
+use Rattle.js_values.specs.Conversions.{to_string, all_text_units}
 use Rattle.js_eval.specs.Expression.{Scope, Bound, exprs_out}
 
 pub record Flow : Type 0 where
@@ -57,3 +58,16 @@ with_literals (ended e l) bs go = record { out = ended e l; lines = []; bindings
 -- the meaning of a script that begins with these bindings, where strings have at most `limit` units
 abbrev pub meaning : Tree → List Bound → ℕ → Flow
 meaning t bs limit = with_literals (each (literal_out limit) t.literals []) bs (λ ls. stmts_flow t.body (record { literals = ls; bindings = bs; limit = limit }))
+
+-- what a meaning interns, in order; the strings that its expressions gave; and what it needs of a store at most
+abbrev pub interned : Flow → List (List ℕ)
+interned m = (ledger_of m.out).interned
+
+abbrev pub texts : Flow → List (List ℕ)
+texts m = (ledger_of m.out).texts
+
+abbrev pub need_ids : Flow → ℕ
+need_ids m = (ledger_of m.out).ids
+
+abbrev pub need_words : Flow → ℕ
+need_words m = (ledger_of m.out).words

@@ -2,9 +2,9 @@
 ghost use Rattle.std.specs.Prelude.{◌≡◌, [], map, IfOk};
 ghost use Rattle.js_eval.specs.Copies.{bound_content};
 
-use crate::value::Value;
-use js_parse::Name;
+use js_tree::Name;
 use js_units::NoMemory;
+use js_values::Value;
 use std::alloc::Global;
 use std::marker::Model;
 

@@ -1,22 +1,19 @@
 // Expressions.
-ghost use Rattle.std.specs.Prelude.{◌≡◌, [], IfOk};
+ghost use Rattle.std.specs.Prelude.{[], IfOk};
 ghost use Rattle.js_store.specs.State.{Grows};
-ghost use Rattle.js_parse.specs.Tree.{expr_tree, link_tree, links_tree, step_tree, steps_tree, exprs_tree};
+ghost use Rattle.js_tree.specs.Tree.{expr_tree, link_tree, links_tree, step_tree, steps_tree, exprs_tree};
 ghost use Rattle.js_eval.specs.Expression.{expr_out, links_out, link_out, steps_out, step_out, exprs_out};
-ghost use Rattle.js_eval.specs.Seen.{seen, IsFine, AllFine, ScopeFine, scope_of};
-ghost use Rattle.js_eval.specs.Does.{Does, GivesAll};
+ghost use Rattle.js_values.specs.Seen.{seen, IsFine, AllFine};
+ghost use Rattle.js_eval.specs.Bindings.{ScopeFine, scope_of};
+ghost use Rattle.js_values.specs.Does.{Does, GivesAll};
 
-use crate::arrays::read_index;
-use crate::builtins::call_builtin;
 use crate::env::Scope;
-use crate::lists::push;
-use crate::literals::{number_value, read_literal};
-use crate::members::{call, present, read_length};
-use crate::operators::{apply_unary, operate};
-use crate::value::{Stop, Value};
+use crate::literals::read_literal;
+use js_calls::{call, call_builtin, present, read_index, read_length};
 use js_number::Num;
-use js_parse::{Expr, Link, PostStep};
 use js_store::Strings;
+use js_tree::{Expr, Link, PostStep};
+use js_values::{Stop, Value, apply_unary, number_value, operate, push};
 use std::alloc::Global;
 
 /// The value of an expression.

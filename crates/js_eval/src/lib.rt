@@ -7,29 +7,14 @@
 //! as such, with what it printed so far.
 #![tactic(auto)]
 
-mod arguments;
-mod arrays;
-mod building;
-mod builtins;
-mod conversions;
-mod cutting;
+mod ending;
 mod env;
 mod expr;
-mod lines;
-mod lists;
 mod literals;
-mod members;
-mod operators;
-mod padding;
-mod quoting;
-mod reading;
-mod replacing;
 mod script;
-mod searching;
-mod splitting;
-mod value;
 
+pub use ending::End;
 pub use env::Env;
-pub use lines::Lines;
+pub use js_print::Lines;
+pub use js_values::{Kind, Value};
 pub use script::eval;
-pub use value::{End, Kind, Value};

@@ -1,19 +1,18 @@
 // Literals: strings, which are interned before a script runs, and numbers.
 ghost use Rattle.std.specs.Prelude.{◌≡◌, [], slice_get, IfOk};
-ghost use Rattle.js_store.specs.State.{Grows, IsKnown, text};
-ghost use Rattle.js_eval.specs.Outcome.{each};
-ghost use Rattle.js_eval.specs.Reading.{maybe_text};
+ghost use Rattle.js_store.specs.State.{Grows, IsKnown};
+ghost use Rattle.js_values.specs.Outcome.{each};
+ghost use Rattle.js_calls.specs.Reading.{maybe_text};
 ghost use Rattle.js_texts.specs.Texts.{AllKnown};
 ghost use Rattle.js_eval.specs.Script.{literal_out};
-ghost use Rattle.js_eval.specs.Seen.{seen, IsFine, ScopeFine, scope_of, IsWritten};
-ghost use Rattle.js_eval.specs.Does.{GivesText, GivesTexts};
+ghost use Rattle.js_values.specs.Seen.{seen, IsFine};
+ghost use Rattle.js_eval.specs.Bindings.{ScopeFine, scope_of};
+ghost use Rattle.js_values.specs.Does.{GivesText, GivesTexts};
 
 use crate::env::Scope;
-use crate::lists::push;
-use crate::value::{Kind, Stop, Value};
-use js_number::Num;
 use js_store::Strings;
 use js_units::Units;
+use js_values::{Kind, Stop, Value, push};
 use std::alloc::Global;
 
 /// The interned strings of a script's literals, in the order of the text.
@@ -55,16 +54,5 @@ pub fn read_literal<S: Strings>(store: &S, scope: &Scope<S::Ref>, number: u32) -
     match scope.literals.get(number as usize) {
         Some(s) => Value::Text(*s),
         None => Value::Undefined,
-    }
-}
-
-/// The value of a number literal.
-pub fn number_value<R>(value: u64) -> Value<R>
-    ensures { IsWritten result value }
-{
-    if value <= 9007199254740991 {
-        Value::Number(Num::Int(value as i64))
-    } else {
-        Value::Undefined
     }
 }

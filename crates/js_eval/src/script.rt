@@ -1,23 +1,23 @@
 // Statements, and whole scripts.
-ghost use Rattle.std.specs.Prelude.{◌≡◌, [], List, IfOk};
+ghost use Rattle.std.specs.Prelude.{◌≡◌, List};
 ghost use Rattle.js_store.specs.State.{Grows};
-ghost use Rattle.js_parse.specs.Tree;
-ghost use Rattle.js_parse.specs.Tree.{exprs_tree, stmt_tree, stmts_tree, tree_of};
+ghost use Rattle.js_tree.specs.Tree;
+ghost use Rattle.js_tree.specs.Tree.{exprs_tree, stmt_tree, stmts_tree, tree_of};
 ghost use Rattle.js_eval.specs.Expression.{Bound};
-ghost use Rattle.js_texts.specs.Texts.{AllKnown};
 ghost use Rattle.js_eval.specs.Script.{line_out, print_out, printed, stmt_flow, stmts_flow, meaning};
-ghost use Rattle.js_eval.specs.Seen.{all_seen, AllFine, EnvFine, ScopeFine, bindings_of, scope_of};
-ghost use Rattle.js_eval.specs.Does.{Went};
+ghost use Rattle.js_values.specs.Seen.{all_seen, AllFine};
+ghost use Rattle.js_eval.specs.Bindings.{EnvFine, ScopeFine, bindings_of, scope_of};
+ghost use Rattle.js_eval.specs.Flows.{Went};
 ghost use Rattle.js_eval.specs.Evaluates.{Evaluates};
 
-use crate::conversions::texts;
+use crate::ending::End;
 use crate::env::{Env, Scope};
 use crate::expr::exprs;
-use crate::lines::{Lines, print_line};
 use crate::literals::intern_literals;
-use crate::value::{End, Stop, Value};
-use js_parse::{Expr, Script, Stmt};
+use js_print::{Lines, print_line};
 use js_store::{StoreFault, Strings};
+use js_tree::{Expr, Script, Stmt};
+use js_values::{Stop, Value, texts};
 use std::alloc::Global;
 use std::mem;
 

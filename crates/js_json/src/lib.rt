@@ -1,5 +1,5 @@
-//! Strings as JSON text (ECMA-262, "QuoteJSONString"), and the lines that scripts print, over any
-//! store of strings.
+//! Strings, and lists of strings, as JSON text (ECMA-262, "QuoteJSONString",
+//! "SerializeJSONArray"), over any store of strings.
 //!
 //! Each call settles what it reads, keeps what the store knows and the history of interned
 //! strings, and never finds the string table full. Every fault but a RangeError is one that the
@@ -8,12 +8,7 @@
 
 mod escapes;
 mod lists;
-mod printing;
 mod quoting;
 
 pub use lists::stringify_list;
-pub use printing::print_line;
 pub use quoting::quote;
-
-#[cfg(test)]
-mod tests;

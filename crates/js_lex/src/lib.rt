@@ -21,6 +21,3 @@ pub use lex::{
     next_token, one_answer, one_next, source_text, span_text, spans_in_order, token_text, tokens,
 };
 pub use token::{LexFault, Mark, Token, TokenKind};
-
-#[cfg(test)]
-mod tests;

@@ -1,9 +1,9 @@
 -- The readers of expressions are lawful, one level over the one below.
 use Rattle.std.proofs.Common.{◌≡◌, ℕ, zero, suc, ◌<◌, ◌≤◌, List, [], ◌∷◌, ◌++◌, length, Bool, true, false, Option, Some, None, refl, ap, nat_lt, arith, append_assoc}
 use Rattle.js_parse.specs.declared.token.Token.{Token}
-use Rattle.js_parse.specs.declared.tree.Op.{Op}
-use Rattle.js_parse.specs.declared.tree.Builtin.{Builtin}
-use Rattle.js_parse.specs.Tree.{ExprTree, LinkTree, StepTree}
+use Rattle.js_tree.specs.declared.tree.Op.{Op}
+use Rattle.js_tree.specs.declared.tree.Builtin.{Builtin}
+use Rattle.js_tree.specs.Tree.{ExprTree, LinkTree, StepTree}
 use Rattle.js_parse.specs.Lang.{Lang, One, Then, Mapped, Either, left, right, Many, end, more, Never, only_if}
 use Rattle.js_parse.specs.Reader.{Got, Reader, ◌>>=◌, wrong, map_by, and_then, take_or, one_of, heads, is_some, choose, all_of, read_if}
 use Rattle.js_parse.specs.Grammar

@@ -1,4 +1,3 @@
-pub mod Trees
 pub mod Lawful
 pub mod Loops
 pub mod Stops

@@ -12,7 +12,7 @@ use Rattle.js_parse.specs.declared.parser.Role.{Role}
 use Rattle.js_parse.specs.declared.parser.ParseFault.{ParseFault}
 use Rattle.js_parse.specs.declared.parser.ParseFault.TheVariants.{Memory, NotInProfile, Lex}
 use Rattle.js_parse.specs.Token.{tokens_of, texts_of, token_of, text_of, Directed, plain, strict, IsText}
-use Rattle.js_parse.specs.Tree.{Tree, StmtTree, stmts}
+use Rattle.js_tree.specs.Tree.{Tree, StmtTree, stmts}
 use Rattle.js_parse.specs.Grammar.{Statements, most}
 use Rattle.js_parse.specs.Reader.{Got, Bad}
 use Rattle.js_parse.specs.Reading.{statements_at}

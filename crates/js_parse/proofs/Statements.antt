@@ -5,8 +5,8 @@ use Rattle.js_parse.specs.declared.token.Token.{Token}
 use Rattle.js_parse.specs.declared.token.Token.TheVariants as token
 use Rattle.js_parse.specs.declared.parser.Role.{Role}
 use Rattle.js_parse.specs.declared.parser.ParseFault.{ParseFault}
-use Rattle.js_parse.specs.declared.tree.Stmt.{Stmt}
-use Rattle.js_parse.specs.Tree.{ExprTree, StmtTree, stmt_tree}
+use Rattle.js_tree.specs.declared.tree.Stmt.{Stmt}
+use Rattle.js_tree.specs.Tree.{ExprTree, StmtTree, stmt_tree}
 use Rattle.js_parse.specs.Lang.{Lang, One, Then, only_if}
 use Rattle.js_parse.specs.Reader.{Answer, Got, Bad, and_then, one_of, heads, read_if, all_of, at_end}
 use Rattle.js_parse.specs.Grammar

@@ -5,9 +5,9 @@ use Rattle.js_lex.specs.declared.token.Mark.TheVariants as mark
 use Rattle.js_parse.specs.declared.token.Token.{Token}
 use Rattle.js_parse.specs.declared.token.Token.TheVariants as token
 use Rattle.js_parse.specs.declared.token.Word.TheVariants as word
-use Rattle.js_parse.specs.declared.tree.Op.{Op}
-use Rattle.js_parse.specs.declared.tree.Method.{Method}
-use Rattle.js_parse.specs.Tree.{ExprTree}
+use Rattle.js_tree.specs.declared.tree.Op.{Op}
+use Rattle.js_tree.specs.declared.tree.Method.{Method}
+use Rattle.js_tree.specs.Tree.{ExprTree}
 use Rattle.js_parse.specs.Lang.{Lang, One, one, Then, both, Mapped, mapped, Either, left, right, only_if}
 use Rattle.js_parse.specs.Reader.{heads, is_some}
 use Rattle.js_parse.specs.Grammar.{simple, opening, closing, open_bracket, close_bracket, comma, point, length_word, method, string_word, json_word, sign, sum_op}

@@ -4,11 +4,11 @@ use Rattle.std.proofs.lemmas.List.{map_push}
 use Rattle.js_parse.specs.declared.token.Token.{Token}
 use Rattle.js_parse.specs.declared.parser.ParseFault.{ParseFault}
 use Rattle.js_parse.specs.declared.parser.ParseFault.TheVariants.{Memory, NotInProfile, Lex}
-use Rattle.js_parse.specs.declared.tree.Op.{Op}
-use Rattle.js_parse.specs.declared.tree.Expr.{Expr}
-use Rattle.js_parse.specs.declared.tree.Link.{Link}
-use Rattle.js_parse.specs.declared.tree.PostStep.{PostStep}
-use Rattle.js_parse.specs.Tree.{ExprTree, LinkTree, StepTree, expr_tree, link_tree, step_tree}
+use Rattle.js_tree.specs.declared.tree.Op.{Op}
+use Rattle.js_tree.specs.declared.tree.Expr.{Expr}
+use Rattle.js_tree.specs.declared.tree.Link.{Link}
+use Rattle.js_tree.specs.declared.tree.PostStep.{PostStep}
+use Rattle.js_tree.specs.Tree.{ExprTree, LinkTree, StepTree, expr_tree, link_tree, step_tree}
 use Rattle.js_parse.specs.Reader.{Answer, Got, Bad, Reader, ◌>>=◌, and_then, one_of, heads, all_of}
 use Rattle.js_parse.specs.Grammar.{opening, closing, open_bracket, comma, sign, sum_op, second_of, link_of, chain_of, post_of, unary_of, Whole, Operand}
 use Rattle.js_parse.specs.Reading.{read_item, read_link, step_mark, inner, primary_at, args_at, member_at, step_at, post_at, unary_at, expression_at}

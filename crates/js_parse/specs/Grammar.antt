@@ -6,14 +6,14 @@ use Rattle.js_parse.specs.declared.token.Token.TheVariants as token
 use Rattle.js_parse.specs.declared.token.Word.TheVariants as word
 use Rattle.js_parse.specs.declared.parser.Role.{Role}
 use Rattle.js_parse.specs.declared.parser.Role.TheVariants.{Prelude, Main}
-use Rattle.js_parse.specs.declared.tree.Op.{Op}
-use Rattle.js_parse.specs.declared.tree.Op.TheVariants as op
-use Rattle.js_parse.specs.declared.tree.Method.{Method}
-use Rattle.js_parse.specs.declared.tree.Builtin.{Builtin}
-use Rattle.js_parse.specs.declared.tree.Builtin.TheVariants as builtin
+use Rattle.js_tree.specs.declared.tree.Op.{Op}
+use Rattle.js_tree.specs.declared.tree.Op.TheVariants as op
+use Rattle.js_tree.specs.declared.tree.Method.{Method}
+use Rattle.js_tree.specs.declared.tree.Builtin.{Builtin}
+use Rattle.js_tree.specs.declared.tree.Builtin.TheVariants as builtin
 use Rattle.js_parse.specs.Lang.{Lang, One, Then, Mapped, Either, Many, Never, only_if}
-use Rattle.js_parse.specs.Tree as tree
-use Rattle.js_parse.specs.Tree.{ExprTree, LinkTree, StepTree, StmtTree, links, steps, exprs}
+use Rattle.js_tree.specs.Tree as tree
+use Rattle.js_tree.specs.Tree.{ExprTree, LinkTree, StepTree, StmtTree, links, steps, exprs}
 
 -- the tokens
 

@@ -1,4 +1,3 @@
-pub mod Tree
 pub mod Token
 pub mod Lang
 pub mod Grammar

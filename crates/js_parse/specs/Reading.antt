@@ -4,9 +4,9 @@ use Rattle.js_lex.specs.declared.token.Mark.TheVariants as mark
 use Rattle.js_parse.specs.declared.token.Token.{Token}
 use Rattle.js_parse.specs.declared.token.Token.TheVariants as token
 use Rattle.js_parse.specs.declared.parser.Role.{Role}
-use Rattle.js_parse.specs.declared.tree.Op.{Op}
-use Rattle.js_parse.specs.declared.tree.Builtin.{Builtin}
-use Rattle.js_parse.specs.Tree.{ExprTree, LinkTree, StepTree, StmtTree}
+use Rattle.js_tree.specs.declared.tree.Op.{Op}
+use Rattle.js_tree.specs.declared.tree.Builtin.{Builtin}
+use Rattle.js_tree.specs.Tree.{ExprTree, LinkTree, StepTree, StmtTree}
 use Rattle.js_parse.specs.Reader.{Reader, wrong, map_by, and_then, one_of, heads, choose, all_of, read_if, at_end}
 use Rattle.js_parse.specs.Grammar.{simple, opening, closing, open_bracket, close_bracket, comma, point, semi, print_word, length_word, method, string_word, from_word, json_word, stringify_word, sign, sum_op, first_of, second_of, list_of, none_of, single_of, index_of, call_of, pair_of, builtin_of, post_of, unary_of, link_of, chain_of, print_of, Which, Whole, Operand, has_room, prints}
 

@@ -7,7 +7,7 @@ use Rattle.js_parse.specs.declared.parser.Role.{Role}
 use Rattle.js_parse.specs.declared.parser.ParseFault.{ParseFault}
 use Rattle.js_parse.specs.declared.parser.ParseFault.TheVariants.{Memory, NotInProfile, Lex}
 use Rattle.js_parse.specs.Token.{Directed, tokens_of, texts_of}
-use Rattle.js_parse.specs.Tree.{Tree, StmtTree, stmts}
+use Rattle.js_tree.specs.Tree.{Tree, StmtTree, stmts}
 use Rattle.js_parse.specs.Grammar.{Statements, most}
 
 -- the bytes spell the script of this role, after a prelude that declares the outer names

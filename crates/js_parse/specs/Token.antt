@@ -6,8 +6,8 @@ use Rattle.js_lex.specs.declared.token.TokenKind.{TokenKind}
 use Rattle.js_lex.specs.declared.token.TokenKind.TheVariants as kinds
 use Rattle.js_lex.specs.declared.token.Mark.TheVariants.{Semicolon}
 use Rattle.js_lex.specs.Spans.{slice}
-use Rattle.js_parse.specs.declared.tree.Method.{Method}
-use Rattle.js_parse.specs.declared.tree.Method.TheVariants as method
+use Rattle.js_tree.specs.declared.tree.Method.{Method}
+use Rattle.js_tree.specs.declared.tree.Method.TheVariants as method
 use Rattle.js_parse.specs.declared.token.Word.{Word}
 use Rattle.js_parse.specs.declared.token.Word.TheVariants as word
 use Rattle.js_parse.specs.declared.token.Token.{Token}

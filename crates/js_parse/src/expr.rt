@@ -1,6 +1,6 @@
 // From tokens to the tree of an expression.
 ghost use Rattle.std.specs.Prelude.{◌≡◌, ◌<◌, map};
-ghost use Rattle.js_parse.specs.Tree.{expr_tree, step_tree};
+ghost use Rattle.js_tree.specs.Tree.{expr_tree, step_tree};
 ghost use Rattle.js_parse.specs.Reading.{args_at, parens_at, string_call_at, json_call_at, primary_at, member_at, step_at, post_at, unary_at, expression_at};
 ghost use Rattle.js_parse.specs.Gives.{Gives};
 
@@ -12,7 +12,7 @@ use crate::look::{
 use crate::node::{add, builtin, call, chain, index, link, post, signed};
 use crate::parser::ParseFault;
 use crate::token::Token;
-use crate::tree::{Expr, PostStep};
+use js_tree::{Expr, PostStep};
 use std::alloc::Global;
 
 /// `( [ Expr { , Expr } ] )`, where one more may be open.

@@ -2,7 +2,7 @@
 ghost use Rattle.std.specs.Prelude.{◌≡◌, ℕ, List};
 ghost use Rattle.js_parse.specs.declared.parser.Role.{Role};
 ghost use Rattle.js_parse.specs.declared.parser.ParseFault.{ParseFault};
-ghost use Rattle.js_parse.specs.Tree.{Tree};
+ghost use Rattle.js_tree.specs.Tree.{Tree};
 ghost use Rattle.js_parse.specs.Spells.{Spells, Refused};
 
 /// No bytes spell two scripts.

@@ -14,11 +14,7 @@ mod node;
 mod parser;
 mod statement;
 mod token;
-mod tree;
 
+pub use js_tree::{Names, Script};
 pub use laws::{no_refused_script, one_refusal, one_script};
 pub use parser::{ParseFault, Role, parse};
-pub use tree::{Builtin, Expr, Link, Method, Name, Names, Op, PostStep, Script, Stmt};
-
-#[cfg(test)]
-mod tests;

@@ -1,6 +1,6 @@
 // Looks at the next token.
 ghost use Rattle.std.specs.Prelude.{◌≡◌, [], ◌∷◌, MatchOption, false};
-ghost use Rattle.js_parse.specs.Tree.{expr_tree, of_length};
+ghost use Rattle.js_tree.specs.Tree.{expr_tree, of_length};
 ghost use Rattle.js_parse.specs.Reader.{Got, one_of, heads};
 ghost use Rattle.js_parse.specs.Grammar.{simple, opening, closing, comma, point, semi, print_word, method, sign, sum_op, length_word, open_bracket, close_bracket, string_word, from_word, json_word, stringify_word};
 ghost use Rattle.js_parse.specs.Reading.{read_behind_point, step_mark};
@@ -8,8 +8,8 @@ ghost use Rattle.js_parse.specs.Gives.{Gives};
 
 use crate::parser::ParseFault;
 use crate::token::{Token, Word};
-use crate::tree::{Builtin, Expr, Method, Op};
 use js_lex::Mark;
+use js_tree::{Builtin, Expr, Method, Op};
 
 pub(crate) const REFUSED: ParseFault = ParseFault::NotInProfile { at: 0 };
 

@@ -1,11 +1,11 @@
 // The nodes of the tree.
 ghost use Rattle.std.specs.Prelude.{◌≡◌, ◌++◌, ◌∷◌, [], map, IfOk, IfErr, OnOk};
 ghost use Rattle.js_parse.specs.declared.parser.ParseFault.TheVariants.{Memory};
-ghost use Rattle.js_parse.specs.Tree.{expr_tree, link_tree, step_tree, stmt_tree};
+ghost use Rattle.js_tree.specs.Tree.{expr_tree, link_tree, step_tree, stmt_tree};
 ghost use Rattle.js_parse.specs.Grammar.{call_of, index_of, builtin_of, post_of, unary_of, link_of, chain_of, print_of};
 
 use crate::parser::ParseFault;
-use crate::tree::{Builtin, Expr, Link, Method, Op, PostStep, Stmt};
+use js_tree::{Builtin, Expr, Link, Method, Op, PostStep, Stmt};
 use std::alloc::{AllocError, Global};
 
 /// Adds an element. Most lists of a tree have one: the first takes room for itself alone.
@@ -63,7 +63,7 @@ pub(crate) fn signed(alloc: Global, sign: (u32, bool), of: Expr) -> Result<Expr,
 }
 
 /// Without a link it is the first operand.
-#[tactic(auto, using(crate::proofs::Trees::tree_of_chain))]
+#[tactic(auto, using(js_tree::proofs::Trees::tree_of_chain))]
 pub(crate) fn chain(alloc: Global, first: Expr, rest: Vec<Link>) -> Result<Expr, AllocError>
     ensures { IfOk result (λ e. expr_tree e ≡ chain_of (expr_tree first) (map link_tree rest.items)) }
 {
@@ -77,7 +77,7 @@ pub(crate) fn chain(alloc: Global, first: Expr, rest: Vec<Link>) -> Result<Expr,
 }
 
 /// Without a step it is what stands before.
-#[tactic(auto, using(crate::proofs::Trees::tree_of_post))]
+#[tactic(auto, using(js_tree::proofs::Trees::tree_of_post))]
 pub(crate) fn post(alloc: Global, of: Expr, steps: Vec<PostStep>) -> Result<Expr, AllocError>
     ensures { IfOk result (λ e. expr_tree e ≡ post_of (expr_tree of) (map step_tree steps.items)) }
 {

@@ -1,13 +1,13 @@
 // Reads a script.
 ghost use Rattle.std.specs.Prelude.{◌≡◌, ◌≤◌, length, IfOk};
 ghost use Rattle.js_parse.specs.declared.parser.ParseFault.TheVariants.{Memory};
-ghost use Rattle.js_parse.specs.Tree.{Tree, tree_of};
+ghost use Rattle.js_tree.specs.Tree.{Tree, tree_of};
 ghost use Rattle.js_parse.specs.Spells.{Spells, Refused, IsOrMemory, Refuses};
 
 use crate::statement::statements;
 use crate::token::tokens;
-use crate::tree::{Names, Script};
 use js_lex::LexFault;
+use js_tree::{Names, Script};
 use js_units::NoMemory;
 use std::alloc::{AllocError, AllocFailed, Global};
 

@@ -1,6 +1,6 @@
 // From tokens to statements.
 ghost use Rattle.std.specs.Prelude.{◌≡◌, [], map};
-ghost use Rattle.js_parse.specs.Tree.{stmt_tree};
+ghost use Rattle.js_tree.specs.Tree.{stmt_tree};
 ghost use Rattle.js_parse.specs.Grammar.{most};
 ghost use Rattle.js_parse.specs.Reading.{statement_at, statements_at};
 ghost use Rattle.js_parse.specs.Gives.{Gives};
@@ -10,7 +10,7 @@ use crate::look::{REFUSED, begins_print, print_word, semi};
 use crate::node::print;
 use crate::parser::{ParseFault, Role};
 use crate::token::Token;
-use crate::tree::Stmt;
+use js_tree::Stmt;
 use std::alloc::Global;
 
 // As many as may be open.

@@ -10,8 +10,8 @@ ghost use Rattle.js_parse.specs.Token.{method_of, plain_word, word_of, token_of,
 ghost use Rattle.js_parse.specs.Gives.{OnRefusal, IsBehindDirective, Classified, Reads, IsLexical, lex_fault};
 
 use crate::parser::ParseFault;
-use crate::tree::Method;
 use js_lex::{LexFault, Mark, TokenKind};
+use js_tree::Method;
 use js_units::Units;
 use std::alloc::Global;
 

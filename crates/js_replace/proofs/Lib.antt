@@ -1,5 +1,3 @@
-pub mod Separators
-pub mod Lengths
 pub mod Templates
 pub mod Finding
 pub mod Cutting

@@ -2,6 +2,5 @@ pub mod Matches
 pub mod Substitution
 pub mod Replaced
 pub mod Parts
-pub mod Joined
 pub mod Use
 pub mod Pieces

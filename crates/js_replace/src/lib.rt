@@ -1,6 +1,6 @@
-//! Replacement in strings, and strings split into lists and joined again (ECMA-262,
-//! "GetSubstitution", "String.prototype.replace", "String.prototype.replaceAll",
-//! "String.prototype.split", "Array.prototype.join"), over any store of strings.
+//! Replacement in strings, and strings split into lists (ECMA-262, "GetSubstitution",
+//! "String.prototype.replace", "String.prototype.replaceAll", "String.prototype.split"), over any
+//! store of strings.
 //!
 //! Each call settles what it reads, keeps what the store knows and the history of interned
 //! strings, and never finds the string table full. Every fault but a RangeError is one that the
@@ -8,18 +8,12 @@
 //! found before anything of that size is made.
 #![tactic(auto)]
 
-mod joining;
-mod making;
 mod matching;
 mod pieces;
 mod replacing;
 mod splitting;
 mod substituting;
 
-pub use joining::join;
 pub use replacing::{replace, replace_all};
 pub use splitting::split;
 pub use substituting::substitution;
-
-#[cfg(test)]
-mod tests;

@@ -5,9 +5,8 @@ ghost use Rattle.js_store.specs.Faults.{Step, fault_of, NeverSlots};
 ghost use Rattle.js_store.specs.Answers.{ThrowsLong, full_of};
 ghost use Rattle.js_replace.specs.Matches.{AreMatches, first_matches, matches, InOrder};
 ghost use Rattle.js_replace.specs.Replaced.{replaced_at, replaced_first, replaced_all};
-ghost use Rattle.js_replace.specs.Use.{settling, made_words};
+ghost use Rattle.js_texts.specs.Use.{settling, made_words};
 
-use crate::making::made;
 use crate::matching::places;
 use crate::pieces::{Shape, push_substituted};
 use js_store::{Cause, MethodFault, StoreFault, Strings};
@@ -149,7 +148,7 @@ fn with_places<S: Strings>(
         return Ok(s);
     }
     let text = result_units(alloc, store, s, w, template, places)?;
-    Ok(made(store, text.as_slice())?)
+    Ok(js_texts::make(store, text.as_slice())?)
 }
 
 // How many units there are afterwards.

@@ -9,7 +9,8 @@ ghost use Rattle.js_texts.specs.Texts.{texts, AllKnown, full_fault_of};
 ghost use Rattle.js_replace.specs.Matches.{InOrder};
 ghost use Rattle.js_replace.specs.Parts;
 ghost use Rattle.js_replace.specs.Parts.{pieces};
-ghost use Rattle.js_replace.specs.Use.{settling, copies, split_ids, split_words};
+ghost use Rattle.js_texts.specs.Use.{settling};
+ghost use Rattle.js_replace.specs.Use.{copies, split_ids, split_words};
 
 use crate::matching::places;
 use js_store::{MethodFault, StoreFault, Strings};

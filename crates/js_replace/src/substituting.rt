@@ -6,9 +6,8 @@ ghost use Rattle.js_store.specs.Answers.{ThrowsLong, full_of};
 ghost use Rattle.js_texts.specs.Texts.{full_fault_of};
 ghost use Rattle.js_search.specs.Places.{Stands};
 ghost use Rattle.js_replace.specs.Substitution.{substituted};
-ghost use Rattle.js_replace.specs.Use.{settling, made_words};
+ghost use Rattle.js_texts.specs.Use.{settling, made_words};
 
-use crate::making::made;
 use crate::pieces::{Shape, push_substituted};
 use js_store::{Cause, MethodFault, StoreFault, Strings};
 use js_texts::read;
@@ -44,7 +43,7 @@ pub fn substitution<S: Strings>(
         return Err(MethodFault::RangeError(Cause::TooLong { length }));
     }
     let text = match_units(alloc, store, template.as_slice(), s, at, w)?;
-    Ok(made(store, text.as_slice())?)
+    Ok(js_texts::make(store, text.as_slice())?)
 }
 
 // How many units the template stands for.

@@ -5,7 +5,7 @@ use Rattle.js_io.specs.FilesState.{Tells, IsTooLarge, FilesState}
 use Rattle.js_io.specs.declared.files.TheConstants.{FILE_MAX}
 use Rattle.js_parse.specs.declared.parser.Role.TheVariants.{Main}
 use Rattle.js_parse.specs.declared.parser.ParseFault.{ParseFault}
-use Rattle.js_parse.specs.Tree.{Tree}
+use Rattle.js_tree.specs.Tree.{Tree}
 use Rattle.js_parse.specs.Spells as script
 use Rattle.js_run.specs.declared.answer.Answer.{Answer}
 use Rattle.js_run.specs.declared.answer.Answer.TheVariants as answer

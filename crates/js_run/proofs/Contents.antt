@@ -5,7 +5,7 @@ use Rattle.js_io.specs.FilesState.{Tells, IsTooLarge}
 use Rattle.js_io.specs.declared.files.TheConstants.{FILE_MAX}
 use Rattle.js_parse.specs.declared.parser.Role.TheVariants.{Main}
 use Rattle.js_parse.specs.declared.parser.ParseFault.{ParseFault}
-use Rattle.js_parse.specs.Tree.{Tree}
+use Rattle.js_tree.specs.Tree.{Tree}
 use Rattle.js_parse.proofs.Scripts.{one_tree, not_refused}
 use Rattle.js_run.specs.Words.{Name}
 use Rattle.js_run.specs.Cause as cause

@@ -6,9 +6,9 @@ use Rattle.js_store.specs.Faults.{Honest}
 use Rattle.js_store.specs.declared.faults.FullReport.{FullReport}
 use Rattle.js_store.specs.declared.faults.FullReport.TheVariants.{Ids, Words, Slots}
 use Rattle.js_store.specs.declared.faults.StoreFault.TheVariants as store
-use Rattle.js_parse.specs.Tree.{Tree}
-use Rattle.js_eval.specs.declared.value.End.{End}
-use Rattle.js_eval.specs.Outcome.{Out, gave, ended, threw, unsupported}
+use Rattle.js_tree.specs.Tree.{Tree}
+use Rattle.js_eval.specs.declared.ending.End.{End}
+use Rattle.js_values.specs.Outcome.{Out, gave, ended, threw, unsupported}
 use Rattle.js_eval.specs.Script.{meaning}
 use Rattle.js_eval.specs.Evaluates.{end_of}
 use Rattle.js_run.specs.Words.{Name}

@@ -2,8 +2,8 @@
 use Rattle.std.specs.Prelude.{◌≡◌, ℕ, List, ⊤}
 use Rattle.std.specs.List.{concat}
 use Rattle.js_io.specs.FilesState.{FilesState}
-use Rattle.js_parse.specs.Tree.{Tree}
-use Rattle.js_eval.specs.declared.value.End.{End}
+use Rattle.js_tree.specs.Tree.{Tree}
+use Rattle.js_eval.specs.declared.ending.End.{End}
 use Rattle.js_run.specs.declared.answer.Answer.{Answer}
 use Rattle.js_run.specs.declared.answer.Answer.TheVariants as answer
 use Rattle.js_run.specs.Words.{Name, Plan}

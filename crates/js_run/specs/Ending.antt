@@ -3,7 +3,7 @@ use Rattle.std.specs.Prelude.{◌≡◌, ◌⊎◌, ℕ, List, []}
 use Rattle.js_io.specs.Counts.{next_count}
 use Rattle.js_io.specs.SinkState.{SinkState, Takes, TakesPrefix}
 use Rattle.js_run.specs.Moment.{Sinks}
-use Rattle.js_eval.specs.declared.value.End.{End}
+use Rattle.js_eval.specs.declared.ending.End.{End}
 use Rattle.js_run.specs.Words.{Name}
 use Rattle.js_run.specs.Verdict.{Report, Refusal, Printed, status_or, end_line}
 

@@ -1,7 +1,7 @@
 -- What it means to run scripts, each by itself with fresh bindings: how each ended, and the lines that it printed.
 use Rattle.std.specs.Prelude.{ℕ, List, [], ◌∷◌}
-use Rattle.js_parse.specs.Tree.{Tree}
-use Rattle.js_eval.specs.declared.value.End.{End}
+use Rattle.js_tree.specs.Tree.{Tree}
+use Rattle.js_eval.specs.declared.ending.End.{End}
 use Rattle.js_eval.specs.Script.{Flow, meaning}
 use Rattle.js_eval.specs.Evaluates.{end_of}
 use Rattle.js_run.specs.Words.{Name}

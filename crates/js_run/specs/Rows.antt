@@ -5,7 +5,7 @@ use Rattle.js_io.specs.Counts.{next_count}
 use Rattle.js_io.specs.FilesState.{FilesState, IsTooLarge}
 use Rattle.js_io.specs.declared.files.TheConstants.{FILE_MAX}
 use Rattle.js_parse.specs.declared.parser.ParseFault.{ParseFault}
-use Rattle.js_parse.specs.Tree.{Tree}
+use Rattle.js_tree.specs.Tree.{Tree}
 use Rattle.js_run.specs.Words.{Name, Plan, files_of, plan_of}
 use Rattle.js_run.specs.Meaning.{Run, runs_of}
 use Rattle.js_run.specs.Verdict.{Printed, status_of, out_of, err_of, words_line, unread_line, large_line, refused_line, memory_line}

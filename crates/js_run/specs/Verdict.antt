@@ -4,10 +4,10 @@ use Rattle.std.specs.List.{concat}
 use Rattle.js_parse.specs.declared.parser.ParseFault.{ParseFault}
 use Rattle.js_store.specs.declared.faults.FullReport.{FullReport}
 use Rattle.js_store.specs.declared.faults.FullReport.TheVariants.{Ids, Words, Slots}
-use Rattle.js_eval.specs.declared.value.Kind.{Kind}
-use Rattle.js_eval.specs.declared.value.Kind.TheVariants.{RangeError, TypeError, ReferenceError}
-use Rattle.js_eval.specs.declared.value.End.{End}
-use Rattle.js_eval.specs.declared.value.End.TheVariants.{Done, Threw, Unsupported, Full, Memory}
+use Rattle.js_values.specs.declared.value.Kind.{Kind}
+use Rattle.js_values.specs.declared.value.Kind.TheVariants.{RangeError, TypeError, ReferenceError}
+use Rattle.js_eval.specs.declared.ending.End.{End}
+use Rattle.js_eval.specs.declared.ending.End.TheVariants.{Done, Threw, Unsupported, Full, Memory}
 use Rattle.js_run.specs.Words.{Name}
 use Rattle.js_run.specs.Meaning.{Run}
 use Rattle.js_run.specs.Fault.{fault_at, fault_text}

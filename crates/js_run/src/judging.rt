@@ -2,7 +2,7 @@
 ghost use Rattle.std.specs.Prelude.{◌≡◌, [], ◌∷◌, None, Some, map, MatchOption};
 ghost use Rattle.std.specs.String.{string_bytes};
 ghost use Rattle.js_io.specs.FilesState.{files_state};
-ghost use Rattle.js_parse.specs.Tree.{tree_of};
+ghost use Rattle.js_tree.specs.Tree.{tree_of};
 ghost use Rattle.js_run.specs.Answer.{Judges, Runs};
 ghost use Rattle.js_run.specs.Words.{plan_of, one_file};
 

@@ -1,1 +1,4 @@
 pub mod Lists
+pub mod Delimited
+pub mod Separators
+pub mod Lengths

@@ -26,7 +26,7 @@ pub map_same : {A B : Type 0} {P : A → Type 0} {f g : A → B} → ((x : A) �
 map_same h [] e = refl
 map_same h (x ∷ xs) e = cc (h x e.0, map_same h xs e.1)
 
-every_get : {A : Type 0} (P : A → Type 0) (xs : List A) (i : ℕ) (x : A) → Every P xs → slice_get xs i ≡ Some x → P x
+pub every_get : {A : Type 0} (P : A → Type 0) (xs : List A) (i : ℕ) (x : A) → Every P xs → slice_get xs i ≡ Some x → P x
 every_get P [] i x h e = cc
 every_get P (y ∷ xs) zero x h e = let same : y ≡ x = cc in subst P same h.0
 every_get P (y ∷ xs) (suc i) x h e = every_get P xs i x h.1 e

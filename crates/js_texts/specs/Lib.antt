@@ -1,1 +1,4 @@
 pub mod Texts
+pub mod Joined
+pub mod Delimited
+pub mod Use

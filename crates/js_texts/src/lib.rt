@@ -1,10 +1,14 @@
-//! The units of strings of a store: of one string as a list, and the words in which the crates above
-//! speak of several strings, one after another.
+//! The units of strings of a store: of one string as a list, of several strings joined, and the
+//! words in which the crates above speak of several strings, one after another.
 //!
-//! Each call keeps what the store knows and the history of interned strings, and takes nothing of
-//! the store but what settling takes.
+//! Each call keeps what the store knows and the history of interned strings, settles what it reads,
+//! and never finds the string table full.
 #![tactic(auto)]
 
+mod joining;
+mod making;
 mod reading;
 
+pub use joining::join;
+pub use making::make;
 pub use reading::{copied, read};

@@ -1,9 +1,9 @@
-// The program over files and sinks in memory: each status, what each sink took, and sinks that fail.
+// The program over files and sinks in memory: sinks that fail, the longest file, and no words.
 ghost use Rattle.std.specs.Prelude.{◌≤◌};
 
 use js_io::{FILE_MAX, FreeGate, MemFiles, MemSink};
 use js_run::run_words;
-use std::alloc::Global;
+use std::alloc::{AllocError, Global};
 use std::test::Fail;
 use std::thread::Threads;
 
@@ -13,6 +13,14 @@ struct Ran {
     code: u8,
     out: MemSink,
     err: MemSink,
+}
+
+fn owned(alloc: Global, words: &[&str]) -> Result<Vec<String>, AllocError> {
+    let mut owned = Vec::new(alloc);
+    for word in words {
+        owned.push(String::from_str(alloc, word)?)?;
+    }
+    Ok(owned)
 }
 
 // Runs the program over a file `a.js`, with sinks that take `most` bytes a write.
@@ -30,169 +38,13 @@ fn run<R: Threads + Sync>(
     files.put("a.js", text)?;
     let mut out = MemSink::new(alloc, most, room)?;
     let mut err = MemSink::new(alloc, most, room)?;
-    let mut owned = Vec::new(alloc);
-    for word in words {
-        owned.push(String::from_str(alloc, word)?)?;
-    }
-    let status = run_words(rt, alloc, &owned, &mut files, &mut out, &mut err, &FreeGate);
+    let words = owned(alloc, words)?;
+    let status = run_words(rt, alloc, &words, &mut files, &mut out, &mut err, &FreeGate);
     Ok(Ran {
         code: status.code,
         out,
         err,
     })
-}
-
-#[test]
-fn each_status_comes(rt: HostRuntime) -> Result<(), Fail> {
-    let file = ["jsstr", "a.js"];
-    for (words, text, code, out, err) in [
-        (file.as_slice(), "", 0, "", ""),
-        (&file, "print('a' + 'b');", 0, "ab\n", ""),
-        (&file, " print\n( 'it' ) ;print('');", 0, "it\n\n", ""),
-        (
-            &file,
-            "print('a' + ' b ' + '' + 'c~!');",
-            0,
-            "a b c~!\n",
-            "",
-        ),
-        (&file, "let", 4, "", "a.js:0: refused: not in profile\n"),
-        (
-            &file,
-            "print('a'",
-            4,
-            "",
-            "a.js:0: refused: not in profile\n",
-        ),
-        (
-            &file,
-            "print('x'); print(undefined.length); print('y');",
-            1,
-            "x\n",
-            "a.js: uncaught TypeError\n",
-        ),
-        (
-            &file,
-            "print(9007199254740991 + 1);",
-            1,
-            "",
-            "a.js: unsupported at 23\n",
-        ),
-        (
-            &file,
-            "print('12' - 1);",
-            1,
-            "",
-            "a.js: unsupported at 11\n",
-        ),
-        (
-            &file,
-            "print(String.fromCodePoint(1114112));",
-            1,
-            "",
-            "a.js: uncaught RangeError\n",
-        ),
-        (&["jsstr", "b.js"], "", 3, "", "b.js: cannot be read\n"),
-        (&["jsstr", ""], "", 3, "", ": cannot be read\n"),
-        (&["jsstr"], "", 2, "", "jsstr: the words are refused\n"),
-        (&[], "", 2, "", "jsstr: the words are refused\n"),
-        (
-            &["jsstr", "a.js", "a.js"],
-            "",
-            2,
-            "",
-            "jsstr: the words are refused\n",
-        ),
-        (
-            &["jsstr", "-x"],
-            "",
-            2,
-            "",
-            "jsstr: the words are refused\n",
-        ),
-        (&["jsstr", "-"], "", 2, "", "jsstr: the words are refused\n"),
-    ] {
-        let ran = run(&rt, rt.alloc(), words, text.as_bytes(), 3, 100)?;
-        assert_eq!(rt; ran.code, code, "at {text}");
-        assert_eq!(rt; ran.out.taken(), out.as_bytes(), "at {text}");
-        assert_eq!(rt; ran.err.taken(), err.as_bytes(), "at {text}");
-    }
-    Ok(())
-}
-
-#[test]
-fn scripts_print_what_the_standard_gives(rt: HostRuntime) -> Result<(), Fail> {
-    let file = ["jsstr", "a.js"];
-    for (text, out) in [
-        (
-            "print('abc'.at(-1), 'abc'.at(3), 'abcdef'.slice(4, 1).length, 1 + 2 + 'x');",
-            "c undefined 0 3x\n",
-        ),
-        ("print(\"\\x41\\u0042\\u{43}\\q\");", "ABCq\n"),
-        ("print('a\\\r\nb');", "ab\n"),
-        ("'use strict'; /* a */ print(); // b", "\n"),
-        ("print('\\ud800x');", "\u{FFFD}x\n"),
-        (
-            "\u{FEFF}print(true, null, undefined, NaN, -Infinity);",
-            "true null undefined NaN -Infinity\n",
-        ),
-        ("print(9007199254740991, -(1 - 2));", "9007199254740991 1\n"),
-        (
-            "print('\\ud800x', '\\ud800x'.isWellFormed(), 'abcdef'.substring(4, 1));",
-            "\u{FFFD}x false bcd\n",
-        ),
-        (
-            "print(String.fromCharCode(65601, 98), String.fromCodePoint(128512));",
-            "Ab \u{1F600}\n",
-        ),
-        (
-            "print('ab'.repeat(3), 'x'.padEnd(4, 'ab'), 'abab'.lastIndexOf('ab', 1));",
-            "ababab xaba 0\n",
-        ),
-    ] {
-        let ran = run(&rt, rt.alloc(), &file, text.as_bytes(), 100, 100)?;
-        assert_eq!(rt; ran.code, 0, "at {text}");
-        assert_eq!(rt; ran.out.taken(), out.as_bytes(), "at {text}");
-        assert_eq!(rt; ran.err.taken(), b"".as_slice(), "at {text}");
-    }
-    Ok(())
-}
-
-#[test]
-fn faults_of_texts_have_their_places(rt: HostRuntime) -> Result<(), Fail> {
-    let file = ["jsstr", "a.js"];
-    for (text, err) in [
-        (
-            b"print('\\x4');".as_slice(),
-            "a.js:7: refused: bad escape\n",
-        ),
-        (b"print(1.5);", "a.js:6: refused: fraction\n"),
-        (b"/* a", "a.js:0: refused: open comment\n"),
-        (b"print('\\08');", "a.js:7: refused: legacy octal\n"),
-        (
-            b"print('\\u{110000}');",
-            "a.js:7: refused: code point too large\n",
-        ),
-        (b"print('a", "a.js:6: refused: unclosed string\n"),
-        (b"print('a\n');", "a.js:8: refused: line end in string\n"),
-        (b"print(0x1);", "a.js:6: refused: number form\n"),
-        (
-            b"print(9007199254740992);",
-            "a.js:6: refused: number too large\n",
-        ),
-        (b"print(#);", "a.js:6: refused: bad character\n"),
-        (b"print(\xC0\x80);", "a.js:6: refused: not utf-8\n"),
-        (
-            b"print('a') print('b');",
-            "a.js:0: refused: not in profile\n",
-        ),
-    ] {
-        let ran = run(&rt, rt.alloc(), &file, text, 100, 100)?;
-        assert_eq!(rt; ran.code, 4, "for {err}");
-        assert_eq!(rt; ran.out.taken(), b"".as_slice(), "for {err}");
-        assert_eq!(rt; ran.err.taken(), err.as_bytes(), "for {err}");
-    }
-    Ok(())
 }
 
 #[test]
@@ -220,6 +72,36 @@ fn a_sink_fails_at_any_place(rt: HostRuntime) -> Result<(), Fail> {
     Ok(())
 }
 
+// A line on `err` that isn't taken to its end, behind a whole `out`.
+#[test]
+fn a_line_on_err_fails_behind_the_lines(rt: HostRuntime) -> Result<(), Fail> {
+    let told = b"a.js: uncaught TypeError\n";
+    let words = owned(rt.alloc(), &["jsstr", "a.js"])?;
+    for room in 0..26 {
+        let mut files = MemFiles::new(rt.alloc());
+        files.put("a.js", b"print('x'); print(undefined.length);")?;
+        let mut out = MemSink::new(rt.alloc(), 7, 100)?;
+        let mut err = MemSink::new(rt.alloc(), 7, room)?;
+        let status = run_words(
+            &rt,
+            rt.alloc(),
+            &words,
+            &mut files,
+            &mut out,
+            &mut err,
+            &FreeGate,
+        );
+        assert_eq!(rt;
+            status.code,
+            if room < 25 { 7 } else { 1 },
+            "room for {room}"
+        );
+        assert_eq!(rt; out.taken(), b"x\n".as_slice(), "room for {room}");
+        assert_eq!(rt; err.taken(), &told[..room as usize], "room for {room}");
+    }
+    Ok(())
+}
+
 #[test]
 fn a_file_has_at_most_so_many_bytes(rt: HostRuntime) -> Result<(), Fail> {
     for (len, code, err) in [
@@ -232,5 +114,18 @@ fn a_file_has_at_most_so_many_bytes(rt: HostRuntime) -> Result<(), Fail> {
         assert_eq!(rt; ran.code, code, "at {len}");
         assert_eq!(rt; ran.err.taken(), err.as_bytes(), "at {len}");
     }
+    Ok(())
+}
+
+// Not even the program's name.
+#[test]
+fn no_words(rt: HostRuntime) -> Result<(), Fail> {
+    let ran = run(&rt, rt.alloc(), &[], b"", 3, 100)?;
+    assert_eq!(rt; ran.code, 2);
+    assert_eq!(rt; ran.out.taken(), b"".as_slice());
+    assert_eq!(rt;
+        ran.err.taken(),
+        b"jsstr: the words are refused\n".as_slice()
+    );
     Ok(())
 }

@@ -1,14 +1,16 @@
 -- How the parts of a plain store stay consistent: after one more string, one more list in the table and one more answer.
-use Rattle.std.specs.Prelude.{◌≡◌, ℕ, zero, suc, ◌<◌, ◌≤◌, Bool, true, false, cond, List, [], ◌∷◌, ◌++◌, length, Some, None, Result, Ok, Err, OnOk, OnErr, if◌then◌else◌, slice_get, slice_index, unwrap_or}
+use Rattle.std.specs.Prelude.{◌≡◌, ℕ, zero, suc, ◌<◌, ◌≤◌, Bool, true, false, cond, List, [], ◌∷◌, ◌++◌, length, Some, None, Result, Ok, Err, OnOk, OnErr, if◌then◌else◌, slice_get, slice_index, unwrap_or, Contains}
 use Rattle.std.proofs.Common.{length-append, arith, refl, ap, sym, subst, ◌∙◌, get_or, ◌⊎◌, inl, inr}
 use Rattle.std.proofs.lemmas.Option.{slice_get-get_or}
+use Rattle.std.proofs.lemmas.List.Elements.{Contains-append_left}
 use Rattle.std.specs.declared.cmp.Ordering.{Ordering}
 use Rattle.std.specs.declared.cmp.Ordering.TheVariants.{Less, Equal, Greater}
 use Rattle.std.specs.Ordering.{nat_cmp, is_eq, eq_by_cmp}
 use Rattle.std.specs.Cmp.{tied_itself}
 use Rattle.std.specs.Cmp.Lexicographic.{slice_cmp, nat_list_cmp_total}
 use Rattle.std.specs.FinMap.{get, empty, insert, get-insert, get-empty, nat_cmp-IsAntisymmetric, slice_cmp-IsAntisymmetric}
-use Rattle.plain_store.specs.Plain.{IsConsistent, units_at, history_of}
+use Rattle.js_store.specs.State.{Grows}
+use Rattle.plain_store.specs.Plain.{IsConsistent, units_at, history_of, plain_state}
 use Rattle.plain_store.specs.Sound.{Numbers, some_same}
 
 get_more : (strings more : List (List ℕ)) (n : ℕ) (u : List ℕ) → slice_get strings n ≡ Some u → slice_get (strings ++ more) n ≡ Some u
@@ -104,6 +106,29 @@ one_answer strings answers t n k h = record {
 pub history_push : (strings : List (List ℕ)) (answers : List ℕ) (n : ℕ) → history_of strings (answers ++ n ∷ []) ≡ history_of strings answers ++ (units_at strings n, n) ∷ []
 history_push strings [] n = refl
 history_push strings (m ∷ ms) n = cc (history_push strings ms n)
+
+-- what was interned before one more call
+interned_still : (strings : List (List ℕ)) (answers : List ℕ) (m : ℕ) (u : List ℕ) (n : ℕ) → Contains (history_of strings answers) (u, n) → Contains (history_of strings (answers ++ m ∷ [])) (u, n)
+interned_still strings answers m u n h =
+    subst (λ (l : List (List ℕ × ℕ)). Contains l (u, n)) (sym (history_push strings answers m)) (Contains-append_left (history_of strings answers) ((units_at strings m, m) ∷ []) (u, n) h)
+
+-- what one more call of `intern` keeps
+pub grows_answer : (strings now : List (List ℕ)) (answers more : List ℕ) (m : ℕ) → now ≡ strings → more ≡ answers ++ m ∷ [] → Grows (plain_state strings answers) (plain_state now more)
+grows_answer strings now answers more m e f = rw (e, f) (record {
+  known = λ n k. refl;
+  settled = λ n k. k;
+  shut = λ u k. k;
+  interned = λ u n k. interned_still strings answers m u n k;
+  used_ids = omega arith;
+  used_words = omega arith;
+  low_ids = omega arith;
+  low_words = omega arith;
+  sizes = refl;
+  limit = refl;
+  bounded = refl;
+  sure = refl;
+  frame = refl;
+})
 
 -- the empty store
 pub nothing_yet : IsConsistent [] [] empty

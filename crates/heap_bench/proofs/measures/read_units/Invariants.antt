@@ -1,6 +1,6 @@
 use Rattle.std.proofs.Common.{◌≡◌, ℕ, List, length}
-use Rattle.heap_core.specs.Maps.{Has}
-use Rattle.heap_core.specs.Views.{IsSettled}
+use Rattle.heap_rule.specs.Maps.{Has}
+use Rattle.heap_rule.specs.Views.{IsSettled}
 use Rattle.heap_table.specs.Agents.{Belongs, view_of}
 use Rattle.heap_bench.proofs.measures.read_units.Given as goal
 

@@ -1,16 +1,16 @@
 use Rattle.std.proofs.Common.{◌≢◌, ◌∙◌, ◌<◌, ◌≤◌, ℕ, List, ap, sym, subst}
 use Rattle.js_header.specs.declared.form.Form.{Form}
 use Rattle.js_header.specs.declared.form.Form.TheVariants.{Flat}
-use Rattle.heap_core.specs.declared.view.View.{View}
+use Rattle.heap_rule.specs.declared.view.View.{View}
 use Rattle.heap_core.specs.declared.event.Event.TheVariants.{Split, Join, LoadCounter, Claim, StoreWord, StoreLength, Birth, LoadHeader, LoadWord}
-use Rattle.heap_core.specs.Layout.{MAX}
-use Rattle.heap_core.specs.Maps.{Has, HasKey}
-use Rattle.heap_core.specs.Sound.{EachLive}
+use Rattle.heap_rule.specs.Layout.{MAX}
+use Rattle.heap_rule.specs.Maps.{Has, HasKey}
+use Rattle.heap_rule.specs.Sound.{EachLive}
 use Rattle.heap_core.specs.Core.{core}
 use Rattle.heap_core.specs.Events.{LiveIn, CanLoadHeader, CanLoadWord}
-use Rattle.heap_core.specs.Agents.{MayJoin}
-use Rattle.heap_core.specs.Claims.{MayClaim}
-use Rattle.heap_core.specs.Births.{MayStoreLength, MayBear}
+use Rattle.heap_rule.specs.Agents.{MayJoin}
+use Rattle.heap_rule.specs.Claims.{MayClaim}
+use Rattle.heap_rule.specs.Births.{MayStoreLength, MayBear}
 use Rattle.heap_core.proofs.StateLemmas.{Tells, own_lengths, enabled_by, views_by}
 use Rattle.heap_core.proofs.state.enabled.Goals as goal
 

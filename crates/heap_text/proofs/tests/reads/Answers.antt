@@ -1,6 +1,6 @@
 use Rattle.std.proofs.Common.{◌∙◌, arith}
-use Rattle.heap_core.specs.declared.view.View.{View}
-use Rattle.heap_core.proofs.MapLemmas.{has_key}
+use Rattle.heap_rule.specs.declared.view.View.{View}
+use Rattle.heap_rule.proofs.MapLemmas.{has_key}
 use Rattle.heap_text.proofs.Loaded.{known_trans, reads_trans}
 use Rattle.heap_text.proofs.Showing.{window_frozen, window_kept, window_length}
 use Rattle.heap_text.proofs.tests.reads.Goals as goal
@@ -47,3 +47,6 @@ returns-then-unit_in-want-clause-reads c = reads_trans c.args.text.now.agent.sea
 pub returns-then-unit_at-want-clause-reads : goal.returns-then-unit_at-want-clause-reads
 returns-then-unit_at-want-clause-reads c = reads_trans c.args.text.now.agent.seat.me.0 c.loop-i.text.agent.seat.me.0 c.unit_at.new.self.agent.seat.me.0 c.loop-i.invariant.reads
     (reads_trans c.loop-i.text.agent.seat.me.0 c.unit_in.new.self.agent.seat.me.0 c.unit_at.new.self.agent.seat.me.0 c.unit_in.ensures.reads c.unit_at.ensures.reads)
+
+pub returns-then-len-want-clause-reads : goal.returns-then-len-want-clause-reads
+returns-then-len-want-clause-reads c = reads_trans c.args.text.now.agent.seat.me.0 c.settle.new.self.agent.seat.me.0 c.len.new.self.agent.seat.me.0 c.settle.ensures.reads c.len.ensures.reads

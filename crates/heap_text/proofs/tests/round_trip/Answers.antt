@@ -1,6 +1,6 @@
 use Rattle.std.proofs.Common.{◌++◌, ℕ, List, arith}
 use Rattle.std.proofs.lemmas.List.{length-append}
-use Rattle.heap_core.proofs.MapLemmas.{key_of}
+use Rattle.heap_rule.proofs.MapLemmas.{key_of}
 use Rattle.heap_text.proofs.tests.round_trip.Goals as goal
 
 pub settle-requires-clause-known : goal.settle-requires-clause-known

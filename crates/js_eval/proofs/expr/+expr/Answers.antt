@@ -3,17 +3,19 @@ use Rattle.std.proofs.lemmas.Result.{err_from_is_err_and}
 use Rattle.std.proofs.Math.ListN.{drop_of_length-le}
 use Rattle.js_store.specs.declared.faults.StoreFault.TheVariants.{Memory}
 use Rattle.js_store.proofs.Laws.{grows_refl, grows_trans}
-use Rattle.js_parse.specs.Tree.{expr_tree, link_tree, links_tree, steps_tree, exprs_tree}
-use Rattle.js_parse.proofs.Trees.{tree_of_unary, tree_of_chain, tree_of_post, tree_of_call, tree_of_index, tree_of_builtin}
-use Rattle.js_eval.specs.declared.value.Stop.TheVariants.{Store}
-use Rattle.js_eval.specs.Outcome.{Val, Out}
+use Rattle.js_tree.specs.Tree.{expr_tree, link_tree, links_tree, steps_tree, exprs_tree}
+use Rattle.js_tree.proofs.Trees.{tree_of_unary, tree_of_chain, tree_of_post, tree_of_call, tree_of_index, tree_of_builtin}
+use Rattle.js_values.specs.declared.value.Stop.TheVariants.{Store}
+use Rattle.js_values.specs.Outcome.{Val, Out}
 use Rattle.js_eval.specs.Expression.{expr_out}
-use Rattle.js_eval.specs.Seen.{seen, IsFine, scope_of}
-use Rattle.js_eval.specs.Does.{GivesAll}
-use Rattle.js_eval.proofs.Compose.{ran_free}
-use Rattle.js_eval.proofs.Each.{each_turn, each_halt, each_full, fine_turn}
+use Rattle.js_values.specs.Seen.{seen, IsFine}
+use Rattle.js_eval.specs.Bindings.{scope_of}
+use Rattle.js_values.specs.Does.{GivesAll}
+use Rattle.js_values.proofs.Compose.{ran_free}
+use Rattle.js_values.proofs.Each.{each_turn, each_halt, each_full, fine_turn}
 use Rattle.js_eval.proofs.Expressions.{unary_does, chain_does, chain_stops, post_does, post_stops, builtin_does, builtin_stops, index_does, index_stops, link_does, link_stops, links_turn, links_halt, steps_turn, steps_halt, call_does, call_stops, call_absent, exprs_are}
-use Rattle.js_eval.proofs.Still.{seen_still, fine_still, scope_still, scope_fine_still}
+use Rattle.js_values.proofs.Still.{seen_still, fine_still}
+use Rattle.js_eval.proofs.Scopes.{scope_still, scope_fine_still}
 use Rattle.js_eval.proofs.expr.+expr.Goals as goal
 
 pub expr-returns-in_ok-value-in-Unary-clause-scope : goal.expr-returns-in_ok-value-in-Unary-clause-scope
@@ -287,3 +289,9 @@ one_step-returns-in_ok-index-in-Index-clause-did g t c =
     let state = g.S.Strings.state in
     rw (c.in-Index.is, tree_of_index c.in-Index.at c.in-Index.index)
     (index_does g.S.Strings.number (state c.args.store.now) (state c.expr.new.store) (state c.read_index.new.store) c.args.value.now c.in_ok-index-in-Index.index c.read_index.result c.in-Index.at (expr_tree c.in-Index.index) c.args.scope.now c.in_ok-index-in-Index.ensures.grows c.requires.value c.in_ok-index-in-Index.ensures.did c.read_index.ensures.did)
+
+pub exprs-returns-in_err-value-clause-grows : goal.exprs-returns-in_err-value-clause-grows
+exprs-returns-in_err-value-clause-grows g t c = grows_trans c.loop-e.invariant.grows c.in_err-value.ensures.grows
+
+pub exprs-returns-in_err-push-clause-grows : goal.exprs-returns-in_err-push-clause-grows
+exprs-returns-in_err-push-clause-grows g t c = grows_trans c.loop-e.invariant.grows c.in_ok-value.ensures.grows

@@ -1,12 +1,13 @@
 use Rattle.std.proofs.Common.{[], drop, Result, Vec, Global}
 use Rattle.js_store.specs.State.{State, Grows}
-use Rattle.js_parse.specs.Tree.{expr_tree, links_tree, steps_tree, exprs_tree}
-use Rattle.js_eval.specs.declared.value.Value.{Value}
-use Rattle.js_eval.specs.declared.value.Stop.{Stop}
-use Rattle.js_eval.specs.Outcome.{each}
+use Rattle.js_tree.specs.Tree.{expr_tree, links_tree, steps_tree, exprs_tree}
+use Rattle.js_values.specs.declared.value.Value.{Value}
+use Rattle.js_values.specs.declared.value.Stop.{Stop}
+use Rattle.js_values.specs.Outcome.{each}
 use Rattle.js_eval.specs.Expression.{expr_out, links_out, steps_out, exprs_out}
-use Rattle.js_eval.specs.Seen.{seen, IsFine, all_seen, AllFine, ScopeFine, scope_of}
-use Rattle.js_eval.specs.Does.{Does, GivesAll}
+use Rattle.js_values.specs.Seen.{seen, IsFine, all_seen, AllFine}
+use Rattle.js_eval.specs.Bindings.{ScopeFine, scope_of}
+use Rattle.js_values.specs.Does.{Does, GivesAll}
 use Rattle.js_eval.proofs.expr.+expr.Given as goal
 
 -- whatever completes what is left, completes the whole

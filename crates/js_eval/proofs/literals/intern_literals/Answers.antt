@@ -4,10 +4,10 @@ use Rattle.std.proofs.lemmas.Result.{err_from_is_err_and}
 use Rattle.js_store.specs.State.{IsKnown, text}
 use Rattle.js_store.specs.declared.faults.StoreFault.TheVariants.{Memory}
 use Rattle.js_store.proofs.Laws.{grows_trans, known_still, text_still}
-use Rattle.js_eval.specs.declared.value.Stop.TheVariants.{Store}
+use Rattle.js_values.specs.declared.value.Stop.TheVariants.{Store}
 use Rattle.js_eval.specs.Script.{literal_out}
-use Rattle.js_eval.proofs.Compose.{ran_free}
-use Rattle.js_eval.proofs.Each.{each_turn, each_halt, each_full, fine_turn}
+use Rattle.js_values.proofs.Compose.{ran_free}
+use Rattle.js_values.proofs.Each.{each_turn, each_halt, each_full, fine_turn}
 use Rattle.js_eval.proofs.literals.intern_literals.Goals as goal
 
 pub loop-units-preserved : goal.loop-units-preserved

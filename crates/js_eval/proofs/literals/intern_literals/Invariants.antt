@@ -1,10 +1,10 @@
 use Rattle.std.proofs.Common.{[], drop, Result, Vec, Global}
 use Rattle.js_store.specs.State.{State, Grows}
-use Rattle.js_eval.specs.declared.value.Stop.{Stop}
-use Rattle.js_eval.specs.Outcome.{each}
+use Rattle.js_values.specs.declared.value.Stop.{Stop}
+use Rattle.js_values.specs.Outcome.{each}
 use Rattle.js_texts.specs.Texts.{AllKnown, texts as texts_seen}
 use Rattle.js_eval.specs.Script.{literal_out}
-use Rattle.js_eval.specs.Does.{GivesTexts}
+use Rattle.js_values.specs.Does.{GivesTexts}
 use Rattle.js_eval.proofs.literals.intern_literals.Given as goal
 
 -- whatever completes what is left, completes the whole

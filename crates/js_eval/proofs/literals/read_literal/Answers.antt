@@ -1,7 +1,7 @@
 use Rattle.std.proofs.Common.{refl, ◌≡◌, slice_get, Some, length, ◌≤◌}
 use Rattle.std.proofs.lemmas.Option.{slice_get-map, slice_get_past, slice_get_read}
 use Rattle.js_store.specs.State.{IsKnown}
-use Rattle.js_eval.proofs.Still.{every_get}
+use Rattle.js_texts.proofs.Lists.{every_get}
 use Rattle.js_eval.proofs.literals.read_literal.Goals as goal
 
 pub returns-in-Some-clause-fine : goal.returns-in-Some-clause-fine

@@ -1,8 +1,8 @@
 use Rattle.std.proofs.lemmas.Result.{err_from_is_err_and}
-use Rattle.js_parse.specs.Tree.{exprs_tree}
-use Rattle.js_eval.specs.Seen.{scope_of}
+use Rattle.js_tree.specs.Tree.{exprs_tree}
+use Rattle.js_eval.specs.Bindings.{scope_of}
 use Rattle.js_eval.proofs.Flows.{print_went, print_halt}
-use Rattle.js_eval.proofs.Still.{scope_fine_still}
+use Rattle.js_eval.proofs.Scopes.{scope_fine_still}
 use Rattle.js_eval.proofs.script.print.Goals as goal
 
 pub returns-in_err-values-clause-went : goal.returns-in_err-values-clause-went

@@ -1,8 +1,8 @@
 use Rattle.std.proofs.lemmas.Result.{err_from_is_err_and}
-use Rattle.js_parse.specs.Tree.{stmts_tree}
-use Rattle.js_eval.specs.Seen.{bindings_of}
+use Rattle.js_tree.specs.Tree.{stmts_tree}
+use Rattle.js_eval.specs.Bindings.{bindings_of}
 use Rattle.js_eval.proofs.Flows.{script_went, script_halts}
-use Rattle.js_eval.proofs.Still.{env_still}
+use Rattle.js_eval.proofs.Scopes.{env_still}
 use Rattle.js_eval.proofs.script.run.Goals as goal
 
 pub returns-in_err-literals-clause-went : goal.returns-in_err-literals-clause-went

@@ -1,6 +1,6 @@
-use Rattle.js_parse.specs.Tree.{exprs_tree}
+use Rattle.js_tree.specs.Tree.{exprs_tree}
 use Rattle.js_eval.specs.Script.{print_out}
-use Rattle.js_eval.specs.Seen.{scope_of}
+use Rattle.js_eval.specs.Bindings.{scope_of}
 use Rattle.js_eval.proofs.Flows.{went_still}
 use Rattle.js_eval.proofs.script.statement.Goals as goal
 

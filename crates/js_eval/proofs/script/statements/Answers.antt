@@ -3,8 +3,8 @@ use Rattle.std.proofs.Math.ListN.{drop_of_length-le}
 use Rattle.std.proofs.lemmas.List.{append-nil}
 use Rattle.std.proofs.lemmas.Result.{err_from_is_err_and}
 use Rattle.js_store.proofs.Laws.{grows_trans}
-use Rattle.js_eval.specs.Seen.{bindings_of}
-use Rattle.js_eval.proofs.Compose.{ran_free}
+use Rattle.js_eval.specs.Bindings.{bindings_of}
+use Rattle.js_values.proofs.Compose.{ran_free}
 use Rattle.js_eval.proofs.Flows.{body_turn, body_halt}
 use Rattle.js_eval.proofs.script.statements.Goals as goal
 

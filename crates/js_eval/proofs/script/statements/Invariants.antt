@@ -1,11 +1,11 @@
 use Rattle.std.proofs.Common.{◌≡◌, ℕ, List, drop, Result}
 use Rattle.js_store.specs.State.{State, Grows}
-use Rattle.js_parse.specs.Tree.{stmts_tree}
-use Rattle.js_eval.specs.declared.value.Stop.{Stop}
+use Rattle.js_tree.specs.Tree.{stmts_tree}
+use Rattle.js_values.specs.declared.value.Stop.{Stop}
 use Rattle.js_eval.specs.Expression.{Bound}
 use Rattle.js_eval.specs.Script.{stmts_flow}
-use Rattle.js_eval.specs.Seen.{ScopeFine, scope_of}
-use Rattle.js_eval.specs.Does.{Went}
+use Rattle.js_eval.specs.Bindings.{ScopeFine, scope_of}
+use Rattle.js_eval.specs.Flows.{Went}
 use Rattle.js_eval.proofs.script.statements.Given as goal
 
 -- whatever completes what is left, completes the whole

@@ -1,6 +1,6 @@
 use Rattle.std.proofs.Common.{rules, ◌≡◌, ◌∙◌, [], ◌∷◌, ◌++◌, ap, map}
 use Rattle.std.proofs.lemmas.Result.{err_from_is_err_and}
-use Rattle.js_parse.specs.Tree.{expr_tree, step_tree, link_tree}
+use Rattle.js_tree.specs.Tree.{expr_tree, step_tree, link_tree}
 use Rattle.js_parse.specs.Grammar.{chain_of, post_of}
 use Rattle.js_parse.proofs.Turns.{sum_first, sum_right, sum_done, link_smaller, link_kept, post_first, post_step, post_done, step_smaller, step_kept, step_plain, unary_plain, args_close, args_done, item_smaller, item_kept}
 use Rattle.js_parse.proofs.expr.+expr.Goals as goal

@@ -1,5 +1,5 @@
 use Rattle.std.proofs.Common.{◌≡◌, length, ◌+◌, ◌*◌, map}
-use Rattle.js_parse.specs.Tree.{expr_tree, link_tree, step_tree}
+use Rattle.js_tree.specs.Tree.{expr_tree, link_tree, step_tree}
 use Rattle.js_parse.specs.Reader.{all_of, heads}
 use Rattle.js_parse.specs.Grammar.{comma, sum_op, Whole}
 use Rattle.js_parse.specs.Reading.{read_item, read_link, step_mark, inner, step_at, unary_at}

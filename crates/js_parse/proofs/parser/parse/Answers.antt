@@ -1,10 +1,10 @@
 use Rattle.std.proofs.Common.{◌≡◌, ap, ◌∙◌, sym}
 use Rattle.std.proofs.lemmas.Result.{err_from_is_err_and}
-use Rattle.js_parse.specs.declared.tree.Script.{Script}
+use Rattle.js_tree.specs.declared.tree.Script.{Script}
 use Rattle.js_parse.specs.Grammar.{most}
 use Rattle.js_parse.specs.Reader.{Bad}
 use Rattle.js_parse.specs.Reading.{statements_at}
-use Rattle.js_parse.specs.Tree.{tree_of}
+use Rattle.js_tree.specs.Tree.{tree_of}
 use Rattle.js_parse.proofs.Scripts.{none_found, is_refused, is_spelled, is_found, no_statements, lexical_found, lexical_refused}
 use Rattle.js_parse.proofs.parser.parse.Goals as goal
 

@@ -1,5 +1,5 @@
 use Rattle.std.proofs.Common.{◌≡◌, length, map}
-use Rattle.js_parse.specs.Tree.{stmt_tree}
+use Rattle.js_tree.specs.Tree.{stmt_tree}
 use Rattle.js_parse.specs.Reader.{heads, all_of}
 use Rattle.js_parse.specs.Grammar.{print_word}
 use Rattle.js_parse.specs.Reading.{statement_at}

@@ -1,7 +1,7 @@
 use Rattle.std.proofs.Common.{◌≡◌, refl, ap, Err, IsErrOf}
 use Rattle.js_io.specs.FilesState.{files_state}
 use Rattle.js_parse.specs.declared.parser.ParseFault.TheVariants.{Lex, NotInProfile}
-use Rattle.js_parse.specs.Tree.{tree_of}
+use Rattle.js_tree.specs.Tree.{tree_of}
 use Rattle.js_run.specs.Verdict.{NotRead, TooLarge, Refused}
 use Rattle.js_run.proofs.Causes.{unread_one, large_one, refused_one, judged}
 use Rattle.js_run.proofs.judging.judge_file.Goals as goal

@@ -1,8 +1,8 @@
 use Rattle.std.proofs.Common.{◌∙◌, ◌≤◌, ℕ, List, length, sym, ap, subst, refl}
 use Rattle.std.specs.Prelude.{IfSome, IsNone}
 use Rattle.std.specs.Option.{option_copied}
-use Rattle.heap_core.specs.declared.view.View.{View}
-use Rattle.heap_core.specs.Sound.{At}
+use Rattle.heap_rule.specs.declared.view.View.{View}
+use Rattle.heap_rule.specs.Sound.{At}
 use Rattle.heap_core.specs.Core.{Core, core}
 use Rattle.heap_core.specs.Events.{HasEntry}
 use Rattle.heap_core.proofs.StateLemmas.{at_here}

@@ -1,11 +1,11 @@
 use Rattle.std.proofs.Common.{◌<◌, ℕ, subst, sym, refl}
 use Rattle.js_header.specs.Form.{word_of}
-use Rattle.heap_core.specs.Layout.{form_at}
-use Rattle.heap_core.specs.declared.size.HeapSize.{HeapSize}
+use Rattle.heap_rule.specs.Layout.{form_at}
+use Rattle.heap_rule.specs.declared.size.HeapSize.{HeapSize}
 use Rattle.atomic_table.specs.Table.{Allows, step}
 use mathlib.Core.Option.{none}
-use Rattle.heap_core.proofs.MapLemmas.{key_of}
-use Rattle.heap_core.proofs.Steps.{possible_within}
+use Rattle.heap_rule.proofs.MapLemmas.{key_of}
+use Rattle.heap_rule.proofs.Steps.{possible_within}
 use Rattle.heap_table.specs.Rule.{KeepsHeap}
 use Rattle.heap_table.specs.Plays.{GaveBirth}
 use Rattle.heap_table.proofs.Keeps.{bears, born_in_range, form_small, belongs_then}

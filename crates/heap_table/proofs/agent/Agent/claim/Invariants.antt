@@ -1,5 +1,5 @@
 use Rattle.std.proofs.Common.{◌≡◌, ◌-◌}
-use Rattle.heap_core.specs.Claims.{loaded_counter}
+use Rattle.heap_rule.specs.Claims.{loaded_counter}
 use Rattle.heap_table.specs.Agents.{Belongs, view_of}
 use Rattle.heap_table.specs.Plays.{FoundCounter}
 use Rattle.heap_table.proofs.agent.Agent.claim.Given as goal

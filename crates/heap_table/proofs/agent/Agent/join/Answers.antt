@@ -1,6 +1,6 @@
 use Rattle.std.proofs.Common.{◌<◌, ◌≤◌, ◌+◌, ◌≡◌, ◌∙◌, ℕ, subst, sym, ap, ap₂, arith}
-use Rattle.heap_core.specs.declared.view.View.{View}
-use Rattle.heap_core.specs.declared.size.Counter.TheVariants.{Ids}
+use Rattle.heap_rule.specs.declared.view.View.{View}
+use Rattle.heap_rule.specs.declared.size.Counter.TheVariants.{Ids}
 use Rattle.heap_table.specs.Plays.{Sat}
 use Rattle.heap_table.proofs.Agreeing.{taken_over}
 use Rattle.heap_table.proofs.Keeps.{counter_small, joins, looks}

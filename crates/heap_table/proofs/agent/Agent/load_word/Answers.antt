@@ -1,6 +1,6 @@
 use Rattle.std.proofs.Common.{◌<◌, ℕ, subst, sym, refl}
-use Rattle.heap_core.specs.Layout.{content_at}
-use Rattle.heap_core.specs.declared.size.HeapSize.{HeapSize}
+use Rattle.heap_rule.specs.Layout.{content_at}
+use Rattle.heap_rule.specs.declared.size.HeapSize.{HeapSize}
 use Rattle.atomic_table.specs.Table.{Allows, step}
 use mathlib.Core.Option.{none}
 use Rattle.heap_table.specs.Rule.{KeepsHeap}

@@ -1,8 +1,8 @@
 use Rattle.std.proofs.Common.{◌≡◌, ◌≤◌, ◌<◌, ◌-◌, ◌∙◌, ℕ, subst, sym, ap, arith}
-use Rattle.heap_core.specs.declared.view.View.{View}
-use Rattle.heap_core.specs.declared.size.Counter.TheVariants.{Ids}
-use Rattle.heap_core.specs.Sound.{IsPossible}
-use Rattle.heap_core.proofs.Splitting.{possible_split}
+use Rattle.heap_rule.specs.declared.view.View.{View}
+use Rattle.heap_rule.specs.declared.size.Counter.TheVariants.{Ids}
+use Rattle.heap_rule.specs.Sound.{IsPossible}
+use Rattle.heap_rule.proofs.Splitting.{possible_split}
 use Rattle.heap_table.specs.Plays.{Sat}
 use Rattle.heap_table.proofs.Keeps.{splits, counter_small}
 use Rattle.heap_table.proofs.agent.Agent.split.Goals as goal

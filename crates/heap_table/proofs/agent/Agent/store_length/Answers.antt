@@ -1,9 +1,9 @@
 use Rattle.std.proofs.Common.{◌<◌, ℕ, subst, sym, refl}
-use Rattle.heap_core.specs.Layout.{length_at}
-use Rattle.heap_core.specs.declared.size.HeapSize.{HeapSize}
+use Rattle.heap_rule.specs.Layout.{length_at}
+use Rattle.heap_rule.specs.declared.size.HeapSize.{HeapSize}
 use Rattle.atomic_table.specs.Table.{Allows, step}
 use mathlib.Core.Option.{none}
-use Rattle.heap_core.proofs.Steps.{possible_within}
+use Rattle.heap_rule.proofs.Steps.{possible_within}
 use Rattle.heap_table.specs.Rule.{KeepsHeap}
 use Rattle.heap_table.specs.Plays.{StoredLength}
 use Rattle.heap_table.proofs.Keeps.{stores_length, length_small, belongs_then}

@@ -1,6 +1,6 @@
 use Rattle.std.proofs.Common.{◌<◌, ◌+◌, ◌^◌, ℕ, subst, sym, ap, refl, arith}
-use Rattle.heap_core.specs.Layout.{counter_at, end_of}
-use Rattle.heap_core.specs.declared.size.HeapSize.{HeapSize}
+use Rattle.heap_rule.specs.Layout.{counter_at, end_of}
+use Rattle.heap_rule.specs.declared.size.HeapSize.{HeapSize}
 use Rattle.heap_table.proofs.Keeps.{claims, counter_small, end_small, belongs_then}
 use Rattle.heap_table.proofs.agent.Agent.try_claim.Goals as goal
 

@@ -1,11 +1,11 @@
 use Rattle.std.proofs.Common.{rules, ◌≡◌, ℕ, List, subst, sym, ap, refl, ◌∙◌, ◌∷◌, []}
 use Rattle.std.specs.Prelude.{replicate}
-use Rattle.heap_core.specs.Agents.{first_view}
-use Rattle.heap_core.specs.Layout.{word_count}
-use Rattle.heap_core.specs.Sound.{IsSound, IsPossible}
-use Rattle.heap_core.specs.declared.view.View.{View}
+use Rattle.heap_rule.specs.Agents.{first_view}
+use Rattle.heap_rule.specs.Layout.{word_count}
+use Rattle.heap_rule.specs.Sound.{IsSound, IsPossible}
+use Rattle.heap_rule.specs.declared.view.View.{View}
 use Rattle.heap_table.specs.Plays.{Sat}
-use Rattle.heap_core.proofs.Making.{keeps_making}
+use Rattle.heap_rule.proofs.Making.{keeps_making}
 use Rattle.heap_table.specs.MayMake.{MayMake}
 use Rattle.heap_table.specs.Rule.{AreBuilt}
 use Rattle.heap_table.proofs.Stay.{built_zeros}

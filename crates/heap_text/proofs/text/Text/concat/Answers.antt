@@ -2,11 +2,11 @@ use Rattle.std.proofs.Common.{◌≡◌, ◌+◌, ◌++◌, ◌∙◌, ℕ, List
 use Rattle.std.proofs.lemmas.List.{length-append}
 use Rattle.js_units.specs.Lanes.{words_over}
 use Rattle.js_header.specs.declared.form.Form.TheVariants.{Flat}
-use Rattle.heap_core.specs.declared.size.HeapSize.{HeapSize}
-use Rattle.heap_core.specs.declared.view.View.{View}
-use Rattle.heap_core.specs.Maps.{Has}
-use Rattle.heap_core.proofs.MapLemmas.{has_key}
-use Rattle.heap_core.proofs.Possible.{possible_short}
+use Rattle.heap_rule.specs.declared.size.HeapSize.{HeapSize}
+use Rattle.heap_rule.specs.declared.view.View.{View}
+use Rattle.heap_rule.specs.Maps.{Has}
+use Rattle.heap_rule.proofs.MapLemmas.{has_key}
+use Rattle.heap_rule.proofs.Possible.{possible_short}
 use Rattle.heap_table.specs.Agents.{size_of}
 use Rattle.heap_text.specs.declared.source.Source.TheVariants as source
 use Rattle.heap_text.specs.Sources.{listed}
@@ -14,7 +14,7 @@ use Rattle.heap_text.specs.Texts.{Told, is_wide}
 use Rattle.heap_text.proofs.Answered.{joined_units}
 use Rattle.heap_text.proofs.Going.{continues_reads, continues_trans}
 use Rattle.heap_text.proofs.Loaded.{known_trans, reads_trans}
-use Rattle.heap_text.proofs.Pieces.{at_most_after, uses_after, whole_is, whole_shows}
+use Rattle.heap_text.proofs.Pieces.{spared_after, uses_after, whole_is, whole_shows}
 use Rattle.heap_text.proofs.Showing.{window_kept}
 use Rattle.heap_text.proofs.text.Text.concat.Goals as goal
 
@@ -116,7 +116,7 @@ returns-in-Err-clause-joined c us vs h k = let v : View = c.args.self.now.agent.
       both = λ _ _ _. inr (
         c.in-Err.full,
         refl,
-        (subst (λ (y : HeapSize × ℕ). Told w5 y.0 y.1 c.in-Err.full) (λ i. (same i, words i)) e.refused, at_most_after v w4 w5 0 _ (words_over (is_wide (us ++ vs)) (length (us ++ vs))) r4.used words e.at_most),
+        (subst (λ (y : HeapSize × ℕ). Told w5 y.0 y.1 c.in-Err.full) (λ i. (same i, words i)) e.refused, spared_after v w4 w5 _ (words_over (is_wide (us ++ vs)) (length (us ++ vs))) c.in-Err.full r4 words e.spared),
       );
     }
 

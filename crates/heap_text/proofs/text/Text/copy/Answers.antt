@@ -1,14 +1,17 @@
-use Rattle.std.proofs.Common.{◌≡◌, ◌∙◌, ℕ, Bool, false, List, length, ap, subst, sym}
+use Rattle.std.proofs.Common.{◌≡◌, ◌+◌, ◌<◌, ◌∙◌, ℕ, Bool, false, List, length, ap, subst, sym}
 use Rattle.js_header.specs.declared.form.Form.TheVariants.{Flat}
-use Rattle.heap_core.specs.declared.view.View.{View}
-use Rattle.heap_core.specs.declared.size.Counter.TheVariants.{Ids}
-use Rattle.heap_core.specs.Maps.{Has, HasKey}
-use Rattle.heap_core.specs.Births.{MayBear, born, stored_length}
-use Rattle.heap_core.specs.Claims.{won_claim}
-use Rattle.heap_core.proofs.MapLemmas.{insert_same, key_of}
+use Rattle.heap_rule.specs.declared.view.View.{View}
+use Rattle.heap_rule.specs.declared.size.Counter.TheVariants.{Ids}
+use Rattle.heap_rule.specs.Maps.{Has, HasKey}
+use Rattle.heap_rule.specs.Births.{MayBear, born, stored_length}
+use Rattle.heap_rule.specs.Claims.{won_claim}
+use Rattle.heap_rule.proofs.MapLemmas.{insert_same, key_of}
 use Rattle.heap_table.specs.Known.{KeepsKnown}
 use Rattle.heap_text.specs.Sources.{listed}
-use Rattle.heap_text.specs.Texts.{Continues, is_wide}
+use Rattle.heap_text.specs.declared.faults.TextFull.TheVariants as fault
+use Rattle.heap_text.specs.Texts.{Continues, IsSpared, is_wide}
+use Rattle.heap_text.proofs.Pieces.{spared_ids, spared_words}
+use Rattle.js_units.specs.Lanes.{words_over}
 use Rattle.heap_text.specs.Written.{IsWritten}
 use Rattle.heap_text.proofs.Bearing.{born_form, born_units, continues_born, written_fits, written_still}
 use Rattle.heap_text.proofs.Going.{continues_full_ids, continues_ids, continues_length, continues_reads, continues_trans}
@@ -55,3 +58,18 @@ returns-clause-form c = let y : View = c.store_length.new.self.seat.me.0 in let 
   subst (λ (a : View). Has a.forms id (Flat (is_wide (listed c.args.self.now.agent.seat.me.0 c.args.source.now)) start false)) (sym c.birth.ensures.view)
       (subst (λ (b : Bool). Has (born y id (Flat c.has_wide-wide.result start false)).forms id (Flat b start false)) c.has_wide-wide.ensures.wide (born_form y id c.has_wide-wide.result start)),
 )
+
+pub returns-in-Err-clause-spared : goal.returns-in-Err-clause-spared
+returns-in-Err-clause-spared c = let v : View = c.args.self.now.agent.seat.me.0 in let u : View = c.has_wide-wide.new.self.agent.seat.me.0 in let w : View = c.write.new.self.agent.seat.me.0 in let e = c.write.ensures in let f = c.in-Err.ensures.refused in
+    let n = c.args.n in subst (λ (wide : Bool). IsSpared v w (words_over wide n) (fault.Words c.in-Err.full)) c.has_wide-wide.ensures.wide (spared_words v u w (words_over c.has_wide-wide.result n) _ c.in-Err.full c.has_wide-wide.ensures.reads f.0 e.ids f.2 e.own_ids e.own_words)
+
+pub returns-in-Err-claim_id-clause-spared : goal.returns-in-Err-claim_id-clause-spared
+returns-in-Err-claim_id-clause-spared c = let v : View = c.args.self.now.agent.seat.me.0 in let u : View = c.has_wide-wide.new.self.agent.seat.me.0 in let w : View = c.write.new.self.agent.seat.me.0 in let x : View = c.claim_id.new.self.seat.me.0 in
+    let e = c.write.ensures in let f = c.in-Err-claim_id.ensures.refused in let ok = c.in-Ok.ensures.ok in let n = c.args.n in let wide = c.has_wide-wide.result in let us : List ℕ = listed u c.args.source.now in
+    let long : length us ≡ n = ap length c.has_wide-wide.ensures.listed ∙ c.requires.count in
+    let own : (q : ℕ) → q < words_over wide n → HasKey w.own_words (c.in-Ok.start + q) = λ q l. let t = ok.0.words.each q (subst (λ (m : ℕ). q < words_over wide m) (sym long) l) in key_of w.own_words (c.in-Ok.start + q) t.0 t.1 in
+    subst (λ (b : Bool). IsSpared v x (words_over b n) (fault.Ids c.in-Err-claim_id.full)) c.has_wide-wide.ensures.wide
+    (spared_ids v u w x c.in-Ok.start (words_over wide n) c.in-Err-claim_id.full.at c.in-Err-claim_id.full c.has_wide-wide.ensures.reads f.0 e.ids ok.1 e.own_ids e.own_words own)
+
+pub returns-in-Err-clause-continues : goal.returns-in-Err-clause-continues
+returns-in-Err-clause-continues c = let v : View = c.args.self.now.agent.seat.me.0 in let u : View = c.has_wide-wide.new.self.agent.seat.me.0 in continues_trans v u c.write.new.self.agent.seat.me.0 (continues_reads v u c.has_wide-wide.ensures.reads) c.write.ensures.continues

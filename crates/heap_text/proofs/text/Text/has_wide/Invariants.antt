@@ -2,6 +2,7 @@ use Rattle.std.proofs.Common.{◌≡◌, ◌<◌, ◌≤◌, ℕ, get_or}
 use Rattle.heap_table.specs.Agents.{Belongs, view_of}
 use Rattle.heap_text.specs.Sources.{Shows, listed}
 use Rattle.heap_text.specs.Texts.{Reads}
+use Rattle.heap_text.specs.Written.{Holds}
 use Rattle.heap_text.proofs.text.Text.has_wide.Given as goal
 
 abbrev pub invariant-loop-i : goal.invariant-loop-i
@@ -10,6 +11,7 @@ invariant-loop-i l = record {
   heap : l.self.heap ≡ l.fn.self.heap;
   reads : Reads (view_of l.fn.self.agent) (view_of l.self.agent);
   shows : Shows (view_of l.self.agent) l.source;
+  holds : Holds (listed (view_of l.fn.self.agent) l.source) l.held;
   same : listed (view_of l.self.agent) l.source ≡ listed (view_of l.fn.self.agent) l.source;
   narrow : (q : ℕ) → q < l.i → get_or (listed (view_of l.fn.self.agent) l.source) q 0 ≤ 255;
 }

@@ -1,8 +1,8 @@
 use Rattle.std.proofs.Common.{subst, sym}
-use Rattle.heap_core.specs.declared.view.View.{View}
-use Rattle.heap_core.specs.Maps.{Has}
-use Rattle.heap_core.proofs.MapLemmas.{insert_same}
-use Rattle.heap_core.proofs.Possible.{possible_length}
+use Rattle.heap_rule.specs.declared.view.View.{View}
+use Rattle.heap_rule.specs.Maps.{Has}
+use Rattle.heap_rule.proofs.MapLemmas.{insert_same}
+use Rattle.heap_rule.proofs.Possible.{possible_length}
 use Rattle.heap_text.proofs.Loaded.{reads_length}
 use Rattle.heap_text.proofs.text.Text.len.Goals as goal
 

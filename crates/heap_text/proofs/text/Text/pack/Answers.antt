@@ -1,7 +1,8 @@
 use Rattle.std.proofs.Common.{◌≡◌, ◌<◌, ◌+◌, ◌-◌, ◌*◌, ◌^◌, ◌∙◌, ℕ, List, suc, get_or, ap, subst, sym, arith}
 use Rattle.js_units.specs.Lanes.{lane_base, lane_count, lane_of}
-use Rattle.heap_core.specs.declared.view.View.{View}
+use Rattle.heap_rule.specs.declared.view.View.{View}
 use Rattle.heap_text.specs.Sources.{listed}
+use Rattle.heap_text.specs.Written.{Holds}
 use Rattle.heap_text.proofs.Loaded.{reads_trans}
 use Rattle.heap_text.proofs.Packing.{base_some, lanes_then, one_more, unit_fits}
 use Rattle.heap_text.proofs.text.Text.pack.Goals as goal
@@ -29,8 +30,12 @@ loop-k-preserved c = let k = c.loop-k.k in let wide = c.args.wide in let v : Vie
       heap = e.heap ∙ c.loop-k.invariant.heap;
       reads = reads_trans v c.loop-k.self.agent.seat.me.0 c.unit_or_zero-unit.new.self.agent.seat.me.0 c.loop-k.invariant.reads e.reads;
       shows = e.shows;
+      holds = subst (λ (xs : List ℕ). Holds xs c.unit_or_zero-unit.new.held) c.loop-k.invariant.same e.holds;
       same = e.listed ∙ c.loop-k.invariant.same;
       small = subst (λ (d : ℕ). c.loop-k.word * c.lane_size-base.result + c.from.result < lane_base wide ^ d) next (subst (λ (n : ℕ). n < lane_base wide ^ suc k) (sym word) (one_more wide k c.loop-k.word unit l c.loop-k.invariant.small fits).0);
       lanes = λ q m. ap (λ (n : ℕ). lane_of wide n q) word ∙ (lanes_then wide k c.loop-k.word unit us o l fits is (λ p b. c.loop-k.invariant.lanes p b ∙ ap (λ (n : ℕ). get_or us (n + p) 0) (sym before)) q (omega arith)
           ∙ ap (λ (n : ℕ). get_or us (n + q) 0) after);
     }
+
+pub unit_or_zero-unit-requires-clause-holds : goal.unit_or_zero-unit-requires-clause-holds
+unit_or_zero-unit-requires-clause-holds c = subst (λ (xs : List ℕ). Holds xs c.loop-k.held) (sym c.loop-k.invariant.same) c.loop-k.invariant.holds

@@ -1,10 +1,10 @@
 use Rattle.std.proofs.Common.{◌≡◌, ◌≤◌, ◌+◌, ◌-◌, ◌∙◌, ℕ, List, length, ap, subst, sym, arith, Some}
 use Rattle.std.specs.Prelude.{IfErr}
 use Rattle.js_units.specs.Lanes.{words_over}
-use Rattle.heap_core.specs.declared.size.HeapSize.{HeapSize}
-use Rattle.heap_core.specs.declared.view.View.{View}
-use Rattle.heap_core.specs.Births.{part}
-use Rattle.heap_core.proofs.Possible.{possible_short}
+use Rattle.heap_rule.specs.declared.size.HeapSize.{HeapSize}
+use Rattle.heap_rule.specs.declared.view.View.{View}
+use Rattle.heap_rule.specs.Births.{part}
+use Rattle.heap_rule.proofs.Possible.{possible_short}
 use Rattle.heap_table.specs.Agents.{size_of}
 use Rattle.heap_text.specs.declared.string.Window.{Window}
 use Rattle.heap_text.specs.declared.source.Source.TheVariants as source
@@ -45,8 +45,8 @@ returns-clause-cut c us h = let v : View = c.args.self.now.agent.seat.me.0 in le
         | else-from-eq0-via-then-from-eq0+else-to-window q ↦ absurd (q.if-to-window.false (l ∙ sym a.1))
         | else-from-eq0-via-else-from-eq0 q ↦ absurd (q.if-from-eq0.false z)
       ];
-      other = λ _. copy_answer v w x (size_of c.args.self.now.heap.now) c.copy.result (listed w (source.Piece (record { of = c.args.s; from = c.args.from; window = window }))) (part c.args.from n us) n all words c.window-window.ensures.reads.used e.units e.form e.used
-          (subst (λ (y : HeapSize). IfErr c.copy.result (λ f. Told x y (words_over (is_wide (listed w (source.Piece (record { of = c.args.s; from = c.args.from; window = window })))) n) f)) same e.refused) e.at_most;
+      other = λ _. copy_answer v w x (size_of c.args.self.now.heap.now) c.copy.result (listed w (source.Piece (record { of = c.args.s; from = c.args.from; window = window }))) (part c.args.from n us) n all words c.window-window.ensures.reads e.units e.form e.used
+          (subst (λ (y : HeapSize). IfErr c.copy.result (λ f. Told x y (words_over (is_wide (listed w (source.Piece (record { of = c.args.s; from = c.args.from; window = window })))) n) f)) same e.refused) e.spared;
     }
 
 pub returns-clause-units : goal.returns-clause-units

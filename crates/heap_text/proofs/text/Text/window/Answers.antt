@@ -1,4 +1,4 @@
-use Rattle.heap_core.proofs.MapLemmas.{has_key}
+use Rattle.heap_rule.proofs.MapLemmas.{has_key}
 use Rattle.heap_text.proofs.Showing.{window_frozen}
 use Rattle.heap_text.proofs.text.Text.window.Goals as goal
 

@@ -1,14 +1,15 @@
 use Rattle.std.proofs.Common.{◌≡◌, ◌+◌, ◌∙◌, ℕ, List, suc, refl, ap, subst, sym, arith}
 use Rattle.std.specs.FinMap.{FinMap}
 use Rattle.std.specs.Ordering.{nat_cmp}
-use Rattle.heap_core.specs.declared.view.View.{View}
-use Rattle.heap_core.specs.declared.size.Counters.{Counters}
-use Rattle.heap_core.specs.Maps.{Has, HasKey}
+use Rattle.heap_rule.specs.declared.view.View.{View}
+use Rattle.heap_rule.specs.declared.size.Counters.{Counters}
+use Rattle.heap_rule.specs.Maps.{Has, HasKey}
 use Rattle.heap_table.specs.Known.{KeepsKnown}
 use Rattle.heap_text.specs.Sources.{listed}
 use Rattle.heap_text.specs.Texts.{Continues}
-use Rattle.heap_text.specs.Written.{AreWords, IsWordOf}
-use Rattle.heap_text.proofs.Going.{continues_reads, continues_stored, continues_trans, continues_words, key_kept, known_stored, known_words, run_keys, words_stored}
+use Rattle.heap_text.specs.Written.{AreWords, Holds, IsWordOf}
+use Rattle.heap_text.proofs.Going.{continues_reads, continues_stored, continues_trans, continues_words, known_stored, known_words, run_kept, run_keys, words_stored}
+use Rattle.heap_text.proofs.Loaded.{key_more}
 use Rattle.heap_text.proofs.Listing.{listed_same, shows_kept}
 use Rattle.heap_text.proofs.text.Text.write.Goals as goal
 
@@ -19,9 +20,12 @@ loop-at-init c = let v : View = c.args.self.now.agent.seat.me.0 in let w : View 
       heap = refl;
       continues = continues_words v w start want e.view e.low;
       shows = shows_kept v w c.args.source.now known c.requires.shows;
+      holds = c.none-held.ensures (listed v c.args.source.now);
       same = listed_same v w c.args.source.now known c.requires.shows;
       ids = ap (λ (x : View). x.used.ids) e.view;
       words = ap (λ (x : View). x.used.words) e.view;
+      own_ids = ap (λ (x : View). x.own_ids) e.view;
+      kept = λ q h. subst (λ (x : View). HasKey x.own_words q) (sym e.view) (run_kept v.own_words start want q 0 h);
       own = λ q l. subst (λ (x : View). HasKey x.own_words (start + q)) (sym e.view) (run_keys v.own_words start want q 0 l);
       done = record { each = λ q l. absurd (omega arith) };
     }
@@ -36,9 +40,12 @@ loop-at-preserved c = let v : View = c.args.self.now.agent.seat.me.0 in let u : 
       heap = e.heap ∙ i.heap;
       continues = continues_trans v u w i.continues (continues_trans u p w (continues_reads u p e.reads) (subst (Continues p) (sym f.view) (continues_stored p (start + at) word)));
       shows = shows_kept p w c.args.source.now known e.shows;
+      holds = subst (λ (xs : List ℕ). Holds xs c.pack-word.new.held) i.same e.holds;
       same = listed_same p w c.args.source.now known e.shows ∙ (e.listed ∙ i.same);
       ids = ap (λ (x : View). x.used.ids) f.view ∙ (ap (λ (n : Counters). n.ids) e.reads.used ∙ i.ids);
       words = ap (λ (x : View). x.used.words) f.view ∙ (ap (λ (n : Counters). n.words) e.reads.used ∙ i.words);
-      own = λ q l. subst (λ (x : View). HasKey x.own_words (start + q)) (sym f.view) (key_kept p.own_words (start + at) (start + q) word (subst (λ (m : FinMap nat_cmp ℕ). HasKey m (start + q)) (sym e.reads.own_words) (i.own q l)));
+      own_ids = ap (λ (x : View). x.own_ids) f.view ∙ (e.reads.own_ids ∙ i.own_ids);
+      kept = λ q h. subst (λ (x : View). HasKey x.own_words q) (sym f.view) (key_more p.own_words (start + at) q word (subst (λ (m : FinMap nat_cmp ℕ). HasKey m q) (sym e.reads.own_words) (i.kept q h)));
+      own = λ q l. subst (λ (x : View). HasKey x.own_words (start + q)) (sym f.view) (key_more p.own_words (start + at) (start + q) word (subst (λ (m : FinMap nat_cmp ℕ). HasKey m (start + q)) (sym e.reads.own_words) (i.own q l)));
       done = subst (λ (d : ℕ). AreWords w c.args.wide start us d) next (subst (λ (x : View). AreWords x c.args.wide start us (suc at)) (sym f.view) (words_stored p c.args.wide start at word us done is));
     }

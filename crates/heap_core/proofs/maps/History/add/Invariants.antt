@@ -1,5 +1,0 @@
-use Rattle.std.proofs.Common.{◌≡◌, ◌++◌, drop}
-use Rattle.heap_core.proofs.maps.History.add.Given as goal
-
-abbrev pub invariant-loop-call : goal.invariant-loop-call
-invariant-loop-call l = l.self-inside.calls.items ++ drop l.call-index l.call-items ≡ l.fn.self ++ l.other

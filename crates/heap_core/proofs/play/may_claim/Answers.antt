@@ -1,0 +1,13 @@
+use Rattle.std.proofs.Common.{refl}
+use Rattle.heap_rule.specs.Claims.{MayClaim}
+use Rattle.heap_core.proofs.StateLemmas.{live_if, none_live, view_inside}
+use Rattle.heap_core.proofs.play.may_claim.Goals as goal
+
+pub returns-then-not-is_live : goal.returns-then-not-is_live
+returns-then-not-is_live c = none_live c.args.views.now c.args.view (λ v. MayClaim v c.args.counter c.args.at c.args.want) c.if-not-is_live.ensures.1
+
+pub bounds-views-view : goal.bounds-views-view
+bounds-views-view c = view_inside c.args.views.now c.args.view (λ v. Unit {0}) (c.if-not-is_live.ensures.0 refl)
+
+pub returns : goal.returns
+returns c = live_if c.args.views.now c.args.view (λ v. MayClaim v c.args.counter c.args.at c.args.want) c.index-views-view.result c.may_claim.result (c.if-not-is_live.ensures.0 refl) c.index-views-view.is c.may_claim.ensures

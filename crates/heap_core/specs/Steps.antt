@@ -1,0 +1,47 @@
+-- Which kind of step on a word each event is: an event does to the machine what its kind does to the word and to the agent's view.
+use Rattle.std.specs.Prelude.{◌≡◌, ℕ, true, false, if◌then◌else◌, List, [], slice_index, slice_set, Option, Some, None, IfSome}
+use Rattle.heap_rule.specs.declared.view.View.{View}
+use Rattle.heap_rule.specs.Learning.{learned}
+use Rattle.heap_rule.specs.Kinds.{Kind, load_counter, claim, store_word, store_length, birth, load_form, load_length, load_word, MayCome, place_of, access_of, left_by, view_after, learns}
+use Rattle.heap_core.specs.declared.event.Event.{Event}
+use Rattle.heap_core.specs.declared.event.Event.TheVariants.{Make, Split, Join, LoadCounter, Claim, StoreWord, StoreLength, Birth, LoadHeader, LoadWord}
+use Rattle.heap_core.specs.Core.{Core, core}
+use Rattle.heap_core.specs.Events.{LiveAt, Enabled, after}
+
+-- making, splitting and joining are no steps on a word
+abbrev pub kind_of : Event → Option Kind
+kind_of (LoadCounter j k) = Some (load_counter k)
+kind_of (Claim j k at want) = Some (claim k at want)
+kind_of (StoreWord j c n) = Some (store_word c n)
+kind_of (StoreLength j i n) = Some (store_length i n)
+kind_of (Birth j i f) = Some (birth i f)
+kind_of (LoadHeader j i true names) = Some (load_length i)
+kind_of (LoadHeader j i false names) = Some (load_form i)
+kind_of (LoadWord j c names) = Some (load_word c)
+kind_of _ = None
+
+-- the number of its view, and the ids of which it learns the units
+abbrev pub agent_of : Event → ℕ
+agent_of (Split j give) = j
+agent_of (Join j other) = j
+agent_of (LoadCounter j k) = j
+agent_of (Claim j k at want) = j
+agent_of (StoreWord j c n) = j
+agent_of (StoreLength j i n) = j
+agent_of (Birth j i f) = j
+agent_of (LoadHeader j i len names) = j
+agent_of (LoadWord j c names) = j
+agent_of (Make z agents) = 0
+
+abbrev pub names_of : Event → List ℕ
+names_of (LoadHeader j i len names) = names.items
+names_of (LoadWord j c names) = names.items
+names_of _ = []
+
+-- a step of this kind by the view j, which learns the units of the named ids where its kind learns
+abbrev pub stepped : Core → ℕ → View → Kind → List ℕ → Core
+stepped s j v k names = core s.size s.agents (slice_set s.words (place_of s.size k) (left_by (access_of k) (slice_index s.words (place_of s.size k))))
+    (slice_set s.views j (if learns k then learned (view_after v k (slice_index s.words (place_of s.size k))) names else view_after v k (slice_index s.words (place_of s.size k))))
+
+abbrev pub EventsAreSteps : Type 0
+EventsAreSteps = (s : Core) (e : Event) → Enabled s e → IfSome (kind_of e) (λ k. LiveAt s (agent_of e) (λ v. MayCome v k × (after s e ≡ stepped s (agent_of e) v k (names_of e))))

@@ -1,0 +1,102 @@
+// Two greetings, made by two threads on one heap.
+ghost use Rattle.std.specs.Prelude.{◌≡◌, ℕ, List, ◌++◌, ◌≤◌, IfOk, length};
+ghost use Rattle.heap_rule.specs.Layout.{MAX};
+ghost use Rattle.heap_rule.specs.Maps.{Has, HasKey};
+ghost use Rattle.heap_table.specs.Agents.{Belongs, view_of};
+ghost use Rattle.heap_table.specs.Known.{KeepsKnown};
+ghost use Rattle.heap_text.specs.Turns.{GoesOn};
+ghost use Rattle.heap_example.specs.Greeting.{Greets};
+
+use crate::refusal::Refusal;
+use heap_rule::HeapSize;
+use heap_table::Heap;
+use heap_text::{JsStr, Text};
+use std::alloc::Global;
+use std::thread::{Threads, join_mut};
+
+/// The units of `hello` and the first name, and those of `hello` and the second one.
+pub fn greetings(
+    rt: &impl Threads,
+    alloc: Global,
+    hello: &[u16],
+    first: &[u16],
+    second: &[u16],
+) -> Result<(Vec<u16>, Vec<u16>), Refusal>
+    requires short { (length hello.now ≤ MAX) × (length first.now ≤ MAX) × (length second.now ≤ MAX) }
+    ensures first { IfOk result (λ r. r.0.items ≡ hello.now ++ first.now) }
+    ensures second { IfOk result (λ r. r.1.items ≡ hello.now ++ second.now) }
+{
+    let size = HeapSize {
+        ids: 8,
+        words: 16,
+        slots: 1,
+    };
+    let (heap, agent) = Heap::make(alloc, size, 2)?;
+    let mut left = Text::new(&heap, agent);
+    let hello = left.make_flat(hello)?;
+    let agent = left.agent.split(&heap, 1);
+    let mut right = Text::new(&heap, agent);
+    let (one, other) = greet_both(rt, &mut left, &mut right, hello, first, second);
+    left.agent.join(&heap, right.agent);
+    let first = read(alloc, &mut left, one?)?;
+    let second = read(alloc, &mut left, other?)?;
+    Ok((first, second))
+}
+
+// Each of the two agents makes its greeting, in a thread of its own.
+fn greet_both(
+    rt: &impl Threads,
+    left: &mut Text,
+    right: &mut Text,
+    hello: JsStr,
+    first: &[u16],
+    second: &[u16],
+) -> (Result<JsStr, Refusal>, Result<JsStr, Refusal>)
+    requires left { Belongs left.old.agent left.old.heap.now }
+    requires right { Belongs right.old.agent right.old.heap.now }
+    requires known_left { HasKey (view_of left.old.agent).units hello.id }
+    requires known_right { HasKey (view_of right.old.agent).units hello.id }
+    requires short { (length first.now ≤ MAX) × (length second.now ≤ MAX) }
+    ensures heaps { (left.new.heap ≡ left.old.heap) × (right.new.heap ≡ right.old.heap) }
+    ensures left { GoesOn (view_of left.old.agent) left.new.agent left.new.heap.now }
+    ensures right { GoesOn (view_of right.old.agent) right.new.agent right.new.heap.now }
+    ensures first { IfOk result.0 (λ s. Greets (view_of left.old.agent) (view_of left.new.agent) hello first.now s) }
+    ensures second { IfOk result.1 (λ s. Greets (view_of right.old.agent) (view_of right.new.agent) hello second.now s) }
+{
+    join_mut(
+        rt,
+        &mut || greet(left, hello, first),
+        &mut || { greet(right, hello, second) },
+    )
+}
+
+// A new string: the units of `hello`, and then the name.
+fn greet(text: &mut Text, hello: JsStr, name: &[u16]) -> Result<JsStr, Refusal>
+    requires text { Belongs text.old.agent text.old.heap.now }
+    requires known { HasKey (view_of text.old.agent).units hello.id }
+    requires short { length name.now ≤ MAX }
+    ensures heap { text.new.heap ≡ text.old.heap }
+    ensures goes_on { GoesOn (view_of text.old.agent) text.new.agent text.new.heap.now }
+    ensures greets { IfOk result (λ s. Greets (view_of text.old.agent) (view_of text.new.agent) hello name.now s) }
+{
+    let name = text.make_flat(name)?;
+    Ok(text.concat(hello, name)?)
+}
+
+// The units of a string.
+fn read(alloc: Global, text: &mut Text, s: JsStr) -> Result<Vec<u16>, Refusal>
+    requires text { Belongs text.old.agent text.old.heap.now }
+    requires known { HasKey (view_of text.old.agent).units s.id }
+    ensures text { Belongs text.new.agent text.new.heap.now }
+    ensures heap { text.new.heap ≡ text.old.heap }
+    ensures known { KeepsKnown (view_of text.old.agent) (view_of text.new.agent) }
+    ensures units { IfOk result (λ r. Has (view_of text.old.agent).units s.id r.items) }
+{
+    text.settle(s)?;
+    let window = text.window(s);
+    let mut units = Vec::new(alloc);
+    for i in 0..window.len {
+        units.push(text.unit_in(window, i))?;
+    }
+    Ok(units)
+}

@@ -1,0 +1,15 @@
+use Rattle.heap_rule.proofs.Paths.{path_length, path_at, rank_inside}
+use Rattle.heap_rule.proofs.Slots.{rank_one}
+use Rattle.heap_rule.proofs.rule.every_path.Goals as goal
+
+pub returns-clause-length : goal.returns-clause-length
+returns-clause-length c = path_length
+
+pub returns-clause-inside : goal.returns-clause-inside
+returns-clause-inside c = rank_inside
+
+pub returns-clause-place : goal.returns-clause-place
+returns-clause-place c = path_at
+
+pub returns-clause-once : goal.returns-clause-once
+returns-clause-once c = rank_one

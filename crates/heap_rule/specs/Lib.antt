@@ -1,0 +1,15 @@
+pub mod Layout
+pub mod Contents
+pub mod Maps
+pub mod Forms
+pub mod Paths
+pub mod Views
+pub mod Claims
+pub mod Births
+pub mod Learning
+pub mod Loads
+pub mod HeaderMoves
+pub mod Slots
+pub mod Agents
+pub mod Sound
+pub mod Kinds

@@ -1,0 +1,26 @@
+use Rattle.std.proofs.Common.{refl}
+use Rattle.heap_table.proofs.laws.every_play.Goals as goal
+
+pub returns-clause-counter : goal.returns-clause-counter
+returns-clause-counter c k slots me me' x h = (h.1 k refl).0
+
+pub returns-clause-claim : goal.returns-clause-claim
+returns-clause-claim c k at want slots me me' x h = (h.1 k want refl refl).0
+
+pub returns-clause-word : goal.returns-clause-word
+returns-clause-word c p n slots me me' x h = h.1 p refl
+
+pub returns-clause-length : goal.returns-clause-length
+returns-clause-length c i n slots me me' x h = h.1 i refl
+
+pub returns-clause-birth : goal.returns-clause-birth
+returns-clause-birth c i f range slots me me' x h = h.2 i f refl refl range
+
+pub returns-clause-load_form : goal.returns-clause-load_form
+returns-clause-load_form c i slots me me' x h = h.3 i refl
+
+pub returns-clause-load_length : goal.returns-clause-load_length
+returns-clause-load_length c i slots me me' x h = h.3 i refl
+
+pub returns-clause-load_word : goal.returns-clause-load_word
+returns-clause-load_word c p slots me me' x h = (h.2 p refl).0

@@ -1,0 +1,30 @@
+-- The running heap as the machine: what holds between any two steps, and of which kind each step is.
+use Rattle.std.specs.Prelude.{◌≡◌, ℕ}
+use mathlib.Core.Option.{none}
+use Rattle.atomic_table.specs.Table.{State, Step, step}
+use Rattle.heap_rule.specs.declared.view.View.{View}
+use Rattle.heap_rule.specs.Kinds.{Kind, Access, loads, stores, exchanges, place_of, access_of, view_on_heap}
+use Rattle.heap_rule.specs.Sound.{IsSound, AreLegal}
+use Rattle.heap_table.specs.declared.rule.HeapKey.{HeapKey}
+use Rattle.heap_table.specs.Plays.{Sat}
+
+-- a rule of the table, by which the rule holds of the words and the views whenever no step is under way, and all histories together are legal
+abbrev pub IsSoundTable : (HeapKey → State (Unit {0}) View → Type 0) → Type 0
+IsSoundTable holds = (k : HeapKey) (s : State (Unit {0}) View) → holds k s → IsSound k.size k.agents s.words s.views
+
+abbrev pub IsLegalTable : (HeapKey → State (Unit {0}) View → Type 0) → Type 0
+IsLegalTable holds = (k : HeapKey) (s : State (Unit {0}) View) → holds k s → AreLegal s.views
+
+-- the operands of a step on a word: what it stores, or what it expects and what it puts in its place
+abbrev pub first_of : Access → ℕ
+first_of loads = 0
+first_of (stores n) = n
+first_of (exchanges old new) = old
+
+abbrev pub second_of : Access → ℕ
+second_of (exchanges old new) = new
+second_of _ = 0
+
+-- what a play tells of a step on the word of a kind, with the operands of that kind: the view becomes what the kind makes of it by the word found
+abbrev pub IsOfKind : (Step (Unit {0}) → Sat → ℕ → Sat → Type 0) → Kind → Type 0
+IsOfKind tells e = (slots : ℕ) (me me' : Sat) (x : ℕ) → tells (step slots (place_of me.0.sizes e) (first_of (access_of e)) (second_of (access_of e)) none) me x me' → me'.0 ≡ view_on_heap me.0 e x

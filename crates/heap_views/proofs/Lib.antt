@@ -1,0 +1,4 @@
+pub mod Searches
+pub mod KindLemmas
+pub mod Justified
+pub mod FrozenWords

@@ -1,0 +1,64 @@
+// What each kind of step does to a view, and when it may be made.
+ghost use Rattle.std.specs.Prelude.{◌≡◌, ℕ, zero, ◌+◌, ◌*◌, ◌<◌, ◌≤◌, ◌^◌, ◌↔◌, ◌⊎◌, IsTrue, IfOk, OnOk, OnErr, None, unwrap_or};
+ghost use Rattle.js_units.specs.Lanes.{words_over};
+ghost use Rattle.js_header.specs.declared.form.Form.TheVariants as form;
+ghost use Rattle.std.specs.FinMap as map;
+ghost use Rattle.heap_rule.specs.Layout.{MAX, count_in};
+ghost use Rattle.heap_rule.specs.Contents.{span, lane_in};
+ghost use Rattle.heap_rule.specs.Maps.{Has, HasKey};
+ghost use Rattle.heap_rule.specs.Views.{shown};
+ghost use Rattle.heap_rule.specs.Claims.{loaded_counter, MayClaim, won_claim};
+ghost use Rattle.heap_rule.specs.Births.{stored_word, MayStoreLength, stored_length, Fits, MayBear, born_with};
+
+use heap_rule::{Counter, MAX, View};
+use js_header::Form;
+use js_units::{NoMemory, Units, lane, lanes, words_for};
+use std::alloc::Global;
+
+/// A load of a counter.
+pub fn load_counter(view: &mut View, counter: Counter, found: u32)
+    ensures { view.new ≡ loaded_counter view.old counter found }
+{
+    view.low.set(counter, found);
+}
+
+/// Whether the agent may claim on a counter.
+pub fn may_claim(view: &View, counter: Counter, at: u32, want: u32) -> bool
+    ensures { IsTrue result ↔ MayClaim view.now counter at want }
+{
+    if view.low.get(counter) < at {
+        return false;
+    }
+    if u64::from(view.sizes.end(counter)) < u64::from(at) + u64::from(want) {
+        return false;
+    }
+    if want == 0 {
+        return false;
+    }
+    match counter {
+        Counter::Ids => want == 1,
+        Counter::Words => true,
+    }
+}
+
+/// A claim that is won: the pieces are own, with the word 0.
+pub fn claim(view: &mut View, counter: Counter, at: u32, want: u32) -> Result<(), NoMemory>
+    requires may { MayClaim view.old counter at want }
+    requires used { count_in view.old.used counter + want < 2 ^ 32 }
+    requires end { at + want < 2 ^ 32 }
+    ensures ok { OnOk result (view.new ≡ won_claim view.old counter at want) }
+    ensures err { OnErr result (view.new ≡ view.old) }
+{
+    match counter {
+        Counter::Ids => view.own_ids.insert(at, 0)?,
+        Counter::Words => {
+            let mut own = view.own_words.copied()?;
+            own.insert_run(at, want, 0)?;
+            view.own_words = own;
+        }
+    }
+    let used = view.used.get(counter) + want;
+    view.used.set(counter, used);
+    view.low.set(counter, at + want);
+    Ok(())
+}

@@ -1,0 +1,61 @@
+-- Calls of methods: an argument as a string, and then what is done with it.
+use Rattle.std.proofs.Common.{arith, ◌≡◌, ℕ, ◌+◌, ◌≤◌, ◌<◌, List, subst, sym, Option, length, get_or, drop, Result, Ok, Err}
+use Rattle.js_store.specs.State.{State, Grows, IsKnown, text}
+use Rattle.js_store.proofs.Laws.{text_still}
+use Rattle.js_values.specs.declared.value.Value.{Value}
+use Rattle.js_values.specs.declared.value.Stop.{Stop}
+use Rattle.js_values.specs.Outcome.{Val, Out, bind}
+use Rattle.js_values.specs.Conversions.{to_string, text_units}
+use Rattle.js_calls.specs.Searching.{found, search_call}
+use Rattle.js_calls.specs.Building.{joined_text, one_joined, concat_call}
+use Rattle.js_values.specs.Seen.{seen, IsFine, all_seen, AllFine}
+use Rattle.js_values.specs.Does.{Does, GivesText}
+use Rattle.js_values.proofs.Compose.{did_bind, did_stop}
+use Rattle.js_texts.proofs.Lists.{drop_at, every_at}
+use Rattle.js_values.proofs.Still.{seen_still}
+
+module _ {F R : Type 0} (name : R → ℕ) where
+  -- a string, and then a value that is made of it; or an early end
+  pub text_then : (a b c : State F) (w : R) (r : Result (Value R) Stop) (o : Out (List ℕ)) (go : List ℕ → Out Val) → GivesText name a b (Ok w) o → Does name b c r (go (text b (name w))) → Does name a c r (bind o go)
+  text_then a b c w r o go d e = did_bind a b c (λ s v. text s (name v)) (λ s v. IsKnown s (name v)) (λ s v. seen s name v) (λ s v. IsFine s name v) w r o go d e
+
+  pub text_stops : (a b : State F) (n : Stop) (o : Out (List ℕ)) (go : List ℕ → Out Val) → GivesText name a b (Err n) o → Does name a b (Err n) (bind o go)
+  text_stops a b n o go d = did_stop a b (λ s v. text s (name v)) (λ s v. IsKnown s (name v)) (λ s v. seen s name v) (λ s v. IsFine s name v) n o go d
+
+  -- a string to look for, and then what it and a number give
+  pub search_does : {N : Type 0} (a b c : State F) (s w : R) (r : Result (Value R) Stop) (at n : ℕ) (answer : List ℕ → List ℕ → N → Val) (v : Val) (q : Option N) → Grows a b → IsKnown a (name s) → length (text b (name w)) ≤ n + 40 → GivesText name a b (Ok w) (to_string a.limit v) → ((t : ℕ) → length (text b (name s)) + length (text b (name w)) ≤ t + 40 → Does name b c r (found at t (answer (text b (name s)) (text b (name w))) q)) → Does name a c r (search_call at a.limit (length (text a (name s)) + n) (answer (text a (name s))) v q)
+  search_does a b c s w r at n answer v q g k h d f =
+      let same : text b (name s) ≡ text a (name s) = text_still g (name s) k in
+      let t : ℕ = length (text a (name s)) + n in
+      let z : Does name b c r (found at t (answer (text b (name s)) (text b (name w))) q) = f t (rw same (omega (arith, h))) in
+      text_then a b c w r (to_string a.limit v) (λ x. found at t (answer (text a (name s)) x) q) d
+      (subst (λ (u : List ℕ). Does name b c r (found at t (answer u (text b (name w))) q)) same z)
+
+  -- one more argument of `concat`
+  pub join_does : (a b c : State F) (s w : R) (v : Value R) (r : Result R Stop) → Grows a b → IsKnown a (name s) → length (text b (name w)) ≤ text_units (seen a name v) + 40 → GivesText name a b (Ok w) (to_string a.limit (seen a name v)) → ((t : ℕ) → length (text b (name s)) + length (text b (name w)) ≤ t + 40 → GivesText name b c r (joined_text b.limit t (text b (name s)) (text b (name w)))) → GivesText name a c r (one_joined a.limit (text a (name s)) (seen a name v))
+  join_does a b c s w v r g k h d f =
+      let same : text b (name s) ≡ text a (name s) = text_still g (name s) k in
+      let t : ℕ = length (text a (name s)) + text_units (seen a name v) in
+      let z : GivesText name b c r (joined_text b.limit t (text b (name s)) (text b (name w))) = f t (rw same (omega (arith, h))) in
+      did_bind a b c (λ o e. text o (name e)) (λ o e. IsKnown o (name e)) (λ o e. text o (name e)) (λ o e. IsKnown o (name e)) w r (to_string a.limit (seen a name v)) (λ x. joined_text a.limit t (text a (name s)) x) d
+      (subst (λ (p : ℕ × List ℕ). GivesText name b c r (joined_text p.0 t p.1 (text b (name w)))) (cc (g.limit, same)) z)
+
+  pub join_stops : (a b : State F) (s : R) (v : Value R) (n : Stop) → GivesText name a b (Err n) (to_string a.limit (seen a name v)) → GivesText name a b (Err n) (one_joined a.limit (text a (name s)) (seen a name v))
+  join_stops a b s v n d = did_stop a b (λ o e. text o (name e)) (λ o e. IsKnown o (name e)) (λ o e. text o (name e)) (λ o e. IsKnown o (name e)) n (to_string a.limit (seen a name v)) (λ x. joined_text a.limit (length (text a (name s)) + text_units (seen a name v)) (text a (name s)) x) d
+
+  module _ (a b d : State F) (vs : List (Value R)) (i : ℕ) (v : Value R) (t : R) (g : Grows a b) (h : AllFine a name vs) (l : i < length vs) (p : v ≡ get_or vs i v) where
+    same_value : seen b name v ≡ seen a name v
+    same_value = seen_still a b name g v (every_at (λ w. IsFine a name w) vs i v h l p)
+
+    -- the next of the arguments of `concat`, and then those after it
+    pub concat_turn : (z : State F) (w : R) (r : Result (Value R) Stop) → GivesText name b d (Ok w) (one_joined b.limit (text b (name t)) (seen b name v)) → Does name d z r (concat_call a.limit (text d (name w)) (all_seen a name (drop (i + 1) vs))) → Does name b z r (concat_call a.limit (text b (name t)) (all_seen a name (drop i vs)))
+    concat_turn z w r x y =
+        let x' : GivesText name b d (Ok w) (one_joined a.limit (text b (name t)) (seen a name v)) = subst (λ (l : ℕ). GivesText name b d (Ok w) (one_joined l (text b (name t)) (seen a name v))) g.limit (subst (λ (q : Val). GivesText name b d (Ok w) (one_joined b.limit (text b (name t)) q)) same_value x) in
+        subst (λ (q : List (Value R)). Does name b z r (concat_call a.limit (text b (name t)) (all_seen a name q))) (sym (drop_at vs i v l p))
+        (text_then b d z w r (one_joined a.limit (text b (name t)) (seen a name v)) (λ u. concat_call a.limit u (all_seen a name (drop (i + 1) vs))) x' y)
+
+    pub concat_halt : (n : Stop) → GivesText name b d (Err n) (one_joined b.limit (text b (name t)) (seen b name v)) → Does name b d (Err n) (concat_call a.limit (text b (name t)) (all_seen a name (drop i vs)))
+    concat_halt n x =
+        let x' : GivesText name b d (Err n) (one_joined a.limit (text b (name t)) (seen a name v)) = subst (λ (l : ℕ). GivesText name b d (Err n) (one_joined l (text b (name t)) (seen a name v))) g.limit (subst (λ (q : Val). GivesText name b d (Err n) (one_joined b.limit (text b (name t)) q)) same_value x) in
+        subst (λ (q : List (Value R)). Does name b d (Err n) (concat_call a.limit (text b (name t)) (all_seen a name q))) (sym (drop_at vs i v l p))
+        (text_stops b d n (one_joined a.limit (text b (name t)) (seen a name v)) (λ u. concat_call a.limit u (all_seen a name (drop (i + 1) vs))) x')

@@ -1,0 +1,9 @@
+mod Calls
+mod Within
+mod Numbers
+mod Pads
+mod Parts
+mod Made
+mod Replacements
+mod Quoted
+mod Elements

@@ -1,0 +1,11 @@
+pub mod Reading
+pub mod Cutting
+pub mod Searching
+pub mod Building
+pub mod Padding
+pub mod Replacing
+pub mod Quoting
+pub mod Arrays
+pub mod Members
+pub mod Groups
+pub mod Numbers

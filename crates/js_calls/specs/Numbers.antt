@@ -1,0 +1,26 @@
+-- Numbers that a function of the String constructor takes, by the code's names of these functions.
+use Rattle.std.specs.Prelude.{◌≡◌, true, List}
+use Rattle.js_number.specs.declared.Num.{Num}
+use Rattle.js_number.specs.Places.{IsLawful}
+use Rattle.js_store.specs.State.{State}
+use Rattle.js_methods.specs.Building.{is_code_point}
+use Rattle.js_texts.specs.Texts.{Every}
+use Rattle.js_calls.specs.declared.builtins.Codes.{Codes}
+use Rattle.js_calls.specs.declared.builtins.Codes.TheVariants.{CharCodes, CodePoints}
+use Rattle.std.specs.Prelude.{Result}
+use Rattle.std.proofs.Common.{Vec, Global}
+use Rattle.js_values.specs.declared.value.Stop.{Stop}
+use Rattle.js_values.specs.Outcome.{Out}
+use Rattle.js_values.specs.Ran.{Did}
+
+-- a number that a function of the String constructor takes
+abbrev pub IsFor : Codes → Num → Type 0
+IsFor CharCodes n = IsLawful n
+IsFor CodePoints n = is_code_point n ≡ true
+
+-- numbers that a function of the String constructor takes
+abbrev pub GivesNumber : {F : Type 0} → State F → Codes → Result Num Stop → Out Num → Type 0
+GivesNumber a which r o = Did a a (λ s n. n) (λ s n. IsFor which n) r o
+
+abbrev pub GivesNumbers : {F : Type 0} → State F → Codes → Result (Vec Num Global) Stop → Out (List Num) → Type 0
+GivesNumbers a which r o = Did a a (λ s v. v.items) (λ s v. Every (IsFor which) v.items) r o

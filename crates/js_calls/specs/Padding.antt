@@ -1,0 +1,41 @@
+-- Methods that repeat a string or a filler.
+use Rattle.std.specs.Prelude.{ℕ, List, [], ◌∷◌, length, Option, Some, None, Bool, true, false, nat_le, if◌then◌else◌}
+use Rattle.js_number.specs.declared.Num.{Num}
+use Rattle.js_number.specs.Arith.{length_of}
+use Rattle.js_methods.specs.Repeating.{is_count, repeat_of}
+use Rattle.js_values.specs.declared.value.Kind.TheVariants.{RangeError}
+use Rattle.js_values.specs.Outcome.{Val, Out, gave, bind, free, throws, refuses}
+use Rattle.js_values.specs.Conversions.{to_string, string_units}
+use Rattle.js_values.specs.Arguments.{is_undefined}
+use Rattle.js_values.specs.Need.{repeat_ids, repeat_words, pad_ids, pad_words}
+use Rattle.js_calls.specs.Cutting.{within}
+
+-- so many copies of a string, where the number is a count
+abbrev pub repeated : Bool → ℕ → List ℕ → Num → Out Val
+repeated true limit u n = within limit repeat_ids (repeat_words (length u)) (repeat_of u n)
+repeated false limit u n = throws RangeError repeat_ids (repeat_words (length u) 0)
+
+-- "String.prototype.repeat"
+abbrev pub repeat_call : ℕ → ℕ → List ℕ → Option Num → Out Val
+repeat_call at limit u (Some n) = repeated (is_count n) limit u n
+repeat_call at limit u None = refuses at
+
+-- a filler that isn't given is one space
+abbrev pub filler_of : ℕ → Val → Out (List ℕ)
+filler_of limit v = if is_undefined v then gave (32 ∷ []) free else to_string limit v
+
+-- a filler, and then the string u with it, so that it has m units
+abbrev pub filled : ℕ → (ℕ → List ℕ → List ℕ) → List ℕ → ℕ → Val → Out Val
+filled limit pad u m f = bind (filler_of limit f) (λ w. within limit pad_ids (pad_words (length u) (length w)) (pad m w))
+
+-- the string u padded to m units; the filler isn't looked at where u has as many
+abbrev pub padded : ℕ → (ℕ → List ℕ → List ℕ) → List ℕ → ℕ → Val → Out Val
+padded limit pad u m f =
+    if nat_le m (length u)
+    then within limit pad_ids (pad_words (length u) (string_units f)) u
+    else filled limit pad u m f
+
+-- "String.prototype.padStart", "String.prototype.padEnd"
+abbrev pub pad_call : ℕ → ℕ → (ℕ → List ℕ → List ℕ) → List ℕ → Option Num → Val → Out Val
+pad_call at limit pad u (Some n) f = padded limit pad u (length_of n) f
+pad_call at limit pad u None f = refuses at

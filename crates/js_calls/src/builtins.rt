@@ -1,0 +1,171 @@
+// Built-in functions (ECMA-262, "Properties of the String Constructor", "JSON.stringify").
+ghost use Rattle.std.specs.Prelude.{◌≡◌, ◌≤◌, List, [], Some, true, All, map, length, IfOk};
+ghost use Rattle.std.specs.List.{list_all};
+ghost use Rattle.js_number.specs.Places.{IsLawful};
+ghost use Rattle.js_number.specs.Arith.{modulo};
+ghost use Rattle.js_store.specs.State.{Grows};
+ghost use Rattle.js_methods.specs.Building.{is_code_point, code_units_of};
+ghost use Rattle.js_values.specs.Outcome.{Val, each};
+ghost use Rattle.js_calls.specs.Building.{number_in, number_out, units_of, made as made_out, from_codes as from_codes_out};
+ghost use Rattle.js_calls.specs.Members.{built};
+ghost use Rattle.js_texts.specs.Texts.{Every};
+ghost use Rattle.js_values.specs.Seen.{seen, IsFine, all_seen, AllFine};
+ghost use Rattle.js_calls.specs.Numbers.{IsFor};
+ghost use Rattle.js_values.specs.Does.{Does};
+ghost use Rattle.js_calls.specs.Numbers.{GivesNumber, GivesNumbers};
+
+use crate::quoting::call_stringify;
+use js_number::Num;
+use js_store::{MethodFault, Strings};
+use js_tree::Builtin;
+use js_values::{Kind, Stop, Value, number_of, push};
+use std::alloc::Global;
+
+/// A function of the constructor that makes a string of numbers.
+#[derive(Clone, Copy, Debug, PartialEq, Eq)]
+pub enum Codes {
+    CharCodes,
+    CodePoints,
+}
+
+/// A call of a built-in function with all its arguments; `at` is the byte offset of its first
+/// word.
+pub fn call_builtin<S: Strings>(
+    alloc: Global,
+    store: &mut S,
+    at: u32,
+    which: Builtin,
+    args: &[Value<S::Ref>],
+) -> Result<Value<S::Ref>, Stop>
+    requires { AllFine (S.state store.old) S.number args.now }
+    ensures grows { Grows (S.state store.old) (S.state store.new) }
+    ensures fine { IfOk result (λ v. IsFine (S.state store.new) S.number v) }
+    ensures did { Does S.number (S.state store.old) (S.state store.new) result (built which at (S.state store.old).limit (all_seen (S.state store.old) S.number args.now)) }
+{
+    match which {
+        Builtin::FromCharCode => from_codes(alloc, store, at, Codes::CharCodes, args),
+        Builtin::FromCodePoint => from_codes(alloc, store, at, Codes::CodePoints, args),
+        Builtin::Stringify => call_stringify(alloc, store, args),
+    }
+}
+
+// `String.fromCharCode` or `String.fromCodePoint`.
+fn from_codes<S: Strings>(
+    alloc: Global,
+    store: &mut S,
+    at: u32,
+    which: Codes,
+    args: &[Value<S::Ref>],
+) -> Result<Value<S::Ref>, Stop>
+    requires { AllFine (S.state store.old) S.number args.now }
+    ensures grows { Grows (S.state store.old) (S.state store.new) }
+    ensures fine { IfOk result (λ v. IsFine (S.state store.new) S.number v) }
+    ensures did { Does S.number (S.state store.old) (S.state store.new) result (from_codes_out which at (all_seen (S.state store.old) S.number args.now)) }
+{
+    if args.len() > 1048576 {
+        return Err(Stop::Threw(Kind::RangeError));
+    }
+    let numbers = numbers(alloc, store, at, which, args)?;
+    make(alloc, store, which, &numbers)
+}
+
+// The arguments as numbers, from left to right.
+fn numbers<S: Strings>(
+    alloc: Global,
+    store: &S,
+    at: u32,
+    which: Codes,
+    args: &[Value<S::Ref>],
+) -> Result<Vec<Num>, Stop>
+    requires { AllFine (S.state store.now) S.number args.now }
+    ensures each { IfOk result (λ v. Every (IsFor which) v.items) }
+    ensures count { IfOk result (λ v. length v.items ≡ length args.now) }
+    ensures did { GivesNumbers (S.state store.now) which result (each (number_out at (all_seen (S.state store.now) S.number args.now) which) (all_seen (S.state store.now) S.number args.now) []) }
+{
+    let mut numbers = Vec::new(alloc);
+    for value in args {
+        let number = number(store, at, which, value)?;
+        push(&mut numbers, number)?;
+    }
+    Ok(numbers)
+}
+
+// An argument as a number, where it is one that the function takes.
+fn number<S: Strings>(store: &S, at: u32, which: Codes, value: &Value<S::Ref>) -> Result<Num, Stop>
+    requires { IsFine (S.state store.now) S.number value.now }
+    ensures is_for { IfOk result (IsFor which) }
+    ensures did { (vs : List Val) → GivesNumber (S.state store.now) which result (number_out at vs which (seen (S.state store.now) S.number value.now)) }
+{
+    match number_of(store, value) {
+        None => Err(Stop::Unsupported { at }),
+        Some(n) => match which {
+            Codes::CharCodes => Ok(n),
+            Codes::CodePoints => code_point(store, at, n),
+        },
+    }
+}
+
+fn code_point<S: Strings>(_store: &S, at: u32, n: Num) -> Result<Num, Stop>
+    ensures is_for { IfOk result (IsFor Codes.CodePoints) }
+    ensures did { (vs : List Val) → GivesNumber (S.state _store.now) Codes.CodePoints result (number_in at vs (Some n) Codes.CodePoints) }
+{
+    match n {
+        Num::Int(k) if 0 <= k && k <= 0x10FFFF => Ok(n),
+        _ => Err(Stop::Threw(Kind::RangeError)),
+    }
+}
+
+// The string of the numbers of a call with the arguments vs.
+fn make<S: Strings>(
+    alloc: Global,
+    store: &mut S,
+    which: Codes,
+    numbers: &[Num],
+) -> Result<Value<S::Ref>, Stop>
+    requires each { Every (IsFor which) numbers.now }
+    requires count { length numbers.now ≤ 1048576 }
+    ensures grows { Grows (S.state store.old) (S.state store.new) }
+    ensures fine { IfOk result (λ v. IsFine (S.state store.new) S.number v) }
+    ensures did { (vs : List Val) → Does S.number (S.state store.old) (S.state store.new) result (made_out vs (units_of which numbers.now)) }
+{
+    match which {
+        Codes::CharCodes => from_char_codes(alloc, store, numbers),
+        Codes::CodePoints => from_code_points(alloc, store, numbers),
+    }
+}
+
+fn from_char_codes<S: Strings>(
+    alloc: Global,
+    store: &mut S,
+    codes: &[Num],
+) -> Result<Value<S::Ref>, Stop>
+    requires lawful { All IsLawful codes.now }
+    requires count { length codes.now ≤ 1048576 }
+    ensures grows { Grows (S.state store.old) (S.state store.new) }
+    ensures fine { IfOk result (λ v. IsFine (S.state store.new) S.number v) }
+    ensures did { (vs : List Val) → Does S.number (S.state store.old) (S.state store.new) result (made_out vs (map (modulo 65536) codes.now)) }
+{
+    match js_methods::from_char_code(alloc, store, codes) {
+        Ok(r) => Ok(Value::Text(r)),
+        Err(MethodFault::Store(fault)) => Err(Stop::Store(fault)),
+        Err(MethodFault::RangeError(_)) => Err(Stop::Threw(Kind::RangeError)),
+    }
+}
+
+fn from_code_points<S: Strings>(
+    alloc: Global,
+    store: &mut S,
+    points: &[Num],
+) -> Result<Value<S::Ref>, Stop>
+    requires points { list_all is_code_point points.now ≡ true }
+    requires count { length points.now ≤ 1048576 }
+    ensures grows { Grows (S.state store.old) (S.state store.new) }
+    ensures fine { IfOk result (λ v. IsFine (S.state store.new) S.number v) }
+    ensures did { (vs : List Val) → Does S.number (S.state store.old) (S.state store.new) result (made_out vs (code_units_of points.now)) }
+{
+    match js_methods::from_code_point(alloc, store, points) {
+        Ok(r) => Ok(Value::Text(r)),
+        Err(MethodFault::Store(fault)) => Err(Stop::Store(fault)),
+        Err(MethodFault::RangeError(_)) => Err(Stop::Threw(Kind::RangeError)),
+    }
+}

@@ -1,0 +1,7 @@
+pub mod Compose
+pub mod Each
+pub mod Needs
+pub mod ListTexts
+pub mod Still
+pub mod Strings
+pub mod Sums

@@ -1,0 +1,87 @@
+//! The program `jsstr_cases FILE..`: runs each case of the case files that its words name, over
+//! files and sinks in memory, and compares the status and what both sinks took with what the case
+//! wants. It prints one line a file (`slice.cases 41`), one for each difference, and at last
+//! `N cases, M differ`; it ends with 0 where none differs, and else with 1. A file that can't be
+//! read or isn't of the form is told on standard error with its line, and ends the program with 1.
+//!
+//! A case file is UTF-8, and its lines end in a line feed. Between cases stand empty lines, and
+//! comments, which begin with `#`.
+//!
+//! # A case of one line
+//!
+//! A script, two blanks or more, and what is wanted, which begins at the first two blanks that
+//! stand before `->` or `!`. The file is `a.js`, and the one word names it.
+//!
+//! ```text
+//! print('abcdef'.slice(-3, -1));                       -> de
+//! print('x'); print(undefined.length);                 -> x  ! uncaught TypeError
+//! print('abc'.slice('1'));                             ! unsupported at 12
+//! @print(%C0%80);                                      ! 6: refused: not utf-8
+//! print();                                             -> \e
+//! ;                                                    ->
+//! ```
+//!
+//! - `-> TEXT`: `out` is TEXT and a line feed. TEXT begins behind one blank and goes to the line's
+//!   end, or to two blanks or more and `!`. In it `\n` is a line feed, `\\` a backslash, `\xXX`
+//!   and `\uXXXX` the character of this code, and `\e` nothing (`-> \e` is an empty line). TEXT
+//!   neither begins nor ends with a blank: there it is written `\x20`.
+//! - `->` with nothing behind it: `out` takes nothing, as in a line that has no `->`. A line with
+//!   neither `->` nor `!` isn't of the form.
+//! - `! TEXT`: what `err` has behind the file's name and before its line feed. TEXT that begins
+//!   with a digit stands behind `a.js:`, and the status is 4; `uncaught ..` and `unsupported ..`
+//!   stand behind `a.js: `, and the status is 1; no other TEXT is of the form. With no `!`, `err`
+//!   takes nothing, and the status is 0.
+//! - `@` as the first character: in the script behind it `%XX` is the byte XX.
+//!
+//! # A block
+//!
+//! It carries several lines, several files, other words, and every byte, and goes from `== NAME`
+//! to `-- status N`.
+//!
+//! ```text
+//! == lines that were printed before a throw
+//! -- file a.js
+//! print('x');
+//! print(undefined.length);
+//! -- words a.js
+//! -- out
+//! x
+//! -- err
+//! a.js: uncaught TypeError
+//! -- status 1
+//! ```
+//!
+//! Its sections come in this order: `-- file NAME`, none or more; `-- words WORD ..`, the words
+//! behind the program's name, with one blank between two (`-- words` alone: none; without this
+//! line: `a.js`); `-- out` and `-- err` (left out: nothing); and the status. The lines below
+//! `file`, `out` and `err` are their bytes, each with its line feed. With `@` before the section's
+//! name (`-- @file a.js`, `-- @words ..`, `-- @out`, `-- @err`), `%XX` is the byte XX in its lines
+//! or words, and a `%` at the end of a line takes its line feed away, at the end of a word nothing
+//! (so `%` is the empty word). A line that begins with `-- ` or `== ` is written `%2D- ` or `%3D= `.
+#![tactic(auto)]
+
+mod block;
+mod case;
+mod check;
+mod line;
+mod reading;
+mod spelling;
+mod tally;
+
+use anyhow::{Result, bail};
+use check::check_file;
+use std::env;
+use std::process::ExitCode;
+use tally::Tally;
+
+fn main(rt: HostRuntime) -> Result<ExitCode> {
+    let mut total = Tally::new();
+    for name in env::args(&rt)?.skip(1) {
+        total = total.and(check_file(&rt, name.as_str())?);
+    }
+    if total.cases == 0 {
+        bail!("no case was run");
+    }
+    println!(rt; "{} cases, {} differ", total.cases, total.differ)?;
+    Ok(ExitCode::from(total.code()))
+}
