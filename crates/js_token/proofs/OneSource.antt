@@ -1,8 +1,7 @@
 -- Bytes have one list of tokens with its literals and names, or one first fault.
 use Rattle.std.proofs.Common.{◌≡◌, ℕ, List, sym, ap, ◌∙◌, ◌⊎◌, inl, inr, Ok, Err}
 use Rattle.std.specs.Prelude.{Result, IfOk, IfErr}
-use Rattle.js_lex.specs.Tokens.{LexFaultOf, TokensOf}
-use Rattle.js_lex.specs.declared.token.Token.{Token as Lexed}
+use Rattle.js_lex.specs.Tokens.{LexFaultOf}
 use Rattle.js_lex.specs.declared.token.LexFault.{LexFault}
 use Rattle.js_lex.specs.declared.token.LexFault.TheVariants as faults
 use Rattle.js_lex.proofs.OneList.{one_tokens, apart, one_lex_fault}

@@ -1,9 +1,8 @@
 -- The loop over the tokens of a text.
 use Rattle.std.proofs.Common.{◌≡◌, ℕ, ◌+◌, ◌≤◌, Bool, true, false, List, [], ◌∷◌, ◌++◌, length, length-append, append_assoc, refl, sym, subst, arith, ◌⊎◌, inl, inr, Ok, Err}
 use Rattle.std.specs.Prelude.{IsUtf8, Result, IfErr, OnOk, Option, Some, None, is_err, nat_lt}
-use Rattle.js_lex.specs.Tokens.{Lexes, Fails, LexFaultOf, in_text}
+use Rattle.js_lex.specs.Tokens.{Fails, LexFaultOf, in_text}
 use Rattle.js_lex.specs.Next.{GoesOn}
-use Rattle.js_lex.specs.Spans.{slice}
 use Rattle.js_lex.specs.declared.token.Token.{Token as Lexed}
 use Rattle.js_lex.specs.declared.token.TokenKind.{TokenKind}
 use Rattle.js_lex.specs.declared.token.TokenKind.TheVariants as kinds
@@ -12,7 +11,7 @@ use Rattle.js_lex.specs.declared.token.LexFault.TheVariants as faults
 use Rattle.js_syntax.specs.declared.token.Token.{Token}
 use Rattle.js_syntax.specs.declared.token.Word.{Word}
 use Rattle.js_token.specs.Words.{word_of}
-use Rattle.js_token.specs.Tokens.{Before, nothing, token_at, after, tokens_from, after_all, literals_after, table_after, texts_after, names_after, with_name, place_in, is_use_strict}
+use Rattle.js_token.specs.Tokens.{Before, token_at, after, tokens_from, after_all, literals_after, table_after, texts_after, names_after, with_name, place_in, is_use_strict}
 use Rattle.js_token.specs.Steps.{Goes, Whole, before_at, is_empty}
 
 pub goes_start : (text : List ℕ) (tokens : List Token) (texts names : List (List ℕ)) → tokens ≡ [] → texts ≡ [] → names ≡ [] → Goes text 0 tokens (before_at tokens texts names 0)
