@@ -2,4 +2,4 @@ mod Entries
 mod ByLength
 mod Table
 mod Scan
-mod OneSource
+pub mod OneSource

@@ -1,0 +1,2 @@
+mod NameFaults
+mod Answered
