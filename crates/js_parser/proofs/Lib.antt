@@ -2,7 +2,7 @@ pub mod Rooms
 pub mod Eats
 pub mod Turns
 pub mod Parts
-pub mod Declared
+pub mod OwnNames
 pub mod Lines
 pub mod Lists
 pub mod Whole

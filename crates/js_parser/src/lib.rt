@@ -8,4 +8,5 @@ mod node;
 mod statement;
 
 pub use fault::Fault;
+pub use node::declared;
 pub use statement::statements;

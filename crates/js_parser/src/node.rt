@@ -241,8 +241,8 @@ fn add_declared(names: &mut Names, stmt: &Stmt) -> Result<(), NoMemory>
     }
 }
 
-// The names that are declared directly among the statements.
-fn declared(alloc: Global, body: &[Stmt]) -> Result<Names, NoMemory>
+/// The names that are declared directly among the statements, in order.
+pub fn declared(alloc: Global, body: &[Stmt]) -> Result<Names, NoMemory>
     ensures { IfOk result (λ names. names ≡ own_names (map stmt_tree body.now)) }
 {
     let mut names = Names::new(alloc);

@@ -5,7 +5,9 @@
 #![tactic(auto)]
 
 mod fault;
+mod grammar;
 mod laws;
 
 pub use fault::{ParseFault, Role};
+pub use grammar::grammatical;
 pub use laws::{no_refused_script, one_refusal, one_script, some_answer};

@@ -1,7 +1,7 @@
 use Rattle.std.proofs.Common.{◌∙◌, sym, ap, ◌++◌}
 use Rattle.js_syntax.specs.Tree.{stmt_tree}
 use Rattle.js_syntax.specs.Grammar.{own_name}
-use Rattle.js_parser.proofs.Declared.{one_more}
+use Rattle.js_parser.proofs.OwnNames.{one_more}
 use Rattle.js_parser.proofs.node.declared.Goals as goal
 
 pub loop-stmt-preserved : goal.loop-stmt-preserved
