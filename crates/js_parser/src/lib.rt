@@ -1,0 +1,12 @@
+//! Reads tokens into the tree of a script, with the place of every fault.
+#![tactic(auto)]
+
+mod expr;
+mod fault;
+mod look;
+mod node;
+mod statement;
+
+pub use fault::Fault;
+pub use node::declared;
+pub use statement::statements;

@@ -1,0 +1,3 @@
+mod NameFaults
+mod Answered
+mod Told

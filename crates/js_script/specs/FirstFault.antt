@@ -1,0 +1,14 @@
+-- The first fault of the names of a script.
+use Rattle.std.specs.Prelude.{ℕ, ◌+◌, ◌*◌, ◌≤◌, List}
+use Rattle.js_syntax.specs.Tree.{Tree}
+use Rattle.js_syntax.specs.Names.{NameFault, Duplicate, LoopName, HasFault}
+
+-- faults by their offset; no text has two names at one, so the rest of the order is nowhere seen
+abbrev pub rank : NameFault → ℕ
+rank (Duplicate at) = 2 * at
+rank (LoopName at) = 2 * at + 1
+
+-- after a prelude that declares the outer names, the script has this fault, and none before it
+pub record IsFirstFault (outer : List (List ℕ)) (t : Tree) (f : NameFault) : Type 0 where
+  pub has : HasFault outer t f
+  pub first : (g : NameFault) → HasFault outer t g → rank f ≤ rank g

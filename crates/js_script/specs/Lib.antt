@@ -1,0 +1,4 @@
+pub mod FirstFault
+pub mod Spells
+pub mod NameReading
+pub mod Told

@@ -1,0 +1,5 @@
+mod Entries
+mod ByLength
+mod Table
+mod Scan
+pub mod OneSource
