@@ -82,7 +82,7 @@ fn too_deep(rest: &[Token], end: u32) -> ParseFault
 }
 
 fn grammar_fault(fault: Fault<'_>, end: u32) -> ParseFault
-    ensures { result ≡ told.grammar_fault fault end }
+    ensures { result ≡ told.grammar_fault fault.entry end }
 {
     match fault {
         Fault::Memory => ParseFault::Memory,
