@@ -1,5 +1,5 @@
 -- From the faults of the calls to that of the whole.
-use Rattle.std.proofs.Common.{◌≡◌, ℕ, List, length, refl, sym, ap, ◌∙◌, subst, ◌⊎◌, inl, inr, Bool, Err}
+use Rattle.std.proofs.Common.{◌≡◌, ℕ, List, length, refl, ap, subst, ◌⊎◌, inl, inr, Bool, Err}
 use Rattle.js_lex.specs.declared.token.LexFault.{LexFault}
 use Rattle.js_lex.specs.declared.token.LexFault.TheVariants as lex
 use Rattle.js_lex.specs.Tokens.{LexFaultOf}

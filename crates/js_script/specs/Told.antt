@@ -2,7 +2,7 @@
 use Rattle.std.specs.Prelude.{◌≡◌, ◌⊎◌, ℕ, List}
 use Rattle.js_lex.specs.declared.token.LexFault.{LexFault}
 use Rattle.js_lex.specs.declared.token.LexFault.TheVariants as lexical
-use Rattle.js_grammar.specs.Reader.{Kind, Wrong, TooDeep}
+use Rattle.js_grammar.specs.Reader.{Wrong, TooDeep}
 use Rattle.js_parser.specs.declared.fault.Fault.{Fault}
 use Rattle.js_parser.specs.declared.fault.Fault.TheVariants as grammatical
 use Rattle.js_script.specs.declared.fault.Role.{Role}

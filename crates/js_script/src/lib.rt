@@ -7,6 +7,8 @@
 mod fault;
 mod grammar;
 mod laws;
+#[cfg(test)]
+mod tests;
 
 pub use fault::{ParseFault, Role};
 pub use grammar::grammatical;
