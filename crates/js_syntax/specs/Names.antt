@@ -1,6 +1,6 @@
 -- The early errors on names, over the tree of a script (ECMA-262, "Static Semantics: Early Errors" of blocks and
 -- scripts, and the profile's own rule that the name of a `for` isn't assigned).
-use Rattle.std.specs.Prelude.{◌≡◌, ◌≤◌, ℕ, List, [], ◌∷◌, ◌++◌}
+use Rattle.std.specs.Prelude.{◌≡◌, ℕ, List, [], ◌∷◌, ◌++◌}
 use Rattle.js_syntax.specs.Tree.{Tree, ExprTree, StmtTree, BlockTree, block_of, Stmts, stmt, Arms, arm, block, let_line, const_line, assign, append, if_line, for_line}
 use Rattle.js_syntax.specs.Grammar.{own_name}
 use Rattle.std.specs.Prelude.{Option}
@@ -25,10 +25,6 @@ pub data IsLoopName (x : List ℕ) : List Scope → Type 0 where
 pub data NameFault : Type 0 where
   Duplicate : ℕ → NameFault
   LoopName : ℕ → NameFault
-
-abbrev pub place_of : NameFault → ℕ
-place_of (Duplicate at) = at
-place_of (LoopName at) = at
 
 mutual
   -- within these scopes, a statement has the fault
@@ -57,8 +53,3 @@ mutual
 -- after a prelude that declares the outer names, the script has the fault
 abbrev pub HasFault : List (List ℕ) → Tree → NameFault → Type 0
 HasFault outer t f = FaultAmong (Declaring t.top ∷ []) outer t.body f
-
--- and none is before it
-pub record IsFirstFault (outer : List (List ℕ)) (t : Tree) (f : NameFault) : Type 0 where
-  pub has : HasFault outer t f
-  pub first : (g : NameFault) → HasFault outer t g → place_of f ≤ place_of g

@@ -1,4 +1,0 @@
-pub mod FirstFault
-pub mod Spells
-pub mod NameReading
-pub mod Told
