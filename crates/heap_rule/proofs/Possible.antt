@@ -1,12 +1,14 @@
 -- What the rule says of one live view alone. Each fact holds in the sound state that has the view, and speaks of the view only.
-use Rattle.std.proofs.Common.{◌≡◌, ℕ, zero, suc, ◌+◌, ◌/◌, ◌<◌, ◌≤◌, ◌⊎◌, Bool, List, length, get_or, subst, sym, ap, ◌∙◌, arith}
+use Rattle.std.proofs.Common.{◌≡◌, ℕ, zero, suc, ◌+◌, ◌/◌, ◌<◌, ◌≤◌, ◌⊎◌, ⊎_elim, Bool, true, false, List, length, get_or, subst, sym, ap, ◌∙◌, arith, Some}
 use Rattle.js_units.specs.Lanes.{lane_count}
-use Rattle.js_header.specs.declared.form.Form.TheVariants.{Flat}
+use Rattle.js_header.specs.declared.form.Form.{Form}
+use Rattle.js_header.specs.declared.form.Form.TheVariants.{Unborn, Flat, Cons, Sliced, Thin}
 use Rattle.heap_rule.specs.declared.view.View.{View}
 use Rattle.heap_rule.specs.declared.size.HeapSize.{HeapSize}
 use Rattle.heap_rule.specs.Layout.{content, length_word, MAX, IsLawful}
 use Rattle.heap_rule.specs.Contents.{lane_in, span}
 use Rattle.heap_rule.specs.Maps.{Has, HasKey}
+use Rattle.heap_rule.specs.Forms.{IsLater}
 use Rattle.heap_rule.specs.Views.{IsFrozen, shown}
 use Rattle.heap_rule.specs.Sound.{IsPossible}
 use Rattle.heap_rule.proofs.Birth.{shown_by}
@@ -48,3 +50,21 @@ possible_lane v (z, agents, W, vs, j, s, at, live) i wide start fixed us o f h l
     let spans : us ≡ span (content z W) wide start 0 (length us) = sym u.1 ∙ ((k.of_forms i (Flat wide start fixed) f).shows.0 ∙ ap (λ (m : ℕ). span (content z W) wide start 0 m) n) in
     let plain : 0 + o ≡ o = omega arith in
     lane_same (shown v) (content z W) wide start o word ∙ sym (ap (λ (xs : List ℕ). get_or xs o 0) spans ∙ (span_lane (content z W) wide start 0 (length us) o l ∙ ap (λ (x : ℕ). lane_in (content z W) wide start x) plain))
+
+none_later : (f : Form) (wide : Bool) (start : ℕ) → IsLater f (Flat wide start true) → ⊥
+none_later Unborn wide start l = absurd (cc)
+none_later (Flat w s true) wide start l = absurd (cc)
+none_later (Flat w s false) wide start l = absurd (cc)
+none_later (Cons w a b) wide start l = absurd (cc)
+none_later (Sliced w a b) wide start l = absurd (cc)
+none_later (Thin t) wide start l = absurd (cc)
+
+-- the string in a slot is a fixed Flat, so what the view has of its form never changes
+pub possible_slot : (v : View) → IsPossible v → (k t : ℕ) (f : Form) → Has v.slots k t → Has v.forms t f → (wide : Bool) × (start : ℕ) × (f ≡ Flat wide start true)
+possible_slot v (z, agents, W, vs, j, s, at, live) k t f h g = let know = s.knows j v at live in let p = know.of_slots k t h in let u = (s.slots k t p.0 p.1).fixed in let o = know.of_forms t f g in
+    let e : Some o.now ≡ Some (Flat u.0 u.1 true) = sym o.decodes ∙ u.2 in let is : o.now ≡ Flat u.0 u.1 true = cc in
+    (u.0, u.1, ⊎_elim (λ same. same ∙ is) (λ later. absurd (none_later f u.0 u.1 (subst (λ (y : Form). IsLater f y) is later))) o.later)
+
+-- a slot that the view has lies in the heap
+pub possible_inside : (v : View) → IsPossible v → (k i : ℕ) → Has v.slots k i → k < v.sizes.slots
+possible_inside v (z, agents, W, vs, j, s, at, live) k i h = subst (λ (y : HeapSize). k < y.slots) (sym (sizes_are z agents W vs s j v at live)) ((s.knows j v at live).of_slots k i h).0
