@@ -9,11 +9,7 @@ use Rattle.heap_rule.specs.Maps.{Has}
 use Rattle.heap_rule.specs.Paths.{Calls, rank}
 use Rattle.heap_rule.specs.Loads.{added_loads}
 
--- the id in the word of a slot, and the word of a slot with an id or none
-abbrev pub id_in : ℕ → Option ℕ
-id_in zero = None
-id_in (suc i) = Some i
-
+-- the word of a slot with an id, or of a free one
 abbrev pub slot_word : Option ℕ → ℕ
 slot_word None = 0
 slot_word (Some i) = i + 1

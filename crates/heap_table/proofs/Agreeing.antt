@@ -137,6 +137,7 @@ module _ (v w : View) (keys : HasKeys v w) (test : has_all v w ≡ true) where
     settled = λ q h. let t = fits_met fits_form v.forms w.forms c.0 q h.0 h.1 in (t.0, t.1, fits_settled h.0 t.0 t.2 h.2);
     frozen = same_met same_number v.frozen w.frozen same_number_decides d.0;
     known = λ q h. ⊎_elim (λ (t : HasKey v.units q). inl (keys.units q t)) (λ (t : HasKey v.met q). inr (keys.met q t)) h;
+    slots = same_met same_number v.slots w.slots same_number_decides (and_parts _ _ d.1).0;
   }
 
   all_by : HasAll v w

@@ -1,5 +1,5 @@
--- What an agent knows stays known: which strings, their units and lengths, Flats, which strings are settled, and frozen words; and all else that a
--- view has.
+-- What an agent knows stays known: which strings, their units and lengths, Flats, which strings are settled, frozen words, and which ids are in
+-- slots; and all else that a view has.
 use Rattle.std.specs.Prelude.{◌≡◌, ℕ, Bool, false, List}
 use Rattle.js_header.specs.declared.form.Form.{Form}
 use Rattle.js_header.specs.declared.form.Form.TheVariants.{Flat}
@@ -15,6 +15,7 @@ pub record KeepsKnown (v w : View) : Type 0 where
   pub settled : (i : ℕ) → IsSettled v i → IsSettled w i
   pub frozen : (c x : ℕ) → Has v.frozen c x → Has w.frozen c x
   pub known : (i : ℕ) → IsKnown v i → IsKnown w i
+  pub slots : (k i : ℕ) → Has v.slots k i → Has w.slots k i
 
 -- The view w has what v has beside that: its own ids and words with what it stored there, known ids, frozen words with their contents,
 -- slots with their ids, and for each id with a form a form that isn't an earlier one.

@@ -24,10 +24,11 @@ known_trans u v w a b = record {
   settled = λ i h. b.settled i (a.settled i h);
   frozen = λ c x h. b.frozen c x (a.frozen c x h);
   known = λ i h. b.known i (a.known i h);
+  slots = λ k i h. b.slots k i (a.slots k i h);
 }
 
 pub known_refl : (v : View) → KeepsKnown v v
-known_refl v = record { units = λ i us h. h; lengths = λ i n h. h; flats = λ i wide start fixed h. h; settled = λ i h. h; frozen = λ c x h. h; known = λ i h. h }
+known_refl v = record { units = λ i us h. h; lengths = λ i n h. h; flats = λ i wide start fixed h. h; settled = λ i h. h; frozen = λ c x h. h; known = λ i h. h; slots = λ k i h. h }
 
 module _ {X : Type 0} where
   -- a key stays while another is put in
