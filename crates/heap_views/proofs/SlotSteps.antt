@@ -3,10 +3,12 @@ use Rattle.std.proofs.Common.{◌≡◌, ◌≢◌, ℕ, zero, suc, ◌-◌, ◌
 use Rattle.std.specs.FinMap.{insert}
 use Rattle.heap_rule.specs.declared.view.View.{View}
 use Rattle.heap_rule.specs.Maps.{Has}
-use Rattle.heap_rule.specs.Learning.{justified}
+use Rattle.heap_rule.specs.Learning.{justified, MayLearn}
 use Rattle.heap_rule.specs.Slots.{with_slot, loaded_slot, took_slot, MayTakeSlot}
 use Rattle.heap_views.specs.Loading.{HasRoom}
-use Rattle.heap_views.specs.Probing.{with_entry, with_load, IsHeader, IsBehind}
+use Rattle.std.specs.Prelude.{All, IsSome}
+use Rattle.heap_rule.specs.Slots.{MayEnter}
+use Rattle.heap_views.specs.Probing.{with_entry, with_load, IsHeader, IsBehind, MayLoad, MayTake}
 
 pub with_used : (v : View) (k x : ℕ) → x ≢ 0 → with_slot v k x ≡ record v { slots = insert v.slots k (x - 1); met = insert v.met (x - 1) tt }
 with_used v k zero ne = absurd (ne refl)
@@ -41,3 +43,17 @@ may_take v k i us b inside header units test = (
   (λ t. (inside, header, (us, units, test.0 t))),
   (λ m. let r = m.2 in let both : Some r.0 ≡ Some us = sym r.1 ∙ units in let same : r.0 ≡ us = cc in test.1 (subst (λ (ws : List ℕ). IsBehind v ws k) same r.2)),
 )
+
+learn_loaded : (v : View) (k : ℕ) (entry : Option (List ℕ)) (x : ℕ) (names : List ℕ) → MayLearn v names ≡ MayLearn (loaded_slot v k entry x) names
+learn_loaded v k entry x names = λ j. All (λ i. IsSome (sym (justified_loaded v k entry x i) j)) names
+
+learn_took : (v : View) (k t x : ℕ) (names : List ℕ) → MayLearn v names ≡ MayLearn (took_slot v k t x) names
+learn_took v k t x names = λ j. All (λ i. IsSome (sym (justified_took v k t x i) j)) names
+
+pub may_load_by : (v : View) (slots k : ℕ) (entry : Option (List ℕ)) (names : List ℕ) (b : Bool) (x : ℕ) → k < slots → MayEnter v k entry → IsTrue b ↔ MayLearn v names → IsTrue b ↔ MayLoad v slots k entry names x
+may_load_by v slots k entry names b x inside may test = let t : IsTrue b ↔ MayLearn (loaded_slot v k entry x) names = subst (λ (A : Type 0). IsTrue b ↔ A) (learn_loaded v k entry x names) test in
+    ((λ h. (inside, may, t.0 h)), (λ m. t.1 m.2))
+
+pub may_take_by : (v : View) (slots k i : ℕ) (names : List ℕ) (b : Bool) (x : ℕ) → k < slots → MayTakeSlot v k i → IsTrue b ↔ MayLearn v names → IsTrue b ↔ MayTake v slots k i names x
+may_take_by v slots k i names b x inside may test = let t : IsTrue b ↔ MayLearn (took_slot v k i x) names = subst (λ (A : Type 0). IsTrue b ↔ A) (learn_took v k i x names) test in
+    ((λ h. (inside, may, t.0 h)), (λ m. t.1 m.2))

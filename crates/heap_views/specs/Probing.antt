@@ -9,11 +9,12 @@ use Rattle.heap_rule.specs.Layout.{MAX}
 use Rattle.heap_rule.specs.Maps.{Has}
 use Rattle.heap_rule.specs.Paths.{rank}
 use Rattle.heap_rule.specs.Loads.{added_loads}
-use Rattle.heap_rule.specs.Slots.{IsShutAt, entered}
+use Rattle.heap_rule.specs.Learning.{MayLearn}
+use Rattle.heap_rule.specs.Slots.{IsShutAt, MayEnter, MayTakeSlot, entered, loaded_slot, took_slot}
 
--- each form is spelt by a word, and no string is longer than the greatest length
+-- each form of a string in a slot is spelt by a word, and no string is longer than the greatest length
 abbrev pub HasForms : View → Type 0
-HasForms v = (i : ℕ) (f : Form) → Has v.forms i f → IsInRange f
+HasForms v = (k i : ℕ) (f : Form) → Has v.slots k i → Has v.forms i f → IsInRange f
 
 abbrev pub HasShorts : View → Type 0
 HasShorts v = (i : ℕ) (us : List ℕ) → Has v.units i us → length us ≤ MAX
@@ -32,3 +33,10 @@ with_entry v k entry = record v { mine = entered v k entry }
 
 abbrev pub with_load : View → ℕ → View
 with_load v k = record v { slot_loads = insert v.slot_loads k (added_loads (unwrap_or (get v.slot_loads k) 0) 1) }
+
+-- loading a slot, and claiming one, each with what is learned, of a table of so many slots; x is the word that stands there
+abbrev pub MayLoad : View → ℕ → ℕ → Option (List ℕ) → List ℕ → ℕ → Type 0
+MayLoad v slots k entry names x = (k < slots) × MayEnter v k entry × MayLearn (loaded_slot v k entry x) names
+
+abbrev pub MayTake : View → ℕ → ℕ → ℕ → List ℕ → ℕ → Type 0
+MayTake v slots k i names x = (k < slots) × MayTakeSlot v k i × MayLearn (took_slot v k i x) names

@@ -8,11 +8,11 @@ ghost use Rattle.js_header.specs.declared.form.Form.{Form};
 ghost use Rattle.js_header.specs.declared.form.Form.TheVariants as form;
 ghost use Rattle.heap_rule.specs.Layout.{MAX};
 ghost use Rattle.heap_rule.specs.Maps.{Has};
-ghost use Rattle.heap_rule.specs.Learning.{MayLearn, learned};
+ghost use Rattle.heap_rule.specs.Learning.{learned};
 ghost use Rattle.heap_rule.specs.Slots.{MayEnter, MayTakeSlot, loaded_slot, took_slot, with_slot};
 ghost use Rattle.heap_rule.specs.SlotTests.{any_below, differs, other_flat, other_lane, other_length, other_units, passes, shut_at};
 ghost use Rattle.heap_views.specs.Loading.{HasRoom};
-ghost use Rattle.heap_views.specs.Probing.{HasForms, HasShorts, IsBehind, IsHeader, with_entry, with_load};
+ghost use Rattle.heap_views.specs.Probing.{HasForms, HasShorts, IsBehind, IsHeader, MayLoad, MayTake, with_entry, with_load};
 
 use crate::learning::{learn, twin, units_from};
 use crate::load::Load;
@@ -226,12 +226,35 @@ fn has_units(view: &View, id: u32, us: &[u16]) -> bool
     }
 }
 
-/// Whether the units of all these strings follow from the view after a step on a slot, which
-/// tells no units.
-pub fn justifies_all(view: &View, names: &[u32]) -> bool
+/// Whether the slot, of so many, may be loaded, and the units of all these strings follow from
+/// the view afterwards, whatever stands in the slot.
+pub fn may_load(view: &View, slots: u32, slot: u32, entry: &Option<Units>, names: &[u32]) -> bool
     requires { HasRoom view.now }
-    ensures { IsTrue result ↔ MayLearn view.now names.now }
+    ensures { (x : ℕ) → IsTrue result ↔ MayLoad view.now slots slot entry.now names.now x }
 {
+    if slots <= slot {
+        return false;
+    }
+    if !may_enter(view, slot, entry) {
+        return false;
+    }
+    Load::Own.justifies_all(view, names)
+}
+
+/// The same of a claim of the slot.
+pub fn may_take(view: &View, slots: u32, slot: u32, id: u32, names: &[u32]) -> bool
+    requires shorts { HasShorts view.now }
+    requires forms { HasForms view.now }
+    requires slots { view.now.sizes.slots < 2 ^ 29 }
+    requires room { HasRoom view.now }
+    ensures { (x : ℕ) → IsTrue result ↔ MayTake view.now slots slot id names.now x }
+{
+    if slots <= slot {
+        return false;
+    }
+    if !may_take_slot(view, slot, id) {
+        return false;
+    }
     Load::Own.justifies_all(view, names)
 }
 
