@@ -50,10 +50,10 @@ learn_loaded v k entry x names = λ j. All (λ i. IsSome (sym (justified_loaded 
 learn_took : (v : View) (k t x : ℕ) (names : List ℕ) → MayLearn v names ≡ MayLearn (took_slot v k t x) names
 learn_took v k t x names = λ j. All (λ i. IsSome (sym (justified_took v k t x i) j)) names
 
-pub may_load_by : (v : View) (slots k : ℕ) (entry : Option (List ℕ)) (names : List ℕ) (b : Bool) (x : ℕ) → k < slots → MayEnter v k entry → IsTrue b ↔ MayLearn v names → IsTrue b ↔ MayLoad v slots k entry names x
-may_load_by v slots k entry names b x inside may test = let t : IsTrue b ↔ MayLearn (loaded_slot v k entry x) names = subst (λ (A : Type 0). IsTrue b ↔ A) (learn_loaded v k entry x names) test in
+pub may_load_by : (v : View) (k : ℕ) (entry : Option (List ℕ)) (names : List ℕ) (b : Bool) (x : ℕ) → k < v.sizes.slots → MayEnter v k entry → IsTrue b ↔ MayLearn v names → IsTrue b ↔ MayLoad v k entry names x
+may_load_by v k entry names b x inside may test = let t : IsTrue b ↔ MayLearn (loaded_slot v k entry x) names = subst (λ (A : Type 0). IsTrue b ↔ A) (learn_loaded v k entry x names) test in
     ((λ h. (inside, may, t.0 h)), (λ m. t.1 m.2))
 
-pub may_take_by : (v : View) (slots k i : ℕ) (names : List ℕ) (b : Bool) (x : ℕ) → k < slots → MayTakeSlot v k i → IsTrue b ↔ MayLearn v names → IsTrue b ↔ MayTake v slots k i names x
-may_take_by v slots k i names b x inside may test = let t : IsTrue b ↔ MayLearn (took_slot v k i x) names = subst (λ (A : Type 0). IsTrue b ↔ A) (learn_took v k i x names) test in
-    ((λ h. (inside, may, t.0 h)), (λ m. t.1 m.2))
+pub may_take_by : (v : View) (k i : ℕ) (names : List ℕ) (b : Bool) (x : ℕ) → MayTakeSlot v k i → IsTrue b ↔ MayLearn v names → IsTrue b ↔ MayTake v k i names x
+may_take_by v k i names b x may test = let t : IsTrue b ↔ MayLearn (took_slot v k i x) names = subst (λ (A : Type 0). IsTrue b ↔ A) (learn_took v k i x names) test in
+    ((λ h. (may, t.0 h)), (λ m. t.1 m.1))

@@ -34,9 +34,9 @@ with_entry v k entry = record v { mine = entered v k entry }
 abbrev pub with_load : View → ℕ → View
 with_load v k = record v { slot_loads = insert v.slot_loads k (added_loads (unwrap_or (get v.slot_loads k) 0) 1) }
 
--- loading a slot, and claiming one, each with what is learned, of a table of so many slots; x is the word that stands there
-abbrev pub MayLoad : View → ℕ → ℕ → Option (List ℕ) → List ℕ → ℕ → Type 0
-MayLoad v slots k entry names x = (k < slots) × MayEnter v k entry × MayLearn (loaded_slot v k entry x) names
+-- loading a slot, and claiming one, each with what is learned; x is the word that stands there
+abbrev pub MayLoad : View → ℕ → Option (List ℕ) → List ℕ → ℕ → Type 0
+MayLoad v k entry names x = (k < v.sizes.slots) × MayEnter v k entry × MayLearn (loaded_slot v k entry x) names
 
-abbrev pub MayTake : View → ℕ → ℕ → ℕ → List ℕ → ℕ → Type 0
-MayTake v slots k i names x = (k < slots) × MayTakeSlot v k i × MayLearn (took_slot v k i x) names
+abbrev pub MayTake : View → ℕ → ℕ → List ℕ → ℕ → Type 0
+MayTake v k i names x = MayTakeSlot v k i × MayLearn (took_slot v k i x) names

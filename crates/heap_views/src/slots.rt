@@ -226,13 +226,13 @@ fn has_units(view: &View, id: u32, us: &[u16]) -> bool
     }
 }
 
-/// Whether the slot, of so many, may be loaded, and the units of all these strings follow from
+/// Whether the slot may be loaded, and the units of all these strings follow from
 /// the view afterwards, whatever stands in the slot.
-pub fn may_load(view: &View, slots: u32, slot: u32, entry: &Option<Units>, names: &[u32]) -> bool
+pub fn may_load(view: &View, slot: u32, entry: &Option<Units>, names: &[u32]) -> bool
     requires { HasRoom view.now }
-    ensures { (x : ℕ) → IsTrue result ↔ MayLoad view.now slots slot entry.now names.now x }
+    ensures { (x : ℕ) → IsTrue result ↔ MayLoad view.now slot entry.now names.now x }
 {
-    if slots <= slot {
+    if view.sizes.slots <= slot {
         return false;
     }
     if !may_enter(view, slot, entry) {
@@ -242,16 +242,13 @@ pub fn may_load(view: &View, slots: u32, slot: u32, entry: &Option<Units>, names
 }
 
 /// The same of a claim of the slot.
-pub fn may_take(view: &View, slots: u32, slot: u32, id: u32, names: &[u32]) -> bool
+pub fn may_take(view: &View, slot: u32, id: u32, names: &[u32]) -> bool
     requires shorts { HasShorts view.now }
     requires forms { HasForms view.now }
     requires slots { view.now.sizes.slots < 2 ^ 29 }
     requires room { HasRoom view.now }
-    ensures { (x : ℕ) → IsTrue result ↔ MayTake view.now slots slot id names.now x }
+    ensures { (x : ℕ) → IsTrue result ↔ MayTake view.now slot id names.now x }
 {
-    if slots <= slot {
-        return false;
-    }
     if !may_take_slot(view, slot, id) {
         return false;
     }
