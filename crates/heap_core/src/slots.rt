@@ -1,5 +1,5 @@
 // The two kinds of event on slots of the string table, over the parts of a machine.
-ghost use Rattle.std.specs.Prelude.{◌≡◌, ℕ, ◌↔◌, IsTrue};
+ghost use Rattle.std.specs.Prelude.{◌≡◌, ℕ, ◌+◌, ◌==◌, if◌then◌else◌, ◌↔◌, IsTrue};
 ghost use Rattle.heap_core.specs.Core.{core};
 ghost use Rattle.heap_core.specs.Events.{IsCore, Applied, CanLoadSlot, CanTakeSlot, LoadedSlot, TookSlot};
 ghost use Rattle.heap_core.specs.declared.event.Event.TheVariants as event;
@@ -102,8 +102,18 @@ pub(crate) fn take_slot(
         return Err(Refusal::Memory);
     };
     views[view as usize] = seen;
-    words[place] = if found == 0 { u64::from(id) + 1 } else { found };
+    words[place] = taken_word(found, id);
     Ok(found)
+}
+
+/// What a claim leaves in the slot.
+fn taken_word(found: u64, id: u32) -> u64
+    ensures { result ≡ (if found == 0 then id + 1 else found) }
+{
+    if found == 0 {
+        return u64::from(id) + 1;
+    }
+    found
 }
 
 /// The two, with the names as an event has them.
