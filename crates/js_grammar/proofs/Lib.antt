@@ -1,0 +1,10 @@
+pub mod Laws
+pub mod Local
+pub mod Wider
+pub mod Bound
+pub mod Series
+pub mod Part
+pub mod Whole
+pub mod One
+pub mod Heads
+pub mod Loops

@@ -1,0 +1,3 @@
+pub mod Lang
+pub mod Reader
+pub mod Refused

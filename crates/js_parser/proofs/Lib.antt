@@ -1,0 +1,8 @@
+pub mod Rooms
+pub mod Eats
+pub mod Turns
+pub mod Parts
+pub mod Declared
+pub mod Lines
+pub mod Lists
+pub mod Whole

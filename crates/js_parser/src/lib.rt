@@ -1,0 +1,11 @@
+//! Reads tokens into the tree of a script, with the place of every fault.
+#![tactic(auto)]
+
+mod expr;
+mod fault;
+mod look;
+mod node;
+mod statement;
+
+pub use fault::Fault;
+pub use statement::statements;

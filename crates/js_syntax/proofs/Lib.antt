@@ -1,0 +1,5 @@
+pub mod Stops
+pub mod Expressions
+pub mod Statements
+pub mod Scripts
+pub mod Trees

@@ -1,0 +1,55 @@
+-- What the tree of each recursive node is.
+use Rattle.std.proofs.Common.{◌≡◌, ℕ, Bool, ap, sym, ◌∙◌, refl, List, [], ◌∷◌, map, Box, Vec, Global}
+use Rattle.js_syntax.specs.declared.tree.Method.{Method}
+use Rattle.js_syntax.specs.declared.tree.Builtin.{Builtin}
+use Rattle.js_syntax.specs.declared.tree.Expr.{Expr, fold-roll-Expr}
+use Rattle.js_syntax.specs.declared.tree.Link.{Link, fold-Link, fold_out-Link}
+use Rattle.js_syntax.specs.declared.tree.PostStep.{PostStep, fold-roll-PostStep, fold_out-PostStep}
+use Rattle.js_syntax.specs.declared.tree.Expr.TheOpen.{Expr-F, PostStep-F}
+use Rattle.js_syntax.specs.declared.tree.Expr.TheViews.{Chain, rolls-Chain, Cond, rolls-Cond, Unary, rolls-Unary, Post, rolls-Post, Builtin as BuiltinCall, rolls-Builtin}
+use Rattle.js_syntax.specs.declared.tree.Expr.TheViews.{Call, rolls-Call, out-PostStep}
+use denote.Hole.Carrier.{out}
+use Rattle.js_syntax.specs.declared.tree.PostStep.TheVariants.{Index}
+use Rattle.js_syntax.specs.Tree.{ExprTree, StepTree, LinkTree, chain, conditional, unary, post, builtin, of_call, of_index, links, expr_layer, step_layer, link_layer, expr_tree, step_tree, link_tree, links_tree, steps_tree, exprs_tree}
+
+link_is : (l : Link) → fold-Link ExprTree StepTree LinkTree expr_layer step_layer link_layer l ≡ link_tree l
+link_is l = fold_out-Link ExprTree StepTree LinkTree expr_layer step_layer link_layer l
+
+links_are : (ls : List Link) → map (fold-Link ExprTree StepTree LinkTree expr_layer step_layer link_layer) ls ≡ map link_tree ls
+links_are [] = refl
+links_are (l ∷ ls) = cc (link_is l, links_are ls)
+
+pub tree_of_unary : (at : ℕ) (minus : Bool) (of : Box Expr Global) → expr_tree (Unary at minus of) ≡ unary at minus (expr_tree of.value)
+tree_of_unary at minus of =
+    ap expr_tree (sym (rolls-Unary at minus of))
+    ∙ fold-roll-Expr ExprTree StepTree LinkTree expr_layer step_layer link_layer (Expr-F.Unary at minus of)
+
+pub tree_of_chain : (first : Box Expr Global) (rest : Vec Link Global) → expr_tree (Chain first rest) ≡ chain (expr_tree first.value) (links_tree rest.items)
+tree_of_chain first rest =
+    ap expr_tree (sym (rolls-Chain first rest))
+    ∙ fold-roll-Expr ExprTree StepTree LinkTree expr_layer step_layer link_layer (Expr-F.Chain first rest)
+    ∙ ap (λ ls. chain (expr_tree first.value) (links ls)) (links_are rest.items)
+
+pub tree_of_post : (of : Box Expr Global) (ss : Vec PostStep Global) → expr_tree (Post of ss) ≡ post (expr_tree of.value) (steps_tree ss.items)
+tree_of_post of ss =
+    ap expr_tree (sym (rolls-Post of ss))
+    ∙ fold-roll-Expr ExprTree StepTree LinkTree expr_layer step_layer link_layer (Expr-F.Post of ss)
+
+pub tree_of_call : (at : ℕ) (method : Method) (args : Vec Expr Global) → step_tree (Call at method args) ≡ of_call at method (exprs_tree args.items)
+tree_of_call at method args =
+    ap step_tree (sym (rolls-Call at method args))
+    ∙ fold-roll-PostStep ExprTree StepTree LinkTree expr_layer step_layer link_layer (PostStep-F.Call at method args)
+
+pub tree_of_index : (at : ℕ) (index : Expr) → step_tree (Index at index) ≡ of_index at (expr_tree index)
+unfolding out-PostStep out
+tree_of_index at index = fold_out-PostStep ExprTree StepTree LinkTree expr_layer step_layer link_layer (Index at index)
+
+pub tree_of_builtin : (at : ℕ) (which : Builtin) (args : Vec Expr Global) → expr_tree (BuiltinCall at which args) ≡ builtin at which (exprs_tree args.items)
+tree_of_builtin at which args =
+    ap expr_tree (sym (rolls-Builtin at which args))
+    ∙ fold-roll-Expr ExprTree StepTree LinkTree expr_layer step_layer link_layer (Expr-F.Builtin at which args)
+
+pub tree_of_conditional : (test then other : Box Expr Global) → expr_tree (Cond test then other) ≡ conditional (expr_tree test.value) (expr_tree then.value) (expr_tree other.value)
+tree_of_conditional test then other =
+    ap expr_tree (sym (rolls-Cond test then other))
+    ∙ fold-roll-Expr ExprTree StepTree LinkTree expr_layer step_layer link_layer (Expr-F.Cond test then other)

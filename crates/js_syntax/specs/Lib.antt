@@ -1,0 +1,5 @@
+pub mod Tree
+pub mod Terminals
+pub mod Grammar
+pub mod Reading
+pub mod Names
