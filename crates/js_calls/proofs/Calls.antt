@@ -1,10 +1,10 @@
 -- Calls of methods: an argument as a string, and then what is done with it.
-use Rattle.std.proofs.Common.{arith, ◌≡◌, ℕ, ◌+◌, ◌≤◌, ◌<◌, List, subst, sym, Option, length, get_or, drop, Result, Ok, Err}
+use Rattle.std.proofs.Common.{arith, ◌≡◌, ℕ, ◌+◌, ◌≤◌, ◌<◌, List, subst, sym, length, get_or, drop, Result, Ok, Err}
 use Rattle.js_store.specs.State.{State, Grows, IsKnown, text}
 use Rattle.js_store.proofs.Laws.{text_still}
 use Rattle.js_values.specs.declared.value.Value.{Value}
 use Rattle.js_values.specs.declared.value.Stop.{Stop}
-use Rattle.js_values.specs.Outcome.{Val, Out, bind}
+use Rattle.js_values.specs.Outcome.{Val, Converted, Out, bind}
 use Rattle.js_values.specs.Conversions.{to_string, text_units}
 use Rattle.js_calls.specs.Searching.{found, search_call}
 use Rattle.js_calls.specs.Building.{joined_text, one_joined, concat_call}
@@ -23,13 +23,13 @@ module _ {F R : Type 0} (name : R → ℕ) where
   text_stops a b n o go d = did_stop a b (λ s v. text s (name v)) (λ s v. IsKnown s (name v)) (λ s v. seen s name v) (λ s v. IsFine s name v) n o go d
 
   -- a string to look for, and then what it and a number give
-  pub search_does : {N : Type 0} (a b c : State F) (s w : R) (r : Result (Value R) Stop) (at n : ℕ) (answer : List ℕ → List ℕ → N → Val) (v : Val) (q : Option N) → Grows a b → IsKnown a (name s) → length (text b (name w)) ≤ n + 40 → GivesText name a b (Ok w) (to_string a.limit v) → ((t : ℕ) → length (text b (name s)) + length (text b (name w)) ≤ t + 40 → Does name b c r (found at t (answer (text b (name s)) (text b (name w))) q)) → Does name a c r (search_call at a.limit (length (text a (name s)) + n) (answer (text a (name s))) v q)
-  search_does a b c s w r at n answer v q g k h d f =
+  pub search_does : {N : Type 0} (a b c : State F) (s w : R) (r : Result (Value R) Stop) (n : ℕ) (answer : List ℕ → List ℕ → N → Val) (v : Val) (q : Converted N) → Grows a b → IsKnown a (name s) → length (text b (name w)) ≤ n + 40 → GivesText name a b (Ok w) (to_string a.limit v) → ((t : ℕ) → length (text b (name s)) + length (text b (name w)) ≤ t + 40 → Does name b c r (found t (answer (text b (name s)) (text b (name w))) q)) → Does name a c r (search_call a.limit (length (text a (name s)) + n) (answer (text a (name s))) v q)
+  search_does a b c s w r n answer v q g k h d f =
       let same : text b (name s) ≡ text a (name s) = text_still g (name s) k in
       let t : ℕ = length (text a (name s)) + n in
-      let z : Does name b c r (found at t (answer (text b (name s)) (text b (name w))) q) = f t (rw same (omega (arith, h))) in
-      text_then a b c w r (to_string a.limit v) (λ x. found at t (answer (text a (name s)) x) q) d
-      (subst (λ (u : List ℕ). Does name b c r (found at t (answer u (text b (name w))) q)) same z)
+      let z : Does name b c r (found t (answer (text b (name s)) (text b (name w))) q) = f t (rw same (omega (arith, h))) in
+      text_then a b c w r (to_string a.limit v) (λ x. found t (answer (text a (name s)) x) q) d
+      (subst (λ (u : List ℕ). Does name b c r (found t (answer u (text b (name w))) q)) same z)
 
   -- one more argument of `concat`
   pub join_does : (a b c : State F) (s w : R) (v : Value R) (r : Result R Stop) → Grows a b → IsKnown a (name s) → length (text b (name w)) ≤ text_units (seen a name v) + 40 → GivesText name a b (Ok w) (to_string a.limit (seen a name v)) → ((t : ℕ) → length (text b (name s)) + length (text b (name w)) ≤ t + 40 → GivesText name b c r (joined_text b.limit t (text b (name s)) (text b (name w)))) → GivesText name a c r (one_joined a.limit (text a (name s)) (seen a name v))

@@ -2,14 +2,17 @@
 use Rattle.std.proofs.Common.{arith, ◌≡◌, ℕ, ◌+◌, ◌<◌, ◌≤◌, List, length, refl, Bool, true, false, nat_le, if◌then◌else◌, None, Ok, Err}
 use Rattle.js_store.specs.State.{State, Has}
 use Rattle.js_store.specs.Faults.{Step, NeverSlots}
-use Rattle.js_store.specs.Answers.{full_part}
+use Rattle.js_store.specs.Answers.{full_part, IsLong}
 use Rattle.js_store.specs.declared.faults.StoreFault.{StoreFault}
+use Rattle.js_store.specs.declared.faults.MethodFault.{MethodFault}
 use Rattle.js_store.specs.declared.faults.MethodFault.TheVariants.{Store as MethodStore}
+use Rattle.js_store.specs.declared.faults.MethodFault.TheVariants as method
 use Rattle.js_texts.specs.Use.{made_words}
 use Rattle.js_values.specs.declared.value.Value.TheVariants.{Text}
 use Rattle.js_values.specs.declared.value.Kind.TheVariants.{RangeError}
 use Rattle.js_values.specs.declared.value.Stop.TheVariants.{Threw}
 use Rattle.js_values.specs.Outcome.{gives, throws, ledger_of}
+use Rattle.js_values.specs.Stops.{stop_of}
 use Rattle.js_values.specs.Need.{parts_ids, parts_words}
 use Rattle.js_values.specs.Outcome.{text as text_value}
 use Rattle.js_calls.specs.Cutting.{within}
@@ -34,3 +37,7 @@ module _ {F : Type 0} {a b : State F} (limit t p i k : ℕ) (r : List ℕ) (h : 
 
   pub parts_thrown : {R : Type 0} (name : R → ℕ) → limit < length r → Step a b None i (k + made_words limit r) → Does name a b (Err (Threw RangeError)) (within limit (parts_ids p) (λ n. parts_words p (t + n)) r)
   parts_thrown name l s = within_thrown name a b limit (parts_ids p) (λ n. parts_words p (t + n)) r l s h (omega (arith, o, some_part p)) (omega (arith, q, some_part p, made_none limit r l))
+
+  pub parts_stops : {R : Type 0} (name : R → ℕ) (f : MethodFault) → IsLong f limit (length r) → Step a b (full_part f) i (k + made_words limit r) → NeverSlots (full_part f) → Does name a b (Err (stop_of f)) (within limit (parts_ids p) (λ n. parts_words p (t + n)) r)
+  parts_stops name (method.Store f) l s n = parts_cut f s n
+  parts_stops name (method.RangeError c) l s n = parts_thrown name l.0 s

@@ -12,13 +12,13 @@ use Rattle.js_values.specs.declared.value.Kind.TheVariants.{RangeError}
 use Rattle.js_values.specs.declared.value.Stop.{Stop}
 use Rattle.js_values.specs.declared.value.Stop.TheVariants.{Threw}
 use Rattle.js_values.specs.Outcome.{Val, Out, gave, ended, each}
-use Rattle.js_calls.specs.Building.{from_ids, from_words, number_out, units_of, made, from_codes}
+use Rattle.js_calls.specs.Building.{from_ids, from_words, number_out, made}
 use Rattle.js_texts.specs.Texts.{Every}
 use Rattle.js_values.specs.Seen.{seen, IsFine}
 use Rattle.js_calls.specs.Numbers.{IsFor}
 use Rattle.js_values.specs.Ran.{Did}
 use Rattle.js_values.specs.Does.{Does}
-use Rattle.js_calls.specs.Numbers.{GivesNumbers}
+use Rattle.js_calls.specs.Numbers.{taken_of, units_of, codes_call, GivesNumbers}
 use Rattle.js_values.proofs.Compose.{did_bind, did_stop, ran_of_step}
 
 -- a vector of numbers stands for itself
@@ -50,11 +50,11 @@ module _ {F R : Type 0} (name : R → ℕ) (a : State F) (which : Codes) (at : �
   room : length vs ≤ 1048576 → nat_le (length vs) 1048576 ≡ true
   room l = grind arith
 
-  pub codes_throws : 1048576 < length vs → Does name a a (Err (Threw RangeError)) (from_codes which at vs)
+  pub codes_throws : 1048576 < length vs → Does name a a (Err (Threw RangeError)) (codes_call which at vs)
   codes_throws l = rw (no_room l) (refl, ran_of_step (from_ids vs) (from_words vs 0) (step_refl a) refl (omega arith) (omega arith))
 
-  pub codes_stops : (n : Stop) → length vs ≤ 1048576 → GivesNumbers a which (Err n) (each (number_out at vs which) vs []) → Does name a a (Err n) (from_codes which at vs)
-  codes_stops n l d = rw (room l) (did_stop {W = Value R} a a (λ s (v : Vec Num Global). v.items) (λ s (v : Vec Num Global). Every (IsFor which) v.items) (λ s v. seen s name v) (λ s v. IsFine s name v) n (each (number_out at vs which) vs []) (λ ns. made vs (units_of which ns)) d)
+  pub codes_stops : (n : Stop) → length vs ≤ 1048576 → GivesNumbers a which (Err n) (each (number_out (taken_of which vs) at vs) vs []) → Does name a a (Err n) (codes_call which at vs)
+  codes_stops n l d = rw (room l) (did_stop {W = Value R} a a (λ s (v : Vec Num Global). v.items) (λ s (v : Vec Num Global). Every (IsFor which) v.items) (λ s v. seen s name v) (λ s v. IsFine s name v) n (each (number_out (taken_of which vs) at vs) vs []) (λ ns. made vs (units_of which ns)) d)
 
-  pub codes_does : (b : State F) (ns : Vec Num Global) (r : Result (Value R) Stop) → length vs ≤ 1048576 → GivesNumbers a which (Ok ns) (each (number_out at vs which) vs []) → Does name a b r (made vs (units_of which ns.items)) → Does name a b r (from_codes which at vs)
-  codes_does b ns r l d e = rw (room l) (did_bind a a b (λ s (v : Vec Num Global). v.items) (λ s (v : Vec Num Global). Every (IsFor which) v.items) (λ s v. seen s name v) (λ s v. IsFine s name v) ns r (each (number_out at vs which) vs []) (λ ms. made vs (units_of which ms)) d e)
+  pub codes_does : (b : State F) (ns : Vec Num Global) (r : Result (Value R) Stop) → length vs ≤ 1048576 → GivesNumbers a which (Ok ns) (each (number_out (taken_of which vs) at vs) vs []) → Does name a b r (made vs (units_of which ns.items)) → Does name a b r (codes_call which at vs)
+  codes_does b ns r l d e = rw (room l) (did_bind a a b (λ s (v : Vec Num Global). v.items) (λ s (v : Vec Num Global). Every (IsFor which) v.items) (λ s v. seen s name v) (λ s v. IsFine s name v) ns r (each (number_out (taken_of which vs) at vs) vs []) (λ ms. made vs (units_of which ms)) d e)

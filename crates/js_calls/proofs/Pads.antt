@@ -3,11 +3,14 @@ use Rattle.std.proofs.Common.{arith, ◌≡◌, ℕ, ◌<◌, ◌≤◌, List, l
 use Rattle.js_number.specs.declared.Num.{Num}
 use Rattle.js_number.specs.declared.Num.TheVariants.{Int, NaN, PosInf, NegInf}
 use Rattle.js_store.specs.State.{State, Grows, Has, IsKnown, text}
-use Rattle.js_store.specs.Faults.{Step, NeverSlots}
+use Rattle.js_store.specs.Faults.{Step, NeverSlots, method_part}
+use Rattle.js_store.specs.Answers.{IsLong}
+use Rattle.js_store.specs.declared.faults.MethodFault.{MethodFault}
+use Rattle.js_store.specs.declared.faults.MethodFault.TheVariants as method
 use Rattle.js_store.specs.declared.faults.StoreFault.{StoreFault}
 use Rattle.js_store.specs.declared.faults.Cause.{Cause}
 use Rattle.js_store.proofs.Laws.{text_still}
-use Rattle.js_methods.specs.Repeating.{is_count, repeat_of, made, IsCountFault}
+use Rattle.js_methods.specs.Repeating.{is_count, repeat_of, made, IsCountFault, IsRepeatFault}
 use Rattle.js_values.specs.declared.value.Value.{Value}
 use Rattle.js_values.specs.declared.value.Value.TheVariants.{Text}
 use Rattle.js_values.specs.declared.value.Kind.TheVariants.{RangeError}
@@ -19,6 +22,7 @@ use Rattle.js_values.specs.Conversions.{to_string, string_units}
 use Rattle.js_calls.specs.Cutting.{within}
 use Rattle.js_values.specs.Arguments.{is_undefined, second_of}
 use Rattle.js_values.proofs.Still.{values_still}
+use Rattle.js_values.specs.Stops.{stop_of}
 use Rattle.js_values.specs.Need.{repeat_ids, repeat_words, pad_ids, pad_words}
 use Rattle.js_calls.specs.Padding.{repeated, filled, padded}
 use Rattle.js_values.specs.Seen.{seen, IsFine, all_seen, AllFine}
@@ -55,6 +59,10 @@ module _ {F : Type 0} {a b : State F} {i : ℕ} (limit ids : ℕ) (use_words wor
       let s' : Step a b None i (use_words 0) = rw past at s in
       within_thrown name a b limit ids words w l s' h p (q 0)
 
+  pub made_stops : {R : Type 0} (name : R → ℕ) (f : MethodFault) → IsLong f limit (length w) → Step a b (method_part f) i (use_words (made limit (length w))) → NeverSlots (method_part f) → Does name a b (Err (stop_of f)) (within limit ids words w)
+  made_stops name (method.Store f) l s n = made_cut f s n
+  made_stops name (method.RangeError c) l s n = made_thrown name l.0 s
+
 no_copies : (u : List ℕ) (n : Num) → is_count n ≡ false → length (repeat_of u n) ≡ 0
 no_copies u (Int (pos k)) e = absurd (grind (arith, e))
 no_copies u (Int (negsuc k)) e = refl
@@ -82,6 +90,10 @@ module _ {F : Type 0} {a b : State F} (limit : ℕ) (u : List ℕ) (n : Num) (h 
 
   pub repeat_thrown : {R : Type 0} (name : R → ℕ) (c : Cause) → IsCountFault (is_count n) c limit (length (repeat_of u n)) → Step a b None repeat_ids (repeat_words (length u) (made limit (length (repeat_of u n)))) → Does name a b (Err (Threw RangeError)) (repeated (is_count n) limit u n)
   repeat_thrown name c l s = repeat_thrown_by name c (is_count n) refl l s
+
+  pub repeat_stops : {R : Type 0} (name : R → ℕ) (f : MethodFault) → IsRepeatFault f (is_count n) limit (length (repeat_of u n)) → Step a b (method_part f) repeat_ids (repeat_words (length u) (made limit (length (repeat_of u n)))) → NeverSlots (method_part f) → Does name a b (Err (stop_of f)) (repeated (is_count n) limit u n)
+  repeat_stops name (method.Store f) l s m = repeat_cut f s m
+  repeat_stops name (method.RangeError c) l s m = repeat_thrown name c l s
 
 module _ {F R : Type 0} (name : R → ℕ) (a b c : State F) (pad : List ℕ → ℕ → List ℕ → List ℕ) (s : R) (m : ℕ) (f : Val) where
   -- a string that has as many units

@@ -1,12 +1,14 @@
 -- The parts of a string.
-use Rattle.std.proofs.Common.{arith, ◌≡◌, ℕ, zero, suc, ◌+◌, ◌*◌, ◌<◌, ◌≤◌, List, [], ◌∷◌, length, ap, ◌∙◌, Bool, true, false, Option, Some, None, nat_lt, if◌then◌else◌, slice_index_or, Result, Ok, refl, sym, subst, Vec, Global}
+use Rattle.std.proofs.Common.{arith, ◌≡◌, ℕ, zero, suc, ◌+◌, ◌*◌, ◌<◌, ◌≤◌, List, [], ◌∷◌, length, ap, ◌∙◌, Bool, true, false, Option, Some, None, nat_lt, if◌then◌else◌, slice_index_or, Result, Ok, Err, refl, sym, subst, Vec, Global}
 use Rattle.std.proofs.lemmas.List.{append-nil}
 use Rattle.js_store.specs.State.{State, Has, Grows, IsKnown, text as units_of}
 use Rattle.js_store.specs.Faults.{Step, NeverSlots}
 use Rattle.js_store.specs.Rows.{copy_words, settle_words, wide_words}
 use Rattle.js_store.specs.declared.faults.StoreFault.{StoreFault}
+use Rattle.js_store.specs.declared.faults.MethodFault.{MethodFault}
 use Rattle.js_store.specs.declared.faults.MethodFault.TheVariants.{Store as MethodStore}
-use Rattle.js_store.specs.Answers.{full_part}
+use Rattle.js_store.specs.declared.faults.MethodFault.TheVariants as method
+use Rattle.js_store.specs.Answers.{full_part, IsStoreFault}
 use Rattle.js_store.proofs.Laws.{known_has, text_still}
 use Rattle.js_texts.specs.Texts.{texts, AllKnown}
 use Rattle.js_replace.specs.Parts.{parts}
@@ -14,6 +16,7 @@ use Rattle.js_replace.specs.Use.{copies}
 use Rattle.js_values.specs.declared.value.Value.{Value}
 use Rattle.js_values.specs.declared.value.Value.TheVariants as value
 use Rattle.js_values.specs.declared.value.Stop.{Stop}
+use Rattle.js_values.specs.Stops.{stop_of}
 use Rattle.js_values.specs.Outcome.{Val, list, ledger_of}
 use Rattle.js_values.specs.Need.{some_parts, parts_ids, parts_words}
 use Rattle.js_values.specs.Conversions.{list_units, to_string, first_text_units}
@@ -78,6 +81,10 @@ split_cut t u sep most i k g p q f s n =
     let s' = rw (full_same f) at s in
     let n' = rw (full_same f) at n in
     cut_of_full f _ s' g n' (ids_fit (parts u sep most) i p) (words_fit (parts u sep most) t k q)
+
+pub split_stops : {F R : Type 0} {a b : State F} (name : R → ℕ) (t : ℕ) (u : List ℕ) (sep : Option (List ℕ)) (most i k : ℕ) → b.history ≡ a.history → i ≤ length (parts u sep most) → 4 * k ≤ t + 46 + list_units (parts u sep most) + 12 * length (parts u sep most) → (f : MethodFault) → IsStoreFault f → Step a b (full_part f) i k → NeverSlots (full_part f) → Does name a b (Err (stop_of f)) (split_into t u most sep)
+split_stops name t u sep most i k g p q (method.Store f) e s n = split_cut t u sep most i k g p q f s n
+split_stops name t u sep most i k g p q (method.RangeError c) e s n = absurd e
 
 -- the settling of both strings and the copies of the parts
 pub split_use : (t m n : ℕ) (v w : Bool) (us : List (List ℕ)) → m + n ≤ t + 40 → 4 * (settle_words v m + settle_words w n + copies us) ≤ t + 46 + list_units us + 12 * length us

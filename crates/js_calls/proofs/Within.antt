@@ -1,22 +1,25 @@
 -- Methods whose result may be too long for a string.
 use Rattle.std.proofs.Common.{◌≡◌, ℕ, ◌+◌, ◌<◌, ◌≤◌, List, [], ◌++◌, refl, ap, arith, Some, None, Ok, Err}
 use Rattle.js_store.specs.State.{State, Has}
-use Rattle.js_store.specs.Faults.{Step, NeverSlots}
+use Rattle.js_store.specs.Faults.{Step, NeverSlots, method_part}
 use Rattle.js_store.specs.Rows.{join_ids, join_words}
 use Rattle.js_store.proofs.Laws.{has_text, has_known, joined_within}
 use Rattle.js_store.specs.declared.faults.StoreFault.{StoreFault}
 use Rattle.js_values.specs.declared.value.Stop.TheVariants.{Threw}
-use Rattle.js_values.specs.Outcome.{gave, ended, threw, ledger_of, gives, throws, text}
+use Rattle.js_values.specs.Stops.{stop_of}
+use Rattle.js_values.specs.Outcome.{Val, gave, ended, threw, ledger_of, gives, throws, text}
 use Rattle.js_values.specs.Need.{row_ids, row_words}
 use Rattle.js_values.specs.declared.value.Kind.TheVariants.{RangeError}
-use Rattle.js_store.specs.Answers.{full_part}
+use Rattle.js_store.specs.Answers.{full_part, IsLong, IsStoreFault}
+use Rattle.js_store.specs.declared.faults.MethodFault.{MethodFault}
 use Rattle.js_store.specs.declared.faults.MethodFault.TheVariants.{Store as MethodStore}
+use Rattle.js_store.specs.declared.faults.MethodFault.TheVariants as method
 use Rattle.js_values.specs.declared.value.Value.TheVariants.{Text}
 use Rattle.js_calls.specs.Cutting.{within}
 use Rattle.js_calls.specs.Building.{joined_text}
 use Rattle.std.specs.Prelude.{nat_le, if◌then◌else◌, true, false, length}
 use Rattle.js_values.specs.Ran.{Cut}
-use Rattle.js_values.specs.Does.{Does}
+use Rattle.js_values.specs.Does.{Does, GivesText}
 use Rattle.js_values.proofs.Compose.{cut_of_step, cut_of_full, full_same, ran_of_step, ran_of_text}
 
 -- a method that was refused, of which the result may be too long
@@ -55,3 +58,25 @@ pub within_thrown : {F R : Type 0} (name : R → ℕ) (a b : State F) {i k : ℕ
 within_thrown name a b limit ids words w l s h p q =
     let past : nat_le (length w) limit ≡ false = grind (arith, l) in
     rw past (refl, ran_of_step ids (words 0) s h p q)
+
+-- a method's fault, of which the result may be too long
+pub within_stops : {F R : Type 0} (name : R → ℕ) (a b : State F) {i k : ℕ} (limit ids : ℕ) (words : ℕ → ℕ) (w : List ℕ) (f : MethodFault) → IsLong f limit (length w) → Step a b (method_part f) i k → b.history ≡ a.history → NeverSlots (method_part f) → i ≤ ids → k ≤ words (length w) → k ≤ words 0 → Does name a b (Err (stop_of f)) (within limit ids words w)
+within_stops name a b limit ids words w (method.Store f) l s h n p q r = within_cut limit ids words w s h n p q r
+within_stops name a b limit ids words w (method.RangeError c) l s h n p q r = within_thrown name a b limit ids words w l.0 s h p r
+
+pub within_ends : {F R : Type 0} (name : R → ℕ) (a b : State F) {i k : ℕ} (limit ids : ℕ) (words : ℕ → ℕ) (w : List ℕ) (f : MethodFault) → IsLong f limit (length w) → Step a b (full_part f) i k → b.history ≡ a.history → NeverSlots (full_part f) → i ≤ ids → k ≤ words (length w) → k ≤ words 0 → Does name a b (Err (stop_of f)) (within limit ids words w)
+within_ends name a b limit ids words w (method.Store f) l s h n p q r = within_full limit ids words w s h n p q r
+within_ends name a b limit ids words w (method.RangeError c) l s h n p q r = within_thrown name a b limit ids words w l.0 s h p r
+
+-- a fault of a method that throws nothing
+pub row_stops : {F R : Type 0} (name : R → ℕ) (a b : State F) {i k : ℕ} (ids words : ℕ) (v : Val) (f : MethodFault) → IsStoreFault f → Step a b (method_part f) i k → b.history ≡ a.history → NeverSlots (method_part f) → i ≤ ids → k ≤ words → Does name a b (Err (stop_of f)) (gives v ids words)
+row_stops name a b ids words v (method.Store f) e s h n p q = cut_of_step _ s h n p q
+row_stops name a b ids words v (method.RangeError c) e s h n p q = absurd e
+
+-- two strings that were not joined, by a method's fault
+pub joined_stops : {F R : Type 0} (name : R → ℕ) (a b : State F) (limit t : ℕ) (u w : List ℕ) → length u + length w ≤ t + 40 → (f : MethodFault) → IsLong f limit (length u + length w) → Step a b (method_part f) (join_ids (length u) (length w)) (join_words (length u) (length w)) → b.history ≡ a.history → NeverSlots (method_part f) → GivesText {R = R} name a b (Err (stop_of f)) (joined_text limit t u w)
+joined_stops name a b limit t u w k (method.Store f) l s h n = joined_cut limit t u w k s h n
+joined_stops name a b limit t u w k (method.RangeError c) l s0 h n =
+    let s = joined_within (length u) (length w) s0 in
+    let past : nat_le (length u + length w) limit ≡ false = grind (arith, l.0) in
+    rw past (refl, ran_of_step row_ids (row_words t) s h (omega arith) (omega arith))

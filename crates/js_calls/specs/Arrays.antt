@@ -9,9 +9,9 @@ use Rattle.js_replace.specs.Parts.{parts}
 use Rattle.js_tree.specs.declared.tree.Method.{Method}
 use Rattle.js_tree.specs.declared.tree.Method.TheVariants.{At, CharAt, CharCodeAt, CodePointAt, Concat, EndsWith, Includes, IndexOf, IsWellFormed, Join, LastIndexOf, PadEnd, PadStart, Repeat, Replace, ReplaceAll, Slice, Split, StartsWith, Substr, Substring, ToWellFormed, Trim, TrimEnd, TrimStart}
 use Rattle.js_values.specs.declared.value.Kind.TheVariants.{TypeError}
-use Rattle.js_values.specs.Outcome.{Val, undefined, null, bool, number, text, list, Out, gave, bind, free, gives, throws, refuses}
+use Rattle.js_values.specs.Outcome.{Val, undefined, null, bool, number, text, list, Converted, Out, gave, bind, free, gives, throws, refuses, converts}
 use Rattle.js_values.specs.Need.{row_ids, row_words, parts_ids, parts_words}
-use Rattle.js_values.specs.Conversions.{to_string, list_units, string_units, first_text_units}
+use Rattle.js_values.specs.Conversions.{to_string, list_units, string_units, all_units, first_text_units}
 use Rattle.js_values.specs.Arguments.{first_of, is_undefined}
 use Rattle.js_calls.specs.Reading.{maybe_text}
 use Rattle.js_calls.specs.Cutting.{within}
@@ -124,6 +124,5 @@ split_most limit u vs most =
     else bind (to_string limit (first_of vs)) (λ w. split_into (length u + first_text_units vs) u most (Some w))
 
 -- "String.prototype.split", of which the limit is converted first
-abbrev pub split_call : ℕ → ℕ → List ℕ → List Val → Option (Option Num) → Out Val
-split_call at limit u vs None = refuses at
-split_call at limit u vs (Some n) = split_most limit u vs (most_parts n)
+abbrev pub split_call : ℕ → List ℕ → List Val → Converted (Option Num) → Out Val
+split_call limit u vs n = converts row_ids (row_words (length u + all_units vs)) n (λ k. split_most limit u vs (most_parts k))

@@ -1,12 +1,10 @@
 -- Methods that make longer strings, and strings of numbers.
-use Rattle.std.specs.Prelude.{ℕ, ◌+◌, List, [], ◌∷◌, ◌++◌, length, Option, Some, None, nat_le, if◌then◌else◌, map}
+use Rattle.std.specs.Prelude.{ℕ, ◌+◌, List, [], ◌∷◌, ◌++◌, length, nat_le, if◌then◌else◌, map}
 use Rattle.js_number.specs.declared.Num.{Num}
 use Rattle.js_number.specs.Arith.{modulo}
 use Rattle.js_methods.specs.Building.{is_code_point, code_units_of}
-use Rattle.js_calls.specs.declared.builtins.Codes.{Codes}
-use Rattle.js_calls.specs.declared.builtins.Codes.TheVariants.{CharCodes, CodePoints}
 use Rattle.js_values.specs.declared.value.Kind.TheVariants.{RangeError}
-use Rattle.js_values.specs.Outcome.{Val, text, Out, gave, ended, threw, bind, each, free, gives, refuses}
+use Rattle.js_values.specs.Outcome.{Val, text, Out, gave, ended, threw, bind, each, free, gives, converts}
 use Rattle.js_values.specs.Need.{row_ids, row_words, parts_ids, parts_words}
 use Rattle.js_values.specs.Conversions.{to_string, to_number, text_units, all_units}
 use Rattle.js_calls.specs.Cutting.{within}
@@ -38,27 +36,29 @@ from_words vs n = parts_words (length vs) (all_units vs + n)
 abbrev pub from_throws : {A : Type 0} → List Val → Out A
 from_throws vs = ended (threw RangeError) (record { interned = []; texts = []; ids = from_ids vs; words = from_words vs 0 })
 
--- an argument as a number, which a string ends at the call; of `String.fromCodePoint` it has to be a code point
-abbrev pub number_in : ℕ → List Val → Option Num → Codes → Out Num
-number_in at vs None which = refuses at
-number_in at vs (Some n) CharCodes = gave n free
-number_in at vs (Some n) CodePoints = if is_code_point n then gave n free else from_throws vs
+-- a number that has to be a code point
+abbrev pub point_out : List Val → Num → Out Num
+point_out vs n = if is_code_point n then gave n free else from_throws vs
 
-abbrev pub number_out : ℕ → List Val → Codes → Val → Out Num
-number_out at vs which v = number_in at vs (to_number v) which
-
--- the units of the numbers: "String.fromCharCode", modulo 2^16, and "String.fromCodePoint", the UTF-16 of the code points
-abbrev pub units_of : Codes → List Num → List ℕ
-units_of CharCodes ns = map (modulo 65536) ns
-units_of CodePoints ns = code_units_of ns
+-- an argument as a number, and then what is taken of it
+abbrev pub number_out : (Num → Out Num) → ℕ → List Val → Val → Out Num
+number_out taken at vs v = converts (from_ids vs) (from_words vs 0) (to_number at v) taken
 
 abbrev pub made : List Val → List ℕ → Out Val
 made vs u = gives (text u) (from_ids vs) (from_words vs (length u))
 
--- a call of such a function: each argument in turn as a number, and then the string; no text spells a call of
--- more than 2^20 arguments
-abbrev pub from_codes : Codes → ℕ → List Val → Out Val
-from_codes which at vs =
+-- a call of such a function: each argument in turn as a number, and then the string of these; no text spells a call of more
+-- than 2^20 arguments
+abbrev pub from_numbers : (Num → Out Num) → (List Num → List ℕ) → ℕ → List Val → Out Val
+from_numbers taken units at vs =
     if nat_le (length vs) 1048576
-    then bind (each (number_out at vs which) vs []) (λ ns. made vs (units_of which ns))
+    then bind (each (number_out taken at vs) vs []) (λ ns. made vs (units ns))
     else from_throws vs
+
+-- "String.fromCharCode": each number modulo 2^16
+abbrev pub char_codes_call : ℕ → List Val → Out Val
+char_codes_call at vs = from_numbers (λ n. gave n free) (map (modulo 65536)) at vs
+
+-- "String.fromCodePoint": the UTF-16 of the code points
+abbrev pub code_points_call : ℕ → List Val → Out Val
+code_points_call at vs = from_numbers (point_out vs) code_units_of at vs

@@ -1,10 +1,10 @@
 -- Methods that repeat a string or a filler.
-use Rattle.std.specs.Prelude.{ℕ, List, [], ◌∷◌, length, Option, Some, None, Bool, true, false, nat_le, if◌then◌else◌}
+use Rattle.std.specs.Prelude.{ℕ, List, [], ◌∷◌, length, Bool, true, false, nat_le, if◌then◌else◌}
 use Rattle.js_number.specs.declared.Num.{Num}
 use Rattle.js_number.specs.Arith.{length_of}
 use Rattle.js_methods.specs.Repeating.{is_count, repeat_of}
 use Rattle.js_values.specs.declared.value.Kind.TheVariants.{RangeError}
-use Rattle.js_values.specs.Outcome.{Val, Out, gave, bind, free, throws, refuses}
+use Rattle.js_values.specs.Outcome.{Val, Converted, Out, gave, bind, free, throws, converts}
 use Rattle.js_values.specs.Conversions.{to_string, string_units}
 use Rattle.js_values.specs.Arguments.{is_undefined}
 use Rattle.js_values.specs.Need.{repeat_ids, repeat_words, pad_ids, pad_words}
@@ -16,9 +16,8 @@ repeated true limit u n = within limit repeat_ids (repeat_words (length u)) (rep
 repeated false limit u n = throws RangeError repeat_ids (repeat_words (length u) 0)
 
 -- "String.prototype.repeat"
-abbrev pub repeat_call : ℕ → ℕ → List ℕ → Option Num → Out Val
-repeat_call at limit u (Some n) = repeated (is_count n) limit u n
-repeat_call at limit u None = refuses at
+abbrev pub repeat_call : ℕ → List ℕ → Converted Num → Out Val
+repeat_call limit u n = converts repeat_ids (repeat_words (length u) 0) n (λ k. repeated (is_count k) limit u k)
 
 -- a filler that isn't given is one space
 abbrev pub filler_of : ℕ → Val → Out (List ℕ)
@@ -36,6 +35,5 @@ padded limit pad u m f =
     else filled limit pad u m f
 
 -- "String.prototype.padStart", "String.prototype.padEnd"
-abbrev pub pad_call : ℕ → ℕ → (ℕ → List ℕ → List ℕ) → List ℕ → Option Num → Val → Out Val
-pad_call at limit pad u (Some n) f = padded limit pad u (length_of n) f
-pad_call at limit pad u None f = refuses at
+abbrev pub pad_call : ℕ → (ℕ → List ℕ → List ℕ) → List ℕ → Converted Num → Val → Out Val
+pad_call limit pad u n f = converts pad_ids (pad_words (length u) (string_units f) 0) n (λ k. padded limit pad u (length_of k) f)

@@ -2,7 +2,7 @@
 use Rattle.std.specs.Prelude.{ℕ, List, Option, Some, None, pos, negsuc}
 use Rattle.js_number.specs.declared.Num.{Num}
 use Rattle.js_number.specs.declared.Num.TheVariants.{Int}
-use Rattle.js_values.specs.Outcome.{Val, number, Out, bind, gives, refuses}
+use Rattle.js_values.specs.Outcome.{Val, number, Converted, Out, bind, gives, converts}
 use Rattle.js_values.specs.Need.{row_ids, row_words}
 use Rattle.js_values.specs.Conversions.{to_string}
 
@@ -14,12 +14,11 @@ place_number (Some k) = Int (pos k)
 abbrev pub place_value : Option ℕ → Val
 place_value k = number (place_number k)
 
--- what a number gives, which a string ends at the call
-abbrev pub found : {N : Type 0} → ℕ → ℕ → (N → Val) → Option N → Out Val
-found at t answer (Some n) = gives (answer n) row_ids (row_words t)
-found at t answer None = refuses at
+-- what a number gives
+abbrev pub found : {N : Type 0} → ℕ → (N → Val) → Converted N → Out Val
+found t answer n = converts row_ids (row_words t) n (λ k. gives (answer k) row_ids (row_words t))
 
 -- the first argument as a string, and then what it and a number give: "String.prototype.includes", "String.prototype.indexOf",
 -- "String.prototype.lastIndexOf", "String.prototype.startsWith", and "String.prototype.endsWith", where the number may be missing
-abbrev pub search_call : {N : Type 0} → ℕ → ℕ → ℕ → (List ℕ → N → Val) → Val → Option N → Out Val
-search_call at limit t answer w n = bind (to_string limit w) (λ x. found at t (answer x) n)
+abbrev pub search_call : {N : Type 0} → ℕ → ℕ → (List ℕ → N → Val) → Val → Converted N → Out Val
+search_call limit t answer w n = bind (to_string limit w) (λ x. found t (answer x) n)

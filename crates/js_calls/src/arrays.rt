@@ -11,7 +11,7 @@ ghost use Rattle.js_values.specs.Seen.{seen, IsFine, all_seen, AllFine};
 ghost use Rattle.js_values.specs.Does.{Does};
 
 use js_number::Num;
-use js_store::{MethodFault, Strings};
+use js_store::Strings;
 use js_tree::Method;
 use js_values::{Kind, Stop, Value, first_is_missing, first_text, joined_by_commas};
 use std::alloc::Global;
@@ -77,11 +77,9 @@ fn unit<S: Strings>(
     match index {
         None => Err(Stop::Unsupported { at }),
         Some(n) => match n {
-            Num::Int(k) if k >= 0 => match js_methods::at(store, s, Num::Int(k)) {
-                Ok(Some(r)) => Ok(Value::Text(r)),
-                Ok(None) => Ok(Value::Undefined),
-                Err(MethodFault::Store(fault)) => Err(Stop::Store(fault)),
-                Err(MethodFault::RangeError(_)) => Err(Stop::Threw(Kind::RangeError)),
+            Num::Int(k) if k >= 0 => match js_methods::at(store, s, Num::Int(k))? {
+                Some(r) => Ok(Value::Text(r)),
+                None => Ok(Value::Undefined),
             },
             Num::Int(_) | Num::NaN | Num::PosInf | Num::NegInf => Ok(Value::Undefined),
         },
@@ -195,11 +193,8 @@ fn join_with_commas<S: Strings>(
     ensures fine { IfOk result (λ v. IsFine (S.state store.new) S.number v) }
     ensures did { (t : ℕ) → list_units (texts_seen (S.state store.old) S.number list.now) ≤ t → Does S.number (S.state store.old) (S.state store.new) result (joined_with (S.state store.old).limit t (texts_seen (S.state store.old) S.number list.now) (44 ∷ [])) }
 {
-    match joined_by_commas(alloc, store, list) {
-        Ok(r) => Ok(Value::Text(r)),
-        Err(MethodFault::Store(fault)) => Err(Stop::Store(fault)),
-        Err(MethodFault::RangeError(_)) => Err(Stop::Threw(Kind::RangeError)),
-    }
+    let r = joined_by_commas(alloc, store, list)?;
+    Ok(Value::Text(r))
 }
 
 // The strings with a separator between two, where the operands of the call have t units, and the
@@ -216,9 +211,6 @@ fn join_with<S: Strings>(
     ensures fine { IfOk result (λ v. IsFine (S.state store.new) S.number v) }
     ensures did { (t : ℕ) → list_units (texts_seen (S.state store.old) S.number list.now) + length (text (S.state store.old) (S.number sep)) ≤ t + 40 → Does S.number (S.state store.old) (S.state store.new) result (joined_with (S.state store.old).limit t (texts_seen (S.state store.old) S.number list.now) (text (S.state store.old) (S.number sep))) }
 {
-    match js_texts::join(alloc, store, list, sep) {
-        Ok(r) => Ok(Value::Text(r)),
-        Err(MethodFault::Store(fault)) => Err(Stop::Store(fault)),
-        Err(MethodFault::RangeError(_)) => Err(Stop::Threw(Kind::RangeError)),
-    }
+    let r = js_texts::join(alloc, store, list, sep)?;
+    Ok(Value::Text(r))
 }

@@ -6,7 +6,7 @@ ghost use Rattle.js_calls.specs.Building.{joined_text, one_joined, concat_call};
 ghost use Rattle.js_values.specs.Seen.{seen, IsFine, all_seen, AllFine};
 ghost use Rattle.js_values.specs.Does.{Does, GivesText};
 
-use js_store::{MethodFault, Strings};
+use js_store::Strings;
 use js_values::{Kind, Stop, Value, to_text};
 use std::alloc::Global;
 
@@ -55,11 +55,7 @@ fn append<S: Strings>(store: &mut S, s: S::Ref, w: S::Ref) -> Result<S::Ref, Sto
     ensures known { IfOk result (λ r. IsKnown (S.state store.new) (S.number r)) }
     ensures did { (t : ℕ) → length (text (S.state store.old) (S.number s)) + length (text (S.state store.old) (S.number w)) ≤ t + 40 → GivesText S.number (S.state store.old) (S.state store.new) result (joined_text (S.state store.old).limit t (text (S.state store.old) (S.number s)) (text (S.state store.old) (S.number w))) }
 {
-    match js_methods::concat(store, s, w) {
-        Ok(r) => Ok(r),
-        Err(MethodFault::Store(fault)) => Err(Stop::Store(fault)),
-        Err(MethodFault::RangeError(_)) => Err(Stop::Threw(Kind::RangeError)),
-    }
+    Ok(js_methods::concat(store, s, w)?)
 }
 
 /// The string itself, unless it is longer than a string may be.

@@ -1,22 +1,22 @@
 // Built-in functions (ECMA-262, "Properties of the String Constructor", "JSON.stringify").
-ghost use Rattle.std.specs.Prelude.{◌≡◌, ◌≤◌, List, [], Some, true, All, map, length, IfOk};
+ghost use Rattle.std.specs.Prelude.{◌≡◌, ◌≤◌, List, [], true, All, map, length, IfOk};
 ghost use Rattle.std.specs.List.{list_all};
 ghost use Rattle.js_number.specs.Places.{IsLawful};
 ghost use Rattle.js_number.specs.Arith.{modulo};
 ghost use Rattle.js_store.specs.State.{Grows};
 ghost use Rattle.js_methods.specs.Building.{is_code_point, code_units_of};
 ghost use Rattle.js_values.specs.Outcome.{Val, each};
-ghost use Rattle.js_calls.specs.Building.{number_in, number_out, units_of, made as made_out, from_codes as from_codes_out};
+ghost use Rattle.js_calls.specs.Building.{point_out, number_out, made as made_out};
 ghost use Rattle.js_calls.specs.Members.{built};
 ghost use Rattle.js_texts.specs.Texts.{Every};
 ghost use Rattle.js_values.specs.Seen.{seen, IsFine, all_seen, AllFine};
 ghost use Rattle.js_calls.specs.Numbers.{IsFor};
 ghost use Rattle.js_values.specs.Does.{Does};
-ghost use Rattle.js_calls.specs.Numbers.{GivesNumber, GivesNumbers};
+ghost use Rattle.js_calls.specs.Numbers.{taken_of, units_of, codes_call, GivesNumber, GivesNumbers};
 
 use crate::quoting::call_stringify;
 use js_number::Num;
-use js_store::{MethodFault, Strings};
+use js_store::Strings;
 use js_tree::Builtin;
 use js_values::{Kind, Stop, Value, number_of, push};
 use std::alloc::Global;
@@ -60,7 +60,7 @@ fn from_codes<S: Strings>(
     requires { AllFine (S.state store.old) S.number args.now }
     ensures grows { Grows (S.state store.old) (S.state store.new) }
     ensures fine { IfOk result (λ v. IsFine (S.state store.new) S.number v) }
-    ensures did { Does S.number (S.state store.old) (S.state store.new) result (from_codes_out which at (all_seen (S.state store.old) S.number args.now)) }
+    ensures did { Does S.number (S.state store.old) (S.state store.new) result (codes_call which at (all_seen (S.state store.old) S.number args.now)) }
 {
     if args.len() > 1048576 {
         return Err(Stop::Threw(Kind::RangeError));
@@ -80,7 +80,7 @@ fn numbers<S: Strings>(
     requires { AllFine (S.state store.now) S.number args.now }
     ensures each { IfOk result (λ v. Every (IsFor which) v.items) }
     ensures count { IfOk result (λ v. length v.items ≡ length args.now) }
-    ensures did { GivesNumbers (S.state store.now) which result (each (number_out at (all_seen (S.state store.now) S.number args.now) which) (all_seen (S.state store.now) S.number args.now) []) }
+    ensures did { GivesNumbers (S.state store.now) which result (each (number_out (taken_of which (all_seen (S.state store.now) S.number args.now)) at (all_seen (S.state store.now) S.number args.now)) (all_seen (S.state store.now) S.number args.now) []) }
 {
     let mut numbers = Vec::new(alloc);
     for value in args {
@@ -94,20 +94,18 @@ fn numbers<S: Strings>(
 fn number<S: Strings>(store: &S, at: u32, which: Codes, value: &Value<S::Ref>) -> Result<Num, Stop>
     requires { IsFine (S.state store.now) S.number value.now }
     ensures is_for { IfOk result (IsFor which) }
-    ensures did { (vs : List Val) → GivesNumber (S.state store.now) which result (number_out at vs which (seen (S.state store.now) S.number value.now)) }
+    ensures did { (vs : List Val) → GivesNumber (S.state store.now) which result (number_out (taken_of which vs) at vs (seen (S.state store.now) S.number value.now)) }
 {
-    match number_of(store, value) {
-        None => Err(Stop::Unsupported { at }),
-        Some(n) => match which {
-            Codes::CharCodes => Ok(n),
-            Codes::CodePoints => code_point(store, at, n),
-        },
+    let n = number_of(store, at, value)?;
+    match which {
+        Codes::CharCodes => Ok(n),
+        Codes::CodePoints => code_point(store, n),
     }
 }
 
-fn code_point<S: Strings>(_store: &S, at: u32, n: Num) -> Result<Num, Stop>
+fn code_point<S: Strings>(_store: &S, n: Num) -> Result<Num, Stop>
     ensures is_for { IfOk result (IsFor Codes.CodePoints) }
-    ensures did { (vs : List Val) → GivesNumber (S.state _store.now) Codes.CodePoints result (number_in at vs (Some n) Codes.CodePoints) }
+    ensures did { (vs : List Val) → GivesNumber (S.state _store.now) Codes.CodePoints result (point_out vs n) }
 {
     match n {
         Num::Int(k) if 0 <= k && k <= 0x10FFFF => Ok(n),
@@ -145,11 +143,8 @@ fn from_char_codes<S: Strings>(
     ensures fine { IfOk result (λ v. IsFine (S.state store.new) S.number v) }
     ensures did { (vs : List Val) → Does S.number (S.state store.old) (S.state store.new) result (made_out vs (map (modulo 65536) codes.now)) }
 {
-    match js_methods::from_char_code(alloc, store, codes) {
-        Ok(r) => Ok(Value::Text(r)),
-        Err(MethodFault::Store(fault)) => Err(Stop::Store(fault)),
-        Err(MethodFault::RangeError(_)) => Err(Stop::Threw(Kind::RangeError)),
-    }
+    let r = js_methods::from_char_code(alloc, store, codes)?;
+    Ok(Value::Text(r))
 }
 
 fn from_code_points<S: Strings>(
@@ -163,9 +158,6 @@ fn from_code_points<S: Strings>(
     ensures fine { IfOk result (λ v. IsFine (S.state store.new) S.number v) }
     ensures did { (vs : List Val) → Does S.number (S.state store.old) (S.state store.new) result (made_out vs (code_units_of points.now)) }
 {
-    match js_methods::from_code_point(alloc, store, points) {
-        Ok(r) => Ok(Value::Text(r)),
-        Err(MethodFault::Store(fault)) => Err(Stop::Store(fault)),
-        Err(MethodFault::RangeError(_)) => Err(Stop::Threw(Kind::RangeError)),
-    }
+    let r = js_methods::from_code_point(alloc, store, points)?;
+    Ok(Value::Text(r))
 }

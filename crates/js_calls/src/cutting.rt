@@ -15,7 +15,7 @@ ghost use Rattle.js_values.specs.Does.{Does};
 
 use js_number::Num;
 use js_store::{MethodFault, Strings};
-use js_values::{Kind, Stop, Value, first_number, second_or_none};
+use js_values::{Stop, Value, first_number, second_or_none};
 use std::alloc::Global;
 
 /// A method that gives the part between two numbers.
@@ -46,12 +46,11 @@ pub fn call_cut<S: Strings>(
     requires args { AllFine (S.state store.old) S.number args.now }
     ensures grows { Grows (S.state store.old) (S.state store.new) }
     ensures fine { IfOk result (λ v. IsFine (S.state store.new) S.number v) }
-    ensures did { Does S.number (S.state store.old) (S.state store.new) result (cut_call at (S.state store.old).limit (length (text (S.state store.old) (S.number s)) + all_units (all_seen (S.state store.old) S.number args.now)) (part_of cut (text (S.state store.old) (S.number s))) (to_number (first_of (all_seen (S.state store.old) S.number args.now))) (end_in (second_of (all_seen (S.state store.old) S.number args.now)))) }
+    ensures did { Does S.number (S.state store.old) (S.state store.new) result (cut_call (S.state store.old).limit (length (text (S.state store.old) (S.number s)) + all_units (all_seen (S.state store.old) S.number args.now)) (part_of cut (text (S.state store.old) (S.number s))) (to_number at (first_of (all_seen (S.state store.old) S.number args.now))) (end_in at (second_of (all_seen (S.state store.old) S.number args.now)))) }
 {
-    match (first_number(store, args), second_or_none(store, args)) {
-        (Some(start), Some(end)) => give_part(store, cut, s, start, end),
-        _ => Err(Stop::Unsupported { at }),
-    }
+    let start = first_number(store, at, args)?;
+    let end = second_or_none(store, at, args)?;
+    give_part(store, cut, s, start, end)
 }
 
 // The part of a string, where the operands of the call have t units.
@@ -69,11 +68,8 @@ fn give_part<S: Strings>(
     ensures fine { IfOk result (λ v. IsFine (S.state store.new) S.number v) }
     ensures did { (t : ℕ) → length (text (S.state store.old) (S.number s)) ≤ t → Does S.number (S.state store.old) (S.state store.new) result (limited (S.state store.old).limit t (part_of cut (text (S.state store.old) (S.number s)) start end)) }
 {
-    match part(store, cut, s, start, end) {
-        Ok(r) => Ok(Value::Text(r)),
-        Err(MethodFault::Store(fault)) => Err(Stop::Store(fault)),
-        Err(MethodFault::RangeError(_)) => Err(Stop::Threw(Kind::RangeError)),
-    }
+    let r = part(store, cut, s, start, end)?;
+    Ok(Value::Text(r))
 }
 
 fn part<S: Strings>(
@@ -107,11 +103,8 @@ pub fn call_trim<S: Strings>(store: &mut S, trim: Trim, s: S::Ref) -> Result<Val
     ensures fine { IfOk result (λ v. IsFine (S.state store.new) S.number v) }
     ensures did { (t : ℕ) → length (text (S.state store.old) (S.number s)) ≤ t → Does S.number (S.state store.old) (S.state store.new) result (limited (S.state store.old).limit t (trimmed_of trim (text (S.state store.old) (S.number s)))) }
 {
-    match trimmed(store, trim, s) {
-        Ok(r) => Ok(Value::Text(r)),
-        Err(MethodFault::Store(fault)) => Err(Stop::Store(fault)),
-        Err(MethodFault::RangeError(_)) => Err(Stop::Threw(Kind::RangeError)),
-    }
+    let r = trimmed(store, trim, s)?;
+    Ok(Value::Text(r))
 }
 
 fn trimmed<S: Strings>(store: &mut S, trim: Trim, s: S::Ref) -> Result<S::Ref, MethodFault>
@@ -141,9 +134,6 @@ pub fn call_to_well_formed<S: Strings>(
     ensures fine { IfOk result (λ v. IsFine (S.state store.new) S.number v) }
     ensures did { (t : ℕ) → length (text (S.state store.old) (S.number s)) ≤ t → Does S.number (S.state store.old) (S.state store.new) result (limited (S.state store.old).limit t (well (text (S.state store.old) (S.number s)))) }
 {
-    match js_methods::to_well_formed(alloc, store, s) {
-        Ok(r) => Ok(Value::Text(r)),
-        Err(MethodFault::Store(fault)) => Err(Stop::Store(fault)),
-        Err(MethodFault::RangeError(_)) => Err(Stop::Threw(Kind::RangeError)),
-    }
+    let r = js_methods::to_well_formed(alloc, store, s)?;
+    Ok(Value::Text(r))
 }

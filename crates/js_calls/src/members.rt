@@ -20,7 +20,7 @@ use crate::replacing::{Replace, call_replace};
 use crate::searching::{Search, call_ends_with, call_search};
 use crate::splitting::call_split;
 use js_number::Num;
-use js_store::{MethodFault, Strings};
+use js_store::Strings;
 use js_tree::Method;
 use js_values::{Kind, Stop, Value, number_value};
 use std::alloc::Global;
@@ -127,9 +127,6 @@ fn call_is_well_formed<S: Strings>(store: &mut S, s: S::Ref) -> Result<Value<S::
     ensures fine { IfOk result (λ v. IsFine (S.state store.new) S.number v) }
     ensures did { (t : ℕ) → length (text (S.state store.old) (S.number s)) ≤ t → Does S.number (S.state store.old) (S.state store.new) result (gives (Outcome.bool (all_paired (text (S.state store.old) (S.number s)))) row_ids (row_words t)) }
 {
-    match js_methods::is_well_formed(store, s) {
-        Ok(holds) => Ok(Value::Bool(holds)),
-        Err(MethodFault::Store(fault)) => Err(Stop::Store(fault)),
-        Err(MethodFault::RangeError(_)) => Err(Stop::Threw(Kind::RangeError)),
-    }
+    let holds = js_methods::is_well_formed(store, s)?;
+    Ok(Value::Bool(holds))
 }

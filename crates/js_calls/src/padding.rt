@@ -16,7 +16,7 @@ ghost use Rattle.js_values.specs.Does.{Does};
 
 use crate::building::itself;
 use js_store::{MethodFault, Strings};
-use js_values::{Kind, Stop, Value, first_number, second_is_missing, second_text};
+use js_values::{Stop, Value, first_number, second_is_missing, second_text};
 use std::alloc::Global;
 
 /// A method that adds a filler at one side.
@@ -37,16 +37,11 @@ pub fn call_repeat<S: Strings>(
     requires args { AllFine (S.state store.old) S.number args.now }
     ensures grows { Grows (S.state store.old) (S.state store.new) }
     ensures fine { IfOk result (λ v. IsFine (S.state store.new) S.number v) }
-    ensures did { Does S.number (S.state store.old) (S.state store.new) result (repeat_call at (S.state store.old).limit (text (S.state store.old) (S.number s)) (to_number (first_of (all_seen (S.state store.old) S.number args.now)))) }
+    ensures did { Does S.number (S.state store.old) (S.state store.new) result (repeat_call (S.state store.old).limit (text (S.state store.old) (S.number s)) (to_number at (first_of (all_seen (S.state store.old) S.number args.now)))) }
 {
-    match first_number(store, args) {
-        None => Err(Stop::Unsupported { at }),
-        Some(n) => match js_methods::repeat(store, s, n) {
-            Ok(r) => Ok(Value::Text(r)),
-            Err(MethodFault::Store(fault)) => Err(Stop::Store(fault)),
-            Err(MethodFault::RangeError(_)) => Err(Stop::Threw(Kind::RangeError)),
-        },
-    }
+    let n = first_number(store, at, args)?;
+    let r = js_methods::repeat(store, s, n)?;
+    Ok(Value::Text(r))
 }
 
 /// `padStart` or `padEnd`.
@@ -62,12 +57,10 @@ pub fn call_pad<S: Strings>(
     requires args { AllFine (S.state store.old) S.number args.now }
     ensures grows { Grows (S.state store.old) (S.state store.new) }
     ensures fine { IfOk result (λ v. IsFine (S.state store.new) S.number v) }
-    ensures did { Does S.number (S.state store.old) (S.state store.new) result (pad_call at (S.state store.old).limit (padded_of pad (text (S.state store.old) (S.number s))) (text (S.state store.old) (S.number s)) (to_number (first_of (all_seen (S.state store.old) S.number args.now))) (second_of (all_seen (S.state store.old) S.number args.now))) }
+    ensures did { Does S.number (S.state store.old) (S.state store.new) result (pad_call (S.state store.old).limit (padded_of pad (text (S.state store.old) (S.number s))) (text (S.state store.old) (S.number s)) (to_number at (first_of (all_seen (S.state store.old) S.number args.now))) (second_of (all_seen (S.state store.old) S.number args.now))) }
 {
-    match first_number(store, args) {
-        None => Err(Stop::Unsupported { at }),
-        Some(n) => pad_to(alloc, store, pad, s, n.to_length(), args),
-    }
+    let n = first_number(store, at, args)?;
+    pad_to(alloc, store, pad, s, n.to_length(), args)
 }
 
 // The string padded to `max` units; the filler is looked at only where units are missing.
@@ -125,11 +118,8 @@ fn pad_with_space<S: Strings>(
     ensures fine { IfOk result (λ v. IsFine (S.state store.new) S.number v) }
     ensures did { Does S.number (S.state store.old) (S.state store.new) result (within (S.state store.old).limit pad_ids (pad_words (length (text (S.state store.old) (S.number s))) 1) (padded_of pad (text (S.state store.old) (S.number s)) max (32 ∷ []))) }
 {
-    match padded_with_space(store, pad, s, max) {
-        Ok(r) => Ok(Value::Text(r)),
-        Err(MethodFault::Store(fault)) => Err(Stop::Store(fault)),
-        Err(MethodFault::RangeError(_)) => Err(Stop::Threw(Kind::RangeError)),
-    }
+    let r = padded_with_space(store, pad, s, max)?;
+    Ok(Value::Text(r))
 }
 
 fn padded_with_space<S: Strings>(
@@ -163,11 +153,8 @@ fn pad_with<S: Strings>(
     ensures fine { IfOk result (λ v. IsFine (S.state store.new) S.number v) }
     ensures did { Does S.number (S.state store.old) (S.state store.new) result (within (S.state store.old).limit pad_ids (pad_words (length (text (S.state store.old) (S.number s))) (length (text (S.state store.old) (S.number w)))) (padded_of pad (text (S.state store.old) (S.number s)) max (text (S.state store.old) (S.number w)))) }
 {
-    match padded_with(store, pad, s, max, w) {
-        Ok(r) => Ok(Value::Text(r)),
-        Err(MethodFault::Store(fault)) => Err(Stop::Store(fault)),
-        Err(MethodFault::RangeError(_)) => Err(Stop::Threw(Kind::RangeError)),
-    }
+    let r = padded_with(store, pad, s, max, w)?;
+    Ok(Value::Text(r))
 }
 
 fn padded_with<S: Strings>(

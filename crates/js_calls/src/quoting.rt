@@ -11,8 +11,8 @@ ghost use Rattle.js_values.specs.Seen.{seen, IsFine, all_seen, AllFine};
 ghost use Rattle.js_values.specs.Does.{Does};
 
 use js_number::Num;
-use js_store::{MethodFault, Strings};
-use js_values::{Kind, Stop, Value, to_text};
+use js_store::Strings;
+use js_values::{Stop, Value, to_text};
 use std::alloc::Global;
 
 /// `JSON.stringify` of the first argument.
@@ -85,11 +85,8 @@ fn give_quoted<S: Strings>(alloc: Global, store: &mut S, s: S::Ref) -> Result<Va
     ensures fine { IfOk result (λ v. IsFine (S.state store.new) S.number v) }
     ensures did { Does S.number (S.state store.old) (S.state store.new) result (limited (S.state store.old).limit (length (text (S.state store.old) (S.number s))) (quoted (text (S.state store.old) (S.number s)))) }
 {
-    match js_json::quote(alloc, store, s) {
-        Ok(r) => Ok(Value::Text(r)),
-        Err(MethodFault::Store(fault)) => Err(Stop::Store(fault)),
-        Err(MethodFault::RangeError(_)) => Err(Stop::Threw(Kind::RangeError)),
-    }
+    let r = js_json::quote(alloc, store, s)?;
+    Ok(Value::Text(r))
 }
 
 // An array of these strings.
@@ -103,9 +100,6 @@ fn give_list<S: Strings>(
     ensures fine { IfOk result (λ v. IsFine (S.state store.new) S.number v) }
     ensures did { Does S.number (S.state store.old) (S.state store.new) result (list_json (S.state store.old).limit (texts (S.state store.old) S.number list.now)) }
 {
-    match js_json::stringify_list(alloc, store, list) {
-        Ok(r) => Ok(Value::Text(r)),
-        Err(MethodFault::Store(fault)) => Err(Stop::Store(fault)),
-        Err(MethodFault::RangeError(_)) => Err(Stop::Threw(Kind::RangeError)),
-    }
+    let r = js_json::stringify_list(alloc, store, list)?;
+    Ok(Value::Text(r))
 }

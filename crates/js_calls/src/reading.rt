@@ -8,8 +8,8 @@ ghost use Rattle.js_values.specs.Seen.{IsFine, all_seen, AllFine};
 ghost use Rattle.js_values.specs.Does.{Does};
 
 use js_number::Num;
-use js_store::{MethodFault, Strings};
-use js_values::{Kind, Stop, Value, first_number};
+use js_store::Strings;
+use js_values::{Stop, Value, first_number};
 
 /// `at`, of which `at` is the byte offset.
 pub fn call_at<S: Strings>(
@@ -22,16 +22,12 @@ pub fn call_at<S: Strings>(
     requires args { AllFine (S.state store.old) S.number args.now }
     ensures grows { Grows (S.state store.old) (S.state store.new) }
     ensures fine { IfOk result (λ v. IsFine (S.state store.new) S.number v) }
-    ensures did { Does S.number (S.state store.old) (S.state store.new) result (at_call at (length (text (S.state store.old) (S.number s)) + all_units (all_seen (S.state store.old) S.number args.now)) (text (S.state store.old) (S.number s)) (to_number (first_of (all_seen (S.state store.old) S.number args.now)))) }
+    ensures did { Does S.number (S.state store.old) (S.state store.new) result (at_call (length (text (S.state store.old) (S.number s)) + all_units (all_seen (S.state store.old) S.number args.now)) (text (S.state store.old) (S.number s)) (to_number at (first_of (all_seen (S.state store.old) S.number args.now)))) }
 {
-    match first_number(store, args) {
-        None => Err(Stop::Unsupported { at }),
-        Some(n) => match js_methods::at(store, s, n) {
-            Ok(Some(r)) => Ok(Value::Text(r)),
-            Ok(None) => Ok(Value::Undefined),
-            Err(MethodFault::Store(fault)) => Err(Stop::Store(fault)),
-            Err(MethodFault::RangeError(_)) => Err(Stop::Threw(Kind::RangeError)),
-        },
+    let n = first_number(store, at, args)?;
+    match js_methods::at(store, s, n)? {
+        Some(r) => Ok(Value::Text(r)),
+        None => Ok(Value::Undefined),
     }
 }
 
@@ -46,16 +42,11 @@ pub fn call_char_at<S: Strings>(
     requires args { AllFine (S.state store.old) S.number args.now }
     ensures grows { Grows (S.state store.old) (S.state store.new) }
     ensures fine { IfOk result (λ v. IsFine (S.state store.new) S.number v) }
-    ensures did { Does S.number (S.state store.old) (S.state store.new) result (char_at_call at (length (text (S.state store.old) (S.number s)) + all_units (all_seen (S.state store.old) S.number args.now)) (text (S.state store.old) (S.number s)) (to_number (first_of (all_seen (S.state store.old) S.number args.now)))) }
+    ensures did { Does S.number (S.state store.old) (S.state store.new) result (char_at_call (length (text (S.state store.old) (S.number s)) + all_units (all_seen (S.state store.old) S.number args.now)) (text (S.state store.old) (S.number s)) (to_number at (first_of (all_seen (S.state store.old) S.number args.now)))) }
 {
-    match first_number(store, args) {
-        None => Err(Stop::Unsupported { at }),
-        Some(n) => match js_methods::char_at(store, s, n) {
-            Ok(r) => Ok(Value::Text(r)),
-            Err(MethodFault::Store(fault)) => Err(Stop::Store(fault)),
-            Err(MethodFault::RangeError(_)) => Err(Stop::Threw(Kind::RangeError)),
-        },
-    }
+    let n = first_number(store, at, args)?;
+    let r = js_methods::char_at(store, s, n)?;
+    Ok(Value::Text(r))
 }
 
 /// `charCodeAt`.
@@ -69,16 +60,11 @@ pub fn call_char_code_at<S: Strings>(
     requires args { AllFine (S.state store.old) S.number args.now }
     ensures grows { Grows (S.state store.old) (S.state store.new) }
     ensures fine { IfOk result (λ v. IsFine (S.state store.new) S.number v) }
-    ensures did { Does S.number (S.state store.old) (S.state store.new) result (char_code_call at (length (text (S.state store.old) (S.number s)) + all_units (all_seen (S.state store.old) S.number args.now)) (text (S.state store.old) (S.number s)) (to_number (first_of (all_seen (S.state store.old) S.number args.now)))) }
+    ensures did { Does S.number (S.state store.old) (S.state store.new) result (char_code_call (length (text (S.state store.old) (S.number s)) + all_units (all_seen (S.state store.old) S.number args.now)) (text (S.state store.old) (S.number s)) (to_number at (first_of (all_seen (S.state store.old) S.number args.now)))) }
 {
-    match first_number(store, args) {
-        None => Err(Stop::Unsupported { at }),
-        Some(n) => match js_methods::char_code_at(store, s, n) {
-            Ok(n) => Ok(Value::Number(n)),
-            Err(MethodFault::Store(fault)) => Err(Stop::Store(fault)),
-            Err(MethodFault::RangeError(_)) => Err(Stop::Threw(Kind::RangeError)),
-        },
-    }
+    let n = first_number(store, at, args)?;
+    let code = js_methods::char_code_at(store, s, n)?;
+    Ok(Value::Number(code))
 }
 
 /// `codePointAt`.
@@ -92,15 +78,11 @@ pub fn call_code_point_at<S: Strings>(
     requires args { AllFine (S.state store.old) S.number args.now }
     ensures grows { Grows (S.state store.old) (S.state store.new) }
     ensures fine { IfOk result (λ v. IsFine (S.state store.new) S.number v) }
-    ensures did { Does S.number (S.state store.old) (S.state store.new) result (code_point_call at (length (text (S.state store.old) (S.number s)) + all_units (all_seen (S.state store.old) S.number args.now)) (text (S.state store.old) (S.number s)) (to_number (first_of (all_seen (S.state store.old) S.number args.now)))) }
+    ensures did { Does S.number (S.state store.old) (S.state store.new) result (code_point_call (length (text (S.state store.old) (S.number s)) + all_units (all_seen (S.state store.old) S.number args.now)) (text (S.state store.old) (S.number s)) (to_number at (first_of (all_seen (S.state store.old) S.number args.now)))) }
 {
-    match first_number(store, args) {
-        None => Err(Stop::Unsupported { at }),
-        Some(n) => match js_methods::code_point_at(store, s, n) {
-            Ok(Some(n)) => Ok(Value::Number(Num::Int(i64::from(n)))),
-            Ok(None) => Ok(Value::Undefined),
-            Err(MethodFault::Store(fault)) => Err(Stop::Store(fault)),
-            Err(MethodFault::RangeError(_)) => Err(Stop::Threw(Kind::RangeError)),
-        },
+    let n = first_number(store, at, args)?;
+    match js_methods::code_point_at(store, s, n)? {
+        Some(point) => Ok(Value::Number(Num::Int(i64::from(point)))),
+        None => Ok(Value::Undefined),
     }
 }

@@ -12,7 +12,7 @@ ghost use Rattle.js_values.specs.Seen.{seen, IsFine, all_seen, AllFine};
 ghost use Rattle.js_values.specs.Does.{Does};
 
 use js_store::{MethodFault, Strings};
-use js_values::{Kind, Stop, Value, to_text};
+use js_values::{Stop, Value, to_text};
 use std::alloc::Global;
 
 /// Which matches a method replaces.
@@ -88,11 +88,8 @@ fn give_replaced<S: Strings>(
     ensures fine { IfOk result (λ v. IsFine (S.state store.new) S.number v) }
     ensures did { (t : ℕ) → length (text (S.state store.old) (S.number s)) + (length (text (S.state store.old) (S.number w)) + length (text (S.state store.old) (S.number template))) ≤ t + 80 → Does S.number (S.state store.old) (S.state store.new) result (replacement (S.state store.old).limit t (match_count replace (text (S.state store.old) (S.number s)) (text (S.state store.old) (S.number w))) (replaced_of replace (text (S.state store.old) (S.number s)) (text (S.state store.old) (S.number w)) (text (S.state store.old) (S.number template)))) }
 {
-    match replaced(alloc, store, replace, s, w, template) {
-        Ok(r) => Ok(Value::Text(r)),
-        Err(MethodFault::Store(fault)) => Err(Stop::Store(fault)),
-        Err(MethodFault::RangeError(_)) => Err(Stop::Threw(Kind::RangeError)),
-    }
+    let r = replaced(alloc, store, replace, s, w, template)?;
+    Ok(Value::Text(r))
 }
 
 fn replaced<S: Strings>(

@@ -1,5 +1,5 @@
 // Methods that look for one string in another.
-ghost use Rattle.std.specs.Prelude.{◌≡◌, ℕ, ◌+◌, ◌≤◌, length, IfOk, IfSome};
+ghost use Rattle.std.specs.Prelude.{◌≡◌, ℕ, ◌+◌, ◌≤◌, length, IfOk};
 ghost use Rattle.js_number.specs.Places.{IsLawful};
 ghost use Rattle.js_store.specs.State.{Grows, IsKnown, text};
 ghost use Rattle.js_store.specs.Rows.{wide_words};
@@ -11,12 +11,13 @@ ghost use Rattle.js_values.specs.Conversions.{to_number, first_text_units};
 ghost use Rattle.js_values.specs.Arguments.{first_of, second_of, end_in};
 ghost use Rattle.js_calls.specs.Searching.{place_number, found, search_call};
 ghost use Rattle.js_calls.specs.Groups.{search_of};
+ghost use Rattle.js_values.specs.Stops.{converted_of};
 ghost use Rattle.js_values.specs.Seen.{seen, IsFine, all_seen, AllFine, LawfulEnd};
 ghost use Rattle.js_values.specs.Does.{Does};
 
 use js_number::Num;
 use js_store::{MethodFault, Strings};
-use js_values::{Kind, Stop, Value, first_text, second_number, second_or_none};
+use js_values::{Refusal, Stop, Value, first_text, second_number, second_or_none};
 use std::alloc::Global;
 
 /// A method that takes a string and a number.
@@ -41,37 +42,30 @@ pub fn call_search<S: Strings>(
     requires args { AllFine (S.state store.old) S.number args.now }
     ensures grows { Grows (S.state store.old) (S.state store.new) }
     ensures fine { IfOk result (λ v. IsFine (S.state store.new) S.number v) }
-    ensures did { Does S.number (S.state store.old) (S.state store.new) result (search_call at (S.state store.old).limit (length (text (S.state store.old) (S.number s)) + first_text_units (all_seen (S.state store.old) S.number args.now)) (search_of search (text (S.state store.old) (S.number s))) (first_of (all_seen (S.state store.old) S.number args.now)) (to_number (second_of (all_seen (S.state store.old) S.number args.now)))) }
+    ensures did { Does S.number (S.state store.old) (S.state store.new) result (search_call (S.state store.old).limit (length (text (S.state store.old) (S.number s)) + first_text_units (all_seen (S.state store.old) S.number args.now)) (search_of search (text (S.state store.old) (S.number s))) (first_of (all_seen (S.state store.old) S.number args.now)) (to_number at (second_of (all_seen (S.state store.old) S.number args.now)))) }
 {
-    let place = second_number(store, args);
+    let place = second_number(store, at, args);
     let w = first_text(alloc, store, args)?;
-    find(store, at, search, s, w, place)
+    find(store, search, s, w, place)
 }
 
 // What is found, where the operands of the call have t units and the two strings at most 40 more.
 fn find<S: Strings>(
     store: &mut S,
-    at: u32,
     search: Search,
     s: S::Ref,
     w: S::Ref,
-    place: Option<Num>,
+    place: Result<Num, Refusal>,
 ) -> Result<Value<S::Ref>, Stop>
     requires known { IsKnown (S.state store.old) (S.number s) }
     requires needle_known { IsKnown (S.state store.old) (S.number w) }
-    requires lawful { IfSome place IsLawful }
+    requires lawful { IfOk place IsLawful }
     ensures grows { Grows (S.state store.old) (S.state store.new) }
     ensures fine { IfOk result (λ v. IsFine (S.state store.new) S.number v) }
-    ensures did { (t : ℕ) → length (text (S.state store.old) (S.number s)) + length (text (S.state store.old) (S.number w)) ≤ t + 40 → Does S.number (S.state store.old) (S.state store.new) result (found at t (search_of search (text (S.state store.old) (S.number s)) (text (S.state store.old) (S.number w))) place) }
+    ensures did { (t : ℕ) → length (text (S.state store.old) (S.number s)) + length (text (S.state store.old) (S.number w)) ≤ t + 40 → Does S.number (S.state store.old) (S.state store.new) result (found t (search_of search (text (S.state store.old) (S.number s)) (text (S.state store.old) (S.number w))) (converted_of place)) }
 {
-    match place {
-        None => Err(Stop::Unsupported { at }),
-        Some(n) => match searched(store, search, s, w, n) {
-            Ok(value) => Ok(value),
-            Err(MethodFault::Store(fault)) => Err(Stop::Store(fault)),
-            Err(MethodFault::RangeError(_)) => Err(Stop::Threw(Kind::RangeError)),
-        },
-    }
+    let n = place?;
+    Ok(searched(store, search, s, w, n)?)
 }
 
 fn searched<S: Strings>(
@@ -123,33 +117,27 @@ pub fn call_ends_with<S: Strings>(
     requires args { AllFine (S.state store.old) S.number args.now }
     ensures grows { Grows (S.state store.old) (S.state store.new) }
     ensures fine { IfOk result (λ v. IsFine (S.state store.new) S.number v) }
-    ensures did { Does S.number (S.state store.old) (S.state store.new) result (search_call at (S.state store.old).limit (length (text (S.state store.old) (S.number s)) + first_text_units (all_seen (S.state store.old) S.number args.now)) (λ x e. Outcome.bool (ends_at (text (S.state store.old) (S.number s)) x e)) (first_of (all_seen (S.state store.old) S.number args.now)) (end_in (second_of (all_seen (S.state store.old) S.number args.now)))) }
+    ensures did { Does S.number (S.state store.old) (S.state store.new) result (search_call (S.state store.old).limit (length (text (S.state store.old) (S.number s)) + first_text_units (all_seen (S.state store.old) S.number args.now)) (λ x e. Outcome.bool (ends_at (text (S.state store.old) (S.number s)) x e)) (first_of (all_seen (S.state store.old) S.number args.now)) (end_in at (second_of (all_seen (S.state store.old) S.number args.now)))) }
 {
-    let end = second_or_none(store, args);
+    let end = second_or_none(store, at, args);
     let w = first_text(alloc, store, args)?;
-    find_end(store, at, s, w, end)
+    find_end(store, s, w, end)
 }
 
 fn find_end<S: Strings>(
     store: &mut S,
-    at: u32,
     s: S::Ref,
     w: S::Ref,
-    end: Option<Option<Num>>,
+    end: Result<Option<Num>, Refusal>,
 ) -> Result<Value<S::Ref>, Stop>
     requires known { IsKnown (S.state store.old) (S.number s) }
     requires needle_known { IsKnown (S.state store.old) (S.number w) }
-    requires lawful { LawfulEnd end }
+    requires lawful { IfOk end LawfulEnd }
     ensures grows { Grows (S.state store.old) (S.state store.new) }
     ensures fine { IfOk result (λ v. IsFine (S.state store.new) S.number v) }
-    ensures did { (t : ℕ) → length (text (S.state store.old) (S.number s)) + length (text (S.state store.old) (S.number w)) ≤ t + 40 → Does S.number (S.state store.old) (S.state store.new) result (found at t (λ e. Outcome.bool (ends_at (text (S.state store.old) (S.number s)) (text (S.state store.old) (S.number w)) e)) end) }
+    ensures did { (t : ℕ) → length (text (S.state store.old) (S.number s)) + length (text (S.state store.old) (S.number w)) ≤ t + 40 → Does S.number (S.state store.old) (S.state store.new) result (found t (λ e. Outcome.bool (ends_at (text (S.state store.old) (S.number s)) (text (S.state store.old) (S.number w)) e)) (converted_of end)) }
 {
-    match end {
-        None => Err(Stop::Unsupported { at }),
-        Some(end) => match js_methods::ends_with(store, s, w, end) {
-            Ok(ends) => Ok(Value::Bool(ends)),
-            Err(MethodFault::Store(fault)) => Err(Stop::Store(fault)),
-            Err(MethodFault::RangeError(_)) => Err(Stop::Threw(Kind::RangeError)),
-        },
-    }
+    let end = end?;
+    let ends = js_methods::ends_with(store, s, w, end)?;
+    Ok(Value::Bool(ends))
 }

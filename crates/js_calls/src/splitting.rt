@@ -8,8 +8,8 @@ ghost use Rattle.js_values.specs.Seen.{IsFine, all_seen, AllFine};
 ghost use Rattle.js_values.specs.Does.{Does};
 
 use js_number::Num;
-use js_store::{MethodFault, Strings};
-use js_values::{Kind, Stop, Value, first_is_missing, first_text, second_or_none};
+use js_store::Strings;
+use js_values::{Stop, Value, first_is_missing, first_text, second_or_none};
 use std::alloc::Global;
 
 /// `split`, of which the limit is converted before the separator.
@@ -24,12 +24,10 @@ pub fn call_split<S: Strings>(
     requires args { AllFine (S.state store.old) S.number args.now }
     ensures grows { Grows (S.state store.old) (S.state store.new) }
     ensures fine { IfOk result (λ v. IsFine (S.state store.new) S.number v) }
-    ensures did { Does S.number (S.state store.old) (S.state store.new) result (split_call at (S.state store.old).limit (text (S.state store.old) (S.number s)) (all_seen (S.state store.old) S.number args.now) (end_in (second_of (all_seen (S.state store.old) S.number args.now)))) }
+    ensures did { Does S.number (S.state store.old) (S.state store.new) result (split_call (S.state store.old).limit (text (S.state store.old) (S.number s)) (all_seen (S.state store.old) S.number args.now) (end_in at (second_of (all_seen (S.state store.old) S.number args.now)))) }
 {
-    match second_or_none(store, args) {
-        None => Err(Stop::Unsupported { at }),
-        Some(most) => split_most(alloc, store, s, args, most_parts(most)),
-    }
+    let most = second_or_none(store, at, args)?;
+    split_most(alloc, store, s, args, most_parts(most))
 }
 
 // How many parts are wanted at most.
@@ -75,11 +73,8 @@ fn keep_whole<S: Strings>(
     ensures fine { IfOk result (λ v. IsFine (S.state store.new) S.number v) }
     ensures did { (t : ℕ) → Does S.number (S.state store.old) (S.state store.new) result (split_into t (text (S.state store.old) (S.number s)) most None) }
 {
-    match js_replace::split(alloc, store, s, None, most) {
-        Ok(parts) => Ok(Value::List(parts)),
-        Err(MethodFault::Store(fault)) => Err(Stop::Store(fault)),
-        Err(MethodFault::RangeError(_)) => Err(Stop::Threw(Kind::RangeError)),
-    }
+    let parts = js_replace::split(alloc, store, s, None, most)?;
+    Ok(Value::List(parts))
 }
 
 // The parts between separators, where the operands of the call have t units, and the separator at
@@ -97,9 +92,6 @@ fn split_by<S: Strings>(
     ensures fine { IfOk result (λ v. IsFine (S.state store.new) S.number v) }
     ensures did { (t : ℕ) → length (text (S.state store.old) (S.number s)) + length (text (S.state store.old) (S.number sep)) ≤ t + 40 → Does S.number (S.state store.old) (S.state store.new) result (split_into t (text (S.state store.old) (S.number s)) most (Some (text (S.state store.old) (S.number sep)))) }
 {
-    match js_replace::split(alloc, store, s, Some(sep), most) {
-        Ok(parts) => Ok(Value::List(parts)),
-        Err(MethodFault::Store(fault)) => Err(Stop::Store(fault)),
-        Err(MethodFault::RangeError(_)) => Err(Stop::Threw(Kind::RangeError)),
-    }
+    let parts = js_replace::split(alloc, store, s, Some(sep), most)?;
+    Ok(Value::List(parts))
 }

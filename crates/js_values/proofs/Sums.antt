@@ -1,5 +1,5 @@
 -- Sums: both sides as primitive values, and then what is done with them.
-use Rattle.std.proofs.Common.{◌≡◌, ℕ, refl, subst, Result, Ok, Err}
+use Rattle.std.proofs.Common.{ℕ, refl, subst, Result, Ok, Err}
 use Rattle.js_store.specs.State.{State, Grows, IsKnown, text}
 use Rattle.js_store.proofs.Laws.{grows_trans}
 use Rattle.js_values.specs.declared.value.Value.{Value}

@@ -1,7 +1,7 @@
 -- The arguments of a call, and their conversions.
 use Rattle.std.specs.Prelude.{ℕ, List, [], ◌∷◌, Option, Some, None, Bool, true, false}
 use Rattle.js_number.specs.declared.Num.{Num}
-use Rattle.js_values.specs.Outcome.{Val, undefined, null, bool, number, text, list}
+use Rattle.js_values.specs.Outcome.{Val, undefined, null, bool, number, text, list, Converted, into, fails}
 use Rattle.js_values.specs.Conversions.{to_number, text_units}
 
 -- the argument at a place; a missing one is undefined
@@ -21,11 +21,15 @@ is_undefined v = false
 abbrev pub second_units : List Val → ℕ
 second_units vs = text_units (second_of vs)
 
+abbrev pub some_number : Converted Num → Converted (Option Num)
+some_number (into n) = into (Some n)
+some_number (fails e) = fails e
+
 -- a number, where undefined is none: an end or a count that isn't told
-abbrev pub end_in : Val → Option (Option Num)
-end_in undefined = Some None
-end_in null = Some (to_number null)
-end_in (bool b) = Some (to_number (bool b))
-end_in (number n) = Some (Some n)
-end_in (text u) = None
-end_in (list us) = None
+abbrev pub end_in : ℕ → Val → Converted (Option Num)
+end_in at undefined = into None
+end_in at null = some_number (to_number at null)
+end_in at (bool b) = some_number (to_number at (bool b))
+end_in at (number n) = some_number (to_number at (number n))
+end_in at (text u) = some_number (to_number at (text u))
+end_in at (list us) = some_number (to_number at (list us))

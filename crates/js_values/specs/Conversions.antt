@@ -1,11 +1,11 @@
 -- Conversions of values.
-use Rattle.std.specs.Prelude.{ℕ, ◌+◌, List, [], ◌∷◌, length, Option, Some, None, nat_eq, nat_le, if◌then◌else◌, pos, Bool, true, false, not, codes}
+use Rattle.std.specs.Prelude.{ℕ, ◌+◌, List, [], ◌∷◌, length, nat_eq, nat_le, if◌then◌else◌, pos, Bool, true, false, not, codes}
 use Rattle.js_number.specs.declared.Num.{Num}
 use Rattle.js_number.specs.declared.Num.TheVariants.{Int, NaN, PosInf, NegInf}
 use Rattle.js_number.specs.Arith.{text_of}
 use Rattle.js_texts.specs.Joined.{joined as joined_list}
 use Rattle.js_values.specs.declared.value.Kind.TheVariants.{RangeError}
-use Rattle.js_values.specs.Outcome.{Val, undefined, null, bool, number, text, list, Out, gave, ended, threw, free}
+use Rattle.js_values.specs.Outcome.{Val, undefined, null, bool, number, text, list, Converted, into, fails, Out, gave, ended, threw, unsupported, free}
 use Rattle.js_values.specs.Need.{row_ids, row_words, parts_ids, parts_words}
 
 -- a new string of these units
@@ -52,14 +52,15 @@ abbrev pub one_or_zero : Bool → Num
 one_or_zero true = Int (pos 1)
 one_or_zero false = Int (pos 0)
 
--- ECMA-262, "ToNumber"; of a string or an array it is left out of the profile
-abbrev pub to_number : Val → Option Num
-to_number undefined = Some NaN
-to_number null = Some (Int (pos 0))
-to_number (bool b) = Some (one_or_zero b)
-to_number (number n) = Some n
-to_number (text u) = None
-to_number (list us) = None
+-- ECMA-262, "ToNumber", in an operation at a place, where the script ends with a string or an array, of which the profile leaves
+-- it out
+abbrev pub to_number : ℕ → Val → Converted Num
+to_number at undefined = into NaN
+to_number at null = into (Int (pos 0))
+to_number at (bool b) = into (one_or_zero b)
+to_number at (number n) = into n
+to_number at (text u) = fails (unsupported at)
+to_number at (list us) = fails (unsupported at)
 
 abbrev pub number_truth : Num → Bool
 number_truth (Int (pos n)) = not (nat_eq n 0)

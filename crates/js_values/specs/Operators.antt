@@ -5,7 +5,7 @@ use Rattle.js_number.specs.Arith.{sum, difference, negative}
 use Rattle.js_tree.specs.declared.tree.Op.{Op}
 use Rattle.js_tree.specs.declared.tree.Op.TheVariants.{Plus, Minus}
 use Rattle.js_values.specs.declared.value.Kind.TheVariants.{RangeError}
-use Rattle.js_values.specs.Outcome.{Val, undefined, null, bool, number, text, list, Out, gave, free, bind, gives, throws, refuses}
+use Rattle.js_values.specs.Outcome.{Val, undefined, null, bool, number, text, list, Converted, into, fails, threw, unsupported, Out, gave, free, bind, gives, throws, refuses, converts}
 use Rattle.js_values.specs.Need.{row_ids, row_words}
 use Rattle.js_values.specs.Conversions.{to_string, to_number, to_boolean, is_text, text_units}
 
@@ -14,19 +14,23 @@ abbrev pub counted : ℕ → Option Num → Out Val
 counted at None = refuses at
 counted at (Some n) = gives (number n) 0 0
 
-abbrev pub sum_in : Option Num → Option Num → Option Num
-sum_in (Some m) (Some n) = sum m n
-sum_in (Some m) None = None
-sum_in None n = None
+-- the sum of two values that are no strings, of which the left one is converted first
+abbrev pub sum_in : ℕ → Val → Val → Out Val
+sum_in at v w = converts 0 0 (to_number at v) (λ m. converts 0 0 (to_number at w) (λ n. counted at (sum m n)))
 
-abbrev pub difference_in : Option Num → Option Num → Option Num
-difference_in (Some m) (Some n) = difference m n
-difference_in (Some m) None = None
-difference_in None n = None
+-- two conversions of which one that throws goes before one that ends the script otherwise, whatever its side
+abbrev pub paired : {A B : Type 0} → Converted A → Converted B → Converted (A × B)
+paired (into m) (into n) = into (m, n)
+paired (into m) (fails e) = fails e
+paired (fails (threw k)) n = fails (threw k)
+paired (fails (unsupported at)) (into n) = fails (unsupported at)
+paired (fails (unsupported at)) (fails e) = fails e
 
-abbrev pub negative_in : Option Num → Option Num
-negative_in (Some m) = Some (negative m)
-negative_in None = None
+abbrev pub difference_in : ℕ → Val → Val → Out Val
+difference_in at v w = converts 0 0 (paired (to_number at v) (to_number at w)) (λ p. counted at (difference p.0 p.1))
+
+abbrev pub negative_in : ℕ → Val → Out Val
+negative_in at v = converts 0 0 (to_number at v) (λ n. gives (number (negative n)) 0 0)
 
 -- two strings joined, of operands with t units
 abbrev pub joined : ℕ → ℕ → List ℕ → List ℕ → Out Val
@@ -50,7 +54,7 @@ primitive limit (list us) = bind (to_string limit (list us)) (λ u. gave (text u
 -- the sum of two primitive values, of which a string makes both strings
 abbrev pub added : Bool → ℕ → ℕ → Val → Val → Out Val
 added true at limit v w = joined_strings limit v w
-added false at limit v w = counted at (sum_in (to_number v) (to_number w))
+added false at limit v w = sum_in at v w
 
 abbrev pub plus_primitives : ℕ → ℕ → Val → Val → Out Val
 plus_primitives at limit v w = added (is_text v || is_text w) at limit v w
@@ -62,9 +66,9 @@ plus at limit v w = bind (primitive limit v) (λ x. bind (primitive limit w) (λ
 -- ECMA-262, "ApplyStringOrNumericBinaryOperator"
 abbrev pub operated : Op → ℕ → ℕ → Val → Val → Out Val
 operated Plus at limit v w = plus at limit v w
-operated Minus at limit v w = counted at (difference_in (to_number v) (to_number w))
+operated Minus at limit v w = difference_in at v w
 
 -- unary minus, or else `!`
 abbrev pub unary_out : Bool → ℕ → Val → Out Val
-unary_out true at v = counted at (negative_in (to_number v))
+unary_out true at v = negative_in at v
 unary_out false at v = gives (bool (not (to_boolean v))) 0 0

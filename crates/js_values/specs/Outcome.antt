@@ -33,6 +33,11 @@ pub data Ending : Type 0 where
   threw : Kind → Ending
   unsupported : ℕ → Ending
 
+-- a conversion that makes nothing comes to a value, or it ends the script
+pub data Converted (A : Type 0) : Type 0 where
+  into : A → Converted A
+  fails : Ending → Converted A
+
 pub data Out (A : Type 0) : Type 0 where
   gave : A → Ledger → Out A
   ended : Ending → Ledger → Out A
@@ -74,3 +79,13 @@ throws k ids words = ended (threw k) (record { interned = []; texts = []; ids = 
 -- the place can't be evaluated in the profile
 abbrev pub refuses : {A : Type 0} → ℕ → Out A
 refuses at = ended (unsupported at) free
+
+-- an operation that such a conversion ends: where it throws, the operands count, which need so much
+abbrev pub ends : {A : Type 0} → Ending → ℕ → ℕ → Out A
+ends (threw k) ids words = ended (threw k) (record { interned = []; texts = []; ids = ids; words = words })
+ends (unsupported at) ids words = refuses at
+
+-- a conversion, and then what has its value
+abbrev pub converts : {A B : Type 0} → ℕ → ℕ → Converted A → (A → Out B) → Out B
+converts ids words (into x) go = go x
+converts ids words (fails e) go = ends e ids words

@@ -1,5 +1,5 @@
 -- What the values and bindings of the code stand for in a store, and when they may be used.
-use Rattle.std.specs.Prelude.{◌≡◌, ℕ, List, map, Option, Some}
+use Rattle.std.specs.Prelude.{◌≡◌, ℕ, List, map, Option, Some, None}
 use Rattle.js_number.specs.declared.Num.{Num}
 use Rattle.js_number.specs.Places.{IsLawful}
 use Rattle.js_store.specs.State.{State, IsKnown, text as units_of}
@@ -40,6 +40,7 @@ IsWritten (value.Bool b) n = ⊥
 IsWritten (value.Text r) n = ⊥
 IsWritten (value.List v) n = ⊥
 
-abbrev pub LawfulEnd : Option (Option Num) → Type 0
-LawfulEnd (Some (Some n)) = IsLawful n
-LawfulEnd _ = Unit {0}
+-- an end that is told is a lawful number
+abbrev pub LawfulEnd : Option Num → Type 0
+LawfulEnd (Some n) = IsLawful n
+LawfulEnd None = Unit {0}

@@ -1,15 +1,16 @@
 // The arguments of a call, and their conversions. A missing argument is undefined, and further
 // ones are ignored.
-ghost use Rattle.std.specs.Prelude.{◌≡◌, ◌+◌, ◌≤◌, length, IfOk, IfSome};
+ghost use Rattle.std.specs.Prelude.{◌≡◌, ◌+◌, ◌≤◌, length, IfOk};
 ghost use Rattle.js_number.specs.Places.{IsLawful};
 ghost use Rattle.js_store.specs.State.{Grows, IsKnown, text};
 ghost use Rattle.js_values.specs.Conversions.{to_number, to_string, first_text_units};
 ghost use Rattle.js_values.specs.Arguments.{first_of, second_of, is_undefined, end_in, second_units};
+ghost use Rattle.js_values.specs.Stops.{converted_of};
 ghost use Rattle.js_values.specs.Seen.{seen, IsFine, all_seen, AllFine, LawfulEnd};
 ghost use Rattle.js_values.specs.Does.{GivesText};
 
 use crate::conversions::{number_of, to_text};
-use crate::value::{Stop, Value};
+use crate::value::{Refusal, Stop, Value};
 use js_number::Num;
 use js_store::Strings;
 use std::alloc::Global;
@@ -79,54 +80,69 @@ fn is_missing<S: Strings>(_store: &S, value: &Value<S::Ref>) -> bool
     }
 }
 
-/// ToNumber of the first argument, none where it is a string or an array.
-pub fn first_number<S: Strings>(store: &S, args: &[Value<S::Ref>]) -> Option<Num>
+/// ToNumber of the first argument, of a call at the byte offset `at`.
+pub fn first_number<S: Strings>(
+    store: &S,
+    at: u32,
+    args: &[Value<S::Ref>],
+) -> Result<Num, Refusal>
     requires { AllFine (S.state store.now) S.number args.now }
-    ensures value { result ≡ to_number (first_of (all_seen (S.state store.now) S.number args.now)) }
-    ensures lawful { IfSome result IsLawful }
+    ensures value { converted_of result ≡ to_number at (first_of (all_seen (S.state store.now) S.number args.now)) }
+    ensures lawful { IfOk result IsLawful }
 {
     match args {
-        [first, ..] => number_of(store, first),
-        [] => Some(Num::NaN),
+        [first, ..] => number_of(store, at, first),
+        [] => Ok(Num::NaN),
     }
 }
 
-/// ToNumber of the second argument, none where it is a string or an array.
-pub fn second_number<S: Strings>(store: &S, args: &[Value<S::Ref>]) -> Option<Num>
+/// ToNumber of the second argument, of a call at the byte offset `at`.
+pub fn second_number<S: Strings>(
+    store: &S,
+    at: u32,
+    args: &[Value<S::Ref>],
+) -> Result<Num, Refusal>
     requires { AllFine (S.state store.now) S.number args.now }
-    ensures value { result ≡ to_number (second_of (all_seen (S.state store.now) S.number args.now)) }
-    ensures lawful { IfSome result IsLawful }
+    ensures value { converted_of result ≡ to_number at (second_of (all_seen (S.state store.now) S.number args.now)) }
+    ensures lawful { IfOk result IsLawful }
 {
     match args {
-        [_, second, ..] => number_of(store, second),
-        _ => Some(Num::NaN),
+        [_, second, ..] => number_of(store, at, second),
+        _ => Ok(Num::NaN),
     }
 }
 
-/// ToNumber of the second argument, where undefined is no number; none where it is a string or an
-/// array.
-pub fn second_or_none<S: Strings>(store: &S, args: &[Value<S::Ref>]) -> Option<Option<Num>>
+/// ToNumber of the second argument, of a call at the byte offset `at`, where undefined is no number.
+pub fn second_or_none<S: Strings>(
+    store: &S,
+    at: u32,
+    args: &[Value<S::Ref>],
+) -> Result<Option<Num>, Refusal>
     requires { AllFine (S.state store.now) S.number args.now }
-    ensures value { result ≡ end_in (second_of (all_seen (S.state store.now) S.number args.now)) }
-    ensures lawful { LawfulEnd result }
+    ensures value { converted_of result ≡ end_in at (second_of (all_seen (S.state store.now) S.number args.now)) }
+    ensures lawful { IfOk result LawfulEnd }
 {
     match args {
-        [_, second, ..] => number_or_none(store, second),
-        _ => Some(None),
+        [_, second, ..] => number_or_none(store, at, second),
+        _ => Ok(None),
     }
 }
 
-fn number_or_none<S: Strings>(_store: &S, value: &Value<S::Ref>) -> Option<Option<Num>>
+fn number_or_none<S: Strings>(
+    _store: &S,
+    at: u32,
+    value: &Value<S::Ref>,
+) -> Result<Option<Num>, Refusal>
     requires { IsFine (S.state _store.now) S.number value.now }
-    ensures value { result ≡ end_in (seen (S.state _store.now) S.number value.now) }
-    ensures lawful { LawfulEnd result }
+    ensures value { converted_of result ≡ end_in at (seen (S.state _store.now) S.number value.now) }
+    ensures lawful { IfOk result LawfulEnd }
 {
     match value {
-        Value::Undefined => Some(None),
-        Value::Null => Some(Some(Num::Int(0))),
-        Value::Bool(true) => Some(Some(Num::Int(1))),
-        Value::Bool(false) => Some(Some(Num::Int(0))),
-        Value::Number(n) => Some(Some(*n)),
-        Value::Text(_) | Value::List(_) => None,
+        Value::Undefined => Ok(None),
+        Value::Null => Ok(Some(Num::Int(0))),
+        Value::Bool(true) => Ok(Some(Num::Int(1))),
+        Value::Bool(false) => Ok(Some(Num::Int(0))),
+        Value::Number(n) => Ok(Some(*n)),
+        Value::Text(_) | Value::List(_) => Err(Refusal::Unsupported { at }),
     }
 }

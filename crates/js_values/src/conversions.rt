@@ -1,5 +1,5 @@
 // Conversions of values (ECMA-262, "Type Conversion").
-ghost use Rattle.std.specs.Prelude.{◌≡◌, ◌+◌, ◌≤◌, [], length, IfOk, IfSome};
+ghost use Rattle.std.specs.Prelude.{◌≡◌, ◌+◌, ◌≤◌, [], length, IfOk};
 ghost use Rattle.js_number.specs.Places.{IsLawful};
 ghost use Rattle.js_number.specs.Arith.{text_of};
 ghost use Rattle.js_store.specs.State.{Has, Grows, IsKnown, IsSettled, text};
@@ -10,11 +10,12 @@ ghost use Rattle.js_store.specs.Rows.{wide_words, settle_words};
 ghost use Rattle.js_values.specs.Outcome.{each};
 ghost use Rattle.js_values.specs.Conversions.{spelled, to_string, is_text, to_number, to_boolean, number_truth, list_string, comma_joined, text_units};
 ghost use Rattle.js_texts.specs.Texts.{texts as texts_seen, AllKnown, settle_most};
+ghost use Rattle.js_values.specs.Stops.{converted_of};
 ghost use Rattle.js_values.specs.Seen.{seen, IsFine, all_seen, AllFine};
 ghost use Rattle.js_values.specs.Does.{GivesText, GivesTexts, string_words};
 
 use crate::lists::push;
-use crate::value::{Kind, Stop, Value};
+use crate::value::{Kind, Refusal, Stop, Value};
 use js_number::{Num, append_text};
 use js_store::{MethodFault, StoreFault, Strings};
 use js_units::Units;
@@ -131,19 +132,19 @@ pub fn is_string<S: Strings>(_store: &S, value: &Value<S::Ref>) -> bool
     }
 }
 
-/// ToNumber of a value, none where it is a string or an array.
-pub fn number_of<S: Strings>(_store: &S, value: &Value<S::Ref>) -> Option<Num>
+/// ToNumber of a value, in an operation at the byte offset `at`.
+pub fn number_of<S: Strings>(_store: &S, at: u32, value: &Value<S::Ref>) -> Result<Num, Refusal>
     requires { IsFine (S.state _store.now) S.number value.now }
-    ensures value { result ≡ to_number (seen (S.state _store.now) S.number value.now) }
-    ensures lawful { IfSome result IsLawful }
+    ensures value { converted_of result ≡ to_number at (seen (S.state _store.now) S.number value.now) }
+    ensures lawful { IfOk result IsLawful }
 {
     match value {
-        Value::Undefined => Some(Num::NaN),
-        Value::Null => Some(Num::Int(0)),
-        Value::Bool(true) => Some(Num::Int(1)),
-        Value::Bool(false) => Some(Num::Int(0)),
-        Value::Number(n) => Some(*n),
-        Value::Text(_) | Value::List(_) => None,
+        Value::Undefined => Ok(Num::NaN),
+        Value::Null => Ok(Num::Int(0)),
+        Value::Bool(true) => Ok(Num::Int(1)),
+        Value::Bool(false) => Ok(Num::Int(0)),
+        Value::Number(n) => Ok(*n),
+        Value::Text(_) | Value::List(_) => Err(Refusal::Unsupported { at }),
     }
 }
 

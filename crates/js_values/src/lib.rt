@@ -20,4 +20,4 @@ pub use arguments::{
 pub use conversions::{joined_by_commas, number_of, texts, to_text};
 pub use lists::push;
 pub use operators::{apply_unary, operate};
-pub use value::{Kind, Stop, Value, number_value};
+pub use value::{Kind, Refusal, Stop, Value, number_value};

@@ -5,12 +5,13 @@ ghost use Rattle.js_store.specs.State.{Grows, IsKnown, text};
 ghost use Rattle.js_values.specs.Outcome;
 ghost use Rattle.js_values.specs.Outcome.{gave, bind, free};
 ghost use Rattle.js_values.specs.Conversions.{is_text, to_number, to_string};
-ghost use Rattle.js_values.specs.Operators.{counted, sum_in, difference_in, negative_in, joined, joined_strings, primitive, plus as sum_out, plus_primitives as primitive_sum, operated, unary_out};
+ghost use Rattle.js_values.specs.Operators.{counted, sum_in, paired, difference_in, negative_in, joined, joined_strings, primitive, plus as sum_out, plus_primitives as primitive_sum, operated, unary_out};
+ghost use Rattle.js_values.specs.Stops.{converted_of};
 ghost use Rattle.js_values.specs.Seen.{seen, IsFine};
 ghost use Rattle.js_values.specs.Does.{Does};
 
 use crate::conversions::{is_string, number_of, to_text, truth};
-use crate::value::{Kind, Stop, Value};
+use crate::value::{Kind, Refusal, Stop, Value};
 use js_number::Num;
 use js_store::{ConcatFault, Strings};
 use js_tree::Op;
@@ -134,12 +135,10 @@ pub fn apply_unary<S: Strings>(
 
 fn negate<S: Strings>(store: &S, at: u32, value: &Value<S::Ref>) -> Result<Value<S::Ref>, Stop>
     requires { IsFine (S.state store.now) S.number value.now }
-    ensures { Does S.number (S.state store.now) (S.state store.now) result (counted at (negative_in (to_number (seen (S.state store.now) S.number value.now)))) }
+    ensures { Does S.number (S.state store.now) (S.state store.now) result (negative_in at (seen (S.state store.now) S.number value.now)) }
 {
-    match number_of(store, value) {
-        Some(n) => count(store, at, Some(n.neg())),
-        None => Err(Stop::Unsupported { at }),
-    }
+    let n = number_of(store, at, value)?;
+    Ok(Value::Number(n.neg()))
 }
 
 fn one_is_string<S: Strings>(store: &S, left: &Value<S::Ref>, right: &Value<S::Ref>) -> bool
@@ -167,12 +166,11 @@ fn add<S: Strings>(
 ) -> Result<Value<S::Ref>, Stop>
     requires left { IsFine (S.state store.now) S.number left.now }
     requires right { IsFine (S.state store.now) S.number right.now }
-    ensures { Does S.number (S.state store.now) (S.state store.now) result (counted at (sum_in (to_number (seen (S.state store.now) S.number left.now)) (to_number (seen (S.state store.now) S.number right.now)))) }
+    ensures { Does S.number (S.state store.now) (S.state store.now) result (sum_in at (seen (S.state store.now) S.number left.now) (seen (S.state store.now) S.number right.now)) }
 {
-    match (number_of(store, left), number_of(store, right)) {
-        (Some(m), Some(n)) => count(store, at, m.add(n)),
-        _ => Err(Stop::Unsupported { at }),
-    }
+    let m = number_of(store, at, left)?;
+    let n = number_of(store, at, right)?;
+    count(store, at, m.add(n))
 }
 
 fn subtract<S: Strings>(
@@ -183,11 +181,34 @@ fn subtract<S: Strings>(
 ) -> Result<Value<S::Ref>, Stop>
     requires left { IsFine (S.state store.now) S.number left.now }
     requires right { IsFine (S.state store.now) S.number right.now }
-    ensures { Does S.number (S.state store.now) (S.state store.now) result (counted at (difference_in (to_number (seen (S.state store.now) S.number left.now)) (to_number (seen (S.state store.now) S.number right.now)))) }
+    ensures { Does S.number (S.state store.now) (S.state store.now) result (difference_in at (seen (S.state store.now) S.number left.now) (seen (S.state store.now) S.number right.now)) }
 {
-    match (number_of(store, left), number_of(store, right)) {
-        (Some(m), Some(n)) => count(store, at, m.sub(n)),
-        _ => Err(Stop::Unsupported { at }),
+    let (m, n) = two_numbers(store, at, left, right)?;
+    count(store, at, m.sub(n))
+}
+
+// ToNumber of both sides. One that throws goes before one that is left out, whatever its side.
+fn two_numbers<S: Strings>(
+    store: &S,
+    at: u32,
+    left: &Value<S::Ref>,
+    right: &Value<S::Ref>,
+) -> Result<(Num, Num), Refusal>
+    requires left { IsFine (S.state store.now) S.number left.now }
+    requires right { IsFine (S.state store.now) S.number right.now }
+    ensures value { converted_of result ≡ paired (to_number at (seen (S.state store.now) S.number left.now)) (to_number at (seen (S.state store.now) S.number right.now)) }
+    ensures lawful { IfOk result (λ p. IsLawful p.0 × IsLawful p.1) }
+{
+    match number_of(store, at, left) {
+        Ok(m) => match number_of(store, at, right) {
+            Ok(n) => Ok((m, n)),
+            Err(refusal) => Err(refusal),
+        },
+        Err(Refusal::Threw(kind)) => Err(Refusal::Threw(kind)),
+        Err(Refusal::Unsupported { at: place }) => match number_of(store, at, right) {
+            Ok(_) => Err(Refusal::Unsupported { at: place }),
+            Err(refusal) => Err(refusal),
+        },
     }
 }
 

@@ -65,6 +65,13 @@ fn copied<R: Copy>(alloc: Global, list: &[R]) -> Result<Vec<R>, NoMemory>
     }
 }
 
+/// Why a conversion that makes nothing gives no value.
+#[derive(Clone, Copy, Debug)]
+pub enum Refusal {
+    Threw(Kind),
+    Unsupported { at: u32 },
+}
+
 /// What stops an evaluation.
 #[derive(Clone, Copy, Debug)]
 pub enum Stop {
@@ -93,6 +100,20 @@ impl From<NoMemory> for Stop {
 
     fn from(_fault: NoMemory) -> Stop {
         Stop::Store(StoreFault::Memory)
+    }
+}
+
+impl From<Refusal> for Stop {
+    ghost use Rattle.std.specs.Prelude.{◌≡◌};
+    ghost use Rattle.js_values.specs.Stops.{refusal_stop};
+
+    ghost from_gives = { λ r e. e ≡ refusal_stop r };
+
+    fn from(refusal: Refusal) -> Stop {
+        match refusal {
+            Refusal::Threw(kind) => Stop::Threw(kind),
+            Refusal::Unsupported { at } => Stop::Unsupported { at },
+        }
     }
 }
 

@@ -1,9 +1,13 @@
+use Rattle.std.proofs.lemmas.Result.{err_from_is_err_and}
 use Rattle.js_store.specs.State.{text}
-use Rattle.js_calls.proofs.Within.{joined_cut}
+use Rattle.js_calls.proofs.Within.{joined_stops}
 use Rattle.js_calls.proofs.building.append.Goals as goal
 
-pub returns-in-Err-Store-clause-did : goal.returns-in-Err-Store-clause-did
-returns-in-Err-Store-clause-did g c = λ t k.
-    let e = rw c.in-Err-Store.field-0-is at c.in-Err-Store.ensures in
-    let a = g.S.Strings.state c.args.store.now in
-    joined_cut a.limit t (text a (g.S.Strings.number c.args.s)) (text a (g.S.Strings.number c.args.w)) k e.step e.history e.slots
+pub returns-in_err-concat-clause-did : goal.returns-in_err-concat-clause-did
+returns-in_err-concat-clause-did g c = λ t k.
+    let state = g.S.Strings.state in
+    let number = g.S.Strings.number in
+    let a = state c.args.store.now in
+    let e = c.in_err-concat.ensures in
+    let p = err_from_is_err_and c.from_residual.result c.from_residual.ensures.1 in
+    rw (p.1, p.2) (joined_stops number a (state c.concat.new.store) a.limit t (text a (number c.args.s)) (text a (number c.args.w)) k c.in_err-concat.field-0.0 e.throws e.step e.history e.slots)

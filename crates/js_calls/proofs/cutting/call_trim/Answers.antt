@@ -1,12 +1,17 @@
 use Rattle.std.proofs.Common.{arith, ◌+◌}
+use Rattle.std.proofs.lemmas.Result.{err_from_is_err_and}
 use Rattle.js_store.specs.State.{text}
 use Rattle.js_values.specs.Need.{row_ids, row_words}
 use Rattle.js_calls.specs.Groups.{trimmed_of}
-use Rattle.js_calls.proofs.Within.{within_cut}
+use Rattle.js_calls.proofs.Within.{within_stops}
 use Rattle.js_calls.proofs.cutting.call_trim.Goals as goal
 
-pub returns-in-Err-Store-clause-did : goal.returns-in-Err-Store-clause-did
-returns-in-Err-Store-clause-did g c = λ t k.
-    let e = rw c.in-Err-Store.field-0-is at c.in-Err-Store.ensures in
-    let a = g.S.Strings.state c.args.store.now in
-    within_cut a.limit row_ids (λ r. row_words (t + r)) (trimmed_of c.args.trim (text a (g.S.Strings.number c.args.s))) e.step e.history e.slots (omega arith) (omega arith) (omega arith)
+pub returns-in_err-r-clause-did : goal.returns-in_err-r-clause-did
+returns-in_err-r-clause-did g c = λ t k.
+    let state = g.S.Strings.state in
+    let number = g.S.Strings.number in
+    let a = state c.args.store.now in
+    let u = text a (number c.args.s) in
+    let e = c.in_err-r.ensures in
+    let p = err_from_is_err_and c.from_residual.result c.from_residual.ensures.1 in
+    rw (p.1, p.2) (within_stops number a (state c.trimmed.new.store) a.limit row_ids (λ r. row_words (t + r)) (trimmed_of c.args.trim u) c.in_err-r.field-0.0 e.throws e.step e.history e.slots (omega arith) (omega arith) (omega arith))

@@ -1,17 +1,22 @@
-use Rattle.std.proofs.Common.{arith, length, ◌+◌, Some}
+use Rattle.std.proofs.Common.{arith, length, ◌+◌}
+use Rattle.std.proofs.lemmas.Result.{err_from_is_err_and}
 use Rattle.js_store.specs.State.{text}
-use Rattle.js_values.specs.Outcome.{ledger_of}
+use Rattle.js_methods.specs.Places.{code_point_of}
+use Rattle.js_values.specs.Need.{row_ids, row_words}
 use Rattle.js_values.specs.Conversions.{all_units}
-use Rattle.js_calls.specs.Reading.{code_point_call}
 use Rattle.js_values.specs.Seen.{all_seen}
-use Rattle.js_values.proofs.Compose.{cut_of_step}
+use Rattle.js_calls.specs.Reading.{maybe_count}
+use Rattle.js_calls.proofs.Within.{row_stops}
 use Rattle.js_calls.proofs.reading.call_code_point_at.Goals as goal
 
-pub returns-in-Err-Store-clause-did : goal.returns-in-Err-Store-clause-did
-returns-in-Err-Store-clause-did g c =
-    let e = rw c.in-Err-Store.field-0-is at c.in-Err-Store.ensures in
-    let a = g.S.Strings.state c.args.store.now in
-    let u = text a (g.S.Strings.number c.args.s) in
-    let v = c.first_number.ensures.value in
-    let n = c.in-Some.is in
-    rw (← v, n) (cut_of_step (ledger_of (code_point_call c.args.at (length u + all_units (all_seen a g.S.Strings.number c.args.args.now)) u (Some c.in-Some.n))) e.step e.history e.slots (omega arith) (omega arith))
+pub returns-in_err-point-clause-did : goal.returns-in_err-point-clause-did
+returns-in_err-point-clause-did g c =
+    let state = g.S.Strings.state in
+    let number = g.S.Strings.number in
+    let a = state c.args.store.now in
+    let u = text a (number c.args.s) in
+    let t = length u + all_units (all_seen a number c.args.args.now) in
+    let n = c.in_ok-n.n in
+    let e = c.in_err-point.ensures in
+    let p = err_from_is_err_and c.from_residual-in_err-point.result c.from_residual-in_err-point.ensures.1 in
+    rw (p.1, p.2, ← c.in_ok-n.ensures.value) (row_stops number a (state c.code_point_at.new.store) row_ids (row_words (t)) (maybe_count (code_point_of u n)) c.in_err-point.field-0.0 e.throws e.step e.history e.slots (omega arith) (omega arith))

@@ -5,6 +5,7 @@ use Rattle.js_methods.specs.Searching.{ends_at}
 use Rattle.js_values.specs.Outcome.{bool}
 use Rattle.js_values.specs.Conversions.{to_string, first_text_units}
 use Rattle.js_values.specs.Arguments.{first_of}
+use Rattle.js_values.specs.Stops.{converted_of}
 use Rattle.js_calls.specs.Searching.{found}
 use Rattle.js_values.specs.Seen.{all_seen}
 use Rattle.js_calls.proofs.Calls.{text_stops, search_does}
@@ -19,7 +20,7 @@ returns-in_err-w-clause-did g c =
     let u = text a (number c.args.s) in
     let v = c.second_or_none-end.ensures.value in
     let p = err_from_is_err_and c.from_residual.result c.from_residual.ensures.1 in
-    rw (p.1, p.2, ← v) (text_stops number a (state c.first_text.new.store) c.in_err-w.field-0.0 (to_string a.limit (first_of vs)) (λ x. found c.args.at (length u + first_text_units vs) (λ e. bool (ends_at u x e)) c.second_or_none-end.result) c.in_err-w.ensures.did)
+    rw (p.1, p.2, ← v) (text_stops number a (state c.first_text.new.store) c.in_err-w.field-0.0 (to_string a.limit (first_of vs)) (λ x. found (length u + first_text_units vs) (λ e. bool (ends_at u x e)) (converted_of c.second_or_none-end.result)) c.in_err-w.ensures.did)
 
 pub returns-clause-did : goal.returns-clause-did
 returns-clause-did g c =
@@ -29,4 +30,4 @@ returns-clause-did g c =
     let vs = all_seen a number c.args.args.now in
     let v = c.second_or_none-end.ensures.value in
     let e = c.in_ok-w.ensures in
-    rw (← v) (search_does number a (state c.first_text.new.store) (state c.find_end.new.store) c.args.s c.in_ok-w.w c.find_end.result c.args.at (first_text_units vs) (λ u x q. bool (ends_at u x q)) (first_of vs) c.second_or_none-end.result e.grows c.requires.known e.short e.did c.find_end.ensures.did)
+    rw (← v) (search_does number a (state c.first_text.new.store) (state c.find_end.new.store) c.args.s c.in_ok-w.w c.find_end.result (first_text_units vs) (λ u x q. bool (ends_at u x q)) (first_of vs) (converted_of c.second_or_none-end.result) e.grows c.requires.known e.short e.did c.find_end.ensures.did)

@@ -3,6 +3,7 @@ use Rattle.std.proofs.lemmas.Result.{err_from_is_err_and}
 use Rattle.js_store.specs.State.{text}
 use Rattle.js_values.specs.Conversions.{to_string, first_text_units}
 use Rattle.js_values.specs.Arguments.{first_of}
+use Rattle.js_values.specs.Stops.{converted_of}
 use Rattle.js_calls.specs.Searching.{found}
 use Rattle.js_calls.specs.Groups.{search_of}
 use Rattle.js_values.specs.Seen.{all_seen}
@@ -18,7 +19,7 @@ returns-in_err-w-clause-did g c =
     let u = text a (number c.args.s) in
     let v = c.second_number-place.ensures.value in
     let p = err_from_is_err_and c.from_residual.result c.from_residual.ensures.1 in
-    rw (p.1, p.2, ← v) (text_stops number a (state c.first_text.new.store) c.in_err-w.field-0.0 (to_string a.limit (first_of vs)) (λ x. found c.args.at (length u + first_text_units vs) (search_of c.args.search u x) c.second_number-place.result) c.in_err-w.ensures.did)
+    rw (p.1, p.2, ← v) (text_stops number a (state c.first_text.new.store) c.in_err-w.field-0.0 (to_string a.limit (first_of vs)) (λ x. found (length u + first_text_units vs) (search_of c.args.search u x) (converted_of c.second_number-place.result)) c.in_err-w.ensures.did)
 
 pub returns-clause-did : goal.returns-clause-did
 returns-clause-did g c =
@@ -28,4 +29,4 @@ returns-clause-did g c =
     let vs = all_seen a number c.args.args.now in
     let v = c.second_number-place.ensures.value in
     let e = c.in_ok-w.ensures in
-    rw (← v) (search_does number a (state c.first_text.new.store) (state c.find.new.store) c.args.s c.in_ok-w.w c.find.result c.args.at (first_text_units vs) (search_of c.args.search) (first_of vs) c.second_number-place.result e.grows c.requires.known e.short e.did c.find.ensures.did)
+    rw (← v) (search_does number a (state c.first_text.new.store) (state c.find.new.store) c.args.s c.in_ok-w.w c.find.result (first_text_units vs) (search_of c.args.search) (first_of vs) (converted_of c.second_number-place.result) e.grows c.requires.known e.short e.did c.find.ensures.did)
