@@ -14,7 +14,7 @@ use Rattle.js_tree.specs.declared.tree.Builtin.TheVariants.{FromCharCode, FromCo
 use Rattle.js_tree.specs.declared.tree.Method.{Method}
 use Rattle.js_tree.specs.declared.tree.Method.TheVariants.{At, CharAt, CharCodeAt, CodePointAt, Concat, EndsWith, Includes, IndexOf, IsWellFormed, Join, LastIndexOf, PadEnd, PadStart, Repeat, Replace, ReplaceAll, Slice, Split, StartsWith, Substr, Substring, ToWellFormed, Trim, TrimEnd, TrimStart}
 use Rattle.js_values.specs.declared.value.Kind.TheVariants.{TypeError}
-use Rattle.js_values.specs.Outcome.{Val, undefined, null, bool, number, text, list, Out, gave, ended, threw, free, number_of, gives, throws}
+use Rattle.js_values.specs.Outcome.{Val, undefined, null, bool, number, text, symbol, list, Out, gave, ended, threw, free, number_of, gives, throws}
 use Rattle.js_values.specs.Need.{row_ids, row_words}
 use Rattle.js_values.specs.Conversions.{to_number, list_units, all_units, first_text_units}
 use Rattle.js_values.specs.Arguments.{first_of, second_of, end_in}
@@ -33,6 +33,7 @@ length_of null = throws TypeError 0 0
 length_of (bool b) = gives undefined 0 0
 length_of (number n) = gives undefined 0 0
 length_of (text u) = gives (number (Int (pos (length u)))) 0 0
+length_of (symbol k) = gives undefined 0 0
 length_of (list us) = gives (number_of (length us)) 0 0
 
 -- a value that has members (ECMA-262, "RequireObjectCoercible")

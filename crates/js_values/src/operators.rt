@@ -74,6 +74,7 @@ fn to_primitive<S: Strings>(
         Value::Bool(b) => Ok(Value::Bool(*b)),
         Value::Number(n) => Ok(Value::Number(*n)),
         Value::Text(s) => Ok(Value::Text(*s)),
+        Value::Symbol(s) => Ok(Value::Symbol(*s)),
         Value::List(_) => text_value(alloc, store, value),
     }
 }

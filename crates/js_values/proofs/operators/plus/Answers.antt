@@ -1,4 +1,5 @@
 use Rattle.std.proofs.lemmas.Result.{err_from_is_err_and}
+use Rattle.js_store.proofs.Laws.{grows_trans}
 use Rattle.js_values.proofs.Sums.{sum_does, first_ends, second_ends}
 use Rattle.js_values.proofs.operators.plus.Goals as goal
 
@@ -21,3 +22,6 @@ returns-clause-did g c =
     let e = c.in_ok-first.ensures in
     let f = c.in_ok-second.ensures in
     sum_does g.S.Strings.number (state c.args.store.now) (state c.to_primitive.new.store) (state c.to_primitive-2.new.store) (state c.plus_primitives.new.store) c.args.at c.args.left.now c.args.right.now c.in_ok-first.first c.in_ok-second.second c.plus_primitives.result e.grows f.grows c.requires.right e.fine e.did f.did c.plus_primitives.ensures.did
+
+pub returns-clause-grows : goal.returns-clause-grows
+returns-clause-grows g c = grows_trans (grows_trans c.in_ok-first.ensures.grows c.in_ok-second.ensures.grows) c.plus_primitives.ensures.grows

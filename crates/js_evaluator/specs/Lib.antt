@@ -1,0 +1,4 @@
+pub mod Interim
+pub mod Symbols
+pub mod Expression
+pub mod Script
