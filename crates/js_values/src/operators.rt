@@ -57,8 +57,8 @@ fn plus<S: Strings>(
     plus_primitives(alloc, store, at, &first, &second)
 }
 
-// The primitive value of a value, which is no array.
-fn to_primitive<S: Strings>(
+/// The primitive value of a value, which is no array.
+pub fn to_primitive<S: Strings>(
     alloc: Global,
     store: &mut S,
     value: &Value<S::Ref>,
