@@ -81,7 +81,7 @@ abbrev mutual
   expr_out tree.infinity s = gives (number PosInf) 0 0
   expr_out (tree.unary at minus of) s = bind (expr_out of s) (λ v. unary_out minus at v)
   expr_out (tree.chain first rest) s = bind (expr_out first s) (λ v. links_out rest s v)
-  expr_out (tree.conditional test yes no) s = bind (expr_out test s) (λ v. if to_boolean v then expr_out yes s else expr_out no s)
+  expr_out (tree.conditional test first second) s = bind (expr_out test s) (λ v. if to_boolean v then expr_out first s else expr_out second s)
   expr_out (tree.post of steps) s = bind (expr_out of s) (λ v. steps_out steps s v)
   expr_out (tree.builtin at which args) s = bind (exprs_out args s []) (λ vs. built which at s.limit vs)
 

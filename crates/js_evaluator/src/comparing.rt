@@ -2,6 +2,7 @@
 ghost use Rattle.std.specs.Prelude.{◌≡◌, IfOk};
 ghost use Rattle.js_number.specs.Places.{IsLawful};
 ghost use Rattle.js_store.specs.State.{Grows, IsKnown, text};
+ghost use Rattle.js_values.specs.Outcome;
 ghost use Rattle.js_values.specs.Comparing.{same_out, same_as_text, order_out, order_primitives, order_numbers, order_text, number_order};
 ghost use Rattle.js_values.specs.Seen.{seen, IsFine};
 ghost use Rattle.js_evaluator.specs.Flows.{Tells};
@@ -39,7 +40,7 @@ fn same_texts<S: Strings>(store: &mut S, a: S::Ref, b: S::Ref) -> Result<bool, S
     requires left { IsKnown (S.state store.old) (S.number a) }
     requires right { IsKnown (S.state store.old) (S.number b) }
     ensures grows { Grows (S.state store.old) (S.state store.new) }
-    ensures did { Tells (S.state store.old) (S.state store.new) result (same_as_text (text (S.state store.old) (S.number a)) (js_values.specs.Outcome.text (text (S.state store.old) (S.number b)))) }
+    ensures did { Tells (S.state store.old) (S.state store.new) result (same_as_text (text (S.state store.old) (S.number a)) (Outcome.text (text (S.state store.old) (S.number b)))) }
 {
     store.settle(a)?;
     store.settle(b)?;

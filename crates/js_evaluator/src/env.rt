@@ -19,9 +19,9 @@ pub struct Env<R> {
 impl<R> Model for Env<R> {
     ghost use Rattle.std.specs.Prelude.{List};
     ghost use Rattle.js_scopes.specs.declared.env.Binding.{Binding};
-    ghost use Rattle.js_values.specs.declared.value.Value.{Value};
+    ghost use Rattle.js_values.specs.declared.value;
 
-    ghost Value = { List (Binding (Value R)) };
+    ghost Value = { List (Binding (value.Value.Value R)) };
 
     ghost view = { λ e. e.top };
 }

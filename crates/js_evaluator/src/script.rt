@@ -76,7 +76,8 @@ fn run<S: Strings>(
         },
     };
     let result = statements(alloc, store, &mut context, lines, &script.body);
-    env.top = context.scope.env;
+    let scope = context.scope;
+    env.top = scope.env;
     result
 }
 
