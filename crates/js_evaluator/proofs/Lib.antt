@@ -1,2 +1,5 @@
 mod Mapped
+mod Kept
+mod Copied
+mod Within
 mod Names

@@ -13,7 +13,11 @@ use Rattle.js_values.proofs.Compose.{ran_free}
 use Rattle.js_scopes.specs.Bindings.{Bound, Bindings, meant}
 use Rattle.js_evaluator.specs.Expression.{read_out}
 use Rattle.js_evaluator.specs.Seen.{bound_seen, bindings_seen}
+use Rattle.js_values.specs.Copies.{content}
+use Rattle.js_evaluator.specs.Seen.{BindingsFine}
 use Rattle.js_evaluator.proofs.Mapped.{meant_by, bound_by}
+use Rattle.js_evaluator.proofs.Kept.{FoundFine, meant_fine}
+use Rattle.js_evaluator.proofs.Copied.{seen_copy, fine_copy, ran_seen}
 
 module _ {F R : Type 0} (s : State F) (name : R → ℕ) where
   -- a name that means nothing
@@ -25,3 +29,10 @@ module _ {F R : Type 0} (s : State F) (name : R → ℕ) where
 
   pub unread : (bs : Bindings (Value R)) (x : List ℕ) → meant bs x ≡ None → Stopped {A = Val} s s (Threw ReferenceError) (read_out (meant (bindings_seen s name bs) x))
   unread bs x e = rw (meant_none bs x e) (refl, ran_free s)
+
+  -- a name whose value was copied
+  pub read_one : (bs : Bindings (Value R)) (x : List ℕ) (b : Bound (Value R)) (v : Value R) → meant bs x ≡ Some b → IsFine s name b.value → content v ≡ content b.value → Does name s s (Ok v) (read_out (meant (bindings_seen s name bs) x))
+  read_one bs x b v e h k = rw (meant_some bs x b e) (record { is = seen_copy s name v b.value k; good = fine_copy s name v b.value k h; ran = ran_seen s name b.value h })
+
+  pub found_value : (bs : Bindings (Value R)) (x : List ℕ) (b : Bound (Value R)) → meant bs x ≡ Some b → BindingsFine s name bs → IsFine s name b.value
+  found_value bs x b e h = subst (λ (o : Option (Bound (Value R))). FoundFine s name o) e (meant_fine s name bs x h)
