@@ -3,3 +3,4 @@ mod Kept
 mod Copied
 mod Within
 mod Names
+mod Assigned
