@@ -251,8 +251,20 @@ fn built_in<S: Strings>(
 {
     match which {
         Builtin::String => call_string_function(alloc, store, args),
-        Builtin::FromCharCode => call_builtin(alloc, store, at, js_tree::Builtin::FromCharCode, args),
-        Builtin::FromCodePoint => call_builtin(alloc, store, at, js_tree::Builtin::FromCodePoint, args),
+        Builtin::FromCharCode => call_builtin(
+            alloc,
+            store,
+            at,
+            js_tree::Builtin::FromCharCode,
+            args,
+        ),
+        Builtin::FromCodePoint => call_builtin(
+            alloc,
+            store,
+            at,
+            js_tree::Builtin::FromCodePoint,
+            args,
+        ),
         Builtin::SymbolFor => call_symbol_for(alloc, store, args),
         Builtin::KeyFor => call_key_for(store, args),
         Builtin::Stringify => call_builtin(alloc, store, at, js_tree::Builtin::Stringify, args),

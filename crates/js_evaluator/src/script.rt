@@ -102,7 +102,10 @@ fn statement<'a, S: Strings>(
         Stmt::Const { name, init, .. } => evaluate_const(alloc, store, context, name, init),
         Stmt::Assign { name, value, .. } => evaluate_assign(alloc, store, context, name, value),
         Stmt::Append {
-            at, name, value, ..
+            at,
+            name,
+            value,
+            ..
         } => evaluate_append(alloc, store, context, *at, name, value),
         Stmt::Print { args } => print(alloc, store, context, lines, args),
         Stmt::If { arms: list, rest } => arms(alloc, store, context, lines, list, rest),
