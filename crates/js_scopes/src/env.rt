@@ -93,7 +93,10 @@ pub(crate) fn set_value<T: Drop>(bound: &mut Vec<Binding<T>>, index: usize, valu
 }
 
 /// One more binding of a list.
-pub(crate) fn push<T: Drop>(bound: &mut Vec<Binding<T>>, binding: Binding<T>) -> Result<(), NoMemory>
+pub(crate) fn push<T: Drop>(
+    bound: &mut Vec<Binding<T>>,
+    binding: Binding<T>,
+) -> Result<(), NoMemory>
     ensures added { OnOk result (bound.new.items ≡ bound.old.items ++ binding ∷ []) }
     ensures refused { OnErr result (bound.new.items ≡ bound.old.items) }
 {
@@ -104,7 +107,11 @@ pub(crate) fn push<T: Drop>(bound: &mut Vec<Binding<T>>, binding: Binding<T>) ->
 }
 
 /// A binding of a name.
-pub(crate) fn bind_name<T: Drop>(name: &Name, constant: bool, value: T) -> Result<Binding<T>, NoMemory>
+pub(crate) fn bind_name<T: Drop>(
+    name: &Name,
+    constant: bool,
+    value: T,
+) -> Result<Binding<T>, NoMemory>
     ensures { IfOk result (λ b. bound_of b ≡ record { name = name.now; constant = constant; value = value }) }
 {
     Ok(Binding {
