@@ -47,3 +47,7 @@ returns-then-unit_in-want-clause-reads c = reads_trans c.args.text.now.agent.sea
 pub returns-then-unit_at-want-clause-reads : goal.returns-then-unit_at-want-clause-reads
 returns-then-unit_at-want-clause-reads c = reads_trans c.args.text.now.agent.seat.me.0 c.loop-i.text.agent.seat.me.0 c.unit_at.new.self.agent.seat.me.0 c.loop-i.invariant.reads
     (reads_trans c.loop-i.text.agent.seat.me.0 c.unit_in.new.self.agent.seat.me.0 c.unit_at.new.self.agent.seat.me.0 c.unit_in.ensures.reads c.unit_at.ensures.reads)
+
+pub returns-then-len-want-clause-reads : goal.returns-then-len-want-clause-reads
+returns-then-len-want-clause-reads c = let v : View = c.args.text.now.agent.seat.me.0 in let w1 : View = c.settle.new.self.agent.seat.me.0 in let w2 : View = c.len.new.self.agent.seat.me.0 in
+    reads_trans v w1 w2 c.settle.ensures.reads c.len.ensures.reads
