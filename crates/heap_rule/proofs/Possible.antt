@@ -1,16 +1,18 @@
 -- What the rule says of one live view alone. Each fact holds in the sound state that has the view, and speaks of the view only.
-use Rattle.std.proofs.Common.{◌≡◌, ℕ, zero, suc, ◌+◌, ◌/◌, ◌<◌, ◌≤◌, ◌⊎◌, Bool, List, length, get_or, subst, sym, ap, ◌∙◌, arith}
+use Rattle.std.proofs.Common.{◌≡◌, ℕ, zero, suc, ◌+◌, ◌/◌, ◌<◌, ◌≤◌, ◌⊎◌, ⊎_elim, Bool, List, length, take, drop, get_or, subst, sym, ap, ◌∙◌, arith}
+use Rattle.std.proofs.lemmas.List.{get_or-drop, get_or-take, length-drop, length-take-le}
 use Rattle.js_units.specs.Lanes.{lane_count}
-use Rattle.js_header.specs.declared.form.Form.TheVariants.{Flat}
+use Rattle.js_header.specs.declared.form.Form.{Form}
+use Rattle.js_header.specs.declared.form.Form.TheVariants.{Flat, Sliced, Thin}
 use Rattle.heap_rule.specs.declared.view.View.{View}
 use Rattle.heap_rule.specs.declared.size.HeapSize.{HeapSize}
 use Rattle.heap_rule.specs.Layout.{content, length_word, MAX, IsLawful}
-use Rattle.heap_rule.specs.Contents.{lane_in, span}
+use Rattle.heap_rule.specs.Contents.{lane_in, span, units_of}
 use Rattle.heap_rule.specs.Maps.{Has, HasKey}
-use Rattle.heap_rule.specs.Views.{IsFrozen, shown}
-use Rattle.heap_rule.specs.Sound.{IsPossible}
+use Rattle.heap_rule.specs.Views.{IsFrozen, HasLength, LeadsTo, shown}
+use Rattle.heap_rule.specs.Sound.{Knows, IsPossible}
 use Rattle.heap_rule.proofs.Birth.{shown_by}
-use Rattle.heap_rule.proofs.Loads.{frozen_right}
+use Rattle.heap_rule.proofs.Loads.{frozen_right, length_right}
 use Rattle.heap_rule.proofs.Steps.{sizes_are}
 use Rattle.heap_rule.proofs.UnitLemmas.{lane_same}
 use Rattle.std.specs.FinMap.{get}
@@ -33,11 +35,53 @@ pub possible_short : (v : View) → IsPossible v → (i : ℕ) (us : List ℕ) �
 possible_short v (z, agents, W, vs, j, s, at, live) i us h = let u = (s.knows j v at live).of_units i us h in let st = s.standing i u.0 in let n : length_word z W i ≡ length us = st.length_is ∙ ap length u.1 in
     subst (λ (m : ℕ). m ≤ MAX) n st.short
 
+-- neither is any length by which its units are known to be there
+pub possible_long : (v : View) → IsPossible v → (i n : ℕ) (f : Form) → Has v.forms i f → HasLength v i n → n ≤ MAX
+possible_long v (z, agents, W, vs, j, s, at, live) i n f h l = let k = s.knows j v at live in let b = (k.of_forms i f h).born in
+    let less = length_right z W vs s.standing v k i n b l in let short = (s.standing i b).short in omega arith
+
 -- a lane of a span is the lane of its words
 pub span_lane : (f : ℕ → ℕ) (wide : Bool) (start o n k : ℕ) → k < n → get_or (span f wide start o n) k 0 ≡ lane_in f wide start (o + k)
 span_lane f wide start o zero k l = absurd (omega arith)
 span_lane f wide start o (suc n) zero l = let e : o ≡ o + 0 = omega arith in ap (λ (x : ℕ). lane_in f wide start x) e
 span_lane f wide start o (suc n) (suc k) l = let e : suc o + k ≡ o + suc k = omega arith in span_lane f wide start (suc o) n k (omega arith) ∙ ap (λ (x : ℕ). lane_in f wide start x) e
+
+-- the units of a string are those of the one to which the view leads, from the offset on
+module _ (z : HeapSize) (W : List ℕ) (vs : List View) (v : View) (k : Knows z W vs v) where
+  same_units : (p i : ℕ) → (p ≡ i) ⊎ Has v.forms p (Thin i) → units_of z W p ≡ units_of z W i
+  same_units p i way = ⊎_elim (λ (e : p ≡ i). ap (units_of z W) e) (λ (h : Has v.forms p (Thin i)). sym (k.of_forms p (Thin i) h).shows.1) way
+
+  led_unit : (s i offset o : ℕ) (us : List ℕ) → units_of z W s ≡ us → LeadsTo v s i offset → o < length us → get_or us o 0 ≡ get_or (units_of z W i) (offset + o) 0
+  led_unit s i offset o us is way l = ⊎_elim
+      (λ (t : ((s ≡ i) ⊎ Has v.forms s (Thin i)) × (offset ≡ 0)). let none = t.1 in let plain : o ≡ offset + o = omega arith in
+          (λ d. get_or ((sym is ∙ same_units s i t.0) d) (plain d) 0))
+      (λ (t : (wide : Bool) × (parent : ℕ) × Has v.forms s (Sliced wide parent offset) × ((parent ≡ i) ⊎ Has v.forms parent (Thin i))). let shown = (k.of_forms s (Sliced t.0 t.1 offset) t.2).shows in
+          let whole : us ≡ take (length_word z W s) (drop offset (units_of z W i)) = sym is ∙ (shown.2 ∙ ap (λ (xs : List ℕ). take (length_word z W s) (drop offset xs)) (same_units t.1 i t.3)) in
+          let room : offset + length_word z W s ≤ length (units_of z W i) = subst (λ (xs : List ℕ). offset + length_word z W s ≤ length xs) (same_units t.1 i t.3) shown.3 in
+          let rest = length-drop offset (units_of z W i) in let count : length us ≡ length_word z W s = ap length whole ∙ length-take-le (length_word z W s) (drop offset (units_of z W i)) (omega arith) in
+          ap (λ (xs : List ℕ). get_or xs o 0) whole ∙ (get_or-take (length_word z W s) (drop offset (units_of z W i)) o 0 (omega arith) ∙ get_or-drop offset (units_of z W i) o 0))
+      way
+
+  led_within : (s i offset : ℕ) (us : List ℕ) → units_of z W s ≡ us → LeadsTo v s i offset → offset + length us ≤ length (units_of z W i)
+  led_within s i offset us is way = ⊎_elim
+      (λ (t : ((s ≡ i) ⊎ Has v.forms s (Thin i)) × (offset ≡ 0)). let none = t.1 in let same : length us ≡ length (units_of z W i) = ap length (sym is ∙ same_units s i t.0) in omega arith)
+      (λ (t : (wide : Bool) × (parent : ℕ) × Has v.forms s (Sliced wide parent offset) × ((parent ≡ i) ⊎ Has v.forms parent (Thin i))). let shown = (k.of_forms s (Sliced t.0 t.1 offset) t.2).shows in
+          let whole : us ≡ take (length_word z W s) (drop offset (units_of z W i)) = sym is ∙ (shown.2 ∙ ap (λ (xs : List ℕ). take (length_word z W s) (drop offset xs)) (same_units t.1 i t.3)) in
+          let room : offset + length_word z W s ≤ length (units_of z W i) = subst (λ (xs : List ℕ). offset + length_word z W s ≤ length xs) (same_units t.1 i t.3) shown.3 in
+          let rest = length-drop offset (units_of z W i) in let count : length us ≡ length_word z W s = ap length whole ∙ length-take-le (length_word z W s) (drop offset (units_of z W i)) (omega arith) in omega arith)
+      way
+
+-- what the view has of a word under the Flat to which it leads shows the unit of the string
+pub possible_unit : (v : View) → IsPossible v → (s i offset : ℕ) (wide : Bool) (start : ℕ) (fixed : Bool) (us : List ℕ) (o : ℕ) → LeadsTo v s i offset → Has v.forms i (Flat wide start fixed) → Has v.units s us → o < length us
+    → HasKey v.own_words (start + (offset + o) / lane_count wide) ⊎ HasKey v.frozen (start + (offset + o) / lane_count wide) → lane_in (shown v) wide start (offset + o) ≡ get_or us o 0
+possible_unit v (z, agents, W, vs, j, s, at, live) q i offset wide start fixed us o way f h l has = let k = s.knows j v at live in let u = k.of_units q us h in let form = k.of_forms i (Flat wide start fixed) f in
+    let c : ℕ = start + (offset + o) / lane_count wide in
+    let word : shown v c ≡ content z W c = shown_by (get v.own_words c) (get v.frozen c) (content z W c) (λ x e. ((s.own_words j v at live).each c x e).1) (λ x e. (k.of_frozen c x e).1) has in
+    let n : length_word z W i ≡ length (units_of z W i) = (s.standing i form.born).length_is in let room = led_within z W vs v k q i offset us u.1 way in
+    let plain : 0 + (offset + o) ≡ offset + o = omega arith in
+    lane_same (shown v) (content z W) wide start (offset + o) word
+    ∙ sym (led_unit z W vs v k q i offset o us u.1 way l ∙ (ap (λ (xs : List ℕ). get_or xs (offset + o) 0) form.shows.0
+    ∙ (span_lane (content z W) wide start 0 (length_word z W i) (offset + o) (omega arith) ∙ ap (λ (x : ℕ). lane_in (content z W) wide start x) plain)))
 
 -- what the view has of a word under a Flat shows the unit of its id
 pub possible_lane : (v : View) → IsPossible v → (i : ℕ) (wide : Bool) (start : ℕ) (fixed : Bool) (us : List ℕ) (o : ℕ) → Has v.forms i (Flat wide start fixed) → Has v.units i us → o < length us

@@ -6,7 +6,7 @@ use Rattle.std.specs.Ordering.{nat_cmp}
 use Rattle.std.specs.FinMap.{FinMap}
 use Rattle.js_header.specs.Form.{form_of}
 use Rattle.js_header.specs.declared.form.Form.{Form}
-use Rattle.js_header.specs.declared.form.Form.TheVariants.{Flat}
+use Rattle.js_header.specs.declared.form.Form.TheVariants.{Flat, Sliced, Thin}
 use Rattle.heap_rule.specs.declared.view.View.{View}
 use Rattle.heap_rule.specs.declared.size.HeapSize.{HeapSize}
 use Rattle.heap_rule.specs.Layout.{content, form, length_word, slot, IsBorn}
@@ -134,6 +134,8 @@ module _ (v w : View) (keys : HasKeys v w) (test : has_all v w ≡ true) where
     units = same_met bytes_eq v.units w.units bytes_decides a.0;
     lengths = same_met same_number v.lengths w.lengths same_number_decides b.0;
     flats = λ q wide start fixed h. let t = fits_met fits_form v.forms w.forms c.0 q (Flat wide start fixed) h in t.1 ∙ ap Some (fits_flat wide start fixed t.0 t.2);
+    parts = λ q wide parent offset h. let t = fits_met fits_form v.forms w.forms c.0 q (Sliced wide parent offset) h in let e : false ≡ true = t.2 in absurd (cc);
+    thins = λ q target h. let t = fits_met fits_form v.forms w.forms c.0 q (Thin target) h in let e : false ≡ true = t.2 in absurd (cc);
     settled = λ q h. let t = fits_met fits_form v.forms w.forms c.0 q h.0 h.1 in (t.0, t.1, fits_settled h.0 t.0 t.2 h.2);
     frozen = same_met same_number v.frozen w.frozen same_number_decides d.0;
     known = λ q h. ⊎_elim (λ (t : HasKey v.units q). inl (keys.units q t)) (λ (t : HasKey v.met q). inr (keys.met q t)) h;

@@ -1,5 +1,5 @@
 -- What stays as it is over a step: the forms whose births are built, and what the agent knew.
-use Rattle.std.proofs.Common.{◌≡◌, ◌≢◌, ℕ, zero, suc, ◌^◌, ◌<◌, inl, inr, ⊎_elim, Bool, true, false, cond, List, [], ◌∷◌, length, get_or, set, sym, refl, ap, ◌∙◌, subst, arith, get_or-set_other, get_or-set_same, Option, Some, None}
+use Rattle.std.proofs.Common.{◌≡◌, ◌≢◌, ℕ, zero, suc, ◌^◌, ◌<◌, ◌⊎◌, inl, inr, ⊎_elim, Bool, true, false, cond, List, [], ◌∷◌, length, get_or, set, sym, refl, ap, ◌∙◌, subst, arith, get_or-set_other, get_or-set_same, Option, Some, None}
 use Rattle.std.specs.Prelude.{replicate, unwrap_or}
 use mathlib.Core.Logic.{dite}
 use native.Mathlib.Decide.{ℕ_discrete}
@@ -101,6 +101,20 @@ flat_stands wide start false (Sliced w s p) b l = b
 flat_stands wide start false (Thin t) b l = b
 flat_stands wide start true now b l = absurd (cc)
 
+-- neither does a form that is built stand where a part or a Thin was seen
+part_later : (wide : Bool) (parent offset : ℕ) (now : Form) → IsBuilt now → IsLater (Sliced wide parent offset) now → ⊥
+part_later wide parent offset (Flat w s f) b l = absurd (cc)
+part_later wide parent offset Unborn b l = b
+part_later wide parent offset (Cons w s f) b l = b
+part_later wide parent offset (Sliced w s f) b l = b
+part_later wide parent offset (Thin t) b l = b
+
+part_stands : (wide : Bool) (parent offset : ℕ) (now : Form) → IsBuilt now → (Sliced wide parent offset ≡ now) ⊎ IsLater (Sliced wide parent offset) now → ⊥
+part_stands wide parent offset now b way = ⊎_elim (λ (e : Sliced wide parent offset ≡ now). subst IsBuilt (sym e) b) (λ l. part_later wide parent offset now b l) way
+
+thin_stands : (t : ℕ) (now : Form) → IsBuilt now → (Thin t ≡ now) ⊎ IsLater (Thin t) now → ⊥
+thin_stands t now b way = ⊎_elim (λ (e : Thin t ≡ now). subst IsBuilt (sym e) b) (λ (l : IsLater (Thin t) now). absurd (cc)) way
+
 module _ (z : HeapSize) (agents : ℕ) (W : List ℕ) (vs : List View) (s : IsSound z agents W vs) (j : ℕ) (v : View) (at : At vs j v) (live : v.live ≡ true) where
   -- what two sound views of the same words say of an id's units agrees
   units_stay : (w : View) → w.live ≡ true → IsSound z agents W (set vs j w) → ((q : ℕ) → HasKey v.units q → HasKey w.units q) → (i : ℕ) (us : List ℕ) → Has v.units i us → Has w.units i us
@@ -122,6 +136,14 @@ module _ (z : HeapSize) (agents : ℕ) (W : List ℕ) (vs : List View) (s : IsSo
         let same : Flat wide start fixed ≡ g = ⊎_elim (λ (y : Flat wide start fixed ≡ k.now). y ∙ now) (λ (y : IsLater (Flat wide start fixed) k.now). absurd (flat_stands wide start fixed g built' (subst (IsLater (Flat wide start fixed)) now y))) k.later in
         ap (get (insert v.forms i g)) e ∙ (insert_same v.forms i g ∙ ap Some (sym same)))
         (λ ne. insert_other v.forms i q g ne ∙ h);
+    parts = λ q wide parent offset h. dite (ℕ_discrete q i)
+        (λ (e : q ≡ i). let k = (s.knows j v at live).of_forms q (Sliced wide parent offset) h in let now : k.now ≡ g = (let d : Some k.now ≡ Some f = sym k.decodes ∙ (ap (λ (y : ℕ). form_of (form z W y)) e ∙ found) in cc) in
+        absurd (part_stands wide parent offset k.now (subst IsBuilt (sym now) built') k.later))
+        (λ ne. insert_other v.forms i q g ne ∙ h);
+    thins = λ q t h. dite (ℕ_discrete q i)
+        (λ (e : q ≡ i). let k = (s.knows j v at live).of_forms q (Thin t) h in let now : k.now ≡ g = (let d : Some k.now ≡ Some f = sym k.decodes ∙ (ap (λ (y : ℕ). form_of (form z W y)) e ∙ found) in cc) in
+        absurd (thin_stands t k.now (subst IsBuilt (sym now) built') k.later))
+        (λ ne. insert_other v.forms i q g ne ∙ h);
     settled = λ q h. dite (ℕ_discrete q i)
         (λ (e : q ≡ i). (g, ap (get (insert v.forms i g)) e ∙ insert_same v.forms i g, not_cons g built'))
         (λ ne. (h.0, insert_other v.forms i q g ne ∙ h.1, h.2));
@@ -139,6 +161,8 @@ module _ (z : HeapSize) (agents : ℕ) (W : List ℕ) (vs : List View) (s : IsSo
         (λ (e : q ≡ i). let n_is : n ≡ x = sym ((s.knows j v at live).of_lengths q n h).1 ∙ (ap (length_word z W) e ∙ is) in ap (get (insert v.lengths i x)) e ∙ (insert_same v.lengths i x ∙ ap Some (sym n_is)))
         (λ ne. insert_other v.lengths i q x ne ∙ h);
     flats = λ q wide start fixed h. h;
+    parts = λ q wide parent offset h. h;
+    thins = λ q t h. h;
     settled = λ q h. h;
     frozen = λ c y h. h;
     known = λ q h. ⊎_elim (λ (t : HasKey v.units q). inl (with_learned v.units (justified w) (all_named (entries w.forms)) refl q t)) (λ (t : HasKey v.met q). inr t) h;
@@ -149,6 +173,8 @@ module _ (z : HeapSize) (agents : ℕ) (W : List ℕ) (vs : List View) (s : IsSo
     units = units_stay (learned_all v) live kept (with_learned v.units (justified v) (all_named (entries v.forms)) refl);
     lengths = λ q n h. h;
     flats = λ q wide start fixed h. h;
+    parts = λ q wide parent offset h. h;
+    thins = λ q t h. h;
     settled = λ q h. h;
     frozen = λ q y h. h;
     known = λ q h. ⊎_elim (λ (t : HasKey v.units q). inl (with_learned v.units (justified v) (all_named (entries v.forms)) refl q t)) (λ (t : HasKey v.met q). inr t) h;
@@ -157,6 +183,8 @@ module _ (z : HeapSize) (agents : ℕ) (W : List ℕ) (vs : List View) (s : IsSo
     units = units_stay (learned_all w) live kept (with_learned v.units (justified w) (all_named (entries w.forms)) refl);
     lengths = λ q n h. h;
     flats = λ q wide start fixed h. h;
+    parts = λ q wide parent offset h. h;
+    thins = λ q t h. h;
     settled = λ q h. h;
     frozen = λ q y h. dite (ℕ_discrete q c)
         (λ (e : q ≡ c). let y_is : y ≡ x = sym ((s.knows j v at live).of_frozen q y h).1 ∙ (ap (content z W) e ∙ is) in ap (get (insert v.frozen c x)) e ∙ (insert_same v.frozen c x ∙ ap Some (sym y_is)))
@@ -175,6 +203,8 @@ module _ (z : HeapSize) (agents : ℕ) (W : List ℕ) (vs : List View) (s : IsSo
         units = λ q us h. insert_other v.units i q (units_for v (unwrap_or (get v.own_ids i) 0) f) (other q (k.of_units q us h).0) ∙ h;
         lengths = λ q n h. insert_other v.lengths i q (unwrap_or (get v.own_ids i) 0) (other q (k.of_lengths q n h).0) ∙ h;
         flats = λ q b t x h. insert_other v.forms i q f (other q (k.of_forms q (Flat b t x) h).born) ∙ h;
+        parts = λ q b p o h. insert_other v.forms i q f (other q (k.of_forms q (Sliced b p o) h).born) ∙ h;
+        thins = λ q t h. insert_other v.forms i q f (other q (k.of_forms q (Thin t) h).born) ∙ h;
         settled = λ q h. (h.0, insert_other v.forms i q f (other q (k.of_forms q h.0 h.1).born) ∙ h.1, h.2);
         frozen = λ c x h. run_stays v.own_words v.frozen start (words_over wide (unwrap_or (get v.own_ids i) 0)) c x ((k.of_frozen c x h).0.free j v at live) h;
         known = λ q h. ⊎_elim (λ (t : HasKey v.units q). inl (key_stays v.units i q (units_for v (unwrap_or (get v.own_ids i) 0) f) t)) (λ (t : HasKey v.met q). inr t) h;

@@ -4,7 +4,8 @@ use Rattle.js_units.specs.Lanes.{words_over}
 use Rattle.heap_rule.specs.declared.size.HeapSize.{HeapSize}
 use Rattle.heap_rule.specs.declared.view.View.{View}
 use Rattle.heap_rule.specs.Births.{part}
-use Rattle.heap_rule.proofs.Possible.{possible_short}
+use Rattle.js_header.specs.declared.form.Form.TheVariants.{Flat}
+use Rattle.heap_rule.proofs.Possible.{possible_long, possible_short}
 use Rattle.heap_table.specs.Agents.{size_of}
 use Rattle.heap_text.specs.declared.string.Window.{Window}
 use Rattle.heap_text.specs.declared.source.Source.TheVariants as source
@@ -19,7 +20,7 @@ use Rattle.heap_text.proofs.text.Text.slice.Goals as goal
 
 pub overflow_add-part : goal.overflow_add-part
 overflow_add-part c = let v : View = c.args.self.now.agent.seat.me.0 in let w : View = c.window-window.new.self.agent.seat.me.0 in let t = c.requires.within in let a = c.window-window.ensures.shows t.0 t.1 in
-    let b = possible_short w c.window-window.ensures.text.5 a.0.id a.0.whole a.0.known in let m = a.0.within in let n = a.1 in let from = t.2 in let to = t.3 in omega arith
+    let b = possible_long w c.window-window.ensures.text.5 a.0.id (a.0.before + length a.0.whole) (Flat c.window-window.result.wide c.window-window.result.start a.0.fixed) a.0.form a.0.length_known in let m = a.0.within in let p = a.0.place in let n = a.1 in let from = t.2 in let to = t.3 in omega arith
 
 pub copy-requires-clause-shows : goal.copy-requires-clause-shows
 copy-requires-clause-shows c = let w : View = c.window-window.new.self.agent.seat.me.0 in let t = c.requires.within in let us = t.0 in let known = c.window-window.ensures.reads.known.units c.args.s.id us t.1 in let a = c.window-window.ensures.shows us t.1 in let from = t.2 in let to = t.3 in
