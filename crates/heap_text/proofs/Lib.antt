@@ -7,4 +7,3 @@ pub mod Going
 pub mod Bearing
 pub mod Pieces
 pub mod Answered
-pub mod Sharing

@@ -296,20 +296,3 @@ impl Script {
         &self.top
     }
 }
-
-#[cfg(test)]
-mod tests {
-    use super::Name;
-    use std::test::Fail;
-
-    #[test]
-    fn a_name_is_copied(rt: HostRuntime) -> Result<(), Fail> {
-        let name = Name {
-            bytes: b"answer".to_vec(rt.alloc())?,
-        };
-        let copy = name.copy()?;
-        assert_eq!(rt; copy.bytes.as_slice(), b"answer".as_slice());
-        assert_eq!(rt; name.bytes.as_slice(), b"answer".as_slice());
-        Ok(())
-    }
-}

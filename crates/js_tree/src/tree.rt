@@ -191,6 +191,7 @@ impl Script {
     }
 }
 
+// It stands here, since no other crate makes a name yet.
 #[cfg(test)]
 mod tests {
     use super::Name;

@@ -4,7 +4,7 @@ use Rattle.heap_rule.specs.Views.{IsSettled}
 use Rattle.heap_table.specs.Agents.{Belongs, view_of}
 use Rattle.heap_text.specs.Texts.{Reads}
 use Rattle.heap_text.specs.Windows.{IsWindow}
-use Rattle.heap_text.proofs.tests.reads.Given as goal
+use Rattle.heap_text_tests.proofs.strings.reads.Given as goal
 
 abbrev pub invariant-loop-i : goal.invariant-loop-i
 invariant-loop-i l = record {

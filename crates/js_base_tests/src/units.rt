@@ -1,5 +1,5 @@
 // Units and words, with values from the standard.
-use crate::{
+use js_units::{
     Units, append_utf8, code_point, hash_step, is_lead, is_trail, is_trimmed, lane, lanes,
     set_lane, words_for,
 };

@@ -2,7 +2,7 @@ use Rattle.std.proofs.Common.{◌++◌}
 use Rattle.heap_rule.specs.declared.view.View.{View}
 use Rattle.heap_rule.proofs.MapLemmas.{has_key, key_of}
 use Rattle.heap_text.proofs.Going.{continues_reads, continues_trans}
-use Rattle.heap_text.proofs.tests.twice.Goals as goal
+use Rattle.heap_text_tests.proofs.strings.twice.Goals as goal
 
 pub reads-requires-clause-known : goal.reads-requires-clause-known
 reads-requires-clause-known c = let v : View = c.args.text.now.agent.seat.me.0 in let p = has_key v.units c.args.s.id c.requires.known in

@@ -3,8 +3,8 @@ use Rattle.heap_rule.specs.declared.view.View.{View}
 use Rattle.heap_table.specs.declared.agent.Agent.{Agent}
 use Rattle.heap_table.specs.declared.heap.Heap.{Heap}
 use Rattle.heap_table.specs.Agents.{Belongs, view_of}
-use Rattle.heap_text.proofs.Sharing.{may_join, joined_agents, made_stays}
-use Rattle.heap_text.proofs.tests.split_and_joined.Goals as goal
+use Rattle.heap_text_tests.proofs.Sharing.{may_join, joined_agents, made_stays}
+use Rattle.heap_text_tests.proofs.strings.split_and_joined.Goals as goal
 
 pub twice_at_once-both-requires-clause-right : goal.twice_at_once-both-requires-clause-right
 twice_at_once-both-requires-clause-right g c = subst (λ (a : Agent). Belongs a c.new-right.result.heap.now) (sym c.new-right.ensures.agent)

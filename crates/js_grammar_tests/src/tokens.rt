@@ -1,8 +1,8 @@
 // Tokens of the grammar, with values from the language's own tables.
-use crate::tokens;
 use js_lex::{LexFault, Mark};
 use js_literal::NumberFault;
 use js_syntax::{Method, Property, Token, Word};
+use js_token::tokens;
 use std::test::Fail;
 
 #[test]

@@ -1,7 +1,7 @@
 use Rattle.std.proofs.Common.{◌++◌, ℕ, List, arith}
 use Rattle.std.proofs.lemmas.List.{length-append}
 use Rattle.heap_rule.proofs.MapLemmas.{key_of}
-use Rattle.heap_text.proofs.tests.round_trip.Goals as goal
+use Rattle.heap_text_tests.proofs.strings.round_trip.Goals as goal
 
 pub settle-requires-clause-known : goal.settle-requires-clause-known
 settle-requires-clause-known c = let us : List ℕ = c.args.units.now in key_of c.concat.new.self.agent.seat.me.0.units c.in-Ok-concat.twice.id (us ++ us) (c.in-Ok-concat.ensures.units us us c.in-Ok.ensures.units c.in-Ok.ensures.units)

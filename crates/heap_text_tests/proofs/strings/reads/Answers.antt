@@ -3,7 +3,7 @@ use Rattle.heap_rule.specs.declared.view.View.{View}
 use Rattle.heap_rule.proofs.MapLemmas.{has_key}
 use Rattle.heap_text.proofs.Loaded.{known_trans, reads_trans}
 use Rattle.heap_text.proofs.Showing.{window_frozen, window_kept, window_length}
-use Rattle.heap_text.proofs.tests.reads.Goals as goal
+use Rattle.heap_text_tests.proofs.strings.reads.Goals as goal
 
 pub loop-i-init : goal.loop-i-init
 loop-i-init c = let v : View = c.args.text.now.agent.seat.me.0 in let w1 : View = c.settle.new.self.agent.seat.me.0 in let w2 : View = c.len.new.self.agent.seat.me.0 in let w3 : View = c.window-window.new.self.agent.seat.me.0 in

@@ -2,7 +2,7 @@
 ghost use Rattle.std.specs.Prelude.{IsTrue};
 ghost use Rattle.js_number.specs.Places.{IsLawful};
 
-use crate::{MAX_SAFE, Num};
+use js_number::{MAX_SAFE, Num};
 use js_units::{Units, append_utf8};
 use std::test::Fail;
 

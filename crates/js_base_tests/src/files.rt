@@ -1,4 +1,5 @@
-use crate::{
+// Files and sinks, in memory and of the process.
+use js_io::{
     FILE_MAX, Failed, Files, HostErr, HostFiles, HostOut, MemFiles, MemSink, ReadFault, Sink,
     write_all,
 };

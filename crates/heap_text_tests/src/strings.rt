@@ -1,12 +1,13 @@
+// Strings on small heaps, and on heaps that two threads share.
 ghost use Rattle.std.specs.Prelude.{◌≡◌, ℕ, List, ◌≤◌, ◌<◌, IfSome, length};
 ghost use Rattle.heap_rule.specs.Maps.{Has, HasKey};
 ghost use Rattle.heap_table.specs.Agents.{Belongs, share_of, view_of};
 ghost use Rattle.heap_text.specs.Texts.{Continues, Reads};
 ghost use Rattle.heap_text.specs.Turns.{GoesOn};
 
-use crate::{JoinFault, JsStr, Text, TextFull};
 use heap_rule::HeapSize;
 use heap_table::{CounterFull, Heap, MakeFault};
+use heap_text::{JoinFault, JsStr, Text, TextFull};
 use std::alloc::Global;
 use std::thread::{Threads, join_mut};
 
