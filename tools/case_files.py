@@ -103,15 +103,20 @@ def cases(path):
             raise SystemExit(f"{os.path.relpath(path)}:{first + 1}: no case") from None
 
 
+# What isn't seen in a file of cases, or isn't what it seems.
+UNSEEN = r"\x00-\x1f\x7f\x85\xa0\u1680\u2000-\u200f\u2028\u2029\u202f\u205f\u3000\ufeff\udc80-\udcff"
+
+
 def spelled_script(script):
     """A script as a case of one line has it."""
     text = script.decode("utf-8", "surrogateescape")
-    plain = text == text.strip(" ") and not re.search(r"[\x00-\x1f\x7f\udc80-\udcff]|  (->|!)|^(@|#|== |-- )", text) and text != ""
+    if text and text == text.strip(" ") and not re.search(rf"[{UNSEEN}]|  (->|!)|^(@|#|== |-- )", text):
+        return text
 
     def escaped(found):
         return "".join(f"%{byte:02X}" for byte in found[0].encode("utf-8", "surrogateescape"))
 
-    return text if plain else "@" + re.sub(r"[\x00-\x1f%\x7f\x85\xa0\u2000-\u200f\u2028\u2029\u3000\ufeff\udc80-\udcff]|^ | (?=->|!| *$)", escaped, text)
+    return "@" + re.sub(rf"[%{UNSEEN}]|^ | (?= (->|!)| *$)", escaped, text)
 
 
 def spelled_lines(out):

@@ -1,5 +1,6 @@
-"""Makes whole scripts at random, and damages texts at random: the same from the same seed."""
+"""Makes whole scripts at random, and damages scripts, at random or at each place: the same from the same seed."""
 
+import bisect
 import random
 import re
 
@@ -198,3 +199,22 @@ def damage(data, seed):
                 lambda: b"if (1) {" * rng.choice([196, 197, 198, 199, 200]) + data]
         data = rng.choice(ways[:8] * 5 + ways[8:])()
     return data
+
+
+def damaged(script, kinds):
+    """Each damage of a script of the kinds, with the number of the token that it is of."""
+    text = script.decode("utf-8")
+    found = reading.tokens(text)
+    starts = [len(text[:it.at].encode("utf-8")) for it in found]
+    if "bytes" in kinds:
+        for at in range(len(script)):
+            yield script[:at] + script[at + 1:], bisect.bisect(starts, at)
+    if "tokens" in kinds:
+        for number, token in enumerate(found):
+            end = token.at + len(token.spelling)
+            # A word or number that stands beside itself would be another one.
+            gap = " " if token.kind in ("word", "number") else ""
+            yield (text[:end] + gap + token.spelling + text[end:]).encode("utf-8"), -number
+    if "prefixes" in kinds:
+        for length in range(len(script)):
+            yield script[:length], script[:length]
