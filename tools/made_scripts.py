@@ -1,0 +1,220 @@
+"""Makes whole scripts at random, and damages scripts, at random or at each place: the same from the same seed."""
+
+import bisect
+import random
+import re
+
+import reading
+
+TEXTS = ["''", "'a'", "'abc'", "\"it's\"", "'abab'", "' \\t a b\\uFEFF'", "'\\u{1F600}x'", "'\\ud800'", "'$&$1$$'", "'a,b,,c'", "'é\\x41'", "'k'", "'12'", "','"]
+NUMBERS = ["0", "1", "2", "3", "5", "17", "4294967296", "9007199254740991", "NaN", "Infinity"]
+ODD = ["undefined", "null", "true", "false", "NaN", "''", "0", "'0'", "Symbol.for('k')", "'a,b'.split(',')", "gone", "(-1)"]
+# Words that are names here and something else at another place, or near a word that is none.
+NAMES = ["a", "b", "s", "n", "list", "at", "length", "of", "let1", "$", "_", "keyFor", "slice", "x1", "async", "get", "i", "j", "k"]
+OPERATORS = ["===", "!==", "<", ">", "<=", ">="]
+# Of each method: what it is asked of, its arguments (n number, t text, s small number), what it gives.
+METHODS = [("at", "n", "text"), ("charAt", "n", "text"), ("charCodeAt", "n", "number"), ("codePointAt", "n", "number"), ("concat", "tt", "text"),
+           ("endsWith", "tn", "truth"), ("includes", "tn", "truth"), ("indexOf", "tn", "number"), ("isWellFormed", "", "truth"), ("lastIndexOf", "tn", "number"),
+           ("padEnd", "st", "text"), ("padStart", "st", "text"), ("repeat", "s", "text"), ("replace", "tt", "text"), ("replaceAll", "tt", "text"), ("slice", "nn", "text"),
+           ("split", "tn", "list"), ("startsWith", "tn", "truth"), ("substr", "nn", "text"), ("substring", "nn", "text"), ("toWellFormed", "", "text"),
+           ("trim", "", "text"), ("trimEnd", "", "text"), ("trimStart", "", "text")]
+KINDS = ["text", "number", "truth", "list", "symbol"]
+# What is put into a text to damage it.
+PIECES = reading.MARKS + ["let", "const", "if", "else", "for", "print", "String", "Symbol", "JSON", "var", "length", "at", "i", "a", "'", "\"", "\\", "0", "1.5", "'b'", "1000001",
+                          "\n", "/*", "//", "#", "\u00e9", "'use strict'", "undefined", "eval"]
+
+
+class Maker:
+    """Makes a script: the names that are there, innermost scope first, each with the kind of its value and whether it can be assigned."""
+
+    def __init__(self, rng):
+        self.rng, self.scopes, self.turns, self.fuel = rng, [{}], 1, 24
+
+    def one_of(self, *ways):
+        return self.rng.choice(ways)()
+
+    def known(self, kind, assigned=False):
+        """A name whose value is of this kind, as far as it was declared so."""
+        found = [name for scope in self.scopes for name, (its, free) in scope.items() if its == kind and (free or not assigned)]
+        return self.rng.choice(found) if found else None
+
+    def value(self, kind, room):
+        """An expression, mostly of this kind."""
+        if self.rng.random() < 0.012:
+            return self.rng.choice(ODD)
+        name = self.known(kind)
+        if name and self.rng.random() < 0.5:
+            return name
+        if room <= 0 or self.rng.random() < 0.35:
+            return {"text": lambda: self.rng.choice(TEXTS), "number": lambda: self.rng.choice(NUMBERS), "truth": lambda: self.rng.choice(["true", "false"]),
+                    "list": lambda: "'a,b,c'.split(',')", "symbol": lambda: f"Symbol.for({self.rng.choice(TEXTS)})"}[kind]()
+        if self.rng.random() < 0.08:
+            return f"({self.value(self.rng.choice(KINDS), room - 2)} ? {self.value(kind, room - 2)} : {self.value(kind, room - 2)})"
+        return getattr(self, kind)(room - 1)
+
+    def asked(self, kind, room):
+        """A value before a point or a bracket: in parentheses where it is no word, text or call."""
+        value = self.value(kind, room)
+        return value if re.fullmatch(r"[\w$]+|'[^'\\]*'|[A-Z]\w+\.\w+\([^()]*\)", value) and not value[0].isdigit() else f"({value})"
+
+    def call(self, gives, room):
+        method, takes, _ = self.rng.choice([it for it in METHODS if it[2] == gives])
+        count = self.rng.choice([len(takes)] * 3 + list(range(len(takes) + 2)))
+        return f"{self.asked('text', room)}.{method}({', '.join(self.argument(it, room - 1) for it in (takes + 'tt')[:count])})"
+
+    def argument(self, kind, room):
+        if kind == "s":
+            return self.rng.choice(["0", "1", "2", "3", "7", "12", "NaN"] * 4 + ["-1", "Infinity"])
+        return self.value({"n": "number", "t": "text"}[kind], room)
+
+    def text(self, room):
+        anything = self.rng.choice(KINDS[:4] * 5 + KINDS)
+        return self.one_of(lambda: self.call("text", room), lambda: self.call("text", room),
+                           lambda: f"{self.value('text', room)} + {self.value(anything, room)}", lambda: f"{self.asked('list', room)}[{self.value('number', room)}]",
+                           lambda: f"{self.asked('text', room)}[{self.value('number', room)}]", lambda: f"String({self.value(anything, room)})",
+                           lambda: f"JSON.stringify({self.value(anything, room)})", lambda: f"{self.asked('symbol', room)}.description",
+                           lambda: f"Symbol.keyFor({self.value('symbol', room)})", lambda: f"{self.asked('list', room)}.join({self.value('text', room)})",
+                           lambda: f"String.fromCharCode({self.value('number', room)}, 98)", lambda: f"String.fromCodePoint({self.rng.choice(['65', '128512'] * 9 + ['1114112'])})")
+
+    def number(self, room):
+        return self.one_of(lambda: self.call("number", room), lambda: f"{self.asked(self.rng.choice(['text', 'list']), room)}.length",
+                           lambda: f"{self.value('number', room)} {self.rng.choice('+-')} {self.value('number', room)}", lambda: f"- {self.value('number', room)}",
+                           lambda: f"({self.value('number', room)} - {self.value('truth', room)})")
+
+    def truth(self, room):
+        kind = self.rng.choice(KINDS)
+        return self.one_of(lambda: f"({self.value(kind, room)} {self.rng.choice(OPERATORS[:2])} {self.value(kind, room)})",
+                           lambda: f"({self.value('number', room)} {self.rng.choice(OPERATORS)} {self.value('number', room)})",
+                           lambda: f"({self.value('text', room)} {self.rng.choice(OPERATORS)} {self.value('text', room)})",
+                           lambda: f"({self.value('truth', room)} {self.rng.choice(['&&', '||'])} {self.value('truth', room)})",
+                           lambda: f"!{self.asked(kind, room)}", lambda: self.call("truth", room))
+
+    def list(self, room):
+        return self.call("list", room)
+
+    def symbol(self, room):
+        return f"Symbol.for({self.value('text', room)})"
+
+    def kept(self, kind):
+        """A value for a name: in a loop a short one, so that no text grows with each turn."""
+        value = self.value(kind, 2)
+        return f"({value}).slice(0, {self.rng.randrange(20)})" if kind == "text" and self.turns > 1 else value
+
+    def statements(self, room):
+        made = []
+        for _ in range(self.rng.randrange(1, 6)):
+            self.fuel -= 1
+            if self.fuel > 0:
+                made.append(self.statement(room))
+        return " ".join(made)
+
+    def block(self, room):
+        self.scopes.insert(0, {})
+        made = f"{{ {self.statements(room - 1)} }}" if self.rng.random() > 0.05 else "{ }"
+        del self.scopes[0]
+        return made
+
+    def declared(self, word):
+        kind, free = self.rng.choice(KINDS), [it for it in NAMES if it not in self.scopes[0]]
+        name = self.rng.choice(free if self.rng.random() > 0.01 and free else NAMES)
+        value = self.kept(kind)
+        self.scopes[0][name] = (kind, word == "let")
+        return f"let {name};" if word == "let" and self.rng.random() < 0.1 else f"{word} {name} = {value};"
+
+    def assigned(self):
+        kind = self.rng.choice(KINDS)
+        name = self.known(kind, assigned=True)
+        if self.rng.random() < 0.04:
+            name = self.known(kind) or self.rng.choice(NAMES)
+        return f"{name} = {self.kept(kind)};" if name else self.printed()
+
+    def appended(self):
+        kind = self.rng.choice(["text", "text", "number"])
+        name = self.known(kind, assigned=True)
+        return f"{name} += {self.rng.choice(TEXTS + NUMBERS + ['i', 'true'])};" if name else self.printed()
+
+    def printed(self):
+        return f"print({', '.join(self.value(self.rng.choice(KINDS[:4]), 2) for _ in range(self.rng.randrange(1, 3)))});"
+
+    def chosen(self, room):
+        made = f"if ({self.value(self.rng.choice(['truth', 'truth', 'text', 'number']), 2)}) {self.block(room)}"
+        for _ in range(self.rng.choice([0, 0, 1, 2])):
+            made += f" else if ({self.value('truth', 2)}) {self.block(room)}"
+        return made + (f" else {self.block(room)}" if self.rng.random() < 0.4 else "")
+
+    def loop(self, room):
+        bound, name = self.rng.choice([0, 1, 2, 3, 4]), self.rng.choice(NAMES)
+        self.scopes.insert(0, {name: ("number", False)})
+        self.turns *= max(bound, 2)
+        made = f"for (let {name} = 0; {name} < {bound}; {name}++) {self.block(room)}"
+        self.turns //= max(bound, 2)
+        del self.scopes[0]
+        return made
+
+    def statement(self, room):
+        ways = [lambda: self.declared("let"), lambda: self.declared("let"), lambda: self.declared("const"), self.assigned, self.assigned, self.appended, self.printed, self.printed]
+        if room > 0:
+            ways += [lambda: self.chosen(room), lambda: self.chosen(room), lambda: self.loop(room), lambda: self.block(room)]
+        return self.rng.choice(ways)()
+
+
+def relaid(text, rng):
+    """The same tokens with other blanks and comments between them."""
+    made, before = "", None
+    for token in reading.tokens(text):
+        close = before and (before.kind, token.kind) not in [(a, b) for a in ("word", "number") for b in ("word", "number")]
+        close = close and not (before.kind == token.kind == "mark" or (token.spelling[0] in ".0123456789" and before.spelling in (".", "?")) or before.kind == "number")
+        gaps = [" "] * 6 + ["\t", "/* */", "\u00a0", "  "] + ([] if token.spelling == "++" else ["\n", "\r\n", "// '\n", "/*\n*/", "\u2028"]) + ([""] * 8 if close else [])
+        made += rng.choice(gaps) + token.spelling if before else token.spelling
+        before = token
+    return made + rng.choice(["", "\n", " // end"])
+
+
+def script(seed):
+    """A script: mostly one that is lawful, now and then with a name declared twice or a loop's name assigned."""
+    rng = random.Random(seed)
+    maker = Maker(rng)
+    made = "'use strict'; " * (rng.random() < 0.2) + " ".join(maker.statements(3) for _ in range(rng.randrange(1, 4)))
+    return (relaid(made, rng) if rng.random() < 0.3 else re.sub("([;{}]) ", r"\1\n", made) if rng.random() < 0.5 else made).encode("utf-8")
+
+
+def damage(data, seed):
+    """A script with one or two damages."""
+    rng = random.Random(seed)
+    for _ in range(rng.choice([1, 1, 1, 2])):
+        try:
+            text = data.decode("utf-8")
+            found = reading.tokens(text)
+        except (UnicodeDecodeError, reading.Refused):
+            return data
+        if not found:
+            return data
+        token, other, at = rng.choice(found), rng.choice(found), rng.randrange(len(data))
+        end = token.at + len(token.spelling)
+        ways = [lambda: data[:at] + data[at + 1:], lambda: data[:at], lambda: data[:at] + bytes([rng.choice([0, 10, 34, 39, 47, 92, 128, 195, 255])]) + data[at:],
+                lambda: (text[:end] + " " + token.spelling + text[end:]).encode(), lambda: (text[:token.at] + text[end:]).encode(),
+                lambda: (text[:token.at] + rng.choice(PIECES) + text[end:]).encode(), lambda: (text[:end] + " " + rng.choice(PIECES) + " " + text[end:]).encode(),
+                lambda: (text[:token.at] + other.spelling + text[end:]).encode(),
+                lambda: (text[:end] + rng.choice(["(", "-", "!", "["]) * rng.choice([195, 199, 200, 201]) + text[end:]).encode(),
+                lambda: b"if (1) {" * rng.choice([196, 197, 198, 199, 200]) + data]
+        data = rng.choice(ways[:8] * 5 + ways[8:])()
+    return data
+
+
+def damaged(script, kinds):
+    """Each damage of a script of the kinds, with the number of the token that it is of."""
+    text = script.decode("utf-8")
+    found = reading.tokens(text)
+    starts = [len(text[:it.at].encode("utf-8")) for it in found]
+    if "bytes" in kinds:
+        for at in range(len(script)):
+            yield script[:at] + script[at + 1:], bisect.bisect(starts, at)
+    if "tokens" in kinds:
+        for number, token in enumerate(found):
+            end = token.at + len(token.spelling)
+            # A word or number that stands beside itself would be another one.
+            gap = " " if token.kind in ("word", "number") else ""
+            yield (text[:end] + gap + token.spelling + text[end:]).encode("utf-8"), -number
+    if "prefixes" in kinds:
+        for length in range(len(script)):
+            yield script[:length], script[:length]

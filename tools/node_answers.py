@@ -1,0 +1,203 @@
+"""Asks node what a script of the profile prints and how it ends, also where the profile ends it as unsupported.
+
+Each operator, index and call of a method becomes a call of a function that asks first whether the profile leaves the
+standard out there, and else lets node do it. What is written into the script by that has names that no script can use.
+"""
+
+import json
+import subprocess
+import sys
+
+import reading
+
+LEVELS = (("||",), ("&&",), ("===", "!=="), ("<", ">", "<=", ">="), ("+", "-"))
+
+# The methods of strings, and what each makes of its arguments: n a number, t a text.
+ARGUMENTS = dict(at="n", charAt="n", charCodeAt="n", codePointAt="n", concat="", endsWith="tn", includes="tn", indexOf="tn", isWellFormed="",
+                 lastIndexOf="tn", padEnd="nt", padStart="nt", repeat="n", replace="tt", replaceAll="tt", slice="nn", split="tn", startsWith="tn",
+                 substr="nn", substring="nn", toWellFormed="", trim="", trimEnd="", trimStart="")
+
+NODE = r"""
+const vm = require('vm');
+const { scripts, kinds } = JSON.parse(require('fs').readFileSync(0, 'utf8'));
+class Unsupported extends Error { constructor(at) { super(); this.name = `unsupported at ${at}`; } }
+const isList = Array.isArray, isNothing = (v) => v === undefined || v === null;
+const isLeftOut = (v) => typeof v === 'string' || isList(v);
+// a value that ends the script once it is made a number
+const asNumber = (at, v) => isLeftOut(v) ? { [Symbol.toPrimitive]() { throw new Unsupported(at); } } : v;
+const lawful = (at, v) => { if (typeof v === 'number' && Math.abs(v) > Number.MAX_SAFE_INTEGER && Number.isFinite(v)) throw new Unsupported(at); return v; };
+const text = (v) => isList(v) ? String(v) : v;
+const order = { '<': (a, b) => a < b, '>': (a, b) => a > b, '<=': (a, b) => a <= b, '>=': (a, b) => a >= b };
+const profile = {
+  binary(op, at, a, b) {
+    if (op === '+') return lawful(at, a + b);
+    if (op === '===' || op === '!==') {
+      if (isList(a) && isList(b)) throw new Unsupported(at);
+      return (a === b) === (op === '===');
+    }
+    if (typeof a === 'symbol' || typeof b === 'symbol') throw new TypeError();
+    if (op === '-') {
+      if (isLeftOut(a) || isLeftOut(b)) throw new Unsupported(at);
+      return lawful(at, a - b);
+    }
+    [a, b] = [text(a), text(b)];
+    if ((typeof a === 'string') !== (typeof b === 'string')) throw new Unsupported(at);
+    return order[op](a, b);
+  },
+  minus(at, a) { if (isLeftOut(a)) throw new Unsupported(at); return -a; },
+  index(at, v, i) {
+    if (isNothing(v)) throw new TypeError();
+    if (typeof i !== 'number') throw new Unsupported(at);
+    return v[i];
+  },
+  call(at, v, method, list) {
+    if (isNothing(v)) throw new TypeError();
+    const args = list();
+    if (isList(v) && ['at', 'concat', 'includes', 'indexOf', 'lastIndexOf', 'slice'].includes(method)) throw new Unsupported(at);
+    if (method === 'join' ? !isList(v) : typeof v !== 'string') throw new TypeError();
+    return v[method](...args.map((it, place) => (kinds[method] ?? '')[place] === 'n' ? asNumber(at, it) : it));
+  },
+  codes(at, which, args) { return String[which](...args.map((it) => asNumber(at, it))); },
+};
+const results = scripts.map((script) => {
+  let lines = '';
+  const print = (...parts) => { lines += parts.map((part) => `${part}`.toWellFormed()).join(' ') + '\n'; };
+  try {
+    const context = vm.createContext({ print });
+    // the profile has no other global name
+    vm.runInContext("for (const it of Object.getOwnPropertyNames(globalThis)) if (!KEPT.includes(it)) delete globalThis[it];".replace('KEPT', JSON.stringify(script.kept)), context);
+    context.Proxy = profile;
+    vm.runInContext("'use strict'; " + script.text, context, { timeout: 20000 });
+    return [lines, ''];
+  } catch (error) { return [lines, `${error.name}`]; }
+});
+process.stdout.write(JSON.stringify(results));
+"""
+
+
+class Unasked(Exception):
+    """node is not there, or did not answer."""
+
+
+def run_node(program, given):
+    try:
+        ran = subprocess.run(["node", "--stack-size=4000", "-e", program], input=json.dumps(given).encode(), stdout=subprocess.PIPE, stderr=subprocess.PIPE, check=False)
+    except FileNotFoundError:
+        raise Unasked("node is not on the path") from None
+    if ran.returncode != 0:
+        raise Unasked(f"node ended with {ran.returncode}: {ran.stderr.decode(errors='replace').strip()}")
+    return json.loads(ran.stdout)
+
+
+class Rewriter:
+    """Goes through the tokens of a script, which is known to be one, and writes it with its operators and calls as calls of `profile`."""
+
+    def __init__(self, text):
+        self.tokens, self.here, self.text = reading.tokens(text), 0, text
+
+    def front(self):
+        return self.tokens[self.here].spelling if self.here < len(self.tokens) else ""
+
+    def take(self):
+        self.here += 1
+        return self.tokens[self.here - 1].spelling
+
+    def place(self):
+        return len(self.text[:self.tokens[self.here].at].encode("utf-8"))
+
+    def script(self):
+        written = []
+        while self.here < len(self.tokens):
+            written.append(self.piece())
+        return " ".join(written)
+
+    def piece(self):
+        """A token of a statement, with the expression behind it."""
+        behind = self.tokens[self.here + 1].spelling if self.here + 1 < len(self.tokens) else ""
+        if self.front() == "for":
+            return self.header()
+        if behind == "+=":
+            name, at, _ = self.take(), self.place(), self.take()
+            return f"{name} = Proxy.binary('+', {at}, {name}, {self.expression()})"
+        word = self.take()
+        if word == "print":
+            return f"print({self.arguments()})"
+        return f"{word} {self.expression()}" if word in ("=", "if") else word
+
+    def header(self):
+        words = []
+        while not words or words[-1] != ")":
+            words.append(self.take())
+        return " ".join(words)
+
+    def expression(self):
+        test = self.chain(0)
+        if self.front() != "?":
+            return test
+        self.take()
+        yes, _, no = self.expression(), self.take(), self.expression()
+        return f"({test} ? {yes} : {no})"
+
+    def chain(self, level):
+        if level == len(LEVELS):
+            return self.unary()
+        left = self.chain(level + 1)
+        while self.front() in LEVELS[level]:
+            at, op, right = self.place(), self.take(), self.chain(level + 1)
+            left = f"({left} {op} {right})" if level < 2 else f"Proxy.binary('{op}', {at}, {left}, {right})"
+        return left
+
+    def unary(self):
+        if self.front() == "!":
+            self.take()
+            return f"(!{self.unary()})"
+        if self.front() == "-":
+            at, _ = self.place(), self.take()
+            return f"Proxy.minus({at}, {self.unary()})"
+        return self.post()
+
+    def arguments(self):
+        """What stands in parentheses, without them."""
+        self.take()
+        written = []
+        while self.front() != ")":
+            written.append(self.expression())
+            if self.front() == ",":
+                self.take()
+        self.take()
+        return ", ".join(written)
+
+    def primary(self):
+        if self.front() == "(":
+            return f"({self.arguments()})"
+        at, word = self.place(), self.take()
+        if word not in ("String", "Symbol", "JSON"):
+            return word
+        if self.front() == "(":
+            return f"String({self.arguments()})"
+        self.take()
+        member = self.take()
+        if word == "String":
+            return f"Proxy.codes({at}, '{member}', [{self.arguments()}])"
+        return f"{word}.{member}({self.arguments()})"
+
+    def post(self):
+        # A number is put into parentheses, so that a point behind it is a member's.
+        of = f"({self.primary()})"
+        while self.front() in (".", "["):
+            if self.front() == "[":
+                at, _, index, _ = self.place(), self.take(), self.expression(), self.take()
+                of = f"Proxy.index({at}, {of}, {index})"
+            else:
+                self.take()
+                at, word = self.place(), self.take()
+                of = f"({of}.{word})" if word in ("length", "description") else f"Proxy.call({at}, {of}, '{word}', () => [{self.arguments()}])"
+        return of
+
+
+def answers(scripts):
+    """Of each script, which has to be one: the bytes that it prints, and what stands behind `FILE: ` on standard error, or nothing."""
+    sys.setrecursionlimit(100000)
+    kept = sorted(reading.NO_NAMES)
+    ran = run_node(NODE, {"scripts": [{"text": Rewriter(it.decode("utf-8")).script(), "kept": kept} for it in scripts], "kinds": ARGUMENTS})
+    return [(out.encode("utf-8"), error if not error or error.startswith("unsupported at ") else f"uncaught {error}") for out, error in ran]
