@@ -2,15 +2,16 @@
 use Rattle.std.proofs.Common.{◌≡◌, ℕ, ◌+◌, true, false, cond, List, get_or, set, eqb, sym, refl}
 use Rattle.std.proofs.lemmas.List.{set-get_or}
 use Rattle.heap_rule.specs.declared.view.View.{View}
-use Rattle.heap_rule.specs.Layout.{counter_at, content_at, length_at, form_at}
+use Rattle.heap_rule.specs.Layout.{counter_at, content_at, length_at, form_at, slot_at}
 use Rattle.heap_rule.specs.Claims.{loaded_counter, claimed}
 use Rattle.heap_rule.specs.Births.{stored_word, stored_length, born}
 use Rattle.heap_rule.specs.Learning.{learned}
 use Rattle.heap_rule.specs.Loads.{loaded_form, loaded_length, loaded_word}
+use Rattle.heap_rule.specs.Slots.{loaded_slot, took_slot}
 use Rattle.heap_rule.specs.Agents.{spent}
 use Rattle.heap_rule.specs.Sound.{At}
 use Rattle.js_header.specs.Form.{word_of}
-use Rattle.heap_core.specs.declared.event.Event.TheVariants.{Make, Split, Join, LoadCounter, Claim, StoreWord, StoreLength, Birth, LoadHeader, LoadWord}
+use Rattle.heap_core.specs.declared.event.Event.TheVariants.{Make, Split, Join, LoadCounter, Claim, StoreWord, StoreLength, Birth, LoadHeader, LoadWord, LoadSlot, TakeSlot}
 use Rattle.heap_core.specs.Core.{Core, core}
 use Rattle.heap_core.specs.Events.{view_at}
 use Rattle.heap_core.specs.Steps.{EventsAreSteps}
@@ -41,3 +42,7 @@ events_are_steps s (LoadHeader j i false names) en = let l = en.0 in let x : ℕ
     (l.0, l.1, l.2, (l.3, same_step s j l.0 l.1 (λ v. learned (loaded_form v i x) names.items) s.words (set s.words (form_at s.size i) x) (put_back s (form_at s.size i))))
 events_are_steps s (LoadWord j c names) en = let x : ℕ = get_or s.words (content_at s.size c) 0 in
     (en.0, en.1, en.2, (en.3.0, same_step s j en.0 en.1 (λ v. learned (loaded_word v c x) names.items) s.words (set s.words (content_at s.size c) x) (put_back s (content_at s.size c))))
+events_are_steps s (LoadSlot j k entry names) en = let x : ℕ = get_or s.words (slot_at s.size k) 0 in
+    (en.0, en.1, en.2, ((en.3.0, en.3.1), same_step s j en.0 en.1 (λ v. learned (loaded_slot v k entry x) names.items) s.words (set s.words (slot_at s.size k) x) (put_back s (slot_at s.size k))))
+events_are_steps s (TakeSlot j k i names) en = let x : ℕ = get_or s.words (slot_at s.size k) 0 in let ws : List ℕ = set s.words (slot_at s.size k) (cond (eqb x 0) (i + 1) x) in
+    (en.0, en.1, en.2, (en.3.0, same_step s j en.0 en.1 (λ v. learned (took_slot v k i x) names.items) ws ws refl))

@@ -8,8 +8,8 @@ use Rattle.heap_rule.specs.declared.view.View.{View}
 use Rattle.heap_core.specs.declared.event.Refusal.{Refusal}
 use Rattle.heap_core.specs.declared.event.Refusal.TheVariants.{NotEnabled, Memory}
 use Rattle.heap_core.specs.declared.event.Event.{Event}
-use Rattle.heap_core.specs.declared.event.Event.TheVariants.{Make, Split, Join, LoadCounter, Claim, StoreWord, StoreLength, Birth, LoadHeader, LoadWord}
-use Rattle.heap_rule.specs.Layout.{counter_at, content_at, length_at, form_at, form, IsBorn}
+use Rattle.heap_core.specs.declared.event.Event.TheVariants.{Make, Split, Join, LoadCounter, Claim, StoreWord, StoreLength, Birth, LoadHeader, LoadWord, LoadSlot, TakeSlot}
+use Rattle.heap_rule.specs.Layout.{counter_at, content_at, length_at, form_at, slot_at, form, IsBorn}
 use Rattle.heap_rule.specs.Maps.{HasKey}
 use Rattle.heap_rule.specs.Sound.{total}
 use Rattle.heap_core.specs.Core.{Core, core}
@@ -19,13 +19,14 @@ use Rattle.heap_rule.specs.Births.{stored_word, MayStoreLength, stored_length, M
 use Rattle.heap_rule.specs.Views.{IsKnown}
 use Rattle.heap_rule.specs.Learning.{MayLearn}
 use Rattle.heap_rule.specs.Loads.{MayLoadWord, loaded_word}
+use Rattle.heap_rule.specs.Slots.{MayEnter, loaded_slot, MayTakeSlot, took_slot}
 use Rattle.heap_rule.specs.Agents.{spent, MayJoin}
 use Rattle.heap_rule.proofs.ListLemmas.{at_index}
 use Rattle.heap_rule.proofs.Making.{keeps_making}
 use Rattle.heap_rule.proofs.KindsKept.{counter_kept, claim_by, word_stored, length_stored, birth_by}
 use Rattle.heap_rule.proofs.Birth.{born_now}
 use Rattle.heap_core.proofs.StateLemmas.{sound_of}
-use Rattle.heap_core.proofs.KnowingKept.{split_kept, join_kept, load_header_kept, load_word_kept}
+use Rattle.heap_core.proofs.KnowingKept.{split_kept, join_kept, load_header_kept, load_word_kept, load_slot_kept, take_slot_kept}
 
 same_kept : (s : Core) → KeepsUnits s s
 same_kept s i b = (b, refl)
@@ -61,6 +62,8 @@ enabled_keeps s (Birth j i (Sliced a b c)) h (no', live) = absurd no'
 enabled_keeps s (Birth j i (Thin a)) h (no', live) = absurd no'
 enabled_keeps s (LoadHeader j i len names) h en = load_header_kept s j i len names.items (sound_of s j (λ v. IsKnown v i) h en.0) en
 enabled_keeps s (LoadWord j c names) h en = load_word_kept s j c names.items (sound_of s j (λ v. MayLoadWord v c × MayLearn (loaded_word v c (get_or s.words (content_at s.size c) 0)) names.items) h en) en
+enabled_keeps s (LoadSlot j k entry names) h en = load_slot_kept s j k entry names.items (sound_of s j (λ v. (k < v.sizes.slots) × MayEnter v k entry × MayLearn (loaded_slot v k entry (get_or s.words (slot_at s.size k) 0)) names.items) h en) en
+enabled_keeps s (TakeSlot j k i names) h en = take_slot_kept s j k i names.items (sound_of s j (λ v. MayTakeSlot v k i × MayLearn (took_slot v k i (get_or s.words (slot_at s.size k) 0)) names.items) h en) en
 
 -- what an application leaves
 pub applied_keeps : (s : Core) (e : Event) (t : Core) (r : Result ℕ Refusal) → IsCore s → Applied s e t r → IsCore t × KeepsUnits s t
@@ -99,6 +102,8 @@ applied_born s (StoreWord j c w) t (Ok x) h a = tt
 applied_born s (StoreLength j i n) t (Ok x) h a = tt
 applied_born s (LoadHeader j i len names) t (Ok x) h a = tt
 applied_born s (LoadWord j c names) t (Ok x) h a = tt
+applied_born s (LoadSlot j k entry names) t (Ok x) h a = tt
+applied_born s (TakeSlot j k i names) t (Ok x) h a = tt
 applied_born s e t (Err q) h a = tt
 
 -- the clauses of an application, one by one

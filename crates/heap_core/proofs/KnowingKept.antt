@@ -1,16 +1,20 @@
--- Splitting, joining and loading keep the rule: they change what views know, and no word.
-use Rattle.std.proofs.Common.{◌≡◌, ℕ, Bool, true, false, cond, List, [], ◌∷◌, ◌++◌, get_or, set, sym, refl, ◌∙◌, subst}
+-- Splitting, joining and loading keep the rule: they change what views know, and no word. So does claiming a slot.
+use Rattle.std.proofs.Common.{◌≡◌, ℕ, ◌+◌, ◌<◌, eqb, Option, Bool, true, false, cond, List, [], ◌∷◌, ◌++◌, get_or, set, sym, refl, ◌∙◌, subst}
 use Rattle.std.specs.FinMap.{insert, contains_key}
 use Rattle.heap_rule.specs.declared.view.View.{View}
-use Rattle.heap_rule.specs.Layout.{form_at, length_at, content_at}
+use Rattle.heap_rule.specs.declared.size.HeapSize.{HeapSize}
+use Rattle.heap_rule.specs.Layout.{form_at, length_at, content_at, slot_at}
 use Rattle.heap_rule.specs.Learning.{learned}
 use Rattle.heap_rule.specs.Loads.{loaded_form, loaded_length, loaded_word}
+use Rattle.heap_rule.specs.Slots.{loaded_slot, took_slot}
+use Rattle.heap_rule.specs.Kinds.{take_slot}
 use Rattle.heap_rule.specs.Agents.{spent, left_after_split, right_after_split, joined}
 use Rattle.heap_rule.specs.Sound.{IsSound}
 use Rattle.heap_core.specs.Core.{Core, core}
-use Rattle.heap_core.specs.Events.{IsSoundCore, CanSplit, after_split, CanJoin, after_join, CanLoadHeader, after_load_header, CanLoadWord, after_load_word, Kept}
+use Rattle.heap_core.specs.Events.{IsSoundCore, CanSplit, after_split, CanJoin, after_join, CanLoadHeader, after_load_header, CanLoadWord, after_load_word, CanLoadSlot, after_load_slot, CanTakeSlot, after_take_slot, Kept}
 use Rattle.heap_rule.proofs.ListLemmas.{at_index}
-use Rattle.heap_rule.proofs.KindsKept.{form_loaded, length_loaded, word_loaded}
+use Rattle.heap_rule.proofs.KindsKept.{form_loaded, length_loaded, word_loaded, slot_loaded, kinds_keep}
+use Rattle.heap_rule.proofs.Steps.{sizes_are}
 use Rattle.heap_rule.proofs.Splitting.{keeps_split}
 use Rattle.heap_rule.proofs.Joining.{keeps_joined}
 
@@ -47,3 +51,13 @@ pub load_word_kept : (s : Core) (j c : ℕ) (names : List ℕ) → IsSoundCore s
 load_word_kept s j c names h l = let v : View = l.0 in let x : ℕ = get_or s.words (content_at s.size c) 0 in
     subst (λ (u : View). Kept s (core s.size s.agents s.words (set s.views j (learned (loaded_word u c x) names)))) (sym (at_index s.views j v spent l.1))
     (word_loaded s.size s.agents s.words s.views h j v l.1 l.2 c names l.3.0)
+
+pub load_slot_kept : (s : Core) (j k : ℕ) (entry : Option (List ℕ)) (names : List ℕ) → IsSoundCore s → CanLoadSlot s j k entry names → Kept s (after_load_slot s j k entry names)
+load_slot_kept s j k entry names h l = let v : View = l.0 in let x : ℕ = get_or s.words (slot_at s.size k) 0 in
+    subst (λ (u : View). Kept s (core s.size s.agents s.words (set s.views j (learned (loaded_slot u k entry x) names)))) (sym (at_index s.views j v spent l.1))
+    (slot_loaded s.size s.agents s.words s.views h j v l.1 l.2 k entry names (subst (λ (z : HeapSize). k < z.slots) (sizes_are s.size s.agents s.words s.views h j v l.1 l.2) l.3.0) l.3.1)
+
+pub take_slot_kept : (s : Core) (j k i : ℕ) (names : List ℕ) → IsSoundCore s → CanTakeSlot s j k i names → Kept s (after_take_slot s j k i names)
+take_slot_kept s j k i names h l = let v : View = l.0 in let x : ℕ = get_or s.words (slot_at s.size k) 0 in
+    subst (λ (u : View). Kept s (core s.size s.agents (set s.words (slot_at s.size k) (cond (eqb x 0) (i + 1) x)) (set s.views j (learned (took_slot u k i x) names)))) (sym (at_index s.views j v spent l.1))
+    (kinds_keep s.size s.agents s.words s.views j v (take_slot k i) names h l.1 l.2 l.3.0)

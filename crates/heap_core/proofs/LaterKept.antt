@@ -1,21 +1,20 @@
 -- The kinds that the machine does not play yet keep the rule and the units, and so does the birth of any form.
-use Rattle.std.proofs.Common.{◌≡◌, ℕ, ◌+◌, cond, get_or, set, eqb, Option, sym, ap, ◌∙◌, subst}
+use Rattle.std.proofs.Common.{◌≡◌, ℕ, cond, get_or, set, eqb, Option, sym, ap, ◌∙◌, subst}
 use Rattle.std.specs.Prelude.{unwrap_or}
 use Rattle.js_header.specs.Form.{word_of}
 use Rattle.js_header.specs.declared.form.Form.TheVariants.{Thin}
 use Rattle.heap_rule.specs.declared.view.View.{View}
-use Rattle.heap_rule.specs.Layout.{form_at, slot_at}
+use Rattle.heap_rule.specs.Layout.{form_at}
 use Rattle.heap_rule.specs.Learning.{learned}
 use Rattle.heap_rule.specs.Births.{born_with, born}
 use Rattle.heap_rule.specs.HeaderMoves.{flattened, thinned}
-use Rattle.heap_rule.specs.Slots.{loaded_slot, took_slot}
 use Rattle.heap_rule.specs.Agents.{spent}
-use Rattle.heap_rule.specs.Kinds.{flatten, thin, take_slot}
+use Rattle.heap_rule.specs.Kinds.{flatten, thin}
 use Rattle.heap_core.specs.Core.{core}
 use Rattle.heap_core.specs.Events.{Kept, view_at}
-use Rattle.heap_core.specs.Later.{FlatteningKeeps, ThinningKeeps, LoadingSlotsKeeps, TakingSlotsKeeps, BirthsKeep}
+use Rattle.heap_core.specs.Later.{FlatteningKeeps, ThinningKeeps, BirthsKeep}
 use Rattle.heap_rule.proofs.ListLemmas.{at_index}
-use Rattle.heap_rule.proofs.KindsKept.{kinds_keep, slot_loaded, birth_by}
+use Rattle.heap_rule.proofs.KindsKept.{kinds_keep, birth_by}
 
 pub flatten_kept : FlatteningKeeps
 flatten_kept s j i old new names h l = let v : View = l.0 in let x : ℕ = get_or s.words (form_at s.size i) 0 in
@@ -26,16 +25,6 @@ pub thin_kept : ThinningKeeps
 thin_kept s j i old t names h l = let v : View = l.0 in let x : ℕ = get_or s.words (form_at s.size i) 0 in
     subst (λ (u : View). Kept s (core s.size s.agents (set s.words (form_at s.size i) (cond (eqb x (word_of old)) (word_of (Thin t)) x)) (set s.views j (learned (thinned u i old t x) names)))) (sym (at_index s.views j v spent l.1))
     (kinds_keep s.size s.agents s.words s.views j v (thin i old t) names h l.1 l.2 l.3.0)
-
-pub load_slot_kept : LoadingSlotsKeeps
-load_slot_kept s j k entry names h l = let v : View = l.0 in let x : ℕ = get_or s.words (slot_at s.size k) 0 in
-    subst (λ (u : View). Kept s (core s.size s.agents s.words (set s.views j (learned (loaded_slot u k entry x) names)))) (sym (at_index s.views j v spent l.1))
-    (slot_loaded s.size s.agents s.words s.views h j v l.1 l.2 k entry names l.3.0 l.3.1)
-
-pub take_slot_kept : TakingSlotsKeeps
-take_slot_kept s j k i names h l = let v : View = l.0 in let x : ℕ = get_or s.words (slot_at s.size k) 0 in
-    subst (λ (u : View). Kept s (core s.size s.agents (set s.words (slot_at s.size k) (cond (eqb x 0) (i + 1) x)) (set s.views j (learned (took_slot u k i x) names)))) (sym (at_index s.views j v spent l.1))
-    (kinds_keep s.size s.agents s.words s.views j v (take_slot k i) names h l.1 l.2 l.3.1)
 
 pub birth_kept : BirthsKeep
 birth_kept s j i f h l = let v : View = l.0 in let n : ℕ = l.3.0 in

@@ -7,3 +7,4 @@ pub mod EveryRun
 pub mod Entries
 pub mod Reading
 pub mod EventSteps
+pub mod SlotEvents

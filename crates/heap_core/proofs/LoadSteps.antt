@@ -32,7 +32,7 @@ some_words true n h = omega arith
 some_words false n h = omega arith
 
 -- in a sound state the lanes of every Flat that is known can be counted
-room_of : (z : HeapSize) (agents : ℕ) (W : List ℕ) (vs : List View) (s : IsSound z agents W vs) (j : ℕ) (v : View) → At vs j v → v.live ≡ true → HasRoom v
+pub room_of : (z : HeapSize) (agents : ℕ) (W : List ℕ) (vs : List View) (s : IsSound z agents W vs) (j : ℕ) (v : View) → At vs j v → v.live ≡ true → HasRoom v
 room_of z agents W vs s j v at live i wide start fixed n f l h = let k = s.knows j v at live in let b = k.of_forms i (Flat wide start fixed) f in let e = (k.of_lengths i n l).1 in let short = (s.standing i b.born).short in
     let some : 1 ≤ words_over wide (length_word z W i) = some_words wide (length_word z W i) (omega arith) in let low = (b.shows.1 start (omega arith) (omega arith)).below in let most = s.counted.words_end in let small = s.lawful.3 in omega arith
 

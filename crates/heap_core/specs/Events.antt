@@ -1,13 +1,13 @@
 -- The machine: where each event may come, and what it does. An event is one atomic step of one agent on one word, but for the making of the heap.
-use Rattle.std.specs.Prelude.{◌≡◌, ◌≢◌, ℕ, ◌+◌, ◌<◌, ◌≤◌, ◌⊎◌, ◌==◌, Bool, true, false, if◌then◌else◌, List, [], ◌∷◌, ◌++◌, slice_index, slice_index_or, slice_set, replicate, Result, Ok, Err}
+use Rattle.std.specs.Prelude.{◌≡◌, ◌≢◌, ℕ, ◌+◌, ◌<◌, ◌≤◌, ◌⊎◌, ◌==◌, Bool, true, false, if◌then◌else◌, List, [], ◌∷◌, ◌++◌, slice_index, slice_index_or, slice_set, replicate, Option, Result, Ok, Err}
 use Rattle.js_header.specs.Form.{word_of}
 use Rattle.heap_rule.specs.declared.view.View.{View}
 use Rattle.heap_rule.specs.declared.size.HeapSize.{HeapSize}
 use Rattle.heap_core.specs.declared.event.Refusal.{Refusal}
 use Rattle.heap_core.specs.declared.event.Refusal.TheVariants.{NotEnabled, Memory}
 use Rattle.heap_core.specs.declared.event.Event.{Event}
-use Rattle.heap_core.specs.declared.event.Event.TheVariants.{Make, Split, Join, LoadCounter, Claim, StoreWord, StoreLength, Birth, LoadHeader, LoadWord}
-use Rattle.heap_rule.specs.Layout.{IsLawful, counter_at, form_at, length_at, content_at, word_count, IsBorn}
+use Rattle.heap_core.specs.declared.event.Event.TheVariants.{Make, Split, Join, LoadCounter, Claim, StoreWord, StoreLength, Birth, LoadHeader, LoadWord, LoadSlot, TakeSlot}
+use Rattle.heap_rule.specs.Layout.{IsLawful, counter_at, slot_at, form_at, length_at, content_at, word_count, IsBorn}
 use Rattle.heap_rule.specs.Contents.{units_of}
 use Rattle.heap_rule.specs.Maps.{Has, HasKey}
 use Rattle.heap_rule.specs.Forms.{IsBuilt}
@@ -18,6 +18,7 @@ use Rattle.heap_rule.specs.Births.{stored_word, MayStoreLength, stored_length, M
 use Rattle.heap_rule.specs.Views.{IsKnown}
 use Rattle.heap_rule.specs.Learning.{learned, MayLearn}
 use Rattle.heap_rule.specs.Loads.{loaded_form, loaded_length, MayLoadWord, loaded_word}
+use Rattle.heap_rule.specs.Slots.{MayEnter, loaded_slot, MayTakeSlot, took_slot}
 use Rattle.heap_rule.specs.Agents.{first_view, spent, left_after_split, right_after_split, MayJoin, joined}
 
 abbrev pub IsSoundCore : Core → Type 0
@@ -91,6 +92,21 @@ module _ (s : Core) where
   abbrev pub after_load_word : ℕ → ℕ → List ℕ → Core
   after_load_word j c names = looked s j (learned (loaded_word (view_at s j) c (slice_index s.words (content_at s.size c))) names)
 
+  -- loading a slot of the table
+  abbrev pub CanLoadSlot : ℕ → ℕ → Option (List ℕ) → List ℕ → Type 0
+  CanLoadSlot j k entry names = LiveAt s j (λ v. (k < v.sizes.slots) × MayEnter v k entry × MayLearn (loaded_slot v k entry (slice_index s.words (slot_at s.size k))) names)
+
+  abbrev pub after_load_slot : ℕ → ℕ → Option (List ℕ) → List ℕ → Core
+  after_load_slot j k entry names = looked s j (learned (loaded_slot (view_at s j) k entry (slice_index s.words (slot_at s.size k))) names)
+
+  -- claiming a slot of the table
+  abbrev pub CanTakeSlot : ℕ → ℕ → ℕ → List ℕ → Type 0
+  CanTakeSlot j k i names = LiveAt s j (λ v. MayTakeSlot v k i × MayLearn (took_slot v k i (slice_index s.words (slot_at s.size k))) names)
+
+  abbrev pub after_take_slot : ℕ → ℕ → ℕ → List ℕ → Core
+  after_take_slot j k i names = moved s (slot_at s.size k) (exchanged s (slot_at s.size k) 0 (i + 1)) j
+      (learned (took_slot (view_at s j) k i (slice_index s.words (slot_at s.size k))) names)
+
 -- where an event may come: a making where there is no view yet, every other where its view is live and its kind's condition holds
 abbrev pub Enabled : Core → Event → Type 0
 Enabled s (Make z agents) = (s.views ≡ []) × IsLawful z × (1 ≤ agents) × (agents ≤ 64)
@@ -103,6 +119,8 @@ Enabled s (StoreLength j i n) = LiveAt s j (λ v. MayStoreLength v i n)
 Enabled s (Birth j i f) = IsBuilt f × LiveAt s j (λ v. MayBear v i f)
 Enabled s (LoadHeader j i len names) = CanLoadHeader s j i len names.items
 Enabled s (LoadWord j c names) = CanLoadWord s j c names.items
+Enabled s (LoadSlot j k entry names) = CanLoadSlot s j k entry names.items
+Enabled s (TakeSlot j k i names) = CanTakeSlot s j k i names.items
 
 -- the machine after an event
 abbrev pub after : Core → Event → Core
@@ -116,6 +134,8 @@ after s (StoreLength j i n) = moved s (length_at s.size i) n j (stored_length (v
 after s (Birth j i f) = moved s (form_at s.size i) (word_of f) j (born (view_at s j) i f)
 after s (LoadHeader j i len names) = after_load_header s j i len names.items
 after s (LoadWord j c names) = after_load_word s j c names.items
+after s (LoadSlot j k entry names) = after_load_slot s j k entry names.items
+after s (TakeSlot j k i names) = after_take_slot s j k i names.items
 
 -- the word that an event finds, which is the one that stood there before it: for splitting and joining the number in word 0; a making finds none, and its answer is 0
 abbrev pub place_of : HeapSize → Event → ℕ
@@ -126,6 +146,8 @@ place_of z (StoreLength j i n) = length_at z i
 place_of z (Birth j i f) = form_at z i
 place_of z (LoadHeader j i len names) = header_at z i len
 place_of z (LoadWord j c names) = content_at z c
+place_of z (LoadSlot j k entry names) = slot_at z k
+place_of z (TakeSlot j k i names) = slot_at z k
 place_of z _ = 0
 
 abbrev pub found : Core → Event → ℕ
@@ -138,7 +160,7 @@ Applied s e t (Ok x) = Enabled s e × (t ≡ after s e) × (x ≡ found s e)
 Applied s e t (Err NotEnabled) = (Enabled s e → ⊥) × (t ≡ s)
 Applied s e t (Err Memory) = t ≡ s
 
--- the same of the two loads, by the names themselves
+-- the same of the steps that learn, by the names themselves
 abbrev pub LoadedHeader : Core → ℕ → ℕ → Bool → List ℕ → Core → Result ℕ Refusal → Type 0
 LoadedHeader s j i len names t (Ok x) = CanLoadHeader s j i len names × (t ≡ after_load_header s j i len names) × (x ≡ slice_index s.words (header_at s.size i len))
 LoadedHeader s j i len names t (Err NotEnabled) = (CanLoadHeader s j i len names → ⊥) × (t ≡ s)
@@ -148,6 +170,16 @@ abbrev pub LoadedWord : Core → ℕ → ℕ → List ℕ → Core → Result �
 LoadedWord s j c names t (Ok x) = CanLoadWord s j c names × (t ≡ after_load_word s j c names) × (x ≡ slice_index s.words (content_at s.size c))
 LoadedWord s j c names t (Err NotEnabled) = (CanLoadWord s j c names → ⊥) × (t ≡ s)
 LoadedWord s j c names t (Err Memory) = t ≡ s
+
+abbrev pub LoadedSlot : Core → ℕ → ℕ → Option (List ℕ) → List ℕ → Core → Result ℕ Refusal → Type 0
+LoadedSlot s j k entry names t (Ok x) = CanLoadSlot s j k entry names × (t ≡ after_load_slot s j k entry names) × (x ≡ slice_index s.words (slot_at s.size k))
+LoadedSlot s j k entry names t (Err NotEnabled) = (CanLoadSlot s j k entry names → ⊥) × (t ≡ s)
+LoadedSlot s j k entry names t (Err Memory) = t ≡ s
+
+abbrev pub TookSlot : Core → ℕ → ℕ → ℕ → List ℕ → Core → Result ℕ Refusal → Type 0
+TookSlot s j k i names t (Ok x) = CanTakeSlot s j k i names × (t ≡ after_take_slot s j k i names) × (x ≡ slice_index s.words (slot_at s.size k))
+TookSlot s j k i names t (Err NotEnabled) = (CanTakeSlot s j k i names → ⊥) × (t ≡ s)
+TookSlot s j k i names t (Err Memory) = t ≡ s
 
 -- every born id stays born and keeps its units
 abbrev pub KeepsUnits : Core → Core → Type 0

@@ -10,6 +10,7 @@
 mod contents;
 mod event;
 mod play;
+mod slots;
 mod state;
 
 pub use event::{Event, Refusal};

@@ -15,6 +15,7 @@ ghost use Rattle.heap_core.specs.declared.event.Event.TheVariants as event;
 
 use crate::contents::header_load;
 use crate::event::{Event, Refusal};
+use crate::slots;
 use heap_rule::{Counter, HeapSize, View};
 use heap_views::{agents, births, claims, learning};
 use js_header::{Form, encode};
@@ -614,6 +615,38 @@ pub(crate) fn step(
             views.as_mut_slice(),
             *view,
             *at,
+            learn,
+        ),
+        Event::LoadSlot {
+            view,
+            slot,
+            entry,
+            learn,
+        } => slots::play_load_slot(
+            alloc,
+            *size,
+            *agents,
+            words.as_slice(),
+            views.as_mut_slice(),
+            *view,
+            *slot,
+            entry,
+            learn,
+        ),
+        Event::TakeSlot {
+            view,
+            slot,
+            id,
+            learn,
+        } => slots::play_take_slot(
+            alloc,
+            *size,
+            *agents,
+            words.as_mut_slice(),
+            views.as_mut_slice(),
+            *view,
+            *slot,
+            *id,
             learn,
         ),
     }

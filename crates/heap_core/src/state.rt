@@ -4,11 +4,11 @@ ghost use Rattle.heap_rule.specs.Layout.{IsBorn};
 ghost use Rattle.heap_rule.specs.Contents.{units_of};
 ghost use Rattle.heap_core.specs.Events.{HasNoHeap, IsSoundCore, Enabled, after, found, KeepsUnits, BornBy, HasEntry, RunsAreSound, MadeRunsAreSound, RunsKeepUnits, RunsAreLegal};
 ghost use Rattle.heap_core.specs.Steps.{EventsAreSteps};
-ghost use Rattle.heap_core.specs.Later.{FlatteningKeeps, ThinningKeeps, LoadingSlotsKeeps, TakingSlotsKeeps, BirthsKeep};
+ghost use Rattle.heap_core.specs.Later.{FlatteningKeeps, ThinningKeeps, BirthsKeep};
 ghost use Rattle.heap_core.specs.declared.event.Refusal.TheVariants as refusal;
 
 use crate::event::{Event, Refusal};
-use crate::{contents, play};
+use crate::{contents, play, slots};
 use heap_rule::{HeapSize, View};
 use js_header::Form;
 use js_units::{NoMemory, Units};
@@ -141,6 +141,36 @@ pub fn enabled(state: &CoreState, event: &Event) -> bool
             *at,
             learn.as_slice(),
         ),
+        Event::LoadSlot {
+            view,
+            slot,
+            entry,
+            learn,
+        } => slots::may_load_slot(
+            state.size,
+            state.agents,
+            state.words.as_slice(),
+            views,
+            *view,
+            *slot,
+            entry,
+            learn.as_slice(),
+        ),
+        Event::TakeSlot {
+            view,
+            slot,
+            id,
+            learn,
+        } => slots::may_take_slot(
+            state.size,
+            state.agents,
+            state.words.as_slice(),
+            views,
+            *view,
+            *slot,
+            *id,
+            learn.as_slice(),
+        ),
     }
 }
 
@@ -189,7 +219,5 @@ pub fn every_event()
 pub fn every_later_kind()
     ensures flattening { FlatteningKeeps }
     ensures thinning { ThinningKeeps }
-    ensures loading_slots { LoadingSlotsKeeps }
-    ensures claiming_slots { TakingSlotsKeeps }
     ensures births { BirthsKeep }
 {}

@@ -26,3 +26,4 @@ pub mod Seen
 pub mod KindsKept
 pub mod Whole
 pub mod Possible
+pub mod SlotTests

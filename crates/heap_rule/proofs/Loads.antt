@@ -21,7 +21,7 @@ more_words true n m l = omega arith
 more_words false n m l = omega arith
 
 module _ (z : HeapSize) (W : List ℕ) (vs : List View) (stand : (i : ℕ) → IsBorn z W i → IsStanding z W vs i) (v : View) (k : Knows z W vs v) where
-  length_right : (i n : ℕ) → IsBorn z W i → HasLength v i n → n ≤ length_word z W i
+  pub length_right : (i n : ℕ) → IsBorn z W i → HasLength v i n → n ≤ length_word z W i
   length_right i n b h = ⊎_elim
       (λ (t : Has v.lengths i n). let e = (k.of_lengths i n t).1 in omega arith)
       (λ t. let j = t.0 in let parent = t.2 in let offset = t.3 in let len = t.4 in let f = k.of_forms j (Sliced t.1 parent offset) t.5 in let l = (k.of_lengths j len t.6).1 in let e = t.7 in let room = f.shows.3 in

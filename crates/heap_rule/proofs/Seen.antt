@@ -60,7 +60,8 @@ module _ (z : HeapSize) (agents : ℕ) (W : List ℕ) (vs : List View) (s : IsSo
           (λ (t : (l ≢ k) × Has v.slots l q). n.of_slots l q t.1) (has_insert v.slots k l i q h);
     }
 
-    slot_kept : (x : ℕ) → slot z W k ≡ x → (l q : ℕ) → Has v.slots l q → Has (with_slot v k x).slots l q
+    -- what the view has of slots is found there again
+    pub slot_kept : (x : ℕ) → slot z W k ≡ x → (l q : ℕ) → Has v.slots l q → Has (with_slot v k x).slots l q
     slot_kept zero e l q h = h
     slot_kept (suc i) e l q h = dite (ℕ_discrete l k)
         (λ (t : l ≡ k). let o = ((s.knows j v at live).of_slots l q h).1 in let o' : slot z W k ≡ q + 1 = ap (λ (y : ℕ). slot z W y) (sym t) ∙ o in let r : i ≡ q = omega arith in

@@ -13,7 +13,8 @@ use Rattle.heap_rule.specs.declared.size.HeapSize.{HeapSize}
 use Rattle.heap_rule.specs.Maps.{HasKey}
 use Rattle.heap_rule.specs.Paths.{Calls}
 use Rattle.heap_rule.specs.Views.{history}
-use Rattle.heap_rule.specs.Sound.{At, EachLive, IsFree, IsKept, OwnsIds, OwnsWords, AreApart, Knows, Recalls, IsLow, IsMember, IsSound, IsPossible, of_live, total}
+use Rattle.heap_rule.specs.Sound.{At, EachLive, IsFree, IsKept, OwnsIds, OwnsWords, AreApart, Knows, Recalls, IsLow, IsMember, IsSound, IsPossible, StandsIn, of_live, total}
+use Rattle.std.proofs.Math.Logic.{∥∥₁_map}
 use Rattle.heap_rule.specs.Learning.{learned}
 use Rattle.heap_rule.specs.Agents.{left_after_split, right_after_split, noted}
 use Rattle.heap_rule.proofs.MapLemmas.{nothing_has, has_key}
@@ -131,9 +132,12 @@ module _ (z : HeapSize) (agents : ℕ) (W : List ℕ) (vs : List View) (s : IsSo
       unmoved z agents W vs s j v at live w live refl refl refl refl refl refl (knew z agents W vs s j v at live W w agrees) (recalled z agents W vs s j v at live W w agrees) (λ u q h. h) (s.lows j v at live)
 
 -- both views of a splitting are possible, if the one before was
-pub possible_split : (v : View) (give : ℕ) → 1 ≤ give → give < v.share → IsPossible v → IsPossible (left_after_split v give) × IsPossible (right_after_split v give)
-possible_split v give a b (z, agents, W, vs, j, s, at, live) = let left : View = left_after_split v give in let right : View = right_after_split v give in let one : List View = set vs j left in
+both_in : (v : View) (give : ℕ) → 1 ≤ give → give < v.share → StandsIn v → StandsIn (left_after_split v give) × StandsIn (right_after_split v give)
+both_in v give a b (z, agents, W, vs, j, s, at, live) = let left : View = left_after_split v give in let right : View = right_after_split v give in let one : List View = set vs j left in
     let k : IsSound z agents W (one ++ right ∷ []) = keeps_split z agents W vs s j v at live give a b in (
       (z, agents, W, one ++ right ∷ [], j, k, at_front one (right ∷ []) j left (set_there vs j left v at), live),
       (z, agents, W, one ++ right ∷ [], length one, k, at_last one right, live),
     )
+
+pub possible_split : (v : View) (give : ℕ) → 1 ≤ give → give < v.share → IsPossible v → IsPossible (left_after_split v give) × IsPossible (right_after_split v give)
+possible_split v give a b p = (∥∥₁_map p (λ t. (both_in v give a b t).0), ∥∥₁_map p (λ t. (both_in v give a b t).1))

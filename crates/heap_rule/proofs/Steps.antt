@@ -11,7 +11,9 @@ use Rattle.heap_rule.specs.declared.size.Counters.{Counters}
 use Rattle.heap_rule.specs.Layout.{counter_at, end_of, form_at, length_at, content_at, next_id, next_word, form, length_word, content, MAX, with_count, count_in}
 use Rattle.heap_rule.specs.Maps.{Has, HasKey, with_run}
 use Rattle.heap_rule.specs.Views.{IsKnown}
-use Rattle.heap_rule.specs.Sound.{At, IsFree, IsKept, IsCounted, OwnsIds, OwnsWords, Knows, Recalls, AreAdded, IsLow, IsSound, IsWithin, IsPossible, total}
+use Rattle.heap_rule.specs.Sound.{At, IsFree, IsKept, IsCounted, OwnsIds, OwnsWords, Knows, Recalls, AreAdded, IsLow, IsSound, IsWithin, IsPossible, StandsIn, total}
+use Rattle.std.proofs.Math.Logic.{∥∥₁_elim}
+use Rattle.std.proofs.Props.{props}
 use Rattle.heap_rule.specs.Claims.{MayClaim, won_claim, loaded_counter}
 use Rattle.heap_rule.specs.Births.{stored_word, MayStoreLength, stored_length}
 use Rattle.heap_rule.proofs.MapLemmas.{has_insert, has_key, key_of, key_insert}
@@ -359,5 +361,8 @@ module _ (z : HeapSize) (agents : ℕ) (W : List ℕ) (vs : List View) (s : IsSo
     words = subst (λ (y : HeapSize). (c : ℕ) → HasKey v.own_words c → c < y.words) (sym sizes_are) (λ c h. let p = has_key v.own_words c h in let l = ((s.own_words j v at live).each c p.0 p.1).0 in omega arith);
   }
 
+within_in : (v : View) → StandsIn v → IsWithin v
+within_in v (z, agents, W, vs, j, s, at, live) = within z agents W vs s j v at live
+
 pub possible_within : (v : View) → IsPossible v → IsWithin v
-possible_within v (z, agents, W, vs, j, s, at, live) = within z agents W vs s j v at live
+possible_within v p = ∥∥₁_elim p (Prim.hlevel props) (λ t. within_in v t)

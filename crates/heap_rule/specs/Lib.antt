@@ -10,6 +10,7 @@ pub mod Learning
 pub mod Loads
 pub mod HeaderMoves
 pub mod Slots
+pub mod SlotTests
 pub mod Agents
 pub mod Sound
 pub mod Kinds

@@ -15,6 +15,10 @@ path u slots = path_from slots (hash_of u % slots) slots
 abbrev pub rank : List ℕ → ℕ → ℕ → ℕ
 rank u slots k = (k + (slots - hash_of u % slots)) % slots
 
+-- the slot of rank r on it
+abbrev pub place : List ℕ → ℕ → ℕ → ℕ
+place u slots r = (hash_of u % slots + r) % slots
+
 -- the pairs of units and id that calls of intern had and gave, the oldest first
 abbrev pub Calls : Type 0
 Calls = List (List ℕ × ℕ)

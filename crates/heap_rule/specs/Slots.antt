@@ -9,6 +9,11 @@ use Rattle.heap_rule.specs.Maps.{Has}
 use Rattle.heap_rule.specs.Paths.{Calls, rank}
 use Rattle.heap_rule.specs.Loads.{added_loads}
 
+-- the word of a slot with an id, or of a free one
+abbrev pub slot_word : Option ℕ → ℕ
+slot_word None = 0
+slot_word (Some i) = i + 1
+
 -- the id of a used slot is seen there and met
 abbrev pub with_slot : View → ℕ → ℕ → View
 with_slot v k zero = v
@@ -18,6 +23,14 @@ with_slot v k (suc i) = record v { slots = insert v.slots k i; met = insert v.me
 abbrev pub MayEnter : View → ℕ → Option (List ℕ) → Type 0
 MayEnter v k None = Unit {0}
 MayEnter v k (Some us) = (i : ℕ) × Has v.slots k i × Has v.units i us
+
+-- what the view knows of the string that it saw in the slot
+abbrev pub units_by : View → Option ℕ → Option (List ℕ)
+units_by v None = None
+units_by v (Some i) = get v.units i
+
+abbrev pub entry_in : View → ℕ → Option (List ℕ)
+entry_in v k = units_by v (get v.slots k)
 
 abbrev pub entered : View → ℕ → Option (List ℕ) → Calls
 entered v k None = v.mine
@@ -31,6 +44,10 @@ abbrev pub Differs : View → List ℕ → ℕ → Type 0
 Differs v us i = ((n : ℕ) × Has v.lengths i n × (n ≢ length us)) ⊎ (((ws : List ℕ) × Has v.units i ws × (ws ≢ us))
     ⊎ ((wide : Bool) × (start : ℕ) × (fixed : Bool) × (o : ℕ) × (x : ℕ) × Has v.forms i (Flat wide start fixed) × (o < length us)
     × Has v.frozen (start + o / lane_count wide) x × (lane_in (λ _. x) wide start o ≢ slice_index us o)))
+
+-- the slot is known to be used by such a string
+abbrev pub IsShutAt : View → List ℕ → ℕ → Type 0
+IsShutAt v us k = (t : ℕ) × Has v.slots k t × Differs v us t
 
 -- claiming a slot for a fixed Flat: each slot before it on the path of its units is known to be used by a string that differs
 abbrev pub MayTakeSlot : View → ℕ → ℕ → Type 0

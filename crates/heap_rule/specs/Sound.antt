@@ -179,9 +179,13 @@ pub record IsSound (z : HeapSize) (agents : ℕ) (W : List ℕ) (vs : List View)
   pub lows : EachLive vs (λ _ v. IsLow W v.low)  -- rule 7
   pub members : EachLive vs (λ _ v. IsMember z agents v)  -- rule 8
 
--- all that the rule says of a live view alone: it is one of some sound state
+-- a sound state that has this view as a live one
+abbrev pub StandsIn : View → Type 0
+StandsIn v = (z : HeapSize) × (agents : ℕ) × (W : List ℕ) × (vs : List View) × (j : ℕ) × IsSound z agents W vs × At vs j v × (v.live ≡ true)
+
+-- all that the rule says of a live view alone: some sound state has it; which one is not told, so a value may keep this of its view
 abbrev pub IsPossible : View → Type 0
-IsPossible v = (z : HeapSize) × (agents : ℕ) × (W : List ℕ) × (vs : List View) × (j : ℕ) × IsSound z agents W vs × At vs j v × (v.live ≡ true)
+IsPossible v = ∥ StandsIn v ∥₁
 
 -- of this, that what the view knows and owns lies in the heap
 pub record IsWithin (v : View) : Type 0 where

@@ -20,6 +20,12 @@ IsKnown v i = HasKey v.units i ⊎ HasKey v.met i
 abbrev pub IsSettled : View → ℕ → Type 0
 IsSettled v i = (f : Form) × Has v.forms i f × (IsCons f → ⊥)
 
+-- The view leads from the string s to the string i, the units of s being those of i from `offset` on: s is i, or forwards to it;
+-- or s is a part of i, or of a string that forwards to i.
+abbrev pub LeadsTo : View → ℕ → ℕ → ℕ → Type 0
+LeadsTo v s i offset = (((s ≡ i) ⊎ Has v.forms s (Thin i)) × (offset ≡ 0))
+    ⊎ ((wide : Bool) × (parent : ℕ) × Has v.forms s (Sliced wide parent offset) × ((parent ≡ i) ⊎ Has v.forms parent (Thin i)))
+
 -- a length by which the units of i are known to be there: its own, or where a Sliced of i ends, or one of a string that forwards to i
 abbrev pub HasLength : View → ℕ → ℕ → Type 0
 HasLength v i n = Has v.lengths i n ⊎ ((j : ℕ) × (wide : Bool) × (parent : ℕ) × (offset : ℕ) × (len : ℕ)

@@ -15,6 +15,6 @@ mod view;
 
 pub use maps::{History, IdMap};
 pub use overlay::Twin;
-pub use rule::{every_path, every_step};
+pub use rule::{every_path, every_slot, every_step};
 pub use size::{Counter, Counters, HeapSize, MAX};
 pub use view::View;

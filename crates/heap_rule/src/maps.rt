@@ -129,6 +129,17 @@ impl History {
         Ok(())
     }
 
+    /// Adds one call behind these.
+    pub fn push(&mut self, units: Units, id: u32) -> Result<(), NoMemory>
+        ensures ok { OnOk result (self.new ≡ self.old ++ (units, id) ∷ []) }
+        ensures err { OnErr result (self.new ≡ self.old) }
+    {
+        if self.calls.push((units, id)).is_err() {
+            return Err(NoMemory);
+        }
+        Ok(())
+    }
+
     /// These calls, and then those of the other history.
     pub fn followed_by(&self, alloc: Global, other: &History) -> Result<History, NoMemory>
         ensures { IfOk result (λ h. h ≡ self.now ++ other.now) }

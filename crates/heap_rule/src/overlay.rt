@@ -173,8 +173,8 @@ impl IdMap<u64> {
         Ok(())
     }
 
-    // The count of a key, 0 where it has none.
-    fn count_at(&self, key: u32) -> u64
+    /// The count of a key, 0 where it has none.
+    pub fn count_at(&self, key: u32) -> u64
         ensures { result ≡ unwrap_or (get self.now key) 0 }
     {
         match self.get(key) {

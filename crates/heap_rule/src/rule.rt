@@ -1,6 +1,14 @@
 // The laws of the rule, and of the path on which the string table is searched.
-ghost use Rattle.std.specs.Prelude.{◌≡◌, ℕ, List, ◌<◌, length, slice_index};
-ghost use Rattle.heap_rule.specs.Paths.{path, rank};
+ghost use Rattle.std.specs.Prelude.{◌≡◌, ℕ, List, ◌<◌, length, slice_index, ◌↔◌, Bool, true, IsTrue, Contains};
+ghost use Rattle.js_header.specs.declared.form.Form.{Form};
+ghost use Rattle.js_header.specs.declared.form.Form.TheVariants.{Flat};
+ghost use Rattle.heap_rule.specs.declared.view.View.{View};
+ghost use Rattle.heap_rule.specs.Maps.{Has};
+ghost use Rattle.heap_rule.specs.Views.{history};
+ghost use Rattle.heap_rule.specs.Sound.{IsPossible};
+ghost use Rattle.heap_rule.specs.Slots.{Differs, IsShutAt};
+ghost use Rattle.heap_rule.specs.SlotTests.{differs, shut};
+ghost use Rattle.heap_rule.specs.Paths.{path, place, rank};
 ghost use Rattle.heap_rule.specs.Kinds.{KindsKeep, MakingKeeps, SplittingKeeps, JoiningKeeps, SoundIsLegal};
 
 /// Every kind of step keeps the rule, and the units of every string that is born, wherever it may
@@ -21,4 +29,16 @@ pub fn every_path()
     ensures inside { (u : List ℕ) (n k : ℕ) → k < n → rank u n k < n }
     ensures place { (u : List ℕ) (n k : ℕ) → k < n → slice_index (path u n) (rank u n k) ≡ k }
     ensures once { (u : List ℕ) (n k l : ℕ) → k < n → l < n → rank u n k ≡ rank u n l → k ≡ l }
+    ensures back { (u : List ℕ) (n k : ℕ) → k < n → place u n (rank u n k) ≡ k }
+    ensures forth { (u : List ℕ) (n r : ℕ) → r < n → rank u n (place u n r) ≡ r }
+{}
+
+/// What an agent knows of the slots of the table. The tests are true exactly where what they test
+/// is so; the string in a slot is a fixed Flat, whatever form of it was seen; and units that no
+/// slot is left for were never interned. The call does nothing.
+pub fn every_slot()
+    ensures differs { (v : View) (us : List ℕ) (i : ℕ) → IsTrue (differs v us i) ↔ Differs v us i }
+    ensures shut { (v : View) (us : List ℕ) (n : ℕ) → IsTrue (shut v us n) ↔ ((k : ℕ) → k < n → IsShutAt v us k) }
+    ensures fixed { (v : View) → IsPossible v → (k i : ℕ) (f : Form) → Has v.slots k i → Has v.forms i f → (wide : Bool) × (start : ℕ) × (f ≡ Flat wide start true) }
+    ensures apart { (v : View) → IsPossible v → (us : List ℕ) → IsTrue (shut v us v.sizes.slots) → (i : ℕ) → Contains (history v) (us, i) → ⊥ }
 {}

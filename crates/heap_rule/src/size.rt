@@ -1,6 +1,6 @@
 // The sizes of a heap, its two counters, and where its words lie.
 ghost use Rattle.std.specs.Prelude.{◌≡◌, ◌<◌, ◌↔◌, IsTrue};
-ghost use Rattle.heap_rule.specs.Layout.{IsLawful, count_in, with_count, counter_at, end_of, word_count, form_at, length_at, content_at};
+ghost use Rattle.heap_rule.specs.Layout.{IsLawful, count_in, with_count, counter_at, end_of, word_count, form_at, length_at, slot_at, content_at};
 
 /// The greatest length of a string, 2^29 - 24 (V8's `String::kMaxLength` on 64-bit machines).
 pub const MAX: u32 = 536870888;
@@ -57,6 +57,14 @@ impl HeapSize {
         ensures { result ≡ word_count self.now }
     {
         2 + self.slots as usize + 2 * self.ids as usize + self.words as usize
+    }
+
+    /// The place of a slot of the string table.
+    pub fn slot_place(&self, slot: u32) -> usize
+        requires { IsLawful self.now × (slot < self.now.slots) }
+        ensures { result ≡ slot_at self.now slot }
+    {
+        2 + slot as usize
     }
 
     /// The place of an id's form word.

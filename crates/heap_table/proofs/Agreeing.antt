@@ -6,7 +6,7 @@ use Rattle.std.specs.Ordering.{nat_cmp}
 use Rattle.std.specs.FinMap.{FinMap}
 use Rattle.js_header.specs.Form.{form_of}
 use Rattle.js_header.specs.declared.form.Form.{Form}
-use Rattle.js_header.specs.declared.form.Form.TheVariants.{Flat}
+use Rattle.js_header.specs.declared.form.Form.TheVariants.{Flat, Sliced, Thin}
 use Rattle.heap_rule.specs.declared.view.View.{View}
 use Rattle.heap_rule.specs.declared.size.HeapSize.{HeapSize}
 use Rattle.heap_rule.specs.Layout.{content, form, length_word, slot, IsBorn}
@@ -15,7 +15,9 @@ use Rattle.heap_rule.specs.Maps.{Has, HasKey, upper_one}
 use Rattle.heap_rule.specs.Forms.{IsLater, later_form}
 use Rattle.heap_rule.specs.Agents.{joined, spent}
 use Rattle.heap_rule.specs.Forms.{IsBuilt}
-use Rattle.heap_rule.specs.Sound.{At, IsSound, IsPossible, Knows, KnowsForm, OwnsIds, OwnsWords}
+use Rattle.std.proofs.Math.Logic.{∥∥₁_elim}
+use Rattle.std.proofs.Props.{props}
+use Rattle.heap_rule.specs.Sound.{At, IsSound, IsPossible, StandsIn, Knows, KnowsForm, OwnsIds, OwnsWords}
 use Rattle.heap_rule.proofs.MapLemmas.{has_key, key_of}
 use Rattle.heap_rule.proofs.ListLemmas.{set_else, set_there}
 use Rattle.heap_rule.proofs.Joining.{keeps_joined, laid_keeps, laid_takes}
@@ -124,8 +126,11 @@ some_share true n h = refl
 some_share false n h = absurd (omega arith)
 
 -- whoever finds the taken view in a sound state finds that the two agree
+agree_in : (v b : View) → StandsIn (taken v b) → agree v b ≡ true
+agree_in v b p = some_share (agree v b) (v.share + b.share) (p.5.members p.4 (taken v b) p.6 p.7).0
+
 possible_agree : (v b : View) → IsPossible (taken v b) → agree v b ≡ true
-possible_agree v b p = some_share (agree v b) (v.share + b.share) (p.5.members p.4 (taken v b) p.6 p.7).0
+possible_agree v b p = ∥∥₁_elim p (Prim.hlevel props) (λ t. agree_in v b t)
 
 -- what the test says
 module _ (v w : View) (keys : HasKeys v w) (test : has_all v w ≡ true) where
@@ -134,9 +139,12 @@ module _ (v w : View) (keys : HasKeys v w) (test : has_all v w ≡ true) where
     units = same_met bytes_eq v.units w.units bytes_decides a.0;
     lengths = same_met same_number v.lengths w.lengths same_number_decides b.0;
     flats = λ q wide start fixed h. let t = fits_met fits_form v.forms w.forms c.0 q (Flat wide start fixed) h in t.1 ∙ ap Some (fits_flat wide start fixed t.0 t.2);
+    parts = λ q wide parent offset h. let t = fits_met fits_form v.forms w.forms c.0 q (Sliced wide parent offset) h in let e : false ≡ true = t.2 in absurd (cc);
+    thins = λ q target h. let t = fits_met fits_form v.forms w.forms c.0 q (Thin target) h in let e : false ≡ true = t.2 in absurd (cc);
     settled = λ q h. let t = fits_met fits_form v.forms w.forms c.0 q h.0 h.1 in (t.0, t.1, fits_settled h.0 t.0 t.2 h.2);
     frozen = same_met same_number v.frozen w.frozen same_number_decides d.0;
     known = λ q h. ⊎_elim (λ (t : HasKey v.units q). inl (keys.units q t)) (λ (t : HasKey v.met q). inr (keys.met q t)) h;
+    slots = same_met same_number v.slots w.slots same_number_decides (and_parts _ _ d.1).0;
   }
 
   all_by : HasAll v w

@@ -10,14 +10,16 @@ use Rattle.atomic_table.specs.Table.{State, step, keeps, Allows, Joins, Splits}
 use Rattle.heap_rule.specs.declared.view.View.{View}
 use Rattle.heap_rule.specs.declared.size.Counter.{Counter}
 use Rattle.heap_rule.specs.declared.size.Counter.TheVariants.{Ids, Words}
-use Rattle.heap_rule.specs.Layout.{IsLawful, counter_at, end_of, content_at, form_at, length_at, word_count, MAX}
+use Rattle.heap_rule.specs.Layout.{IsLawful, counter_at, end_of, content_at, form_at, length_at, slot_at, word_count, MAX}
 use Rattle.heap_rule.specs.declared.size.HeapSize.{HeapSize}
 use Rattle.heap_rule.specs.Agents.{joined, spent, noted, left_after_split, right_after_split}
 use Rattle.heap_rule.specs.Loads.{with_form, loaded_form, loaded_length, loaded_word, MayLoadWord}
+use Rattle.heap_rule.specs.Slots.{MayEnter, units_by, entry_in, loaded_slot, MayTakeSlot, took_slot}
 use Rattle.heap_rule.specs.Learning.{learned_all, all_named}
 use Rattle.heap_rule.specs.Claims.{loaded_counter, claimed, won_claim, MayClaim}
 use Rattle.heap_rule.specs.Births.{stored_word, MayStoreLength, stored_length, MayBear, born, born_with}
 use Rattle.heap_rule.specs.Forms.{IsBuilt}
+use Rattle.heap_rule.specs.Kinds.{Keeps}
 use Rattle.heap_rule.specs.Sound.{IsSound, IsPossible}
 use Rattle.heap_rule.specs.Maps.{Has, HasKey}
 use Rattle.heap_rule.specs.Views.{IsKnown, shown}
@@ -31,7 +33,9 @@ use Rattle.heap_rule.proofs.Loading.{keeps_loaded_form, form_found, known_born}
 use Rattle.heap_rule.proofs.Loads.{keeps_loaded_length, keeps_loaded_word}
 use Rattle.heap_rule.proofs.Birth.{keeps_birth}
 use Rattle.heap_rule.proofs.Splitting.{keeps_learned, keeps_noted, keeps_split, set_twice}
-use Rattle.heap_rule.proofs.Whole.{share_within, whole_counter}
+use Rattle.heap_rule.proofs.Seen.{keeps_loaded_slot}
+use Rattle.heap_rule.proofs.KindsKept.{take_by}
+use Rattle.heap_rule.proofs.Whole.{share_within, whole_counter, whole_slot}
 use Rattle.heap_rule.proofs.Joining.{keeps_joined}
 use Rattle.heap_rule.proofs.Possible.{possible_frozen}
 use Rattle.heap_rule.proofs.ListLemmas.{set_else, set_there}
@@ -40,8 +44,8 @@ use Rattle.heap_table.specs.declared.rule.HeapKey.{HeapKey}
 use Rattle.heap_table.specs.Rule.{AreBuilt, KeepsHeap}
 use Rattle.heap_table.specs.Taken.{taken}
 use Rattle.heap_table.proofs.Agreeing.{both_agree, taken_is}
-use Rattle.heap_table.proofs.Stay.{built_else, built_born, known_form, known_length, known_word, known_birth}
-use Rattle.heap_table.specs.Plays.{Looked, Noted, Sat, FoundCounter, LoadedCounter, Claimed, StoredWord, StoredLength, GaveBirth, LoadedForm, LoadedLength, LoadedWord, Stays}
+use Rattle.heap_table.proofs.Stay.{built_else, built_born, known_form, known_length, known_word, known_birth, known_slot, known_took}
+use Rattle.heap_table.specs.Plays.{Looked, Noted, Sat, FoundCounter, LoadedCounter, Claimed, StoredWord, StoredLength, GaveBirth, LoadedForm, LoadedLength, LoadedWord, SawSlot, TookSlot, FoundSlot, Stays}
 use Rattle.heap_table.specs.Agents.{Belongs}
 use Rattle.heap_table.specs.declared.agent.Agent.{Agent}
 use Rattle.heap_table.specs.declared.heap.Heap.{Heap}
@@ -67,6 +71,9 @@ one_form z c d e = omega arith
 one_length : (z : HeapSize) (c d : ℕ) → length_at z c ≡ length_at z d → c ≡ d
 one_length z c d e = omega arith
 
+one_slot : (z : HeapSize) (k l : ℕ) → slot_at z k ≡ slot_at z l → k ≡ l
+one_slot z k l e = omega arith
+
 -- a word spells one form
 one_spelling : (f g : Form) → IsInRange f → IsInRange g → word_of f ≡ word_of g → f ≡ g
 one_spelling f g a b e = let same : Some f ≡ Some g = sym (form_of-word_of f a) ∙ (ap form_of e ∙ form_of-word_of g b) in cc
@@ -86,6 +93,18 @@ claimed_by v k a n x false = (refl, refl, refl)
 pub claimed_same : (v : View) (k : Counter) (a n x : ℕ) → IsSameAgent v (claimed v k a n x)
 claimed_same v k a n x = claimed_by v k a n x (eqb x a)
 
+slot_same : (v : View) (k : ℕ) (entry : Option (List ℕ)) (x : ℕ) → IsSameAgent v (loaded_slot v k entry x)
+slot_same v k entry zero = (refl, refl, refl)
+slot_same v k entry (suc i) = (refl, refl, refl)
+
+took_same : (v : View) (k i x : ℕ) → IsSameAgent v (took_slot v k i x)
+took_same v k i zero = (refl, refl, refl)
+took_same v k i (suc j) = (refl, refl, refl)
+
+cond_either : (b : Bool) (m n : ℕ) → cond b m n ≡ either b m n
+cond_either true m n = refl
+cond_either false m n = refl
+
 form_same : (v : View) (i : ℕ) (o : Option Form) → IsSameAgent v (with_form v i o)
 form_same v i None = (refl, refl, refl)
 form_same v i (Some f) = (refl, refl, refl)
@@ -103,7 +122,7 @@ module _ (key : HeapKey) (slots id : ℕ) (me : Sat) (live : me.0.live ≡ true)
 
   -- what the rule says of the view after a step
   after_possible : (s : State (Unit {0}) View) → get_elem? s.views id ≡ some me.0 → (W : List ℕ) (w : View) → w.live ≡ true → IsSound key.size key.agents W (set s.views id w) → IsPossible w
-  after_possible s at W w l h = (key.size, key.agents, W, set s.views id w, id, h, set_there s.views id w me.0 at, l)
+  after_possible s at W w l h = ∣ (key.size, key.agents, W, set s.views id w, id, h, set_there s.views id w me.0 at, l) ∣₁
 
   abbrev Holds : List ℕ → List View → Type 0
   Holds W vs = IsSound key.size key.agents W vs × AreBuilt key.size W
@@ -255,6 +274,48 @@ module _ (key : HeapKey) (slots id : ℕ) (me : Sat) (live : me.0.live ≡ true)
         ),
       )
 
+  -- the word of a slot
+  slot_found : (s : State (Unit {0}) View) → IsSound key.size key.agents s.words s.views → get_elem? s.views id ≡ some me.0 → (k : ℕ) → k < key.size.slots → FoundSlot me.0 k (get_or s.words (slot_at key.size k) 0)
+  slot_found s h at k inside = record {
+    within = λ i e. subst (λ (y : HeapSize). i < y.ids) (sym (sizes_are key.size key.agents s.words s.views h id me.0 at live)) (h.slots k i inside e).born.0;
+    again = λ i g. ((h.knows id me.0 at live).of_slots k i g).1;
+    whole = λ e i is. whole_slot key.size key.agents s.words s.views h id me.0 at live e k i inside is;
+  }
+
+  pub sees_slot : (entry : View → ℕ → Option (List ℕ)) (k : ℕ) → k < me.0.sizes.slots → MayEnter me.0 k (entry me.0 k)
+      → Allows (KeepsHeap key) slots id me (slot_at me.0.sizes k) (λ n. n) (SawSlot entry (step slots (slot_at me.0.sizes k) 0 0 none) me)
+  sees_slot entry k inside may s (h, b) _ at _ = let z : HeapSize = key.size in let x : ℕ = get_or s.words (slot_at z k) 0 in let v : View = loaded_slot me.0 k (entry me.0 k) x in let w : View = learned_all v in
+      let same : me.0.sizes ≡ z = sizes_are z key.agents s.words s.views h id me.0 at live in let t = slot_same me.0 k (entry me.0 k) x in
+      let within : k < z.slots = subst (λ (y : HeapSize). k < y.slots) same inside in
+      let kept : IsSound z key.agents s.words (set s.views id w) = then_learned s at v (t.1 ∙ live) (keeps_loaded_slot z key.agents s.words s.views h id me.0 at live k within (entry me.0 k) may) in (
+        w,
+        keeps,
+        tt,
+        a_load (slot_at z k) s w (kept, b),
+        (
+          record { slots = refl; sizes = t.0; live = t.1; share = t.2; possible = after_possible s at s.words w (t.1 ∙ live) kept },
+          known_slot z key.agents s.words s.views h id me.0 at live k within (entry me.0 k) x refl kept,
+          λ d e. let is : k ≡ d = one_slot z k d e in subst (λ (y : ℕ). (w ≡ learned_all (loaded_slot me.0 y (entry me.0 y) x)) × FoundSlot me.0 y x) is (refl, slot_found s h at k within),
+        ),
+      )
+
+  pub takes_slot : (k i : ℕ) → MayTakeSlot me.0 k i → Allows (KeepsHeap key) slots id me (slot_at me.0.sizes k) (λ n. either (eqb n 0) (i + 1) n) (TookSlot (step slots (slot_at me.0.sizes k) 0 (i + 1) none) me)
+  takes_slot k i may s (h, b) _ at _ = let z : HeapSize = key.size in let x : ℕ = get_or s.words (slot_at z k) 0 in let v : View = took_slot me.0 k i x in let w : View = learned_all v in let n : ℕ = either (eqb x 0) (i + 1) x in
+      let same : me.0.sizes ≡ z = sizes_are z key.agents s.words s.views h id me.0 at live in let t = took_same me.0 k i x in
+      let within : k < z.slots = subst (λ (y : HeapSize). k < y.slots) same may.0 in
+      let all = subst (λ (y : ℕ). Keeps z key.agents s.words (set s.words (slot_at z k) y) (set s.views id w)) (cond_either (eqb x 0) (i + 1) x) (take_by z key.agents s.words s.views h id me.0 at live k i (all_named (entries v.forms)) x within may refl) in (
+        w,
+        keeps,
+        tt,
+        (all.0, built_else z s.words (slot_at z k) n (λ q l e. omega arith) b),
+        (
+          record { slots = refl; sizes = t.0; live = t.1; share = t.2; possible = after_possible s at (set s.words (slot_at z k) n) w (t.1 ∙ live) all.0 },
+          known_took z key.agents s.words s.views h id me.0 at live (set s.words (slot_at z k) n) (λ q c. (all.1 q c).1) k i within x refl all.0,
+          λ d m e f. let is : k ≡ d = one_slot z k d e in let alike : i ≡ m = omega arith in
+              subst (λ (y : ℕ × ℕ). (w ≡ learned_all (took_slot me.0 y.0 y.1 x)) × FoundSlot me.0 y.0 x) (λ c. (is c, alike c)) (refl, slot_found s h at k within),
+        ),
+      )
+
   same_anyway : (x g : ℕ) → Dec (x ≡ g) → either (eqb x g) g x ≡ x
   same_anyway x g (yes e) = ap (λ b. either b g x) (eq-eqb x g e) ∙ sym e
   same_anyway x g (no ne) = ap (λ b. either b g x) (ne_eqb x g ne)
@@ -313,6 +374,9 @@ counter_small z Words = omega arith
 pub content_small : (z : HeapSize) (c : ℕ) → c < z.words → content_at z c < word_count z
 content_small z c h = omega arith
 
+pub slot_small : (z : HeapSize) (k : ℕ) → k < z.slots → slot_at z k < word_count z
+slot_small z k h = omega arith
+
 pub length_small : (z : HeapSize) (i : ℕ) → i < z.ids → length_at z i < word_count z
 length_small z i h = omega arith
 
@@ -322,3 +386,15 @@ form_small z i h = omega arith
 -- an agent belongs to its heap after a step of its seat
 pub belongs_then : (h : Heap) (a b : Agent) → Belongs a h → b.share ≡ a.share → b.seat.table_id ≡ a.seat.table_id → Stays a.seat.me b.seat.me → Belongs b h
 belongs_then h a b g n t s = (t ∙ g.0, s.sizes ∙ g.1, s.live ∙ g.2, s.slots ∙ g.3, s.share ∙ (g.4 ∙ sym n), s.possible)
+
+-- what the view knows of a string that it saw in a slot may enter the history
+pub may_enter : (v : View) (k : ℕ) (o : Option ℕ) → get v.slots k ≡ o → MayEnter v k (units_by v o)
+may_enter v k None e = tt
+may_enter v k (Some i) e = with_units v k i e (get v.units i) refl
+  where
+    with_units : (v : View) (k i : ℕ) → get v.slots k ≡ Some i → (o : Option (List ℕ)) → get v.units i ≡ o → MayEnter v k o
+    with_units v k i e None u = tt
+    with_units v k i e (Some us) u = (i, e, u)
+
+pub may_enter_in : (v : View) (k : ℕ) → MayEnter v k (entry_in v k)
+may_enter_in v k = may_enter v k (get v.slots k) refl

@@ -1,5 +1,5 @@
 -- What stays as it is over a step: the forms whose births are built, and what the agent knew.
-use Rattle.std.proofs.Common.{◌≡◌, ◌≢◌, ℕ, zero, suc, ◌^◌, ◌<◌, inl, inr, ⊎_elim, Bool, true, false, cond, List, [], ◌∷◌, length, get_or, set, sym, refl, ap, ◌∙◌, subst, arith, get_or-set_other, get_or-set_same, Option, Some, None}
+use Rattle.std.proofs.Common.{◌≡◌, ◌≢◌, ℕ, zero, suc, ◌+◌, ◌^◌, ◌<◌, ◌⊎◌, inl, inr, ⊎_elim, Bool, true, false, cond, List, [], ◌∷◌, length, get_or, set, sym, refl, ap, ◌∙◌, subst, arith, get_or-set_other, get_or-set_same, Option, Some, None}
 use Rattle.std.specs.Prelude.{replicate, unwrap_or}
 use mathlib.Core.Logic.{dite}
 use native.Mathlib.Decide.{ℕ_discrete}
@@ -12,16 +12,19 @@ use Rattle.js_header.proofs.RoundTrip.{form_of-word_of}
 use Rattle.heap_rule.specs.declared.view.View.{View}
 use Rattle.heap_rule.specs.declared.size.HeapSize.{HeapSize}
 use Rattle.js_units.specs.Lanes.{words_over}
-use Rattle.heap_rule.specs.Layout.{form_at, form, length_word, content, word_count, IsBorn}
+use Rattle.heap_rule.specs.Layout.{form_at, form, length_word, content, slot, word_count, IsBorn}
+use Rattle.heap_rule.specs.Contents.{units_of}
 use Rattle.heap_rule.specs.Maps.{Has, HasKey, put_some, with_run_of}
 use Rattle.heap_rule.specs.Forms.{IsCons, IsLater}
 use Rattle.heap_rule.specs.Learning.{justified, learn_one, learn_into, learned_all, all_named}
 use Rattle.heap_rule.specs.Loads.{met_ids, with_form, added_loads, loaded_form, loaded_length, loaded_word}
 use Rattle.heap_rule.specs.Births.{born, units_for}
+use Rattle.heap_rule.specs.Slots.{with_slot, loaded_slot, took_slot}
 use Rattle.heap_rule.specs.Forms.{IsBuilt}
 use Rattle.heap_rule.specs.Sound.{At, IsSound}
 use Rattle.heap_rule.proofs.MapLemmas.{insert_same, insert_other, has_key, key_of}
 use Rattle.heap_rule.proofs.ListLemmas.{set_there}
+use Rattle.heap_rule.proofs.Seen.{slot_kept}
 use Rattle.heap_table.specs.Known.{KeepsKnown}
 use Rattle.heap_table.specs.Rule.{AreBuilt}
 
@@ -101,11 +104,32 @@ flat_stands wide start false (Sliced w s p) b l = b
 flat_stands wide start false (Thin t) b l = b
 flat_stands wide start true now b l = absurd (cc)
 
+-- neither does a form that is built stand where a part or a Thin was seen
+part_later : (wide : Bool) (parent offset : ℕ) (now : Form) → IsBuilt now → IsLater (Sliced wide parent offset) now → ⊥
+part_later wide parent offset (Flat w s f) b l = absurd (cc)
+part_later wide parent offset Unborn b l = b
+part_later wide parent offset (Cons w s f) b l = b
+part_later wide parent offset (Sliced w s f) b l = b
+part_later wide parent offset (Thin t) b l = b
+
+part_stands : (wide : Bool) (parent offset : ℕ) (now : Form) → IsBuilt now → (Sliced wide parent offset ≡ now) ⊎ IsLater (Sliced wide parent offset) now → ⊥
+part_stands wide parent offset now b way = ⊎_elim (λ (e : Sliced wide parent offset ≡ now). subst IsBuilt (sym e) b) (λ l. part_later wide parent offset now b l) way
+
+thin_stands : (t : ℕ) (now : Form) → IsBuilt now → (Thin t ≡ now) ⊎ IsLater (Thin t) now → ⊥
+thin_stands t now b way = ⊎_elim (λ (e : Thin t ≡ now). subst IsBuilt (sym e) b) (λ (l : IsLater (Thin t) now). absurd (cc)) way
+
 module _ (z : HeapSize) (agents : ℕ) (W : List ℕ) (vs : List View) (s : IsSound z agents W vs) (j : ℕ) (v : View) (at : At vs j v) (live : v.live ≡ true) where
-  -- what two sound views of the same words say of an id's units agrees
+  -- a step keeps the units of born ids
+  abbrev KeepsUnits : List ℕ → Type 0
+  KeepsUnits W' = (q : ℕ) → IsBorn z W q → units_of z W' q ≡ units_of z W q
+
+  -- so two sound views, before and after it, agree on an id's units
+  units_over : (W' : List ℕ) → KeepsUnits W' → (w : View) → w.live ≡ true → IsSound z agents W' (set vs j w) → ((q : ℕ) → HasKey v.units q → HasKey w.units q) → (i : ℕ) (us : List ℕ) → Has v.units i us → Has w.units i us
+  units_over W' same w l kept keys i us h = let p = has_key w.units i (keys i (key_of v.units i us h)) in let a = (s.knows j v at live).of_units i us h in
+      let b = ((kept.knows j w (set_there vs j w v at) l).of_units i p.0 p.1).1 in p.1 ∙ ap Some (sym b ∙ (same i a.0 ∙ a.1))
+
   units_stay : (w : View) → w.live ≡ true → IsSound z agents W (set vs j w) → ((q : ℕ) → HasKey v.units q → HasKey w.units q) → (i : ℕ) (us : List ℕ) → Has v.units i us → Has w.units i us
-  units_stay w l kept keys i us h = let p = has_key w.units i (keys i (key_of v.units i us h)) in let a = ((s.knows j v at live).of_units i us h).1 in
-      let b = ((kept.knows j w (set_there vs j w v at) l).of_units i p.0 p.1).1 in p.1 ∙ ap Some (sym b ∙ a)
+  units_stay = units_over W (λ q b. refl)
 
   with_learned : (m : FinMap nat_cmp (List ℕ)) (f : ℕ → Option (List ℕ)) (names : List ℕ) → m ≡ v.units → (q : ℕ) → HasKey v.units q → HasKey (learn_into f m names) q
   with_learned m f names e q h = keys_learned f names m q (subst (λ (y : FinMap nat_cmp (List ℕ)). HasKey y q) (sym e) h)
@@ -122,11 +146,20 @@ module _ (z : HeapSize) (agents : ℕ) (W : List ℕ) (vs : List View) (s : IsSo
         let same : Flat wide start fixed ≡ g = ⊎_elim (λ (y : Flat wide start fixed ≡ k.now). y ∙ now) (λ (y : IsLater (Flat wide start fixed) k.now). absurd (flat_stands wide start fixed g built' (subst (IsLater (Flat wide start fixed)) now y))) k.later in
         ap (get (insert v.forms i g)) e ∙ (insert_same v.forms i g ∙ ap Some (sym same)))
         (λ ne. insert_other v.forms i q g ne ∙ h);
+    parts = λ q wide parent offset h. dite (ℕ_discrete q i)
+        (λ (e : q ≡ i). let k = (s.knows j v at live).of_forms q (Sliced wide parent offset) h in let now : k.now ≡ g = (let d : Some k.now ≡ Some f = sym k.decodes ∙ (ap (λ (y : ℕ). form_of (form z W y)) e ∙ found) in cc) in
+        absurd (part_stands wide parent offset k.now (subst IsBuilt (sym now) built') k.later))
+        (λ ne. insert_other v.forms i q g ne ∙ h);
+    thins = λ q t h. dite (ℕ_discrete q i)
+        (λ (e : q ≡ i). let k = (s.knows j v at live).of_forms q (Thin t) h in let now : k.now ≡ g = (let d : Some k.now ≡ Some f = sym k.decodes ∙ (ap (λ (y : ℕ). form_of (form z W y)) e ∙ found) in cc) in
+        absurd (thin_stands t k.now (subst IsBuilt (sym now) built') k.later))
+        (λ ne. insert_other v.forms i q g ne ∙ h);
     settled = λ q h. dite (ℕ_discrete q i)
         (λ (e : q ≡ i). (g, ap (get (insert v.forms i g)) e ∙ insert_same v.forms i g, not_cons g built'))
         (λ ne. (h.0, insert_other v.forms i q g ne ∙ h.1, h.2));
     frozen = λ c x h. h;
     known = λ q h. ⊎_elim (λ (t : HasKey v.units q). inl (with_learned v.units (justified w) (all_named (entries w.forms)) refl q t)) (λ (t : HasKey v.met q). inr (met_stays v.met g q t)) h;
+    slots = λ k q h. h;
   }
 
   pub known_form : (i x : ℕ) (f : Form) → form_of x ≡ Some f → form_of (form z W i) ≡ Some f → IsBuilt f → IsSound z agents W (set vs j (learned_all (loaded_form v i x))) → KeepsKnown v (learned_all (loaded_form v i x))
@@ -139,9 +172,12 @@ module _ (z : HeapSize) (agents : ℕ) (W : List ℕ) (vs : List View) (s : IsSo
         (λ (e : q ≡ i). let n_is : n ≡ x = sym ((s.knows j v at live).of_lengths q n h).1 ∙ (ap (length_word z W) e ∙ is) in ap (get (insert v.lengths i x)) e ∙ (insert_same v.lengths i x ∙ ap Some (sym n_is)))
         (λ ne. insert_other v.lengths i q x ne ∙ h);
     flats = λ q wide start fixed h. h;
+    parts = λ q wide parent offset h. h;
+    thins = λ q t h. h;
     settled = λ q h. h;
     frozen = λ c y h. h;
     known = λ q h. ⊎_elim (λ (t : HasKey v.units q). inl (with_learned v.units (justified w) (all_named (entries w.forms)) refl q t)) (λ (t : HasKey v.met q). inr t) h;
+    slots = λ k q h. h;
   }
 
   known_word_by : (b : Bool) (c x : ℕ) → content z W c ≡ x → IsSound z agents W (set vs j (learned_all (cond b v (record v { frozen = insert v.frozen c x })))) → KeepsKnown v (learned_all (cond b v (record v { frozen = insert v.frozen c x })))
@@ -149,19 +185,25 @@ module _ (z : HeapSize) (agents : ℕ) (W : List ℕ) (vs : List View) (s : IsSo
     units = units_stay (learned_all v) live kept (with_learned v.units (justified v) (all_named (entries v.forms)) refl);
     lengths = λ q n h. h;
     flats = λ q wide start fixed h. h;
+    parts = λ q wide parent offset h. h;
+    thins = λ q t h. h;
     settled = λ q h. h;
     frozen = λ q y h. h;
     known = λ q h. ⊎_elim (λ (t : HasKey v.units q). inl (with_learned v.units (justified v) (all_named (entries v.forms)) refl q t)) (λ (t : HasKey v.met q). inr t) h;
+    slots = λ k q h. h;
   }
   known_word_by false c x is kept = let w : View = record v { frozen = insert v.frozen c x } in record {
     units = units_stay (learned_all w) live kept (with_learned v.units (justified w) (all_named (entries w.forms)) refl);
     lengths = λ q n h. h;
     flats = λ q wide start fixed h. h;
+    parts = λ q wide parent offset h. h;
+    thins = λ q t h. h;
     settled = λ q h. h;
     frozen = λ q y h. dite (ℕ_discrete q c)
         (λ (e : q ≡ c). let y_is : y ≡ x = sym ((s.knows j v at live).of_frozen q y h).1 ∙ (ap (content z W) e ∙ is) in ap (get (insert v.frozen c x)) e ∙ (insert_same v.frozen c x ∙ ap Some (sym y_is)))
         (λ ne. insert_other v.frozen c q x ne ∙ h);
     known = λ q h. ⊎_elim (λ (t : HasKey v.units q). inl (with_learned v.units (justified w) (all_named (entries w.forms)) refl q t)) (λ (t : HasKey v.met q). inr t) h;
+    slots = λ k q h. h;
   }
 
   pub known_word : (c x : ℕ) → content z W c ≡ x → IsSound z agents W (set vs j (learned_all (loaded_word v c x))) → KeepsKnown v (learned_all (loaded_word v c x))
@@ -175,7 +217,34 @@ module _ (z : HeapSize) (agents : ℕ) (W : List ℕ) (vs : List View) (s : IsSo
         units = λ q us h. insert_other v.units i q (units_for v (unwrap_or (get v.own_ids i) 0) f) (other q (k.of_units q us h).0) ∙ h;
         lengths = λ q n h. insert_other v.lengths i q (unwrap_or (get v.own_ids i) 0) (other q (k.of_lengths q n h).0) ∙ h;
         flats = λ q b t x h. insert_other v.forms i q f (other q (k.of_forms q (Flat b t x) h).born) ∙ h;
+        parts = λ q b p o h. insert_other v.forms i q f (other q (k.of_forms q (Sliced b p o) h).born) ∙ h;
+        thins = λ q t h. insert_other v.forms i q f (other q (k.of_forms q (Thin t) h).born) ∙ h;
         settled = λ q h. (h.0, insert_other v.forms i q f (other q (k.of_forms q h.0 h.1).born) ∙ h.1, h.2);
         frozen = λ c x h. run_stays v.own_words v.frozen start (words_over wide (unwrap_or (get v.own_ids i) 0)) c x ((k.of_frozen c x h).0.free j v at live) h;
         known = λ q h. ⊎_elim (λ (t : HasKey v.units q). inl (key_stays v.units i q (units_for v (unwrap_or (get v.own_ids i) 0) f) t)) (λ (t : HasKey v.met q). inr t) h;
+        slots = λ k q h. h;
       }
+
+  -- a step on a slot changes what the view has of slots and of met ids, and what it learns
+  known_with : (W' : List ℕ) → KeepsUnits W' → (w : View) → w.live ≡ true → w.units ≡ v.units → w.lengths ≡ v.lengths → w.forms ≡ v.forms → w.frozen ≡ v.frozen → ((q : ℕ) → HasKey v.met q → HasKey w.met q)
+      → ((k q : ℕ) → Has v.slots k q → Has w.slots k q) → IsSound z agents W' (set vs j (learned_all w)) → KeepsKnown v (learned_all w)
+  known_with W' same w l units lengths forms frozen met slots kept = let keys = with_learned w.units (justified w) (all_named (entries w.forms)) units in record {
+    units = units_over W' same (learned_all w) l kept keys;
+    lengths = λ q n h. subst (λ (m : FinMap nat_cmp ℕ). Has m q n) (sym lengths) h;
+    flats = λ q wide start fixed h. subst (λ (m : FinMap nat_cmp Form). Has m q (Flat wide start fixed)) (sym forms) h;
+    parts = λ q wide parent offset h. subst (λ (m : FinMap nat_cmp Form). Has m q (Sliced wide parent offset)) (sym forms) h;
+    thins = λ q t h. subst (λ (m : FinMap nat_cmp Form). Has m q (Thin t)) (sym forms) h;
+    settled = λ q h. (h.0, subst (λ (m : FinMap nat_cmp Form). Has m q h.0) (sym forms) h.1, h.2);
+    frozen = λ c x h. subst (λ (m : FinMap nat_cmp ℕ). Has m c x) (sym frozen) h;
+    known = λ q h. ⊎_elim (λ (t : HasKey v.units q). inl (keys q t)) (λ (t : HasKey v.met q). inr (met q t)) h;
+    slots = slots;
+  }
+
+  pub known_slot : (k : ℕ) → k < z.slots → (entry : Option (List ℕ)) (x : ℕ) → slot z W k ≡ x → IsSound z agents W (set vs j (learned_all (loaded_slot v k entry x))) → KeepsKnown v (learned_all (loaded_slot v k entry x))
+  known_slot k inside entry zero e kept = known_with W (λ q b. refl) (loaded_slot v k entry zero) live refl refl refl refl (λ q h. h) (λ l q h. h) kept
+  known_slot k inside entry (suc i) e kept = known_with W (λ q b. refl) (loaded_slot v k entry (suc i)) live refl refl refl refl (λ q h. key_stays v.met i q tt h) (slot_kept z agents W vs s j v at live k inside (suc i) e) kept
+
+  pub known_took : (W' : List ℕ) → KeepsUnits W' → (k i : ℕ) → k < z.slots → (x : ℕ) → slot z W k ≡ x → IsSound z agents W' (set vs j (learned_all (took_slot v k i x))) → KeepsKnown v (learned_all (took_slot v k i x))
+  known_took W' same k i inside zero e kept = known_with W' same (took_slot v k i zero) live refl refl refl refl (λ q h. h)
+      (λ l q h. insert_other v.slots k l i (λ (t : l ≡ k). let o : slot z W k ≡ q + 1 = ap (slot z W) (sym t) ∙ ((s.knows j v at live).of_slots l q h).1 in omega arith) ∙ h) kept
+  known_took W' same k i inside (suc x) e kept = known_with W' same (with_slot v k (suc x)) live refl refl refl refl (λ q h. key_stays v.met x q tt h) (slot_kept z agents W vs s j v at live k inside (suc x) e) kept

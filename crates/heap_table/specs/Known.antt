@@ -1,8 +1,8 @@
--- What an agent knows stays known: which strings, their units and lengths, Flats, which strings are settled, and frozen words; and all else that a
--- view has.
+-- What an agent knows stays known: which strings, their units and lengths, forms that are no Cons, which strings are settled, frozen words, and which
+-- ids are in slots; and all else that a view has.
 use Rattle.std.specs.Prelude.{◌≡◌, ℕ, Bool, false, List}
 use Rattle.js_header.specs.declared.form.Form.{Form}
-use Rattle.js_header.specs.declared.form.Form.TheVariants.{Flat}
+use Rattle.js_header.specs.declared.form.Form.TheVariants.{Flat, Sliced, Thin}
 use Rattle.heap_rule.specs.declared.view.View.{View}
 use Rattle.heap_rule.specs.Maps.{Has, HasKey}
 use Rattle.heap_rule.specs.Forms.{is_later}
@@ -12,9 +12,12 @@ pub record KeepsKnown (v w : View) : Type 0 where
   pub units : (i : ℕ) (us : List ℕ) → Has v.units i us → Has w.units i us
   pub lengths : (i n : ℕ) → Has v.lengths i n → Has w.lengths i n
   pub flats : (i : ℕ) (wide : Bool) (start : ℕ) (fixed : Bool) → Has v.forms i (Flat wide start fixed) → Has w.forms i (Flat wide start fixed)
+  pub parts : (i : ℕ) (wide : Bool) (parent offset : ℕ) → Has v.forms i (Sliced wide parent offset) → Has w.forms i (Sliced wide parent offset)
+  pub thins : (i t : ℕ) → Has v.forms i (Thin t) → Has w.forms i (Thin t)
   pub settled : (i : ℕ) → IsSettled v i → IsSettled w i
   pub frozen : (c x : ℕ) → Has v.frozen c x → Has w.frozen c x
   pub known : (i : ℕ) → IsKnown v i → IsKnown w i
+  pub slots : (k i : ℕ) → Has v.slots k i → Has w.slots k i
 
 -- The view w has what v has beside that: its own ids and words with what it stored there, known ids, frozen words with their contents,
 -- slots with their ids, and for each id with a form a form that isn't an earlier one.

@@ -5,4 +5,5 @@ pub mod Taken
 pub mod Plays
 pub mod Agents
 pub mod Full
+pub mod Slots
 pub mod Moments

@@ -25,6 +25,11 @@ abbrev pub second_of : Access → ℕ
 second_of (exchanges old new) = new
 second_of _ = 0
 
--- what a play tells of a step on the word of a kind, with the operands of that kind: the view becomes what the kind makes of it by the word found
+-- what a play tells of a step on the word of a kind, with the operands of that kind: the view becomes what the kind makes of it by the word found;
+-- the kind may go by the view
+abbrev pub IsOfKindBy : (Step (Unit {0}) → Sat → ℕ → Sat → Type 0) → (View → Kind) → Type 0
+IsOfKindBy tells e = (slots : ℕ) (me me' : Sat) (x : ℕ)
+    → tells (step slots (place_of me.0.sizes (e me.0)) (first_of (access_of (e me.0))) (second_of (access_of (e me.0))) none) me x me' → me'.0 ≡ view_on_heap me.0 (e me.0) x
+
 abbrev pub IsOfKind : (Step (Unit {0}) → Sat → ℕ → Sat → Type 0) → Kind → Type 0
-IsOfKind tells e = (slots : ℕ) (me me' : Sat) (x : ℕ) → tells (step slots (place_of me.0.sizes e) (first_of (access_of e)) (second_of (access_of e)) none) me x me' → me'.0 ≡ view_on_heap me.0 e x
+IsOfKind tells e = IsOfKindBy tells (λ v. e)

@@ -1,18 +1,19 @@
 -- What each step of the table tells its caller. A step is given as the number of its word and two operands; so each says what it did for every
 -- counter, id or place that spells that number, and a caller puts in its own.
-use Rattle.std.specs.Prelude.{Some, ◌≡◌, ℕ, ◌+◌, ◌<◌, ◌≤◌}
+use Rattle.std.specs.Prelude.{Some, None, Option, ◌≡◌, ℕ, ◌+◌, ◌<◌, ◌≤◌, List, Contains}
 use Rattle.atomic_table.specs.Table.{Step, Me}
 use Rattle.js_header.specs.Form.{IsInRange, form_of, word_of}
 use Rattle.js_header.specs.declared.form.Form.{Form}
 use Rattle.heap_rule.specs.declared.view.View.{View}
 use Rattle.heap_rule.specs.declared.size.Counter.{Counter}
 use Rattle.heap_rule.specs.declared.size.Counter.TheVariants.{Ids, Words}
-use Rattle.heap_rule.specs.Layout.{counter_at, end_of, content_at, form_at, length_at, MAX, count_in}
-use Rattle.heap_rule.specs.Maps.{HasKey}
+use Rattle.heap_rule.specs.Layout.{counter_at, end_of, content_at, form_at, length_at, slot_at, MAX, count_in}
+use Rattle.heap_rule.specs.Maps.{Has, HasKey}
 use Rattle.heap_rule.specs.Views.{IsKnown, shown}
 use Rattle.heap_rule.specs.Claims.{loaded_counter, claimed}
 use Rattle.heap_rule.specs.Births.{stored_word, stored_length, born}
 use Rattle.heap_rule.specs.Loads.{loaded_form, loaded_length, loaded_word}
+use Rattle.heap_rule.specs.Slots.{entry_in, loaded_slot, took_slot}
 use Rattle.heap_rule.specs.Learning.{learned_all}
 use Rattle.heap_rule.specs.Agents.{noted}
 use Rattle.heap_rule.specs.Forms.{IsBuilt}
@@ -32,6 +33,13 @@ pub record FoundCounter (v : View) (k : Counter) (x : ℕ) : Type 0 where
   pub own_ids : k ≡ Ids → (i : ℕ) → HasKey v.own_ids i → i < x
   pub own_words : k ≡ Words → (c : ℕ) → HasKey v.own_words c → c < x
   pub whole : v.share ≡ v.agents → x ≡ count_in v.used k
+
+-- What the rule says of the word of a slot that is found: a used slot has one of the heap's ids; what the view has there is found again; and an
+-- agent that holds the whole share has every used slot in a call of its own.
+pub record FoundSlot (v : View) (k x : ℕ) : Type 0 where
+  pub within : (i : ℕ) → x ≡ i + 1 → i < v.sizes.ids
+  pub again : (i : ℕ) → Has v.slots k i → x ≡ i + 1
+  pub whole : v.share ≡ v.agents → (i : ℕ) → x ≡ i + 1 → (u : List ℕ) × Contains v.mine (u, i)
 
 -- what each step of one agent leaves as it is, and that the new view stands in a sound state
 pub record Stays (me me' : Sat) : Type 0 where
@@ -64,6 +72,19 @@ LoadedLength st me x me' = Stays me me' × KeepsKnown me.0 me'.0 × (x ≤ MAX) 
 
 abbrev pub LoadedWord : Step (Unit {0}) → Sat → ℕ → Sat → Type 0
 LoadedWord st me x me' = Stays me me' × KeepsKnown me.0 me'.0 × ((c : ℕ) → st.word ≡ content_at me.0.sizes c → (me'.0 ≡ learned_all (loaded_word me.0 c x)) × (x ≡ shown me'.0 c))
+
+-- a load of a slot, with the entry that the view has for the history
+abbrev pub SawSlot : (View → ℕ → Option (List ℕ)) → Step (Unit {0}) → Sat → ℕ → Sat → Type 0
+SawSlot entry st me x me' = Stays me me' × KeepsKnown me.0 me'.0 × ((k : ℕ) → st.word ≡ slot_at me.0.sizes k → (me'.0 ≡ learned_all (loaded_slot me.0 k (entry me.0 k) x)) × FoundSlot me.0 k x)
+
+abbrev pub LoadedSlot : Step (Unit {0}) → Sat → ℕ → Sat → Type 0
+LoadedSlot = SawSlot (λ v k. None)
+
+abbrev pub EnteredSlot : Step (Unit {0}) → Sat → ℕ → Sat → Type 0
+EnteredSlot = SawSlot entry_in
+
+abbrev pub TookSlot : Step (Unit {0}) → Sat → ℕ → Sat → Type 0
+TookSlot st me x me' = Stays me me' × KeepsKnown me.0 me'.0 × ((k i : ℕ) → st.word ≡ slot_at me.0.sizes k → st.second ≡ i + 1 → (me'.0 ≡ learned_all (took_slot me.0 k i x)) × FoundSlot me.0 k x)
 
 abbrev pub Noted : Step (Unit {0}) → Sat → ℕ → Sat → Type 0
 Noted st me x me' = Stays me me' × (me'.0 ≡ noted me.0 st.first)

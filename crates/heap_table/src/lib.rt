@@ -14,6 +14,7 @@ mod heap;
 mod laws;
 mod loads;
 mod rule;
+mod slots;
 mod stores;
 
 pub use agent::Agent;

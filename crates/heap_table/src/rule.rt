@@ -93,6 +93,34 @@ impl Play<(), View> for LoadsWord {
     ghost then = { LoadedWord };
 }
 
+/// A load of a slot.
+pub struct LoadsSlot;
+
+impl Play<(), View> for LoadsSlot {
+    ghost use Rattle.heap_table.specs.Plays.{LoadedSlot};
+
+    ghost then = { LoadedSlot };
+}
+
+/// A load of a slot that enters the call in the history, with what the view knows of the string
+/// that it saw there.
+pub struct EntersSlot;
+
+impl Play<(), View> for EntersSlot {
+    ghost use Rattle.heap_table.specs.Plays.{EnteredSlot};
+
+    ghost then = { EnteredSlot };
+}
+
+/// A compare-exchange of a slot from 0.
+pub struct TakesSlot;
+
+impl Play<(), View> for TakesSlot {
+    ghost use Rattle.heap_table.specs.Plays.{TookSlot};
+
+    ghost then = { TookSlot };
+}
+
 /// A note of the share that is about to be given. It changes no word and is no event of the
 /// machine.
 pub struct NotesShare;

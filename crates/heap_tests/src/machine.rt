@@ -1,7 +1,7 @@
 // The machine on small heaps, word by word.
 use heap_core::{CoreState, Counter, Event, HeapSize, Refusal, apply, enabled};
 use js_header::Form;
-use js_units::hash_step;
+use js_units::{Units, hash_step};
 use std::alloc::{AllocError, Global};
 use std::process::Abort;
 
@@ -452,6 +452,66 @@ fn what_is_not_enabled(rt: HostRuntime) {
     refuse(&rt, &mut state, &store_word(0, 0), words.as_slice());
     refuse(&rt, &mut state, &store_length(0, 3), words.as_slice());
     refuse(&rt, &mut state, &birth(0, flat(false, 0)), words.as_slice());
+}
+
+fn load_slot(rt: &impl Abort, alloc: Global, slot: u32, entry: Option<Units>) -> Event {
+    match names(alloc, [].as_slice()) {
+        Ok(learn) => Event::LoadSlot {
+            view: 0,
+            slot,
+            entry,
+            learn,
+        },
+        Err(_) => panic!(rt; "no memory"),
+    }
+}
+
+fn take_slot(rt: &impl Abort, alloc: Global, slot: u32, id: u32) -> Event {
+    match names(alloc, [].as_slice()) {
+        Ok(learn) => Event::TakeSlot {
+            view: 0,
+            slot,
+            id,
+            learn,
+        },
+        Err(_) => panic!(rt; "no memory"),
+    }
+}
+
+// The string abc, and a fixed Flat over the same word, which goes into the slot of its hash,
+// 96354 modulo 2. The next slot isn't for it, since the one before has the same units.
+#[test]
+fn a_string_goes_into_a_slot(rt: HostRuntime) {
+    let alloc = rt.alloc();
+    let mut state = CoreState::new(alloc);
+    play(&rt, &mut state, &make(4, 4, 2, 1), 0);
+    play(&rt, &mut state, &claim(Counter::Words, 0, 1), 0);
+    play(&rt, &mut state, &store_word(0, 6513249), 0);
+    play(&rt, &mut state, &claim(Counter::Ids, 0, 1), 0);
+    play(&rt, &mut state, &store_length(0, 3), 0);
+    play(&rt, &mut state, &birth(0, flat(false, 0)), 0);
+    play(&rt, &mut state, &load_slot(&rt, alloc, 0, None), 0);
+    play(&rt, &mut state, &claim(Counter::Ids, 1, 1), 1);
+    play(&rt, &mut state, &store_length(1, 3), 0);
+    let fixed = Form::Flat {
+        wide: false,
+        start: 0,
+        fixed: true,
+    };
+    play(&rt, &mut state, &birth(1, fixed), 0);
+    play(&rt, &mut state, &take_slot(&rt, alloc, 0, 1), 0);
+    let words = [2, 1, 2, 0, 1, 3, 17, 3, 0, 0, 0, 0, 6513249, 0, 0, 0];
+    refuse(
+        &rt,
+        &mut state,
+        &take_slot(&rt, alloc, 1, 1),
+        words.as_slice(),
+    );
+    play(&rt, &mut state, &load_slot(&rt, alloc, 0, None), 2);
+    match state.entry_for(0, 0) {
+        Some(units) => assert!(rt; units.as_slice() == [97, 98, 99].as_slice()),
+        None => panic!(rt; "no entry"),
+    }
 }
 
 // Two lists with one hash.

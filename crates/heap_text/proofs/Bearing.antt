@@ -1,16 +1,15 @@
 -- A Flat over the words that were written has the units.
-use Rattle.std.proofs.Common.{◌≡◌, ℕ, zero, suc, ◌+◌, ◌-◌, ◌*◌, ◌/◌, ◌%◌, ◌<◌, inl, Bool, true, false, List, length, get_or, refl, ap, ◌∙◌, subst, arith, Some, None, Option}
+use Rattle.std.proofs.Common.{◌≡◌, ℕ, ◌+◌, ◌-◌, ◌*◌, ◌/◌, ◌%◌, ◌<◌, inl, Bool, true, false, List, length, get_or, refl, ap, ◌∙◌, subst, arith, Some, Option}
 use Rattle.std.specs.Prelude.{unwrap_or}
 use Rattle.std.proofs.lemmas.List.{get_or_past}
 use Rattle.std.proofs.lemmas.Grind.{same_number_lists}
-use Rattle.std.specs.FinMap.{FinMap, get}
-use Rattle.std.specs.Ordering.{nat_cmp}
+use Rattle.std.specs.FinMap.{get}
 use Rattle.js_units.specs.Lanes.{lane_count, lane_of, words_over}
 use Rattle.js_header.specs.declared.form.Form.TheVariants.{Flat}
 use Rattle.heap_rule.specs.declared.view.View.{View}
 use Rattle.heap_rule.specs.declared.size.Counter.TheVariants.{Ids}
 use Rattle.heap_rule.specs.Contents.{lane_in, span}
-use Rattle.heap_rule.specs.Maps.{Has, HasKey, put_some, with_run_of}
+use Rattle.heap_rule.specs.Maps.{Has, HasKey}
 use Rattle.heap_rule.specs.Views.{shown}
 use Rattle.heap_rule.specs.Births.{Fits, born, stored_length, units_for}
 use Rattle.heap_rule.specs.Claims.{won_claim}
@@ -19,7 +18,6 @@ use Rattle.heap_rule.proofs.MapLemmas.{insert_same, key_of}
 use Rattle.heap_rule.proofs.Possible.{span_lane}
 use Rattle.heap_table.specs.Known.{KeepsKnown}
 use Rattle.heap_text.specs.Texts.{Continues}
-use Rattle.heap_text.proofs.Loaded.{key_more, more_ids}
 use Rattle.heap_text.specs.Written.{IsWritten}
 
 -- the word and the lane of a unit
@@ -67,13 +65,5 @@ born_units v i n wide start us h own e = let f = Flat wide start false in
 pub born_form : (v : View) (i : ℕ) (wide : Bool) (start : ℕ) → Has (born v i (Flat wide start false)).forms i (Flat wide start false)
 born_form v i wide start = insert_same v.forms i (Flat wide start false)
 
-put_more : (m : FinMap nat_cmp ℕ) (k q : ℕ) (o : Option ℕ) → HasKey m q → HasKey (put_some m k o) q
-put_more m k q None h = h
-put_more m k q (Some x) h = key_more m k q x h
-
-run_of_more : (other m : FinMap nat_cmp ℕ) (k n q : ℕ) → HasKey m q → HasKey (with_run_of other m k n) q
-run_of_more other m k zero q h = h
-run_of_more other m k (suc n) q h = run_of_more other (put_some m k (get other k)) (suc k) n q (put_more m k q (get other k) h)
-
 pub continues_born : (v : View) (i : ℕ) (wide : Bool) (start : ℕ) → KeepsKnown v (born v i (Flat wide start false)) → Continues v (born v i (Flat wide start false))
-continues_born v i wide start k = record { known = k; ids = more_ids v (born v i (Flat wide start false)) k (λ j h. h); frozen = λ c h. run_of_more v.own_words v.frozen start (words_over wide (unwrap_or (get v.own_ids i) 0)) c h; sizes = refl; agents = refl; live = refl; share = refl; ids_used = omega arith; words_used = omega arith; ids_low = omega arith; words_low = omega arith; slots = refl; seen = refl; mine = refl }
+continues_born v i wide start k = record { known = k; sizes = refl; agents = refl; live = refl; share = refl; ids_used = omega arith; words_used = omega arith; ids_low = omega arith; words_low = omega arith; slots = refl; seen = refl; mine = refl }

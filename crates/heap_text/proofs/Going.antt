@@ -19,8 +19,6 @@ use Rattle.heap_text.proofs.Loaded.{key_more, known_trans}
 pub continues_trans : (u v w : View) → Continues u v → Continues v w → Continues u w
 continues_trans u v w a b = let a0 = a.ids_used in let b0 = b.ids_used in let a1 = a.words_used in let b1 = b.words_used in let a2 = a.ids_low in let b2 = b.ids_low in let a3 = a.words_low in let b3 = b.words_low in record {
   known = known_trans u v w a.known b.known;
-  ids = λ i h. b.ids i (a.ids i h);
-  frozen = λ c h. b.frozen c (a.frozen c h);
   sizes = b.sizes ∙ a.sizes;
   agents = b.agents ∙ a.agents;
   live = b.live ∙ a.live;
@@ -37,8 +35,6 @@ continues_trans u v w a b = let a0 = a.ids_used in let b0 = b.ids_used in let a1
 pub continues_reads : (v w : View) → Reads v w → Continues v w
 continues_reads v w r = record {
   known = r.known;
-  ids = r.ids;
-  frozen = r.frozen;
   sizes = r.sizes;
   agents = r.agents;
   live = r.live;
@@ -55,22 +51,20 @@ continues_reads v w r = record {
 -- one step that leaves what is known as it is
 module _ (v : View) where
   pub known_words : (at want : ℕ) → KeepsKnown v (won_claim v Words at want)
-  known_words at want = record { units = λ i us h. h; lengths = λ i n h. h; flats = λ i wide start fixed h. h; settled = λ i h. h; frozen = λ c x h. h; known = λ i h. h }
+  known_words at want = record { units = λ i us h. h; lengths = λ i n h. h; flats = λ i wide start fixed h. h; parts = λ i wide parent offset h. h; thins = λ i t h. h; settled = λ i h. h; frozen = λ c x h. h; known = λ i h. h; slots = λ k i h. h }
 
   pub known_ids : (at want : ℕ) → KeepsKnown v (won_claim v Ids at want)
-  known_ids at want = record { units = λ i us h. h; lengths = λ i n h. h; flats = λ i wide start fixed h. h; settled = λ i h. h; frozen = λ c x h. h; known = λ i h. h }
+  known_ids at want = record { units = λ i us h. h; lengths = λ i n h. h; flats = λ i wide start fixed h. h; parts = λ i wide parent offset h. h; thins = λ i t h. h; settled = λ i h. h; frozen = λ c x h. h; known = λ i h. h; slots = λ k i h. h }
 
   pub known_stored : (c x : ℕ) → KeepsKnown v (stored_word v c x)
-  known_stored c x = record { units = λ i us h. h; lengths = λ i n h. h; flats = λ i wide start fixed h. h; settled = λ i h. h; frozen = λ c x h. h; known = λ i h. h }
+  known_stored c x = record { units = λ i us h. h; lengths = λ i n h. h; flats = λ i wide start fixed h. h; parts = λ i wide parent offset h. h; thins = λ i t h. h; settled = λ i h. h; frozen = λ c x h. h; known = λ i h. h; slots = λ k i h. h }
 
   pub known_length : (i n : ℕ) → KeepsKnown v (stored_length v i n)
-  known_length i n = record { units = λ i us h. h; lengths = λ i n h. h; flats = λ i wide start fixed h. h; settled = λ i h. h; frozen = λ c x h. h; known = λ i h. h }
+  known_length i n = record { units = λ i us h. h; lengths = λ i n h. h; flats = λ i wide start fixed h. h; parts = λ i wide parent offset h. h; thins = λ i t h. h; settled = λ i h. h; frozen = λ c x h. h; known = λ i h. h; slots = λ k i h. h }
 
   pub continues_words : (w : View) (at want : ℕ) → w ≡ won_claim v Words at want → v.low.words ≤ w.low.words → Continues v w
   continues_words w at want e l = let l' : v.low.words ≤ at + want = subst (λ (x : View). v.low.words ≤ x.low.words) e l in subst (Continues v) (sym e) record {
     known = known_words at want;
-    ids = λ i h. h;
-    frozen = λ c h. h;
     sizes = refl;
     agents = refl;
     live = refl;
@@ -87,8 +81,6 @@ module _ (v : View) where
   pub continues_ids : (w : View) (at want : ℕ) → w ≡ won_claim v Ids at want → v.low.ids ≤ w.low.ids → Continues v w
   continues_ids w at want e l = let l' : v.low.ids ≤ at + want = subst (λ (x : View). v.low.ids ≤ x.low.ids) e l in subst (Continues v) (sym e) record {
     known = known_ids at want;
-    ids = λ i h. h;
-    frozen = λ c h. h;
     sizes = refl;
     agents = refl;
     live = refl;
@@ -104,9 +96,7 @@ module _ (v : View) where
 
   pub continues_full_words : (w : View) (at : ℕ) → w ≡ loaded_counter v Words at → v.low.words ≤ w.low.words → Continues v w
   continues_full_words w at e l = let l' : v.low.words ≤ at = subst (λ (x : View). v.low.words ≤ x.low.words) e l in subst (Continues v) (sym e) record {
-    known = record { units = λ i us h. h; lengths = λ i n h. h; flats = λ i wide start fixed h. h; settled = λ i h. h; frozen = λ c x h. h; known = λ i h. h };
-    ids = λ i h. h;
-    frozen = λ c h. h;
+    known = record { units = λ i us h. h; lengths = λ i n h. h; flats = λ i wide start fixed h. h; parts = λ i wide parent offset h. h; thins = λ i t h. h; settled = λ i h. h; frozen = λ c x h. h; known = λ i h. h; slots = λ k i h. h };
     sizes = refl;
     agents = refl;
     live = refl;
@@ -122,9 +112,7 @@ module _ (v : View) where
 
   pub continues_full_ids : (w : View) (at : ℕ) → w ≡ loaded_counter v Ids at → v.low.ids ≤ w.low.ids → Continues v w
   continues_full_ids w at e l = let l' : v.low.ids ≤ at = subst (λ (x : View). v.low.ids ≤ x.low.ids) e l in subst (Continues v) (sym e) record {
-    known = record { units = λ i us h. h; lengths = λ i n h. h; flats = λ i wide start fixed h. h; settled = λ i h. h; frozen = λ c x h. h; known = λ i h. h };
-    ids = λ i h. h;
-    frozen = λ c h. h;
+    known = record { units = λ i us h. h; lengths = λ i n h. h; flats = λ i wide start fixed h. h; parts = λ i wide parent offset h. h; thins = λ i t h. h; settled = λ i h. h; frozen = λ c x h. h; known = λ i h. h; slots = λ k i h. h };
     sizes = refl;
     agents = refl;
     live = refl;
@@ -139,10 +127,10 @@ module _ (v : View) where
   }
 
   pub continues_stored : (c x : ℕ) → Continues v (stored_word v c x)
-  continues_stored c x = record { known = known_stored c x; ids = λ i h. h; frozen = λ d h. h; sizes = refl; agents = refl; live = refl; share = refl; ids_used = omega arith; words_used = omega arith; ids_low = omega arith; words_low = omega arith; slots = refl; seen = refl; mine = refl }
+  continues_stored c x = record { known = known_stored c x; sizes = refl; agents = refl; live = refl; share = refl; ids_used = omega arith; words_used = omega arith; ids_low = omega arith; words_low = omega arith; slots = refl; seen = refl; mine = refl }
 
   pub continues_length : (i n : ℕ) → Continues v (stored_length v i n)
-  continues_length i n = record { known = known_length i n; ids = λ j h. h; frozen = λ d h. h; sizes = refl; agents = refl; live = refl; share = refl; ids_used = omega arith; words_used = omega arith; ids_low = omega arith; words_low = omega arith; slots = refl; seen = refl; mine = refl }
+  continues_length i n = record { known = known_length i n; sizes = refl; agents = refl; live = refl; share = refl; ids_used = omega arith; words_used = omega arith; ids_low = omega arith; words_low = omega arith; slots = refl; seen = refl; mine = refl }
 
 module _ {X : Type 0} where
   pub run_kept : (m : FinMap nat_cmp X) (k n q : ℕ) (x : X) → HasKey m q → HasKey (with_run m k n x) q

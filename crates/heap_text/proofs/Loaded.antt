@@ -1,16 +1,14 @@
 -- A load leaves all but what it read and what is learned from it.
-use Rattle.std.proofs.Common.{◌≡◌, ℕ, ◌⊎◌, ⊎_elim, inl, inr, Bool, true, false, cond, sym, refl, ap, ◌∙◌, subst, Option, Some, None}
+use Rattle.std.proofs.Common.{◌≡◌, ℕ, ◌⊎◌, inl, inr, Bool, true, false, cond, sym, refl, ap, ◌∙◌, subst, Option, Some, None}
 use mathlib.Core.Logic.{dite}
 use native.Mathlib.Decide.{ℕ_discrete}
 use Rattle.std.specs.Ordering.{nat_cmp}
 use Rattle.std.specs.FinMap.{FinMap, contains_key, get, insert}
 use Rattle.js_header.specs.Form.{form_of}
 use Rattle.js_header.specs.declared.form.Form.{Form}
-use Rattle.js_header.specs.declared.form.Form.TheVariants.{Unborn, Flat, Cons, Sliced, Thin}
 use Rattle.heap_rule.specs.declared.view.View.{View}
 use Rattle.heap_rule.specs.Maps.{HasKey}
-use Rattle.heap_rule.specs.Views.{IsKnown}
-use Rattle.heap_rule.specs.Loads.{met_ids, with_form, loaded_form, loaded_length, loaded_word}
+use Rattle.heap_rule.specs.Loads.{with_form, loaded_form, loaded_length, loaded_word}
 use Rattle.heap_rule.specs.Learning.{learned_all}
 use Rattle.heap_rule.proofs.MapLemmas.{has_key, insert_other, insert_same, key_of}
 use Rattle.heap_table.specs.Known.{KeepsKnown}
@@ -21,13 +19,16 @@ known_trans u v w a b = record {
   units = λ i us h. b.units i us (a.units i us h);
   lengths = λ i n h. b.lengths i n (a.lengths i n h);
   flats = λ i wide start fixed h. b.flats i wide start fixed (a.flats i wide start fixed h);
+  parts = λ i wide parent offset h. b.parts i wide parent offset (a.parts i wide parent offset h);
+  thins = λ i t h. b.thins i t (a.thins i t h);
   settled = λ i h. b.settled i (a.settled i h);
   frozen = λ c x h. b.frozen c x (a.frozen c x h);
   known = λ i h. b.known i (a.known i h);
+  slots = λ k i h. b.slots k i (a.slots k i h);
 }
 
 pub known_refl : (v : View) → KeepsKnown v v
-known_refl v = record { units = λ i us h. h; lengths = λ i n h. h; flats = λ i wide start fixed h. h; settled = λ i h. h; frozen = λ c x h. h; known = λ i h. h }
+known_refl v = record { units = λ i us h. h; lengths = λ i n h. h; flats = λ i wide start fixed h. h; parts = λ i wide parent offset h. h; thins = λ i t h. h; settled = λ i h. h; frozen = λ c x h. h; known = λ i h. h; slots = λ k i h. h }
 
 module _ {X : Type 0} where
   -- a key stays while another is put in
@@ -36,21 +37,9 @@ module _ {X : Type 0} where
       (λ e. key_of (insert m k x) q x (ap (get (insert m k x)) e ∙ insert_same m k x))
       (λ ne. let p = has_key m q h in key_of (insert m k x) q p.0 (insert_other m k q x ne ∙ p.1))
 
-pub more_ids : (v w : View) → KeepsKnown v w → ((i : ℕ) → HasKey v.met i → HasKey w.met i) → (i : ℕ) → IsKnown v i → IsKnown w i
-more_ids v w k m i h = ⊎_elim (λ (a : HasKey v.units i). let p = has_key v.units i a in inl (key_of w.units i p.0 (k.units i p.0 p.1))) (λ (b : HasKey v.met i). inr (m i b)) h
-
-met_more : (m : FinMap nat_cmp (Unit {0})) (f : Form) (i : ℕ) → HasKey m i → HasKey (met_ids m f) i
-met_more m Unborn i h = h
-met_more m (Flat wide start fixed) i h = h
-met_more m (Cons wide left right) i h = key_more (insert m left tt) right i tt (key_more m left i tt h)
-met_more m (Sliced wide parent offset) i h = key_more m parent i tt h
-met_more m (Thin target) i h = key_more m target i tt h
-
 pub reads_trans : (u v w : View) → Reads u v → Reads v w → Reads u w
 reads_trans u v w a b = record {
   known = known_trans u v w a.known b.known;
-  ids = λ i h. b.ids i (a.ids i h);
-  frozen = λ c h. b.frozen c (a.frozen c h);
   sizes = b.sizes ∙ a.sizes;
   agents = b.agents ∙ a.agents;
   live = b.live ∙ a.live;
@@ -65,22 +54,22 @@ reads_trans u v w a b = record {
 }
 
 pub reads_refl : (v : View) → Reads v v
-reads_refl v = record { known = known_refl v; ids = λ i h. h; frozen = λ c h. h; sizes = refl; agents = refl; live = refl; share = refl; used = refl; low = refl; own_ids = refl; own_words = refl; slots = refl; seen = refl; mine = refl }
+reads_refl v = record { known = known_refl v; sizes = refl; agents = refl; live = refl; share = refl; used = refl; low = refl; own_ids = refl; own_words = refl; slots = refl; seen = refl; mine = refl }
 
 pub reads_length : (v w : View) (i n : ℕ) → KeepsKnown v w → w ≡ learned_all (loaded_length v i n) → Reads v w
 reads_length v w i n k e = subst (Reads v) (sym e)
-    record { known = subst (KeepsKnown v) e k; ids = more_ids v (learned_all (loaded_length v i n)) (subst (KeepsKnown v) e k) (λ j h. h); frozen = λ c h. h; sizes = refl; agents = refl; live = refl; share = refl; used = refl; low = refl; own_ids = refl; own_words = refl; slots = refl; seen = refl; mine = refl }
+    record { known = subst (KeepsKnown v) e k; sizes = refl; agents = refl; live = refl; share = refl; used = refl; low = refl; own_ids = refl; own_words = refl; slots = refl; seen = refl; mine = refl }
 
 form_by : (v : View) (i n : ℕ) (o : Option Form) → KeepsKnown v (learned_all (record (with_form v i o) { form_loads = n })) → Reads v (learned_all (record (with_form v i o) { form_loads = n }))
-form_by v i n None k = record { known = k; ids = more_ids v (learned_all (record v { form_loads = n })) k (λ j h. h); frozen = λ c h. h; sizes = refl; agents = refl; live = refl; share = refl; used = refl; low = refl; own_ids = refl; own_words = refl; slots = refl; seen = refl; mine = refl }
-form_by v i n (Some f) k = record { known = k; ids = more_ids v (learned_all (record (with_form v i (Some f)) { form_loads = n })) k (met_more v.met f); frozen = λ c h. h; sizes = refl; agents = refl; live = refl; share = refl; used = refl; low = refl; own_ids = refl; own_words = refl; slots = refl; seen = refl; mine = refl }
+form_by v i n None k = record { known = k; sizes = refl; agents = refl; live = refl; share = refl; used = refl; low = refl; own_ids = refl; own_words = refl; slots = refl; seen = refl; mine = refl }
+form_by v i n (Some f) k = record { known = k; sizes = refl; agents = refl; live = refl; share = refl; used = refl; low = refl; own_ids = refl; own_words = refl; slots = refl; seen = refl; mine = refl }
 
 pub reads_form : (v w : View) (i x : ℕ) → KeepsKnown v w → w ≡ learned_all (loaded_form v i x) → Reads v w
 reads_form v w i x k e = subst (Reads v) (sym e) (form_by v i _ (form_of x) (subst (KeepsKnown v) e k))
 
 word_by : (v : View) (c x : ℕ) (b : Bool) → KeepsKnown v (learned_all (cond b v (record v { frozen = insert v.frozen c x }))) → Reads v (learned_all (cond b v (record v { frozen = insert v.frozen c x })))
-word_by v c x true k = record { known = k; ids = more_ids v (learned_all v) k (λ j h. h); frozen = λ d h. h; sizes = refl; agents = refl; live = refl; share = refl; used = refl; low = refl; own_ids = refl; own_words = refl; slots = refl; seen = refl; mine = refl }
-word_by v c x false k = record { known = k; ids = more_ids v (learned_all (record v { frozen = insert v.frozen c x })) k (λ j h. h); frozen = λ d h. key_more v.frozen c d x h; sizes = refl; agents = refl; live = refl; share = refl; used = refl; low = refl; own_ids = refl; own_words = refl; slots = refl; seen = refl; mine = refl }
+word_by v c x true k = record { known = k; sizes = refl; agents = refl; live = refl; share = refl; used = refl; low = refl; own_ids = refl; own_words = refl; slots = refl; seen = refl; mine = refl }
+word_by v c x false k = record { known = k; sizes = refl; agents = refl; live = refl; share = refl; used = refl; low = refl; own_ids = refl; own_words = refl; slots = refl; seen = refl; mine = refl }
 
 pub reads_word : (v w : View) (c x : ℕ) → KeepsKnown v w → w ≡ learned_all (loaded_word v c x) → Reads v w
 reads_word v w c x k e = subst (Reads v) (sym e) (word_by v c x (contains_key v.own_words c) (subst (KeepsKnown v) e k))

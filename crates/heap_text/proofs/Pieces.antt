@@ -59,15 +59,20 @@ module _ (v : View) (s : JsStr) (us : List ℕ) (known : Has v.units s.id us) wh
   -- a window on a part of it
   pub part_shows : (w : Window) (from n : ℕ) → w.len ≡ length us → from + n ≤ length us → IsWindow v w us
       → IsWindow v (record { wide = w.wide; start = w.start; offset = w.offset + from; len = n }) (part from n us)
-  part_shows w from n e l h = let m = h.within in record {
-    id = h.id;
-    fixed = h.fixed;
+  part_shows w from n e l h = let m = h.within in let p = h.place in record {
+    of = h.of;
     whole = h.whole;
-    form = h.form;
     known = h.known;
+    id = h.id;
+    before = h.before;
+    leads = h.leads;
+    fixed = h.fixed;
+    form = h.form;
     length_known = h.length_known;
+    from = h.from + from;
+    place = omega arith;
     within = omega arith;
-    shows = ap (part from n) h.shows ∙ part_part w.offset w.len from n h.whole h.within (omega arith);
+    shows = ap (part from n) h.shows ∙ part_part h.from w.len from n h.whole h.within (omega arith);
   }
 
 -- uses after loads are those from before them

@@ -1,19 +1,20 @@
 -- What a window shows.
-use Rattle.std.proofs.Common.{◌≡◌, ℕ, ◌+◌, ◌/◌, ◌%◌, ◌^◌, ◌<◌, ◌≤◌, ◌⊎◌, inl, inr, Bool, true, false, List, length, drop, get_or, sym, refl, ap, ◌∙◌, subst, arith, Option, Some, None}
+use Rattle.std.proofs.Common.{◌≡◌, ℕ, ◌+◌, ◌/◌, ◌%◌, ◌^◌, ◌<◌, ◌≤◌, ◌⊎◌, inl, inr, ⊎_elim, Bool, true, false, List, length, drop, get_or, sym, refl, ap, ◌∙◌, subst, arith, Option, Some, None}
 use Rattle.std.proofs.lemmas.List.{get_or-drop, get_or-take, length-drop, length-take-le}
 use Rattle.js_units.specs.Lanes.{lane_count, lane_of, words_over}
 use Rattle.heap_rule.specs.declared.view.View.{View}
 use Rattle.heap_rule.specs.Contents.{lane_in}
 use Rattle.heap_rule.specs.Maps.{Has, HasKey}
-use Rattle.heap_rule.specs.Views.{IsFrozen, shown}
+use Rattle.heap_rule.specs.Views.{LeadsTo, HasLength, IsFrozen, shown}
 use Rattle.heap_rule.specs.Loads.{added_loads, loaded_form, with_form}
 use Rattle.heap_rule.specs.Learning.{learned_all}
 use Rattle.heap_rule.specs.Births.{part}
 use Rattle.heap_rule.proofs.MapLemmas.{insert_same}
 use Rattle.js_header.specs.Form.{form_of}
 use Rattle.js_header.specs.declared.form.Form.{Form}
+use Rattle.js_header.specs.declared.form.Form.TheVariants.{Sliced, Thin}
 use Rattle.heap_rule.specs.Sound.{IsPossible}
-use Rattle.heap_rule.proofs.Possible.{possible_frozen, possible_lane, possible_lawful}
+use Rattle.heap_rule.proofs.Possible.{possible_frozen, possible_unit, possible_lawful}
 use Rattle.heap_table.specs.Known.{KeepsKnown}
 use Rattle.heap_text.specs.declared.string.Window.{Window}
 use Rattle.heap_text.specs.Windows.{IsFrozenWindow, IsWindow}
@@ -22,24 +23,50 @@ more_words : (wide : Bool) (n m : ℕ) → n ≤ m → words_over wide n ≤ wor
 more_words true n m l = omega arith
 more_words false n m l = omega arith
 
+lanes_from : (wide : Bool) (start o c : ℕ) → start + o / lane_count wide ≤ c → start ≤ c
+lanes_from true start o c l = omega arith
+lanes_from false start o c l = omega arith
+
 -- its words are known to be frozen
 pub window_frozen : (v : View) (w : Window) (us : List ℕ) → IsWindow v w us → IsFrozenWindow v w
-window_frozen v w us k c lo hi = let m = more_words w.wide (w.offset + w.len) (length k.whole) k.within in inr (k.id, w.wide, w.start, k.fixed, length k.whole, k.form, inl k.length_known, lo, omega arith)
+window_frozen v w us k c lo hi = let p = k.place in let l = k.within in let m = more_words w.wide (w.offset + w.len) (k.before + length k.whole) (omega arith) in
+    inr (k.id, w.wide, w.start, k.fixed, k.before + length k.whole, k.form, k.length_known, lanes_from w.wide w.start w.offset c lo, omega arith)
+
+-- what leads stays, and what has a length
+forwards_kept : (v u : View) → KeepsKnown v u → (p i : ℕ) → (p ≡ i) ⊎ Has v.forms p (Thin i) → (p ≡ i) ⊎ Has u.forms p (Thin i)
+forwards_kept v u k p i way = ⊎_elim (λ (e : p ≡ i). inl e) (λ (h : Has v.forms p (Thin i)). inr (k.thins p i h)) way
+
+leads_kept : (v u : View) → KeepsKnown v u → (s i o : ℕ) → LeadsTo v s i o → LeadsTo u s i o
+leads_kept v u k s i o way = ⊎_elim
+    (λ (t : ((s ≡ i) ⊎ Has v.forms s (Thin i)) × (o ≡ 0)). inl (forwards_kept v u k s i t.0, t.1))
+    (λ (t : (wide : Bool) × (parent : ℕ) × Has v.forms s (Sliced wide parent o) × ((parent ≡ i) ⊎ Has v.forms parent (Thin i))). inr (t.0, t.1, k.parts s t.0 t.1 o t.2, forwards_kept v u k t.1 i t.3))
+    way
+
+length_kept : (v u : View) → KeepsKnown v u → (i n : ℕ) → HasLength v i n → HasLength u i n
+length_kept v u k i n way = ⊎_elim
+    (λ (h : Has v.lengths i n). inl (k.lengths i n h))
+    (λ t. inr (t.0, t.1, t.2, t.3, t.4, k.parts t.0 t.1 t.2 t.3 t.5, k.lengths t.0 t.4 t.6, t.7, forwards_kept v u k t.2 i t.8))
+    way
 
 pub window_kept : (v u : View) (w : Window) (us : List ℕ) → KeepsKnown v u → IsWindow v w us → IsWindow u w us
 window_kept v u w us k h = record {
-  id = h.id;
-  fixed = h.fixed;
+  of = h.of;
   whole = h.whole;
+  known = k.units h.of h.whole h.known;
+  id = h.id;
+  before = h.before;
+  leads = leads_kept v u k h.of h.id h.before h.leads;
+  fixed = h.fixed;
   form = k.flats h.id w.wide w.start h.fixed h.form;
-  known = k.units h.id h.whole h.known;
-  length_known = k.lengths h.id (length h.whole) h.length_known;
+  length_known = length_kept v u k h.id (h.before + length h.whole) h.length_known;
+  from = h.from;
+  place = h.place;
   within = h.within;
   shows = h.shows;
 }
 
 pub window_length : (v : View) (w : Window) (us : List ℕ) → IsWindow v w us → length us ≡ w.len
-window_length v w us h = let l = h.within in let d = length-drop w.offset h.whole in ap length h.shows ∙ length-take-le w.len (drop w.offset h.whole) (omega arith)
+window_length v w us h = let l = h.within in let d = length-drop h.from h.whole in ap length h.shows ∙ length-take-le w.len (drop h.from h.whole) (omega arith)
 
 pub part_unit : (o n i : ℕ) (us : List ℕ) → i < n → get_or (part o n us) i 0 ≡ get_or us (o + i) 0
 part_unit o n i us l = get_or-take n (drop o us) i 0 l ∙ get_or-drop o us i 0
@@ -47,8 +74,15 @@ part_unit o n i us l = get_or-take n (drop o us) i 0 l ∙ get_or-drop o us i 0
 -- a lane of a word that the view has shows its unit
 pub window_unit : (v : View) (w : Window) (us : List ℕ) (i : ℕ) → IsPossible v → IsWindow v w us → i < w.len
     → HasKey v.own_words (w.start + (w.offset + i) / lane_count w.wide) ⊎ HasKey v.frozen (w.start + (w.offset + i) / lane_count w.wide) → lane_in (shown v) w.wide w.start (w.offset + i) ≡ get_or us i 0
-window_unit v w us i p h l has = let m = h.within in possible_lane v p h.id w.wide w.start h.fixed h.whole (w.offset + i) h.form h.known (omega arith) has
-    ∙ (sym (part_unit w.offset w.len i h.whole l) ∙ ap (λ (xs : List ℕ). get_or xs i 0) (sym h.shows))
+window_unit v w us i p h l has = let m = h.within in let q = h.place in let e : w.offset + i ≡ h.before + (h.from + i) = omega arith in
+    let has' = subst (λ (o : ℕ). HasKey v.own_words (w.start + o / lane_count w.wide) ⊎ HasKey v.frozen (w.start + o / lane_count w.wide)) e has in
+    ap (λ (o : ℕ). lane_in (shown v) w.wide w.start o) e
+    ∙ (possible_unit v p h.of h.id h.before w.wide w.start h.fixed h.whole (h.from + i) h.leads h.form h.known (omega arith) has'
+    ∙ (sym (part_unit h.from w.len i h.whole l) ∙ ap (λ (xs : List ℕ). get_or xs i 0) (sym h.shows)))
+
+lanes_in_front : (wide : Bool) (start o i : ℕ) → start + o / lane_count wide ≤ start + (o + i) / lane_count wide
+lanes_in_front true start o i = omega arith
+lanes_in_front false start o i = omega arith
 
 in_span : (wide : Bool) (start o n : ℕ) → o < n → start + o / lane_count wide < start + words_over wide n
 in_span true start o n l = omega arith
@@ -60,7 +94,7 @@ place_by false start o l = omega arith
 
 -- the word of a unit lies in the heap, and its lane is a number of 32 bits
 pub place_frozen : (v : View) (w : Window) (i : ℕ) → IsFrozenWindow v w → i < w.len → IsFrozen v (w.start + (w.offset + i) / lane_count w.wide)
-place_frozen v w i h l = h (w.start + (w.offset + i) / lane_count w.wide) (omega arith) (in_span w.wide w.start (w.offset + i) (w.offset + w.len) (omega arith))
+place_frozen v w i h l = h (w.start + (w.offset + i) / lane_count w.wide) (lanes_in_front w.wide w.start w.offset i) (in_span w.wide w.start (w.offset + i) (w.offset + w.len) (omega arith))
 
 pub word_small : (v : View) (w : Window) (i : ℕ) → IsPossible v → IsFrozenWindow v w → i < w.len → w.start + (w.offset + i) / lane_count w.wide < 2 ^ 29
 word_small v w i p h l = let a = possible_frozen v p (w.start + (w.offset + i) / lane_count w.wide) (place_frozen v w i h l) in let b = (possible_lawful v p).3 in omega arith

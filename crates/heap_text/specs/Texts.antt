@@ -4,18 +4,14 @@ use Rattle.std.specs.List.{list_any}
 use Rattle.heap_rule.specs.declared.view.View.{View}
 use Rattle.heap_rule.specs.declared.size.HeapSize.{HeapSize}
 use Rattle.heap_rule.specs.Maps.{HasKey}
-use Rattle.heap_rule.specs.Views.{IsKnown}
 use Rattle.heap_table.specs.Full.{IsFull}
 use Rattle.heap_table.specs.Known.{KeepsKnown}
 use Rattle.heap_text.specs.declared.faults.TextFull.{TextFull}
 use Rattle.heap_text.specs.declared.faults.TextFull.TheVariants.{Ids, Words}
 
--- a call that only loads: what is known stays known, frozen words stay frozen, what the agent owns, used and read of the counters stays, and so
--- does its history
+-- a call that only loads: what is known stays known, what the agent owns, used and read of the counters stays, and so do its slots and history
 pub record Reads (v w : View) : Type 0 where
   pub known : KeepsKnown v w
-  pub ids : (i : ℕ) → IsKnown v i → IsKnown w i
-  pub frozen : (c : ℕ) → HasKey v.frozen c → HasKey w.frozen c
   pub sizes : w.sizes ≡ v.sizes
   pub agents : w.agents ≡ v.agents
   pub live : w.live ≡ v.live
@@ -28,11 +24,9 @@ pub record Reads (v w : View) : Type 0 where
   pub seen : w.seen ≡ v.seen
   pub mine : w.mine ≡ v.mine
 
--- any call: what is known stays known, frozen words stay frozen, counters and uses never fall, and the history stays
+-- any call: what is known stays known, counters and uses never fall, and slots and history stay
 pub record Continues (v w : View) : Type 0 where
   pub known : KeepsKnown v w
-  pub ids : (i : ℕ) → IsKnown v i → IsKnown w i
-  pub frozen : (c : ℕ) → HasKey v.frozen c → HasKey w.frozen c
   pub sizes : w.sizes ≡ v.sizes
   pub agents : w.agents ≡ v.agents
   pub live : w.live ≡ v.live

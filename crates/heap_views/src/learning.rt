@@ -145,7 +145,7 @@ fn forwards(view: &View, from: u32, to: u32) -> bool
 }
 
 /// The same view again.
-fn twin(view: &View, alloc: Global) -> Result<View, NoMemory>
+pub(crate) fn twin(view: &View, alloc: Global) -> Result<View, NoMemory>
     ensures { IfOk result (λ w. w ≡ view.now) }
 {
     Ok(View {
@@ -228,7 +228,7 @@ fn meet(view: &mut View, form: Form) -> Result<(), NoMemory>
 }
 
 // One round of learning: all of it follows from the view as it was.
-fn learn(view: &mut View, alloc: Global, names: &[u32]) -> Result<(), NoMemory>
+pub(crate) fn learn(view: &mut View, alloc: Global, names: &[u32]) -> Result<(), NoMemory>
     requires { HasRoom view.old }
     ensures { OnOk result (view.new ≡ learned view.old names.now) }
 {
@@ -412,7 +412,7 @@ fn frozen_span(
     Ok(units)
 }
 
-fn units_from(alloc: Global, units: &[u16]) -> Result<Units, NoMemory>
+pub(crate) fn units_from(alloc: Global, units: &[u16]) -> Result<Units, NoMemory>
     ensures { IfOk result (λ us. us ≡ units.now) }
 {
     let mut all = Units::new(alloc);

@@ -8,3 +8,4 @@ pub mod births;
 pub mod claims;
 pub mod learning;
 pub mod load;
+pub mod slots;

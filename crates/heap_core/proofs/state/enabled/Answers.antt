@@ -2,12 +2,12 @@ use Rattle.std.proofs.Common.{◌≢◌, ◌∙◌, ◌<◌, ◌≤◌, ℕ, Lis
 use Rattle.js_header.specs.declared.form.Form.{Form}
 use Rattle.js_header.specs.declared.form.Form.TheVariants.{Flat}
 use Rattle.heap_rule.specs.declared.view.View.{View}
-use Rattle.heap_core.specs.declared.event.Event.TheVariants.{Split, Join, LoadCounter, Claim, StoreWord, StoreLength, Birth, LoadHeader, LoadWord}
+use Rattle.heap_core.specs.declared.event.Event.TheVariants.{Split, Join, LoadCounter, Claim, StoreWord, StoreLength, Birth, LoadHeader, LoadWord, LoadSlot, TakeSlot}
 use Rattle.heap_rule.specs.Layout.{MAX}
 use Rattle.heap_rule.specs.Maps.{Has, HasKey}
 use Rattle.heap_rule.specs.Sound.{EachLive}
 use Rattle.heap_core.specs.Core.{core}
-use Rattle.heap_core.specs.Events.{LiveIn, CanLoadHeader, CanLoadWord}
+use Rattle.heap_core.specs.Events.{LiveIn, CanLoadHeader, CanLoadWord, CanLoadSlot, CanTakeSlot}
 use Rattle.heap_rule.specs.Agents.{MayJoin}
 use Rattle.heap_rule.specs.Claims.{MayClaim}
 use Rattle.heap_rule.specs.Births.{MayStoreLength, MayBear}
@@ -57,3 +57,13 @@ pub returns-in-LoadWord : goal.returns-in-LoadWord
 returns-in-LoadWord c = enabled_by (core c.state.inside.size c.state.inside.agents c.state.inside.words.items c.state.inside.views.items) c.args.state.now c.args.event.now (LoadWord c.in-LoadWord.view c.in-LoadWord.at c.in-LoadWord.learn) c.may_load_word.result c.state.view_is c.in-LoadWord.is
     (subst (λ (p : List ℕ × List View × List ℕ). Tells c.may_load_word.result (CanLoadWord (core c.state.inside.size c.state.inside.agents p.0 p.1) c.in-LoadWord.view c.in-LoadWord.at p.2))
     (λ k. (c.as_slice-in-LoadWord.ensures.value k, c.as_slice-views.ensures.value k, c.as_slice-in-LoadWord-2.ensures.value k)) c.may_load_word.ensures)
+
+pub returns-in-LoadSlot : goal.returns-in-LoadSlot
+returns-in-LoadSlot c = enabled_by (core c.state.inside.size c.state.inside.agents c.state.inside.words.items c.state.inside.views.items) c.args.state.now c.args.event.now (LoadSlot c.in-LoadSlot.view c.in-LoadSlot.slot c.in-LoadSlot.entry c.in-LoadSlot.learn) c.may_load_slot.result c.state.view_is c.in-LoadSlot.is
+    (subst (λ (p : List ℕ × List View × List ℕ). Tells c.may_load_slot.result (CanLoadSlot (core c.state.inside.size c.state.inside.agents p.0 p.1) c.in-LoadSlot.view c.in-LoadSlot.slot c.in-LoadSlot.entry p.2))
+    (λ k. (c.as_slice-in-LoadSlot.ensures.value k, c.as_slice-views.ensures.value k, c.as_slice-in-LoadSlot-2.ensures.value k)) c.may_load_slot.ensures)
+
+pub returns-in-TakeSlot : goal.returns-in-TakeSlot
+returns-in-TakeSlot c = enabled_by (core c.state.inside.size c.state.inside.agents c.state.inside.words.items c.state.inside.views.items) c.args.state.now c.args.event.now (TakeSlot c.in-TakeSlot.view c.in-TakeSlot.slot c.in-TakeSlot.id c.in-TakeSlot.learn) c.may_take_slot.result c.state.view_is c.in-TakeSlot.is
+    (subst (λ (p : List ℕ × List View × List ℕ). Tells c.may_take_slot.result (CanTakeSlot (core c.state.inside.size c.state.inside.agents p.0 p.1) c.in-TakeSlot.view c.in-TakeSlot.slot c.in-TakeSlot.id p.2))
+    (λ k. (c.as_slice-in-TakeSlot.ensures.value k, c.as_slice-views.ensures.value k, c.as_slice-in-TakeSlot-2.ensures.value k)) c.may_take_slot.ensures)

@@ -1,4 +1,4 @@
-use Rattle.heap_core.proofs.LaterKept.{flatten_kept, thin_kept, load_slot_kept, take_slot_kept, birth_kept}
+use Rattle.heap_core.proofs.LaterKept.{flatten_kept, thin_kept, birth_kept}
 use Rattle.heap_core.proofs.state.every_later_kind.Goals as goal
 
 pub returns-clause-flattening : goal.returns-clause-flattening
@@ -6,12 +6,6 @@ returns-clause-flattening c = flatten_kept
 
 pub returns-clause-thinning : goal.returns-clause-thinning
 returns-clause-thinning c = thin_kept
-
-pub returns-clause-loading_slots : goal.returns-clause-loading_slots
-returns-clause-loading_slots c = load_slot_kept
-
-pub returns-clause-claiming_slots : goal.returns-clause-claiming_slots
-returns-clause-claiming_slots c = take_slot_kept
 
 pub returns-clause-births : goal.returns-clause-births
 returns-clause-births c = birth_kept

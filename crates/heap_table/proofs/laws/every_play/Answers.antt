@@ -24,3 +24,12 @@ returns-clause-load_length c i slots me me' x h = h.3 i refl
 
 pub returns-clause-load_word : goal.returns-clause-load_word
 returns-clause-load_word c p slots me me' x h = (h.2 p refl).0
+
+pub returns-clause-load_slot : goal.returns-clause-load_slot
+returns-clause-load_slot c k slots me me' x h = (h.2 k refl).0
+
+pub returns-clause-enter_slot : goal.returns-clause-enter_slot
+returns-clause-enter_slot c k slots me me' x h = (h.2 k refl).0
+
+pub returns-clause-take_slot : goal.returns-clause-take_slot
+returns-clause-take_slot c k i slots me me' x h = (h.2 k i refl refl).0

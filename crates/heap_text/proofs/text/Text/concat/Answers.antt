@@ -131,3 +131,8 @@ returns-then-right-eq0-clause-units c us vs h k = let v : View = c.args.self.now
 pub returns-in-Ok-clause-units : goal.returns-in-Ok-clause-units
 returns-in-Ok-clause-units c us vs h k = let v : View = c.args.self.now.agent.seat.me.0 in let w1 : View = c.len-left.new.self.agent.seat.me.0 in let w2 : View = c.len-right.new.self.agent.seat.me.0 in let w : View = c.copy.new.self.agent.seat.me.0 in let w3 : View = c.window_on-front.new.self.agent.seat.me.0 in let w4 : View = c.window_on-back.new.self.agent.seat.me.0 in
     let known = known_trans v w2 w (known_trans v w1 w2 c.len-left.ensures.reads.known c.len-right.ensures.reads.known) (known_trans w2 w4 w (known_trans w2 w3 w4 c.window_on-front.ensures.reads.known c.window_on-back.ensures.reads.known) c.copy.ensures.continues.known) in joined_units v w (size_of c.args.self.now.heap.now) c.args.a c.args.b c.in-Ok.s us vs (returns-in-Ok-clause-joined c us vs h k) (known.units c.args.a.id us h) (known.units c.args.b.id vs k)
+
+pub returns-then-left-right-gt-MAX_LENGTH-clause-continues :
+    goal.returns-then-left-right-gt-MAX_LENGTH-clause-continues
+returns-then-left-right-gt-MAX_LENGTH-clause-continues c = let v : View = c.args.self.now.agent.seat.me.0 in let w1 : View = c.len-left.new.self.agent.seat.me.0 in let w2 : View = c.len-right.new.self.agent.seat.me.0 in
+    continues_reads v w2 (reads_trans v w1 w2 c.len-left.ensures.reads c.len-right.ensures.reads)

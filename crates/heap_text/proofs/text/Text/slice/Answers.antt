@@ -4,13 +4,15 @@ use Rattle.js_units.specs.Lanes.{words_over}
 use Rattle.heap_rule.specs.declared.size.HeapSize.{HeapSize}
 use Rattle.heap_rule.specs.declared.view.View.{View}
 use Rattle.heap_rule.specs.Births.{part}
-use Rattle.heap_rule.proofs.Possible.{possible_short}
+use Rattle.js_header.specs.declared.form.Form.TheVariants.{Flat}
+use Rattle.heap_rule.proofs.Possible.{possible_long, possible_short}
 use Rattle.heap_table.specs.Agents.{size_of}
 use Rattle.heap_text.specs.declared.string.Window.{Window}
 use Rattle.heap_text.specs.declared.source.Source.TheVariants as source
 use Rattle.heap_text.specs.Sources.{listed}
 use Rattle.heap_text.specs.Texts.{Told, is_wide}
 use Rattle.heap_text.proofs.Answered.{cut_all, cut_settled}
+use Rattle.heap_text.proofs.Going.{continues_reads, continues_trans}
 use Rattle.heap_text.proofs.Loaded.{known_trans}
 use Rattle.heap_text.proofs.Pieces.{copy_answer, length_part, part_shows, piece_is, piece_shows}
 use Rattle.heap_text.proofs.text.Text.slice.Goals.{else-from-eq0-via-then-from-eq0+else-to-window, else-from-eq0-via-else-from-eq0}
@@ -18,7 +20,7 @@ use Rattle.heap_text.proofs.text.Text.slice.Goals as goal
 
 pub overflow_add-part : goal.overflow_add-part
 overflow_add-part c = let v : View = c.args.self.now.agent.seat.me.0 in let w : View = c.window-window.new.self.agent.seat.me.0 in let t = c.requires.within in let a = c.window-window.ensures.shows t.0 t.1 in
-    let b = possible_short w c.window-window.ensures.text.5 a.0.id a.0.whole a.0.known in let m = a.0.within in let n = a.1 in let from = t.2 in let to = t.3 in omega arith
+    let b = possible_long w c.window-window.ensures.text.5 a.0.id (a.0.before + length a.0.whole) (Flat c.window-window.result.wide c.window-window.result.start a.0.fixed) a.0.form a.0.length_known in let m = a.0.within in let p = a.0.place in let n = a.1 in let from = t.2 in let to = t.3 in omega arith
 
 pub copy-requires-clause-shows : goal.copy-requires-clause-shows
 copy-requires-clause-shows c = let w : View = c.window-window.new.self.agent.seat.me.0 in let t = c.requires.within in let us = t.0 in let known = c.window-window.ensures.reads.known.units c.args.s.id us t.1 in let a = c.window-window.ensures.shows us t.1 in let from = t.2 in let to = t.3 in
@@ -59,3 +61,7 @@ pub returns-clause-settled : goal.returns-clause-settled
 returns-clause-settled c = let v : View = c.args.self.now.agent.seat.me.0 in let w : View = c.window-window.new.self.agent.seat.me.0 in let x : View = c.copy.new.self.agent.seat.me.0 in let t = c.requires.within in
     let k = known_trans v w x c.window-window.ensures.reads.known c.copy.ensures.continues.known in
     cut_settled v x (size_of c.args.self.now.heap.now) c.args.s c.args.from c.args.to t.0 c.copy.result (returns-clause-cut c t.0 t.1) (k.units c.args.s.id t.0 t.1) t.2 t.3 (k.settled c.args.s.id c.requires.settled)
+
+pub returns-clause-continues : goal.returns-clause-continues
+returns-clause-continues c = let v : View = c.args.self.now.agent.seat.me.0 in let w : View = c.window-window.new.self.agent.seat.me.0 in
+    continues_trans v w c.copy.new.self.agent.seat.me.0 (continues_reads v w c.window-window.ensures.reads) c.copy.ensures.continues

@@ -1,4 +1,4 @@
-use Rattle.std.proofs.Common.{◌≡◌, ℕ, length, subst, sym, arith}
+use Rattle.std.proofs.Common.{◌≡◌, ℕ, ◌+◌, length, inl, refl, subst, sym, arith}
 use Rattle.std.proofs.lemmas.List.{take_all}
 use Rattle.js_header.specs.declared.form.Form.{Form}
 use Rattle.js_header.specs.declared.form.Form.TheVariants.{Flat}
@@ -27,14 +27,19 @@ returns-clause-shows c us h = let e = c.load_form.ensures in let f = c.load_leng
     let w : View = c.load_length.new.self.seat.me.0 in
     let units : Has w.units i us = f.known.units i us (e.known.units i us h) in
     let count : Has w.lengths i n = subst (λ (x : View). Has x.lengths i n) (sym f.view) (insert_same c.load_form.new.self.seat.me.0.lengths i n) in
-    let same : n ≡ length us = possible_length w f.belongs.5 i n us units count in (
+    let same : n ≡ length us = possible_length w f.belongs.5 i n us units count in let plain : n ≡ 0 + length us = omega arith in (
       record {
-        id = i;
-        fixed = c.in-Flat.fixed;
+        of = i;
         whole = us;
-        form = f.known.flats i c.in-Flat.wide c.in-Flat.start c.in-Flat.fixed flat;
         known = units;
-        length_known = subst (λ (m : ℕ). Has w.lengths i m) same count;
+        id = i;
+        before = 0;
+        leads = inl (inl refl, refl);
+        fixed = c.in-Flat.fixed;
+        form = f.known.flats i c.in-Flat.wide c.in-Flat.start c.in-Flat.fixed flat;
+        length_known = inl (subst (λ (m : ℕ). Has w.lengths i m) plain count);
+        from = 0;
+        place = refl;
         within = omega arith;
         shows = sym (take_all n us (omega arith));
       },
