@@ -1,0 +1,9 @@
+pub mod Going
+pub mod Learned
+pub mod Possibly
+pub mod Stretching
+pub mod Reading
+pub mod Bearing
+pub mod Distinct
+pub mod Counted
+pub mod Visiting

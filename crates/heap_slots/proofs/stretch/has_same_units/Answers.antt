@@ -1,0 +1,31 @@
+use Rattle.std.proofs.Common.{◌≡◌, ℕ, arith}
+use Rattle.heap_rule.specs.declared.view.View.{View}
+use Rattle.heap_slots.proofs.Going.{looks_trans}
+use Rattle.heap_slots.proofs.Reading.{compared_other, compared_same, comparing_next, comparing_none}
+use Rattle.heap_slots.proofs.Stretching.{lies_kept}
+use Rattle.heap_slots.proofs.stretch.has_same_units.Goals as goal
+
+pub loop-i-init : goal.loop-i-init
+loop-i-init c = (c.requires.belongs, comparing_none c.args.agent.now.seat.me.0 c.args.s c.args.t c.requires.lies.0 c.requires.lies.1 c.requires.learned)
+
+pub unit_in-other-requires-clause-lies : goal.unit_in-other-requires-clause-lies
+unit_in-other-requires-clause-lies c = lies_kept c.loop-i.agent.seat.me.0 c.unit_in-unit.new.agent.seat.me.0 c.unit_in-unit.ensures.looks.goes.known c.args.t c.loop-i.invariant.1.other
+
+pub returns-then-unit-other-clause-looks : goal.returns-then-unit-other-clause-looks
+returns-then-unit-other-clause-looks c = let a : View = c.args.agent.now.seat.me.0 in let v : View = c.loop-i.agent.seat.me.0 in let u : View = c.unit_in-unit.new.agent.seat.me.0 in let w : View = c.unit_in-other.new.agent.seat.me.0 in
+    looks_trans a v w c.loop-i.invariant.1.looks (looks_trans v u w c.unit_in-unit.ensures.looks c.unit_in-other.ensures.looks)
+
+pub returns-then-unit-other-clause-same : goal.returns-then-unit-other-clause-same
+returns-then-unit-other-clause-same c us h = let a : View = c.args.agent.now.seat.me.0 in let v : View = c.loop-i.agent.seat.me.0 in let u : View = c.unit_in-unit.new.agent.seat.me.0 in let w : View = c.unit_in-other.new.agent.seat.me.0 in let i = c.loop-i.invariant in
+    compared_other a v u w c.args.s c.args.t c.loop-i.i c.unit_in-unit.result c.unit_in-other.result i.0.5 i.1 c.unit_in-unit.ensures.looks c.unit_in-other.ensures.looks c.unit_in-unit.ensures.unit c.unit_in-other.ensures.lane
+    (λ e. c.if-unit-other.true e) c.loop-i-test.true us h
+
+pub loop-i-preserved : goal.loop-i-preserved
+loop-i-preserved c = let a : View = c.args.agent.now.seat.me.0 in let v : View = c.loop-i.agent.seat.me.0 in let u : View = c.unit_in-unit.new.agent.seat.me.0 in let w : View = c.unit_in-other.new.agent.seat.me.0 in let i = c.loop-i.invariant in (
+  c.unit_in-other.ensures.belongs,
+  comparing_next a v u w c.args.s c.args.t c.loop-i.i c.unit_in-unit.result c.unit_in-other.result i.1 c.unit_in-unit.ensures.looks c.unit_in-other.ensures.looks c.unit_in-other.ensures.learned
+      c.unit_in-unit.ensures.unit c.unit_in-other.ensures.lane c.if-unit-other.false,
+)
+
+pub returns-clause-same : goal.returns-clause-same
+returns-clause-same c us h = let i = c.loop-i.invariant in let e : c.loop-i.i ≡ c.args.s.len = omega arith in compared_same c.args.agent.now.seat.me.0 c.loop-i.agent.seat.me.0 c.args.s c.args.t c.loop-i.i i.0.5 i.1 c.requires.long e us h

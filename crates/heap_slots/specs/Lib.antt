@@ -1,0 +1,5 @@
+pub mod Counting
+pub mod Goes
+pub mod Answers
+pub mod Stretches
+pub mod Visits

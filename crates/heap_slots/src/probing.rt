@@ -1,0 +1,161 @@
+// The probe of the string table.
+ghost use Rattle.std.specs.Prelude.{◌≡◌, ℕ, List, ◌+◌, ◌%◌, ◌≤◌, ◌<◌, ◌^◌, Ok, Some, None};
+ghost use Rattle.std.specs.FinMap.{get};
+ghost use Rattle.js_units.specs.Lanes.{hash_of};
+ghost use Rattle.heap_rule.specs.Maps.{Has, HasKey};
+ghost use Rattle.heap_rule.specs.Views.{IsKnown};
+ghost use Rattle.heap_table.specs.Agents.{Belongs, view_of, size_of};
+ghost use Rattle.heap_slots.specs.Answers.{Interns};
+ghost use Rattle.heap_slots.specs.Stretches.{AreFrozen, LiesIn};
+ghost use Rattle.heap_slots.specs.Visits.{IsBehind, IsMade, Visited, Visits};
+
+use crate::faults::TableFull;
+use crate::header::make_header;
+use crate::stretch::{Stretch, hash_units, is_same, stretch_of};
+use heap_table::{Agent, CounterFull, Heap, Step};
+
+/// What a visit of a slot ends with: the interned string, or the header that was made so far.
+#[derive(Clone, Copy)]
+pub(crate) enum Visit {
+    Answer { id: u32 },
+    Next { header: Option<u32> },
+}
+
+// A slot that was found used. Where its string has the units, the call enters the history by one
+// more load of the slot.
+fn visit_used(
+    agent: &mut Agent,
+    heap: &Heap,
+    s: Stretch,
+    k: u32,
+    t: u32,
+    header: Option<u32>,
+) -> Visit
+    requires belongs { Belongs agent.old heap.now }
+    requires lies { LiesIn (view_of agent.old) s }
+    requires known { HasKey (view_of agent.old).units s.id }
+    requires inside { k < (size_of heap.now).slots }
+    requires used { Has (view_of agent.old).slots k t × IsKnown (view_of agent.old) t }
+    requires header { (us : List ℕ) → Has (view_of agent.old).units s.id us → IsMade (view_of agent.old) us header }
+    ensures belongs { Belongs agent.new heap.now }
+    ensures visited { (us : List ℕ) → Has (view_of agent.old).units s.id us → Visited (view_of agent.old) (view_of agent.new) us k header result }
+{
+    if is_same(agent, heap, s, t) {
+        agent.load_slot(heap, k, true);
+        return Visit::Answer { id: t };
+    }
+    Visit::Next { header }
+}
+
+// A slot that was found free, with a header.
+fn put(agent: &mut Agent, heap: &Heap, s: Stretch, k: u32, id: u32) -> Visit
+    requires belongs { Belongs agent.old heap.now }
+    requires lies { LiesIn (view_of agent.old) s }
+    requires known { HasKey (view_of agent.old).units s.id }
+    requires inside { k < (size_of heap.now).slots }
+    requires behind { (us : List ℕ) → Has (view_of agent.old).units s.id us → IsBehind (view_of agent.old) us k }
+    requires header { (us : List ℕ) → Has (view_of agent.old).units s.id us → IsMade (view_of agent.old) us (Some id) }
+    ensures belongs { Belongs agent.new heap.now }
+    ensures visited { (us : List ℕ) → Has (view_of agent.old).units s.id us → Visited (view_of agent.old) (view_of agent.new) us k (Some id) result }
+{
+    match agent.claim_slot(heap, k, id) {
+        Step::Won => Visit::Answer { id },
+        Step::Lost { word } => {
+            let winner = (word - 1) as u32;
+            visit_used(agent, heap, s, k, winner, Some(id))
+        }
+    }
+}
+
+// A slot that was found free.
+fn take(
+    agent: &mut Agent,
+    heap: &Heap,
+    s: Stretch,
+    k: u32,
+    header: Option<u32>,
+) -> Result<Visit, CounterFull>
+    requires belongs { Belongs agent.old heap.now }
+    requires lies { LiesIn (view_of agent.old) s }
+    requires known { HasKey (view_of agent.old).units s.id }
+    requires frozen { AreFrozen (view_of agent.old) s.wide s.start s.len }
+    requires inside { k < (size_of heap.now).slots }
+    requires free { get (view_of agent.old).slots k ≡ None }
+    requires behind { (us : List ℕ) → Has (view_of agent.old).units s.id us → IsBehind (view_of agent.old) us k }
+    requires header { (us : List ℕ) → Has (view_of agent.old).units s.id us → IsMade (view_of agent.old) us header }
+    ensures belongs { Belongs agent.new heap.now }
+    ensures visits { (us : List ℕ) → Has (view_of agent.old).units s.id us → Visits (view_of agent.old) (view_of agent.new) us k header result }
+{
+    if let Some(id) = header {
+        return Ok(put(agent, heap, s, k, id));
+    }
+    let made = match make_header(agent, heap, s) {
+        Ok(made) => made,
+        Err(full) => return Err(full),
+    };
+    Ok(put(agent, heap, s, k, made))
+}
+
+// One slot of the path, behind slots with strings that differ.
+fn visit_slot(
+    agent: &mut Agent,
+    heap: &Heap,
+    s: Stretch,
+    k: u32,
+    header: Option<u32>,
+) -> Result<Visit, CounterFull>
+    requires belongs { Belongs agent.old heap.now }
+    requires lies { LiesIn (view_of agent.old) s }
+    requires known { HasKey (view_of agent.old).units s.id }
+    requires frozen { AreFrozen (view_of agent.old) s.wide s.start s.len }
+    requires inside { k < (size_of heap.now).slots }
+    requires behind { (us : List ℕ) → Has (view_of agent.old).units s.id us → IsBehind (view_of agent.old) us k }
+    requires header { (us : List ℕ) → Has (view_of agent.old).units s.id us → IsMade (view_of agent.old) us header }
+    ensures belongs { Belongs agent.new heap.now }
+    ensures visits { (us : List ℕ) → Has (view_of agent.old).units s.id us → Visits (view_of agent.old) (view_of agent.new) us k header result }
+{
+    match agent.load_slot(heap, k, false) {
+        Some(t) => Ok(visit_used(agent, heap, s, k, t, header)),
+        None => take(agent, heap, s, k, header),
+    }
+}
+
+// The slots of the path, from the first on.
+fn probe(agent: &mut Agent, heap: &Heap, s: Stretch, hash: u32) -> Result<u32, TableFull>
+    requires belongs { Belongs agent.old heap.now }
+    requires lies { LiesIn (view_of agent.old) s }
+    requires known { HasKey (view_of agent.old).units s.id }
+    requires frozen { AreFrozen (view_of agent.old) s.wide s.start s.len }
+    requires hash { (us : List ℕ) → Has (view_of agent.old).units s.id us → hash ≡ hash_of us }
+    ensures belongs { Belongs agent.new heap.now }
+    ensures interns { (us : List ℕ) → Has (view_of agent.old).units s.id us → Interns (view_of agent.old) (view_of agent.new) us result }
+{
+    let n = heap.size().slots;
+    let start = hash % n;
+    let mut header = None;
+    for r in 0..n {
+        let visit = match visit_slot(agent, heap, s, (start + r) % n, header) {
+            Ok(visit) => visit,
+            Err(full) => return Err(TableFull::Ids(full)),
+        };
+        match visit {
+            Visit::Answer { id } => return Ok(id),
+            Visit::Next { header: made } => header = made,
+        }
+    }
+    Err(TableFull::Slots { slots: n })
+}
+
+/// The interned string of the units of `id`, by its number: of all strings with these units the
+/// one that stands in the table. Where none stands there yet, a fixed Flat over the words of `id`
+/// is put there, which takes one id.
+pub fn intern(agent: &mut Agent, heap: &Heap, id: u32) -> Result<u32, TableFull>
+    requires belongs { Belongs agent.old heap.now }
+    requires known { HasKey (view_of agent.old).units id }
+    ensures belongs { Belongs agent.new heap.now }
+    ensures interns { (us : List ℕ) → Has (view_of agent.old).units id us → Interns (view_of agent.old) (view_of agent.new) us result }
+{
+    let s = stretch_of(agent, heap, id);
+    let hash = hash_units(agent, heap, s);
+    probe(agent, heap, s, hash)
+}
