@@ -1,4 +1,4 @@
--- What an answer of the code reports.
+-- What an answer of the code reports. No public contract cites it.
 use Rattle.std.specs.Prelude.{◌≡◌, ℕ, List, ⊤}
 use Rattle.std.specs.List.{concat}
 use Rattle.js_io.specs.FilesState.{FilesState}
