@@ -1,0 +1,5 @@
+mod Faults
+pub mod First
+mod Marks
+mod Trees
+mod Walks
