@@ -8,10 +8,6 @@ use Rattle.heap_table.specs.Agents.{Belongs, view_of}
 use Rattle.heap_example.proofs.Made.{one_list}
 use Rattle.heap_example.proofs.greeting.greetings.Goals as goal
 
-pub make_flat-requires-clause-text : goal.make_flat-requires-clause-text
-make_flat-requires-clause-text g c = subst (λ (a : Agent). Belongs a c.new-left.result.heap.now) (sym c.new-left.ensures.agent)
-    (subst (λ (h : Heap). Belongs c.in_ok-heap.agent h) (sym c.new-left.ensures.heap) c.in_ok-heap.ensures.belongs)
-
 pub greet_both-one-requires-clause-right : goal.greet_both-one-requires-clause-right
 greet_both-one-requires-clause-right g c = subst (λ (a : Agent). Belongs a c.new-right.result.heap.now) (sym c.new-right.ensures.agent)
     (subst (λ (h : Heap). Belongs c.split-agent.result h) (sym c.new-right.ensures.heap) c.split-agent.ensures.belongs.1)
