@@ -1,0 +1,185 @@
+-- What each call on a text or on the string table is as a step of a store.
+use Rattle.std.proofs.Common.{◌≡◌, ℕ, zero, suc, ◌+◌, ◌-◌, ◌<◌, ◌≤◌, ◌⊎◌, ⊎_elim, inl, inr, Bool, true, false, List, [], ◌∷◌, ◌++◌, drop, length, length-drop, length-take-le, sym, refl, ap, ◌∙◌, subst, arith, Option, Some, None, Result, Ok, Err, IsTrue, if◌then◌else◌, IfOk}
+use Rattle.std.proofs.lemmas.List.{length-append}
+use mathlib.Core.Logic.{dite}
+use native.Mathlib.Decide.{ℕ_discrete}
+use Rattle.js_units.specs.Lanes.{words_over}
+use Rattle.atomic_table.specs.Seated.{TableId}
+use Rattle.js_store.specs.declared.faults.FullReport.TheVariants as report
+use Rattle.js_store.specs.declared.faults.StoreFault.TheVariants.{Full}
+use Rattle.js_store.specs.Faults.{Honest, JoinFault as JoinTold, NeverSlots, SlotsShut, Step, concat_part}
+use Rattle.js_store.specs.Rows.{copy_words, cut_ids, cut_words, flat_words, join_ids, join_words}
+use Rattle.js_store.specs.Rows as rows
+use Rattle.js_store.specs.State.{State}
+use Rattle.heap_rule.specs.declared.size.Counters.{Counters}
+use Rattle.heap_rule.specs.declared.size.HeapSize.{HeapSize}
+use Rattle.heap_rule.specs.declared.view.View.{View}
+use Rattle.heap_rule.specs.Births.{part}
+use Rattle.heap_rule.specs.Layout.{MAX}
+use Rattle.heap_rule.specs.Maps.{Has}
+use Rattle.heap_rule.specs.Paths.{Calls}
+use Rattle.heap_rule.specs.Sound.{IsPossible}
+use Rattle.heap_slots.specs.declared.faults.TableFull.{TableFull}
+use Rattle.heap_slots.specs.declared.faults.TableFull.TheVariants as table
+use Rattle.heap_slots.specs.Answers.{HasLeft, IsRefused}
+use Rattle.heap_slots.specs.Goes.{Goes}
+use Rattle.heap_text.specs.declared.faults.JoinFault.{JoinFault}
+use Rattle.heap_text.specs.declared.faults.JoinFault.TheVariants as join
+use Rattle.heap_text.specs.declared.faults.TextFull.{TextFull}
+use Rattle.heap_text.specs.declared.faults.TextFull.TheVariants as text
+use Rattle.heap_text.specs.declared.string.JsStr.{JsStr}
+use Rattle.heap_text.specs.Joins.{IsCut, IsJoined}
+use Rattle.heap_text.specs.Texts.{Continues, IsSpared, Told, Uses}
+use Rattle.heap_text.specs.Texts as texts
+use Rattle.heap_intern.specs.Faults.{fault_in_join, fault_in_table, fault_in_text}
+use Rattle.heap_intern.specs.Sessions.{SessionFrame, state_by}
+use Rattle.heap_intern.proofs.Rows.{copy_bound, cut_ids_one, cut_words_copy, join_ids_one, join_words_copy, wide_same}
+use Rattle.heap_intern.proofs.States.{grows_continues, grows_goes}
+
+-- a refusal of a text
+pub never_slots : (f : TextFull) → NeverSlots (Some (fault_in_text f))
+never_slots (text.Ids f) = tt
+never_slots (text.Words f) = tt
+
+honest_text : (w : View) (l : ℕ) (t : TableId) (words : ℕ) (f : TextFull) → Told w w.sizes words f → Honest (state_by w l t) (Some (fault_in_text f))
+honest_text w l t words (text.Ids f) h = let a = h.0.0 in let b = h.0.1 in let c = h.0.2 in (record { can_fill = refl; past_end = omega arith; end_is = b; at_is = sym h.1 }, a)
+honest_text w l t words (text.Words f) h = let a = h.0.0 in let b = h.0.1 in let c = h.0.2 in record { can_fill = refl; past_end = omega arith; end_is = b; at_is = sym h.1 }
+
+-- sizes are those of the heap
+pub told_here : (w : View) (z : HeapSize) (words : ℕ) (f : TextFull) → w.sizes ≡ z → Told w z words f → Told w w.sizes words f
+told_here w z words f e h = subst (λ (y : HeapSize). Told w y words f) (sym e) h
+
+pub step_refused : (v w : View) (l : ℕ) (t : TableId) (words most : ℕ) (f : TextFull) → words ≤ most → IsPossible v → Continues v w → Told w w.sizes words f → IsSpared v w words f → Step (state_by v l t) (state_by w l t) (Some (fault_in_text f)) 1 most
+step_refused v w l t words most (text.Ids f) le p c h s = let a = h.0.0 in let b = s.used_ids in let d = s.used_words in record { grows = grows_continues v w l t p c; honest = honest_text w l t words (text.Ids f) h; within_ids = omega arith; within_words = omega arith }
+step_refused v w l t words most (text.Words f) le p c h s = let b = s.used_ids in let d = s.used_words in record { grows = grows_continues v w l t p c; honest = honest_text w l t words (text.Words f) h; within_ids = omega arith; within_words = omega arith }
+
+pub step_used : (v w : View) (l : ℕ) (t : TableId) (ids words i n : ℕ) → ids ≤ i → words ≤ n → IsPossible v → Continues v w → Uses v w ids words → Step (state_by v l t) (state_by w l t) None i n
+step_used v w l t ids words i n a b p c u = let x = u.0 in let y = u.1 in record { grows = grows_continues v w l t p c; honest = tt; within_ids = omega arith; within_words = omega arith }
+
+pub flat_is : (us : List ℕ) → words_over (texts.is_wide us) (length us) ≡ flat_words us
+flat_is us = ap (λ (b : Bool). words_over b (length us)) (wide_same us)
+
+-- nothing was used
+nothing_used : (v w : View) (l : ℕ) (t : TableId) (i n : ℕ) → IsPossible v → Continues v w → w.used ≡ v.used → Step (state_by v l t) (state_by w l t) None i n
+nothing_used v w l t i n p c u = let x = ap (λ (c : Counters). c.ids) u in let y = ap (λ (c : Counters). c.words) u in record { grows = grows_continues v w l t p c; honest = tt; within_ids = omega arith; within_words = omega arith }
+
+-- a concatenation of at most the greatest length
+module _ (v w : View) (l : ℕ) (t : TableId) (a b : JsStr) (us vs : List ℕ) (p : IsPossible v) (c : Continues v w) (most : length us + length vs ≤ MAX) where
+  abbrev m : ℕ
+  m = length us
+
+  abbrev n : ℕ
+  n = length vs
+
+  copy_most : words_over (texts.is_wide (us ++ vs)) (length (us ++ vs)) ≤ copy_words (m + n)
+  copy_most = subst (λ (k : ℕ). words_over (texts.is_wide (us ++ vs)) k ≤ copy_words (m + n)) (sym (length-append us vs)) (copy_bound (texts.is_wide (us ++ vs)) (m + n))
+
+  ok_by : (s : JsStr) (i k : ℕ) → m ≡ i → n ≡ k → IsJoined v w w.sizes a b us vs (Ok s) → Step (state_by v l t) (state_by w l t) None (join_ids m n) (join_words m n)
+  ok_by s zero k e f j = let q = j.left_empty e in nothing_used v w l t (join_ids m n) (join_words m n) p c q.2.1
+  ok_by s (suc i) zero e f j = let q = j.right_empty (omega arith) f in nothing_used v w l t (join_ids m n) (join_words m n) p c q.2.1
+  ok_by s (suc i) (suc k) e f j = let x : 0 < m = omega arith in let y : 0 < n = omega arith in ⊎_elim
+      (λ q. step_used v w l t 1 (words_over (texts.is_wide (us ++ vs)) (length (us ++ vs))) (join_ids m n) (join_words m n) (let d = join_ids_one m n x y in omega arith) (let d = join_words_copy m n x y in let g = copy_most in omega arith) p c q.2.2)
+      (λ q. let bad : Ok s ≡ Err (join.Full q.0) = q.1 in absurd (cc))
+      (j.both x y most)
+
+  pub joined_ok : (s : JsStr) → IsJoined v w w.sizes a b us vs (Ok s) → Step (state_by v l t) (state_by w l t) None (join_ids m n) (join_words m n)
+  joined_ok s j = ok_by s m n refl refl j
+
+  err_by : (full : TextFull) (i k : ℕ) → m ≡ i → n ≡ k → IsJoined v w w.sizes a b us vs (Err (join.Full full)) → Step (state_by v l t) (state_by w l t) (Some (fault_in_text full)) (join_ids m n) (join_words m n)
+  err_by full zero k e f j = let q = j.left_empty e in let bad : Err (join.Full full) ≡ Ok q.0 = q.1 in absurd (cc)
+  err_by full (suc i) zero e f j = let q = j.right_empty (omega arith) f in let bad : Err (join.Full full) ≡ Ok q.0 = q.1 in absurd (cc)
+  err_by full (suc i) (suc k) e f j = let x : 0 < m = omega arith in let y : 0 < n = omega arith in ⊎_elim
+      (λ q. let bad : Err (join.Full full) ≡ Ok q.0 = q.1 in absurd (cc))
+      (λ q. let same : Err (join.Full full) ≡ Err (join.Full q.0) = q.1 in let is : q.0 ≡ full = cc in
+      subst (λ (one : ℕ). Step (state_by v l t) (state_by w l t) (Some (fault_in_text full)) one (join_words m n)) (sym (join_ids_one m n x y))
+      (step_refused v w l t (words_over (texts.is_wide (us ++ vs)) (length (us ++ vs))) (join_words m n) full (let d = join_words_copy m n x y in let g = copy_most in omega arith) p c
+      (subst (Told w w.sizes (words_over (texts.is_wide (us ++ vs)) (length (us ++ vs)))) is q.2.0) (subst (IsSpared v w (words_over (texts.is_wide (us ++ vs)) (length (us ++ vs)))) is q.2.1)))
+      (j.both x y most)
+
+  pub joined_err : (full : TextFull) → IsJoined v w w.sizes a b us vs (Err (join.Full full)) → Step (state_by v l t) (state_by w l t) (Some (fault_in_text full)) (join_ids m n) (join_words m n)
+  joined_err full j = err_by full m n refl refl j
+
+  -- which is never too long
+  pub joined_short : (x y : ℕ) → IsJoined v w w.sizes a b us vs (Err (join.TooLong x y)) → ⊥
+  joined_short x y j = short_by m n refl refl
+    where
+      short_by : (i k : ℕ) → m ≡ i → n ≡ k → ⊥
+      short_by zero k e f = let q = j.left_empty e in let bad : Err (join.TooLong x y) ≡ Ok q.0 = q.1 in cc
+      short_by (suc i) zero e f = let q = j.right_empty (omega arith) f in let bad : Err (join.TooLong x y) ≡ Ok q.0 = q.1 in cc
+      short_by (suc i) (suc k) e f = ⊎_elim (λ q. let bad : Err (join.TooLong x y) ≡ Ok q.0 = q.1 in cc) (λ q. let bad : Err (join.TooLong x y) ≡ Err (join.Full q.0) = q.1 in cc) (j.both (omega arith) (omega arith) most)
+
+  -- any fault of it
+  pub joined_step : (f : JoinFault) → IsJoined v w w.sizes a b us vs (Err f) → Step (state_by v l t) (state_by w l t) (concat_part (fault_in_join f)) (join_ids m n) (join_words m n)
+  joined_step (join.TooLong x y) j = absurd (joined_short x y j)
+  joined_step (join.Full full) j = joined_err full j
+
+  pub joined_told : (f : JoinFault) (most' : ℕ) → m + n ≤ most' → IsJoined v w w.sizes a b us vs (Err f) → JoinTold (fault_in_join f) most' m n
+  joined_told (join.TooLong x y) most' le j = absurd (joined_short x y j)
+  joined_told (join.Full (text.Ids f)) most' le j = le
+  joined_told (join.Full (text.Words f)) most' le j = le
+
+-- a part
+module _ (v w : View) (l : ℕ) (t : TableId) (s : JsStr) (us : List ℕ) (from to : ℕ) (p : IsPossible v) (c : Continues v w) (order : from ≤ to) (within : to ≤ length us) where
+  abbrev cut : List ℕ
+  cut = part from (to - from) us
+
+  abbrev cut_size : ℕ
+  cut_size = words_over (texts.is_wide cut) (length cut)
+
+  cut_most : cut_size ≤ copy_words (to - from)
+  cut_most = subst (λ (k : ℕ). words_over (texts.is_wide cut) k ≤ copy_words (to - from)) (sym (part_length from (to - from) us (omega arith))) (copy_bound (texts.is_wide cut) (to - from))
+    where
+      part_length : (o n : ℕ) (xs : List ℕ) → o + n ≤ length xs → length (part o n xs) ≡ n
+      part_length o n xs le = let d = length-drop o xs in length-take-le n (drop o xs) (omega arith)
+
+  other : (from ≡ 0 → to ≡ length us → ⊥) → (0 < from) ⊎ (to < length us)
+  other never = dite (ℕ_discrete from 0) (λ e. inr (less never e)) (λ ne. inl (omega arith))
+    where
+      less : (from ≡ 0 → to ≡ length us → ⊥) → from ≡ 0 → to < length us
+      less never e = dite (ℕ_discrete to (length us)) (λ f. absurd (never e f)) (λ ne. omega arith)
+
+  whole_ok : (r : JsStr) → from ≡ 0 → to ≡ length us → IsCut v w w.sizes s from to us (Ok r) → Step (state_by v l t) (state_by w l t) None (cut_ids from to (length us)) (cut_words from to (length us))
+  whole_ok r e f j = let q = j.whole e f in nothing_used v w l t (cut_ids from to (length us)) (cut_words from to (length us)) p c q.2.1
+
+  part_ok : (r : JsStr) → (from ≡ 0 → to ≡ length us → ⊥) → IsCut v w w.sizes s from to us (Ok r) → Step (state_by v l t) (state_by w l t) None (cut_ids from to (length us)) (cut_words from to (length us))
+  part_ok r never j = ⊎_elim
+      (λ q. step_used v w l t 1 cut_size (cut_ids from to (length us)) (cut_words from to (length us)) (let d = cut_ids_one from to (length us) never in omega arith) (let d = cut_words_copy from to (length us) never in let g = cut_most in omega arith) p c q.2.2)
+      (λ q. let bad : Ok r ≡ Err q.0 = q.1 in absurd (cc))
+      (j.other (other never))
+
+  pub cut_ok : (r : JsStr) → IsCut v w w.sizes s from to us (Ok r) → Step (state_by v l t) (state_by w l t) None (cut_ids from to (length us)) (cut_words from to (length us))
+  cut_ok r j = dite (ℕ_discrete from 0) (λ e. dite (ℕ_discrete to (length us)) (λ f. whole_ok r e f j) (λ ne. part_ok r (λ _ f. ne f) j)) (λ ne. part_ok r (λ e _. ne e) j)
+
+  whole_err : (full : TextFull) → from ≡ 0 → to ≡ length us → IsCut v w w.sizes s from to us (Err full) → ⊥
+  whole_err full e f j = let q = j.whole e f in let bad : Err full ≡ Ok q.0 = q.1 in cc
+
+  part_err : (full : TextFull) → (from ≡ 0 → to ≡ length us → ⊥) → IsCut v w w.sizes s from to us (Err full) → Step (state_by v l t) (state_by w l t) (Some (fault_in_text full)) (cut_ids from to (length us)) (cut_words from to (length us))
+  part_err full never j = ⊎_elim
+      (λ q. let bad : Err full ≡ Ok q.0 = q.1 in absurd (cc))
+      (λ q. let same : Err full ≡ Err q.0 = q.1 in let is : q.0 ≡ full = cc in
+      subst (λ (one : ℕ). Step (state_by v l t) (state_by w l t) (Some (fault_in_text full)) one (cut_words from to (length us))) (sym (cut_ids_one from to (length us) never))
+      (step_refused v w l t cut_size (cut_words from to (length us)) full (let d = cut_words_copy from to (length us) never in let g = cut_most in omega arith) p c
+      (subst (Told w w.sizes cut_size) is q.2.0) (subst (IsSpared v w cut_size) is q.2.1)))
+      (j.other (other never))
+
+  pub cut_err : (full : TextFull) → IsCut v w w.sizes s from to us (Err full) → Step (state_by v l t) (state_by w l t) (Some (fault_in_text full)) (cut_ids from to (length us)) (cut_words from to (length us))
+  cut_err full j = dite (ℕ_discrete from 0) (λ e. dite (ℕ_discrete to (length us)) (λ f. absurd (whole_err full e f j)) (λ ne. part_err full (λ _ f. ne f) j)) (λ ne. part_err full (λ e _. ne e) j)
+
+-- interning
+honest_table : (v w : View) (us : List ℕ) (l : ℕ) (t : TableId) (f : TableFull) → IsRefused v w us f → Honest (state_by w l t) (Some (fault_in_table f))
+honest_table v w us l t (table.Ids f) h = let full = h.1 in let a = full.0 in let b = full.1 in let c = full.2 in (record { can_fill = refl; past_end = omega arith; end_is = b; at_is = sym h.2 }, a)
+honest_table v w us l t (table.Slots n) h = (refl, h.0)
+
+left_most : (v w : View) (us : List ℕ) → HasLeft v w us → w.used.ids ≤ v.used.ids + 1
+left_most v w us h = ⊎_elim (λ e. omega arith) (λ t. let e = t.1 in omega arith) h
+
+pub interned_err : (v w : View) (us : List ℕ) (l : ℕ) (t : TableId) (f : TableFull) (words : ℕ) → IsPossible v → Goes v w [] → IsRefused v w us f → Step (state_by v l t) (state_by w l t) (Some (fault_in_table f)) 1 words
+interned_err v w us l t (table.Ids f) words p g h = let a = h.0 in let b = h.1.0 in let c = g.words_used in record { grows = grows_goes v w [] l t p g; honest = honest_table v w us l t (table.Ids f) h; within_ids = omega arith; within_words = omega arith }
+interned_err v w us l t (table.Slots n) words p g h = let a = left_most v w us h.2 in let c = g.words_used in record { grows = grows_goes v w [] l t p g; honest = honest_table v w us l t (table.Slots n) h; within_ids = omega arith; within_words = omega arith }
+
+pub interned_shut : (v w : View) (us : List ℕ) (l : ℕ) (t : TableId) (f : TableFull) → IsRefused v w us f → SlotsShut (state_by w l t) (Some (fault_in_table f)) us
+interned_shut v w us l t (table.Ids f) h = tt
+interned_shut v w us l t (table.Slots n) h = h.1
+
+pub interned_ok : (v w : View) (l : ℕ) (t : TableId) (calls : Calls) (words : ℕ) → IsPossible v → Goes v w calls → w.used.ids ≤ v.used.ids + 1 → Step (state_by v l t) (state_by w l t) None 1 words
+interned_ok v w l t calls words p g u = let c = g.words_used in record { grows = grows_goes v w calls l t p g; honest = tt; within_ids = omega arith; within_words = omega arith }

@@ -1,0 +1,53 @@
+-- What calls on texts use, against the rows of a store.
+use Rattle.std.proofs.Common.{◌≡◌, ℕ, ◌+◌, ◌-◌, ◌/◌, ◌<◌, ◌≤◌, Bool, true, false, ◌||◌, cond, List, [], ◌∷◌, length, refl, ap, ◌∙◌, arith, if◌then◌else◌, nat_eq, nat_lt, ltb-true, ne_eqb, eqb-true}
+use Rattle.js_units.specs.Lanes.{words_over}
+use Rattle.js_store.specs.Rows.{copy_words, cut_ids, cut_words, flat_words, is_part_empty, is_whole, join_ids, join_words, wide_words}
+use Rattle.js_store.specs.Rows as rows
+use Rattle.heap_text.specs.Texts as texts
+
+or_is : (b c : Bool) → (b || c) ≡ (if b then true else c)
+or_is true c = refl
+or_is false c = refl
+
+pub wide_same : (us : List ℕ) → texts.is_wide us ≡ rows.is_wide us
+wide_same [] = refl
+wide_same (u ∷ us) = or_is (nat_lt 255 u) (texts.is_wide us) ∙ ap (λ (b : Bool). if nat_lt 255 u then true else b) (wide_same us)
+
+words_most : (b : Bool) (n : ℕ) → words_over b n ≤ wide_words n
+words_most true n = omega arith
+words_most false n = omega arith
+
+few_words : (b : Bool) (n : ℕ) → n < 13 → words_over b n ≤ 3
+few_words true n l = omega arith
+few_words false n l = omega arith
+
+copy_by : (t : Bool) (b : Bool) (n : ℕ) → (t ≡ true → n < 13) → words_over b n ≤ (if t then 3 else wide_words n)
+copy_by true b n h = few_words b n (h refl)
+copy_by false b n h = words_most b n
+
+pub copy_bound : (b : Bool) (n : ℕ) → words_over b n ≤ copy_words n
+copy_bound b n = copy_by (nat_lt n 13) b n (ltb-true n 13)
+
+-- neither side is empty
+full_by : (m n : ℕ) → 0 < m → 0 < n → is_part_empty m n ≡ false
+full_by m n a b = ap (λ (x : Bool). if x then true else nat_eq n 0) (ne_eqb m 0 (λ e. omega arith)) ∙ ne_eqb n 0 (λ e. omega arith)
+
+pub join_ids_one : (m n : ℕ) → 0 < m → 0 < n → join_ids m n ≡ 1
+join_ids_one m n a b = ap (λ (x : Bool). if x then 0 else 1) (full_by m n a b)
+
+pub join_words_copy : (m n : ℕ) → 0 < m → 0 < n → join_words m n ≡ copy_words (m + n)
+join_words_copy m n a b = ap (λ (x : Bool). if x then 0 else copy_words (m + n)) (full_by m n a b)
+
+-- a part that is not the whole
+part_on : (b : Bool) (from to n : ℕ) → (b ≡ true → from ≡ 0) → (from ≡ 0 → to ≡ n → ⊥) → (if b then nat_eq to n else false) ≡ false
+part_on true from to n e never = ne_eqb to n (λ t. never (e refl) t)
+part_on false from to n e never = refl
+
+part_by : (from to n : ℕ) → (from ≡ 0 → to ≡ n → ⊥) → is_whole from to n ≡ false
+part_by from to n never = part_on (nat_eq from 0) from to n (eqb-true from 0) never
+
+pub cut_ids_one : (from to n : ℕ) → (from ≡ 0 → to ≡ n → ⊥) → cut_ids from to n ≡ 1
+cut_ids_one from to n never = ap (λ (x : Bool). if x then 0 else 1) (part_by from to n never)
+
+pub cut_words_copy : (from to n : ℕ) → (from ≡ 0 → to ≡ n → ⊥) → cut_words from to n ≡ copy_words (to - from)
+cut_words_copy from to n never = ap (λ (x : Bool). if x then 0 else copy_words (to - from)) (part_by from to n never)

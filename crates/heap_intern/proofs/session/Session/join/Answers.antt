@@ -1,0 +1,22 @@
+use Rattle.std.proofs.Common.{◌∙◌, sym, subst}
+use Rattle.heap_intern.specs.Limits.{limit_units}
+use Rattle.heap_rule.specs.declared.view.View.{View}
+use Rattle.heap_rule.specs.Agents.{joined}
+use Rattle.heap_table.specs.Known.{KeepsKnown}
+use Rattle.heap_intern.specs.Sessions.{state_by, table_of}
+use Rattle.heap_intern.specs.Shares.{IsJoined}
+use Rattle.heap_intern.proofs.Shares.{belongs_here, sizes_are, state_joined}
+use Rattle.heap_intern.proofs.session.Session.join.Goals as goal
+
+pub join-requires-clause-belongs : goal.join-requires-clause-belongs
+join-requires-clause-belongs c = let s = c.args.self.now in let o = c.args.other in let m = c.requires.may in let v : View = s.text.agent.seat.me.0 in let b : View = o.text.agent.seat.me.0 in
+    (s.belongs, belongs_here s.text.agent o.text.agent s.text.heap.now o.text.heap.now s.belongs o.belongs m.table (sizes_are b.sizes v.sizes m.sizes))
+
+pub join-requires-clause-may : goal.join-requires-clause-may
+join-requires-clause-may c = let m = c.requires.may in (c.args.other.belongs.2, m.first, m.second)
+
+pub returns-clause-joined : goal.returns-clause-joined
+returns-clause-joined c = let s = c.args.self.now in let o = c.args.other in let m = c.requires.may in let v : View = s.text.agent.seat.me.0 in let b : View = o.text.agent.seat.me.0 in let e = c.join.ensures in
+    let l = limit_units s.limit in let t = table_of s.text.heap.now in
+    subst (λ (w : View). IsJoined (state_by v l t) (state_by b (limit_units o.limit) (table_of o.text.heap.now)) (state_by w l t)) (sym e.view)
+    (state_joined v b l (limit_units o.limit) t (table_of o.text.heap.now) s.belongs.5 o.belongs.5 (subst (KeepsKnown v) e.view e.known) (subst (KeepsKnown b) e.view e.known_of_other) (sizes_are b.sizes v.sizes m.sizes))

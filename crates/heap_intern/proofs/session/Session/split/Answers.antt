@@ -1,0 +1,23 @@
+use Rattle.std.proofs.Common.{◌∙◌, ap, subst, sym}
+use Rattle.heap_intern.specs.Limits.{limit_units}
+use Rattle.heap_rule.specs.declared.view.View.{View}
+use Rattle.heap_table.specs.declared.agent.Agent.{Agent}
+use Rattle.heap_table.specs.declared.heap.Heap.{Heap}
+use Rattle.heap_table.specs.Agents.{Belongs, view_of}
+use Rattle.heap_intern.specs.Sessions.{state_by, table_of}
+use Rattle.heap_intern.proofs.Shares.{state_left, state_right}
+use Rattle.heap_intern.proofs.session.Session.split.Goals as goal
+
+pub invariant_of-result : goal.invariant_of-result
+invariant_of-result c = record {
+  belongs = subst (λ (a : Agent). Belongs a c.new.result.heap.now) (sym c.new.ensures.agent) (subst (λ (h : Heap). Belongs c.split-agent.result h) (sym c.new.ensures.heap) c.split-agent.ensures.belongs.1);
+}
+
+pub returns-clause-left : goal.returns-clause-left
+returns-clause-left c = let s = c.args.self.now in let v : View = s.text.agent.seat.me.0 in
+    ap (λ (w : View). state_by w (limit_units s.limit) (table_of s.text.heap.now)) c.split-agent.ensures.left ∙ state_left v c.args.give (limit_units s.limit) (table_of s.text.heap.now)
+
+pub returns-clause-right : goal.returns-clause-right
+returns-clause-right c = let s = c.args.self.now in let v : View = s.text.agent.seat.me.0 in let l = limit_units s.limit in
+    (λ i. state_by (view_of (c.new.ensures.agent i)) l (table_of (c.new.ensures.heap i)))
+    ∙ (ap (λ (w : View). state_by w l (table_of s.text.heap.now)) c.split-agent.ensures.right ∙ state_right v c.args.give l (table_of s.text.heap.now))

@@ -1,0 +1,11 @@
+use Rattle.std.proofs.Common.{◌∙◌, ap}
+use Rattle.heap_intern.specs.Limits.{limit_units}
+use Rattle.heap_rule.specs.declared.view.View.{View}
+use Rattle.heap_intern.specs.Sessions.{state_by, table_of}
+use Rattle.heap_intern.proofs.Shares.{state_total}
+use Rattle.heap_intern.proofs.session.Session.totals.Goals as goal
+
+pub returns-clause-state : goal.returns-clause-state
+returns-clause-state c = let s = c.args.self.now in let v : View = s.text.agent.seat.me.0 in let e = c.totals.ensures in
+    ap (λ (w : View). state_by w (limit_units s.limit) (table_of s.text.heap.now)) e.view
+    ∙ state_total v (limit_units s.limit) (table_of s.text.heap.now) c.totals.result.0 c.totals.result.1 e.used.0 e.used.1

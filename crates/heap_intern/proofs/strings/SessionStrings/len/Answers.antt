@@ -1,0 +1,21 @@
+use Rattle.std.proofs.Common.{◌∙◌, ℕ, List, None, length, ap, sym, arith}
+use Rattle.heap_rule.specs.declared.view.View.{View}
+use Rattle.heap_intern.specs.Limits.{limit_units}
+use Rattle.heap_rule.proofs.MapLemmas.{has_key, key_of}
+use Rattle.heap_rule.proofs.Possible.{possible_short}
+use Rattle.heap_intern.specs.Sessions.{table_of}
+use Rattle.heap_intern.proofs.States.{history_reads, step_at, step_reads, text_is}
+use Rattle.heap_intern.proofs.strings.SessionStrings.len.Goals as goal
+
+pub returns-clause-value : goal.returns-clause-value
+returns-clause-value c = let v : View = c.args.self.now.text.agent.seat.me.0 in let u = has_key v.units c.args.s.id c.requires in c.len.ensures.length u.0 u.1 ∙ ap (length {A = ℕ}) (sym (text_is v.units c.args.s.id u.0 u.1))
+
+pub returns-clause-most : goal.returns-clause-most
+returns-clause-most c = let v : View = c.args.self.now.text.agent.seat.me.0 in let u = has_key v.units c.args.s.id c.requires in let n = c.len.ensures.length u.0 u.1 in let m = possible_short v c.args.self.now.belongs.5 c.args.s.id u.0 u.1 in omega arith
+
+pub returns-clause-step : goal.returns-clause-step
+returns-clause-step c = let s = c.args.self.now in let v : View = s.text.agent.seat.me.0 in let w : View = c.len.new.self.agent.seat.me.0 in
+    step_at v w (limit_units s.limit) (table_of s.text.heap.now) (table_of c.len.new.self.heap.now) None 0 0 (ap (λ x. table_of x.now) c.len.ensures.heap) (step_reads v w (limit_units s.limit) (table_of s.text.heap.now) s.belongs.5 c.len.ensures.reads)
+
+pub returns-clause-history : goal.returns-clause-history
+returns-clause-history c = history_reads c.args.self.now.text.agent.seat.me.0 c.len.new.self.agent.seat.me.0 c.len.ensures.reads

@@ -1,0 +1,15 @@
+use Rattle.std.proofs.Common.{rules}
+use Rattle.js_store.proofs.Laws.{same_units}
+use Rattle.heap_rule.specs.declared.view.View.{View}
+use Rattle.heap_intern.specs.Limits.{limit_units}
+use Rattle.heap_rule.proofs.MapLemmas.{has_key, key_of}
+use Rattle.heap_rule.proofs.Possible.{possible_short}
+use Rattle.heap_intern.specs.Sessions.{table_of}
+use Rattle.heap_intern.specs.Sessions.{state_by}
+use Rattle.heap_intern.specs.Sound.{sound_of}
+use Rattle.heap_intern.proofs.strings.SessionStrings.same.Goals as goal
+
+pub returns-clause-units : goal.returns-clause-units
+returns-clause-units c = let s = c.args.self.now in let v : View = s.text.agent.seat.me.0 in
+    let h = same_units (state_by v (limit_units s.limit) (table_of s.text.heap.now)) (sound_of v s.limit (table_of s.text.heap.now) s.belongs.5) c.requires.left_interned.0 c.requires.right_interned.0 c.args.a.id c.args.b.id c.requires.left c.requires.right c.requires.left_interned.1 c.requires.right_interned.1 in
+    search rules

@@ -1,0 +1,5 @@
+pub mod Limits
+pub mod Sessions
+pub mod Shares
+pub mod Faults
+pub mod Sound

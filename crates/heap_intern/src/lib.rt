@@ -1,0 +1,16 @@
+//! Sessions: a heap that threads share as a store of strings. Each thread has a [`Session`] of
+//! its own; strings that one has made can be read by each session that is split off it or joined
+//! with it, and equal strings that any sessions of one heap intern have one number.
+//!
+//! A session is bounded, since its heap has so many ids, content words and slots, and never wants
+//! memory: no call takes any. No call takes a lock or waits.
+#![tactic(auto)]
+
+mod faults;
+mod limit;
+mod session;
+mod sharing;
+mod strings;
+
+pub use limit::Limit;
+pub use session::Session;

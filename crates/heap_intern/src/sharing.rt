@@ -1,0 +1,94 @@
+// How sessions are made, split and joined, and what they count.
+ghost use Rattle.std.specs.Prelude.{◌≡◌, ◌≤◌, ◌<◌, None};
+ghost use Rattle.js_store.specs.Faults.{Step};
+ghost use Rattle.heap_intern.specs.Limits.{limit_units};
+ghost use Rattle.heap_rule.specs.Agents.{joined, left_after_split, right_after_split};
+ghost use Rattle.heap_table.specs.Agents.{Belongs, view_of};
+ghost use Rattle.heap_slots.specs.Counting.{different};
+ghost use Rattle.heap_intern.specs.Sessions.{state_by, state_in, table_of, view_in};
+ghost use Rattle.heap_intern.specs.Shares.{BelongsAs, IsJoined, IsWhole, MayJoin, left_by, right_by, total_by};
+
+use crate::limit::Limit;
+use crate::session::Session;
+use heap_slots::count_interned;
+use heap_table::{Agent, Heap};
+use heap_text::Text;
+
+impl<'h> Session<'h> {
+    /// A session of an agent of this heap. The limit is that of the strings that it makes.
+    pub fn new(heap: &'h Heap, agent: Agent, limit: Limit) -> Session<'h>
+        requires belongs { Belongs agent heap.now }
+        ensures view { view_in result ≡ view_of agent }
+        ensures state { state_in result ≡ state_by (view_of agent) (limit_units limit) (table_of heap.now) }
+    {
+        Session {
+            text: Text::new(heap, agent),
+            limit,
+        }
+    }
+
+    /// A new session with a part of the share, which knows all that this one knows and has used
+    /// nothing. Its history is this one's.
+    pub fn split(&mut self, give: u32) -> Session<'h>
+        requires some { 1 ≤ give }
+        requires less { give < (state_in self.old).frame.share }
+        ensures left_view { view_in self.new ≡ left_after_split (view_in self.old) give }
+        ensures right_view { view_in result ≡ right_after_split (view_in self.old) give }
+        ensures left { state_in self.new ≡ left_by (state_in self.old) give }
+        ensures right { state_in result ≡ right_by (state_in self.old) give }
+    {
+        let heap = self.text.heap;
+        let agent = self.text.agent.split(heap, give);
+        Session {
+            text: Text::new(heap, agent),
+            limit: self.limit,
+        }
+    }
+
+    /// Takes over all that another session of this heap knows, has and used, and its calls since
+    /// its split. That was a split off calls that this session knows by now.
+    pub fn join(&mut self, other: Session<'h>)
+        requires may { MayJoin (state_in self.old) (state_in other) }
+        ensures view { view_in self.new ≡ joined (view_in self.old) (view_in other.entry) }
+        ensures joined { IsJoined (state_in self.old) (state_in other.entry) (state_in self.new) }
+    {
+        let Session { text, limit: _ } = other;
+        let Text { heap: _, agent } = text;
+        let heap = self.text.heap;
+        self.text.agent.join(heap, agent);
+    }
+
+    /// The number of different lists of units in its history, by a session that has the whole
+    /// share. That is the number of slots that are used.
+    pub fn count_interned(&mut self) -> u32
+        requires whole { IsWhole (state_in self.old) }
+        ensures count { result ≡ different (state_in self.old).history }
+        ensures step { Step (state_in self.old) (state_in self.new) None 0 0 }
+        ensures history { (state_in self.new).history ≡ (state_in self.old).history }
+    {
+        let heap = self.text.heap;
+        count_interned(&mut self.text.agent, heap)
+    }
+
+    /// The ids and the content words that were ever claimed, by a session that has the whole
+    /// share, which used all of them.
+    pub fn totals(&mut self) -> (u32, u32)
+        requires whole { IsWhole (state_in self.old) }
+        ensures ids { result.0 ≡ (state_in self.old).used_ids }
+        ensures words { result.1 ≡ (state_in self.old).used_words }
+        ensures state { state_in self.new ≡ total_by (state_in self.old) }
+    {
+        let heap = self.text.heap;
+        self.text.agent.totals(heap)
+    }
+
+    /// Its agent.
+    pub fn into_agent(self) -> Agent
+        ensures view { view_of result ≡ view_in self.entry }
+        ensures belongs { BelongsAs (state_in self.entry) result }
+    {
+        let Session { text, limit: _ } = self;
+        let Text { heap: _, agent } = text;
+        agent
+    }
+}
