@@ -19,8 +19,6 @@ import time
 PARTS = ("src", "specs", "proofs")
 # The most processors that one crate gets.
 MOST_JOBS = 4
-# What a crate of the longest chain gets at least, also where fewer are idle: in the end all else waits for that chain.
-LONGEST_JOBS = 2
 # After so many seconds without news, what is at work is told.
 SILENT = 60
 
@@ -209,15 +207,10 @@ class Build:
         """How many processors the crate gets now: its share of the idle ones, as far as there is memory; 0 where it has to wait."""
         idle = self.processors - sum(it.jobs for it in self.running)
         room = self.memory - sum(it.crate.needs(it.jobs) for it in self.running)
-        share = max(-(-idle // waiting), LONGEST_JOBS if crate.chain == self.longest() else 1)
-        jobs = min(MOST_JOBS, share) if idle > 0 else 0
+        jobs = min(MOST_JOBS, -(-idle // waiting)) if idle > 0 else 0
         while jobs > 1 and crate.needs(jobs) > room:
             jobs -= 1
         return jobs if not self.running or crate.needs(jobs) <= room else 0
-
-    def longest(self):
-        """The work of the longest chain of crates that aren't proved yet."""
-        return max(it.chain for it in self.crates if it.name not in self.proved)
 
     def start(self, crate, jobs, arguments):
         root, is_top = os.path.join(self.work, crate.name), crate.name == self.top

@@ -7,3 +7,4 @@ pub mod Going
 pub mod Bearing
 pub mod Pieces
 pub mod Answered
+pub mod Sharing

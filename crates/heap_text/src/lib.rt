@@ -17,3 +17,6 @@ mod text;
 pub use faults::{JoinFault, TextFull};
 pub use string::{JsStr, Window};
 pub use text::Text;
+
+#[cfg(test)]
+mod tests;

@@ -7,3 +7,4 @@ mod Made
 mod Replacements
 mod Quoted
 mod Elements
+mod Keys

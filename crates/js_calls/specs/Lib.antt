@@ -9,3 +9,4 @@ pub mod Arrays
 pub mod Members
 pub mod Groups
 pub mod Numbers
+pub mod Symbols

@@ -14,7 +14,7 @@ use Rattle.js_tree.specs.declared.tree.Builtin.TheVariants.{FromCharCode, FromCo
 use Rattle.js_tree.specs.declared.tree.Method.{Method}
 use Rattle.js_tree.specs.declared.tree.Method.TheVariants.{At, CharAt, CharCodeAt, CodePointAt, Concat, EndsWith, Includes, IndexOf, IsWellFormed, Join, LastIndexOf, PadEnd, PadStart, Repeat, Replace, ReplaceAll, Slice, Split, StartsWith, Substr, Substring, ToWellFormed, Trim, TrimEnd, TrimStart}
 use Rattle.js_values.specs.declared.value.Kind.TheVariants.{TypeError}
-use Rattle.js_values.specs.Outcome.{Val, undefined, null, bool, number, text, list, Out, gave, free, number_of, needing, throwing}
+use Rattle.js_values.specs.Outcome.{Val, undefined, null, bool, number, text, symbol, list, Out, gave, free, number_of, needing, throwing}
 use Rattle.js_values.specs.Need.{nothing, reads}
 use Rattle.js_values.specs.Conversions.{to_number, list_units, all_units, first_text_units}
 use Rattle.js_values.specs.Arguments.{first_of, second_of, end_in}
@@ -33,6 +33,7 @@ length_of null = throwing nothing TypeError
 length_of (bool b) = needing nothing undefined
 length_of (number n) = needing nothing undefined
 length_of (text u) = needing nothing (number (Int (pos (length u))))
+length_of (symbol k) = needing nothing undefined
 length_of (list us) = needing nothing (number_of (length us))
 
 -- a value that has members (ECMA-262, "RequireObjectCoercible")

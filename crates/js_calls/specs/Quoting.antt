@@ -3,7 +3,7 @@ use Rattle.std.specs.Prelude.{ℕ, ◌+◌, List, length}
 use Rattle.js_number.specs.declared.Num.{Num}
 use Rattle.js_number.specs.declared.Num.TheVariants.{Int}
 use Rattle.js_json.specs.Quoting.{quoted, list_text}
-use Rattle.js_values.specs.Outcome.{Val, undefined, null, bool, number, text, list, Out, bind, needing}
+use Rattle.js_values.specs.Outcome.{Val, undefined, null, bool, number, text, symbol, list, Out, bind, needing}
 use Rattle.js_values.specs.Need.{nothing, reads, parts}
 use Rattle.js_values.specs.Conversions.{to_string, list_units}
 use Rattle.js_calls.specs.Cutting.{bounded, limited}
@@ -28,4 +28,5 @@ stringify_call limit null = as_text limit null
 stringify_call limit (bool b) = as_text limit (bool b)
 stringify_call limit (number n) = as_text limit (whole_or_null n)
 stringify_call limit (text u) = limited limit (length u) (quoted u)
+stringify_call limit (symbol k) = needing (reads 0) undefined
 stringify_call limit (list us) = list_json limit us

@@ -16,7 +16,9 @@ mod reading;
 mod replacing;
 mod searching;
 mod splitting;
+mod symbols;
 
 pub use arrays::read_index;
 pub use builtins::call_builtin;
 pub use members::{call, present, read_length};
+pub use symbols::{call_key_for, call_string_function, call_symbol_for, read_description};

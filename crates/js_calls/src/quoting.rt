@@ -43,7 +43,7 @@ fn stringify<S: Strings>(
     ensures did { Does S.number (S.state store.old) (S.state store.new) result (stringify_call (S.state store.old).limit (seen (S.state store.old) S.number value.now)) }
 {
     match value {
-        Value::Undefined => Ok(Value::Undefined),
+        Value::Undefined | Value::Symbol(_) => Ok(Value::Undefined),
         Value::Null | Value::Bool(_) => give_text(alloc, store, value),
         Value::Number(n) => give_number(alloc, store, *n),
         Value::Text(s) => give_quoted(alloc, store, *s),
@@ -51,8 +51,8 @@ fn stringify<S: Strings>(
     }
 }
 
-// The value's own text.
-fn give_text<S: Strings>(
+/// The string of a value, as ToString has it.
+pub fn give_text<S: Strings>(
     alloc: Global,
     store: &mut S,
     value: &Value<S::Ref>,

@@ -21,3 +21,6 @@ pub use host::{HostErr, HostFiles, HostOut};
 pub use mem_files::MemFiles;
 pub use mem_sink::MemSink;
 pub use sink::{Failed, Sink, write_all};
+
+#[cfg(test)]
+mod tests;

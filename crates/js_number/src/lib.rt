@@ -11,6 +11,8 @@ ghost use Rattle.js_number.specs.Places.{IsLawful, integer_of, clamped, relative
 ghost use Rattle.js_number.specs.Arith.{modulo, length_of, whole, sum, difference, negative, below, text_of};
 ghost use Rattle.js_number.specs.declared.Num.TheVariants.{Int};
 
+#[cfg(test)]
+mod tests;
 mod text;
 
 use itoa::Buffer;

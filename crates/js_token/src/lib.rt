@@ -8,6 +8,8 @@
 mod numbers;
 mod read;
 mod reserved;
+#[cfg(test)]
+mod tests;
 mod word;
 
 pub use read::{Source, tokens};

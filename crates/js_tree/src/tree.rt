@@ -191,7 +191,6 @@ impl Script {
     }
 }
 
-// It stands here, since no other crate makes a name yet.
 #[cfg(test)]
 mod tests {
     use super::Name;

@@ -13,3 +13,6 @@ mod words;
 pub use text::{append_utf8, code_point, is_lead, is_trail, is_trimmed};
 pub use units::{NoMemory, Units};
 pub use words::{hash_step, lane, lanes, set_lane, words_for};
+
+#[cfg(test)]
+mod tests;

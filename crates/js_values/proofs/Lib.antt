@@ -5,3 +5,4 @@ pub mod ListTexts
 pub mod Still
 pub mod Strings
 pub mod Sums
+mod Orders

@@ -2,6 +2,7 @@ pub mod Outcome
 pub mod Need
 pub mod Conversions
 pub mod Operators
+pub mod Comparing
 pub mod Arguments
 pub mod Copies
 pub mod Seen

@@ -5,7 +5,7 @@ use Rattle.js_number.specs.Arith.{sum, difference, negative}
 use Rattle.js_tree.specs.declared.tree.Op.{Op}
 use Rattle.js_tree.specs.declared.tree.Op.TheVariants.{Plus, Minus}
 use Rattle.js_values.specs.declared.value.Kind.TheVariants.{RangeError}
-use Rattle.js_values.specs.Outcome.{Val, undefined, null, bool, number, text, list, Converted, into, fails, threw, unsupported, Out, gave, free, bind, needing, throwing, refuses, converts, converting}
+use Rattle.js_values.specs.Outcome.{Val, undefined, null, bool, number, text, symbol, list, Converted, into, fails, threw, unsupported, Out, gave, free, bind, needing, throwing, refuses, converts, converting}
 use Rattle.js_values.specs.Need.{nothing, reads}
 use Rattle.js_values.specs.Conversions.{to_string, to_number, to_boolean, is_text, text_units, string_units}
 
@@ -52,6 +52,7 @@ primitive limit null = gave null free
 primitive limit (bool b) = gave (bool b) free
 primitive limit (number n) = gave (number n) free
 primitive limit (text u) = gave (text u) free
+primitive limit (symbol k) = gave (symbol k) free
 primitive limit (list us) = bind (to_string limit (list us)) (λ u. gave (text u) free)
 
 -- the sum of two primitive values, of which a string makes both strings

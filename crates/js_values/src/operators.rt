@@ -57,8 +57,8 @@ fn plus<S: Strings>(
     plus_primitives(alloc, store, at, &first, &second)
 }
 
-// The primitive value of a value, which is no array.
-fn to_primitive<S: Strings>(
+/// The primitive value of a value, which is no array.
+pub fn to_primitive<S: Strings>(
     alloc: Global,
     store: &mut S,
     value: &Value<S::Ref>,
@@ -74,6 +74,7 @@ fn to_primitive<S: Strings>(
         Value::Bool(b) => Ok(Value::Bool(*b)),
         Value::Number(n) => Ok(Value::Number(*n)),
         Value::Text(s) => Ok(Value::Text(*s)),
+        Value::Symbol(s) => Ok(Value::Symbol(*s)),
         Value::List(_) => text_value(alloc, store, value),
     }
 }
@@ -188,7 +189,7 @@ fn subtract<S: Strings>(
 }
 
 // ToNumber of both sides. One that throws goes before one that is left out, whatever its side.
-fn two_numbers<S: Strings>(
+pub fn two_numbers<S: Strings>(
     store: &S,
     at: u32,
     left: &Value<S::Ref>,

@@ -11,6 +11,8 @@ ghost use Rattle.std.specs.FinMap as map;
 ghost use Rattle.plain_store.specs.Plain.{IsConsistent, units_at, history_of};
 
 mod table;
+#[cfg(test)]
+mod tests;
 
 use crate::table::Table;
 use js_store::{ConcatFault, StoreFault, Strings};

@@ -1,0 +1,4 @@
+use Rattle.heap_text.proofs.tests.turn.Goals as goal
+
+pub returns-clause-goes_on : goal.returns-clause-goes_on
+returns-clause-goes_on c = record { belongs = c.twice.ensures.text; continues = c.twice.ensures.continues }

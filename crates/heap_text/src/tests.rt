@@ -1,0 +1,334 @@
+ghost use Rattle.std.specs.Prelude.{◌≡◌, ℕ, List, ◌≤◌, ◌<◌, IfSome, length};
+ghost use Rattle.heap_rule.specs.Maps.{Has, HasKey};
+ghost use Rattle.heap_table.specs.Agents.{Belongs, share_of, view_of};
+ghost use Rattle.heap_text.specs.Texts.{Continues, Reads};
+ghost use Rattle.heap_text.specs.Turns.{GoesOn};
+
+use crate::{JoinFault, JsStr, Text, TextFull};
+use heap_rule::HeapSize;
+use heap_table::{CounterFull, Heap, MakeFault};
+use std::alloc::Global;
+use std::thread::{Threads, join_mut};
+
+// Whether the string has these units, read one by one.
+fn reads(text: &mut Text, s: JsStr, want: &[u16]) -> bool
+    requires text { Belongs text.old.agent text.old.heap.now }
+    requires known { HasKey (view_of text.old.agent).units s.id }
+    ensures text { Belongs text.new.agent text.new.heap.now }
+    ensures heap { text.new.heap ≡ text.old.heap }
+    ensures reads { Reads (view_of text.old.agent) (view_of text.new.agent) }
+{
+    let Ok(()) = text.settle(s) else {
+        return false;
+    };
+    if text.len(s) as usize != want.len() {
+        return false;
+    }
+    let window = text.window(s);
+    for i in 0..window.len {
+        if text.unit_in(window, i) != want[i as usize] {
+            return false;
+        }
+        if text.unit_at(s, i) != want[i as usize] {
+            return false;
+        }
+    }
+    true
+}
+
+// Whether a string of these units can be made, joined with itself and cut again.
+fn round_trip(text: &mut Text, units: &[u16]) -> bool
+    requires text { Belongs text.old.agent text.old.heap.now }
+    requires short { length units.now ≤ 1000 }
+    ensures text { Belongs text.new.agent text.new.heap.now }
+    ensures heap { text.new.heap ≡ text.old.heap }
+{
+    let n = units.len() as u32;
+    let Ok(s) = text.make_flat(units) else {
+        return false;
+    };
+    let Ok(twice) = text.concat(s, s) else {
+        return false;
+    };
+    let Ok(()) = text.settle(twice) else {
+        return false;
+    };
+    let Ok(front) = text.slice(twice, 0, n) else {
+        return false;
+    };
+    let Ok(back) = text.slice(twice, n, n + n) else {
+        return false;
+    };
+    if !reads(text, s, units) {
+        return false;
+    }
+    if !reads(text, front, units) {
+        return false;
+    }
+    reads(text, back, units)
+}
+
+#[test]
+fn strings_of_each_length(rt: HostRuntime) {
+    let size = HeapSize {
+        ids: 200,
+        words: 400,
+        slots: 1,
+    };
+    let Ok((heap, agent)) = Heap::make(rt.alloc(), size, 1) else {
+        panic!(rt; "no heap");
+    };
+    let mut text = Text::new(&heap, agent);
+    let narrow = [97, 98, 99, 100, 101, 102, 103, 104, 105, 106, 107, 108, 255];
+    let wide = [
+        256, 98, 99, 65535, 101, 102, 103, 104, 105, 106, 107, 108, 0,
+    ];
+    for n in 0..14 {
+        assert!(rt; round_trip(&mut text, &narrow[..n]), "{n} units");
+        assert!(rt; round_trip(&mut text, &wide[..n]), "{n} wide units");
+    }
+}
+
+// The string joined with itself, where it reads as wanted.
+fn twice(text: &mut Text, s: JsStr, want: &[u16]) -> Option<JsStr>
+    requires text { Belongs text.old.agent text.old.heap.now }
+    requires known { HasKey (view_of text.old.agent).units s.id }
+    ensures text { Belongs text.new.agent text.new.heap.now }
+    ensures heap { text.new.heap ≡ text.old.heap }
+    ensures continues { Continues (view_of text.old.agent) (view_of text.new.agent) }
+    ensures known { IfSome result (λ t. HasKey (view_of text.new.agent).units t.id) }
+{
+    let Ok(joined) = text.concat(s, s) else {
+        return None;
+    };
+    if !reads(text, joined, want) {
+        return None;
+    }
+    Some(joined)
+}
+
+// The same, as what a thread does.
+fn turn(text: &mut Text, s: JsStr, want: &[u16]) -> Option<JsStr>
+    requires text { Belongs text.old.agent text.old.heap.now }
+    requires known { HasKey (view_of text.old.agent).units s.id }
+    ensures heap { text.new.heap ≡ text.old.heap }
+    ensures goes_on { GoesOn (view_of text.old.agent) text.new.agent text.new.heap.now }
+    ensures known { IfSome result (λ t. HasKey (view_of text.new.agent).units t.id) }
+{
+    twice(text, s, want)
+}
+
+fn are_one_and_two(a: JsStr, b: JsStr) -> bool {
+    matches!((a.id, b.id), (1, 2) | (2, 1))
+}
+
+// Two agents join the string with itself at once, each in a thread, and each knows what it made.
+fn twice_at_once(
+    rt: &impl Threads,
+    left: &mut Text,
+    right: &mut Text,
+    s: JsStr,
+    want: &[u16],
+) -> (Option<JsStr>, Option<JsStr>)
+    requires left { Belongs left.old.agent left.old.heap.now }
+    requires right { Belongs right.old.agent right.old.heap.now }
+    requires known_left { HasKey (view_of left.old.agent).units s.id }
+    requires known_right { HasKey (view_of right.old.agent).units s.id }
+    ensures heaps { (left.new.heap ≡ left.old.heap) × (right.new.heap ≡ right.old.heap) }
+    ensures left { GoesOn (view_of left.old.agent) left.new.agent left.new.heap.now }
+    ensures right { GoesOn (view_of right.old.agent) right.new.agent right.new.heap.now }
+    ensures known_left { IfSome result.0 (λ t. HasKey (view_of left.new.agent).units t.id) }
+    ensures known_right { IfSome result.1 (λ t. HasKey (view_of right.new.agent).units t.id) }
+{
+    join_mut(
+        rt,
+        &mut || turn(left, s, want),
+        &mut || { turn(right, s, want) },
+    )
+}
+
+// Whether both strings are there and read as wanted: ids 1 and 2 in one order or the other.
+fn reads_both(text: &mut Text, both: (Option<JsStr>, Option<JsStr>), want: &[u16]) -> bool
+    requires text { Belongs text.old.agent text.old.heap.now }
+    requires first { IfSome both.0 (λ t. HasKey (view_of text.old.agent).units t.id) }
+    requires second { IfSome both.1 (λ t. HasKey (view_of text.old.agent).units t.id) }
+    ensures text { Belongs text.new.agent text.new.heap.now }
+    ensures heap { text.new.heap ≡ text.old.heap }
+    ensures reads { Reads (view_of text.old.agent) (view_of text.new.agent) }
+{
+    let (Some(a), Some(b)) = both else {
+        return false;
+    };
+    if !reads(text, a, want) {
+        return false;
+    }
+    if !reads(text, b, want) {
+        return false;
+    }
+    are_one_and_two(a, b)
+}
+
+// The agent is split, the two join the string with itself at once, and they become one agent
+// again, which reads what both made.
+fn split_and_joined(rt: &impl Threads, left: &mut Text, s: JsStr, want: &[u16]) -> bool
+    requires text { Belongs left.old.agent left.old.heap.now }
+    requires known { HasKey (view_of left.old.agent).units s.id }
+    requires two { share_of left.old.agent ≡ 2 }
+    ensures text { Belongs left.new.agent left.new.heap.now }
+    ensures heap { left.new.heap ≡ left.old.heap }
+    ensures share { (view_of left.new.agent).share ≡ (view_of left.old.agent).share }
+    ensures agents { (view_of left.new.agent).agents ≡ (view_of left.old.agent).agents }
+{
+    let agent = left.agent.split(left.heap, 1);
+    let mut right = Text::new(left.heap, agent);
+    let both = twice_at_once(rt, left, &mut right, s, want);
+    let Text { heap: _, agent } = right;
+    left.agent.join(left.heap, agent);
+    reads_both(left, both, want)
+}
+
+// abc is made once and joined with itself by two agents; together they used three ids and three
+// words, and six more words are too many.
+fn shares_a_heap(rt: &impl Threads, alloc: Global) -> bool {
+    let size = HeapSize {
+        ids: 8,
+        words: 8,
+        slots: 1,
+    };
+    let Ok((heap, agent)) = Heap::make(alloc, size, 2) else {
+        return false;
+    };
+    let mut text = Text::new(&heap, agent);
+    let Ok(abc) = text.make_flat([97, 98, 99].as_slice()) else {
+        return false;
+    };
+    let want = [97, 98, 99, 97, 98, 99];
+    if !split_and_joined(rt, &mut text, abc, want.as_slice()) {
+        return false;
+    }
+    if text.agent.totals(&heap) != (3, 3) {
+        return false;
+    }
+    let full = CounterFull {
+        at: 3,
+        want: 6,
+        end: 8,
+    };
+    if text.make_flat([97; 41].as_slice()) != Err(TextFull::Words(full)) {
+        return false;
+    }
+    abc.id == 0
+}
+
+#[test]
+fn two_agents_share_a_heap(rt: HostRuntime) {
+    assert!(rt; shares_a_heap(&rt, rt.alloc()));
+    let size = HeapSize {
+        ids: 8,
+        words: 8,
+        slots: 1,
+    };
+    match Heap::make(rt.alloc(), size, 65) {
+        Ok(_) => panic!(rt; "65 agents"),
+        Err(fault) => assert!(rt; fault == MakeFault::Size),
+    }
+}
+
+#[test]
+fn a_thousand_heaps_are_shared(rt: HostRuntime) {
+    for round in 0..1000 {
+        assert!(rt; shares_a_heap(&rt, rt.alloc()), "round {round}");
+    }
+}
+
+// Half of more than the greatest length can't be joined with itself: the answer tells both
+// lengths, and nothing is used by it. It takes 0.8 GB and a few seconds; under `rt try`, which
+// builds it with checks, it takes more than the minute that a test has.
+#[test]
+fn too_long(rt: HostRuntime) {
+    let size = HeapSize {
+        ids: 2,
+        words: 33554431,
+        slots: 1,
+    };
+    let Ok((heap, agent)) = Heap::make(rt.alloc(), size, 1) else {
+        panic!(rt; "no heap");
+    };
+    let Ok(units) = vec![in rt.alloc(); 97u16; 268435445] else {
+        panic!(rt; "no room for the units");
+    };
+    let mut text = Text::new(&heap, agent);
+    let Ok(half) = text.make_flat(units.as_slice()) else {
+        panic!(rt; "no string");
+    };
+    let (left, right) = (268435445, 268435445);
+    assert!(rt; text.concat(half, half) == Err(JoinFault::TooLong { left, right }));
+    assert!(rt; text.agent.totals(&heap) == (1, 33554431));
+}
+
+// A call that may want more ids or words than there are left.
+#[derive(Clone, Copy)]
+enum Call {
+    Flat,
+    Join,
+    Cut,
+}
+
+// What is left for another call, once a string of these units is made, is too little: why.
+fn refusal(text: &mut Text, units: &[u16], call: Call) -> Option<TextFull>
+    requires text { Belongs text.old.agent text.old.heap.now }
+    requires short { length units.now ≤ 1000 }
+{
+    let n = units.len() as u32;
+    let Ok(s) = text.make_flat(units) else {
+        return None;
+    };
+    let Ok(()) = text.settle(s) else {
+        return None;
+    };
+    match call {
+        Call::Flat => text.make_flat(units).err(),
+        Call::Cut => text.slice(s, 0, n / 2).err(),
+        Call::Join => match text.concat(s, s) {
+            Err(JoinFault::Full(full)) => Some(full),
+            _ => None,
+        },
+    }
+}
+
+// A heap of so many ids and words, the string made there, the call, and its refusal.
+#[test]
+fn refusals(rt: HostRuntime) {
+    let ids = TextFull::Ids(CounterFull {
+        at: 1,
+        want: 1,
+        end: 1,
+    });
+    let words = |at, want, end| TextFull::Words(CounterFull { at, want, end });
+    let narrow = [97; 17];
+    let wide = [256; 8];
+    for (ids, words, units, call, want) in [
+        (1, 100, &narrow[..8], Call::Flat, ids),
+        (1, 100, &narrow[..8], Call::Join, ids),
+        (1, 100, &narrow[..8], Call::Cut, ids),
+        (8, 1, &narrow[..8], Call::Flat, words(1, 1, 1)),
+        (8, 2, &narrow[..8], Call::Join, words(1, 2, 2)),
+        (8, 2, &narrow[..16], Call::Cut, words(2, 1, 2)),
+        (8, 5, &narrow[..17], Call::Flat, words(3, 3, 5)),
+        (8, 5, &wide[..], Call::Join, words(2, 4, 5)),
+    ] {
+        let size = HeapSize {
+            ids,
+            words,
+            slots: 1,
+        };
+        let Ok((heap, agent)) = Heap::make(rt.alloc(), size, 1) else {
+            panic!(rt; "no heap");
+        };
+        let mut text = Text::new(&heap, agent);
+        assert!(rt;
+            refusal(&mut text, units, call) == Some(want),
+            "{ids} ids, {words} words"
+        );
+    }
+}

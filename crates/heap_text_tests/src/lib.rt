@@ -1,6 +1,0 @@
-//! Tests of the strings on the running heap by their public calls, among them two agents in two
-//! threads. They stand apart, since a crate with tests is proved twice.
-#![tactic(auto)]
-
-#[cfg(test)]
-mod strings;

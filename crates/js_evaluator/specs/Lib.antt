@@ -1,0 +1,7 @@
+pub mod Interim
+pub mod Expression
+pub mod Script
+pub mod Seen
+pub mod Flows
+pub mod Evaluates
+pub mod Copies
