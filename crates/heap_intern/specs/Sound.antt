@@ -4,9 +4,9 @@ use Rattle.std.proofs.Common.{arith, inl, sym, ◌∙◌}
 use Rattle.std.proofs.Math.Logic.{∥∥₁_elim}
 use Rattle.std.proofs.Props.{props}
 use Rattle.atomic_table.specs.Seated.{TableId}
-use Rattle.heap_intern.specs.declared.limit.Limit.{Limit}
-use Rattle.heap_intern.specs.declared.limit.Limit.TheVariants.{Bits32, Bits64}
-use Rattle.heap_intern.specs.Limits.{limit_units}
+use Rattle.js_store.specs.declared.limit.Limit.{Limit}
+use Rattle.js_store.specs.declared.limit.Limit.TheVariants.{Bits32, Bits64}
+use Rattle.js_store.specs.Limits.{limit_units}
 use Rattle.js_store.specs.State.{Sound}
 use Rattle.heap_rule.specs.declared.view.View.{View}
 use Rattle.heap_rule.specs.Maps.{Has, HasKey}

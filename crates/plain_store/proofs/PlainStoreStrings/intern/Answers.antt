@@ -7,7 +7,7 @@ returns-clause-step c =
     let a = c.args.self.now in
     let e : c.push.new.self.items ≡ a.answers.items ++ c.in_ok-answer.answer ∷ [] = search rules in
     record {
-      grows = grows_answer a.strings.items c.number_of.new.self.strings.items a.answers.items c.push.new.self.items c.in_ok-answer.answer c.in_ok-answer.ensures.strings e;
+      grows = grows_answer a.strings.items c.number_of.new.self.strings.items a.answers.items c.push.new.self.items c.in_ok-answer.answer a.limit c.in_ok-answer.ensures.strings e;
       honest = tt;
       within_ids = omega arith;
       within_words = omega arith;

@@ -2,7 +2,7 @@ use Rattle.std.proofs.Common.{◌≡◌, ◌+◌, ◌++◌, ◌≤◌, ◌∙◌
 use Rattle.std.specs.Prelude.{unwrap_or}
 use Rattle.std.specs.FinMap.{get}
 use Rattle.js_store.specs.Faults.{JoinFault as JoinTold, Step, concat_part}
-use Rattle.heap_intern.specs.Limits.{limit_units}
+use Rattle.js_store.specs.Limits.{limit_units}
 use Rattle.js_store.specs.Rows.{join_ids, join_words}
 use Rattle.js_store.proofs.Laws.{step_after, step_within}
 use Rattle.heap_rule.specs.declared.size.HeapSize.{HeapSize}

@@ -3,7 +3,7 @@ use Rattle.js_store.specs.Faults.{Step}
 use Rattle.js_store.specs.Rows.{cut_ids, cut_words}
 use Rattle.heap_rule.specs.declared.size.HeapSize.{HeapSize}
 use Rattle.heap_rule.specs.declared.view.View.{View}
-use Rattle.heap_intern.specs.Limits.{limit_units}
+use Rattle.js_store.specs.Limits.{limit_units}
 use Rattle.heap_rule.proofs.MapLemmas.{has_key, key_of}
 use Rattle.heap_rule.proofs.Possible.{possible_short}
 use Rattle.heap_intern.specs.Sessions.{table_of}

@@ -1,6 +1,6 @@
 use Rattle.std.proofs.Common.{◌∙◌, ◌<◌, ℕ, List, None, length, get_or, ap, subst, sym, arith}
 use Rattle.heap_rule.specs.declared.view.View.{View}
-use Rattle.heap_intern.specs.Limits.{limit_units}
+use Rattle.js_store.specs.Limits.{limit_units}
 use Rattle.heap_rule.proofs.MapLemmas.{has_key, key_of}
 use Rattle.heap_rule.proofs.Possible.{possible_short}
 use Rattle.heap_intern.specs.Sessions.{table_of}
