@@ -54,13 +54,13 @@ module _ (s : Core) (h : IsCore s) (j : ℕ) where
   has_room = of_live_view HasRoom (λ g v at live. room_of s.size s.agents s.words s.views g j v at live)
 
   pub has_shorts : (v : View) → LiveIn s.views j (λ _. Unit {0}) → v ≡ get_or s.views j v → HasShorts v
-  has_shorts = of_live_view HasShorts (λ g v at live i us u. possible_short v ∣ (s.size, s.agents, s.words, s.views, j, g, at, live) ∣₁ i us u)
+  has_shorts = of_live_view HasShorts (λ g v at live i us u. possible_short v (s.size, s.agents, s.words, s.views, j, g, at, live) i us u)
 
   pub few_slots : (v : View) → LiveIn s.views j (λ _. Unit {0}) → v ≡ get_or s.views j v → v.sizes.slots < 2 ^ 29
   few_slots = of_live_view (λ v. v.sizes.slots < 2 ^ 29) (λ g v at live. subst (λ (z : HeapSize). z.slots < 2 ^ 29) (sym (sizes_are s.size s.agents s.words s.views g j v at live)) g.lawful.5)
 
   pub has_forms : (v : View) → LiveIn s.views j (λ _. Unit {0}) → v ≡ get_or s.views j v → HasForms v
-  has_forms = of_live_view HasForms (λ g v at live k i f a b. let fixed = possible_slot v ∣ (s.size, s.agents, s.words, s.views, j, g, at, live) ∣₁ k i f a b in let o = (g.knows j v at live).of_forms i f b in
+  has_forms = of_live_view HasForms (λ g v at live k i f a b. let fixed = possible_slot v (s.size, s.agents, s.words, s.views, j, g, at, live) k i f a b in let o = (g.knows j v at live).of_forms i f b in
       let now : o.now ≡ Flat fixed.0 fixed.1 true = ⊎_elim (λ (e : f ≡ o.now). sym e ∙ fixed.2) (λ (l : IsLater f o.now). absurd (never_later fixed.0 fixed.1 o.now (subst (λ (y : Form). IsLater y o.now) fixed.2 l))) o.later in
       subst IsInRange (sym fixed.2) (flat_range (form s.size s.words i) fixed.0 fixed.1 true (o.decodes ∙ ap Some now)))
 

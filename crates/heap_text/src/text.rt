@@ -17,7 +17,6 @@ impl<'h> Text<'h> {
         requires { Belongs agent heap.now }
         ensures heap { result.heap.now ≡ heap.now }
         ensures agent { result.agent ≡ agent }
-        ensures belongs { Belongs result.agent result.heap.now }
     {
         Text { heap, agent }
     }

@@ -1,7 +1,7 @@
 // Files and sinks, in memory and of the process.
 use js_io::{
-    FILE_MAX, Failed, Files, HostErr, HostFiles, HostOut, MemFiles, MemSink, NullSink, ReadFault,
-    Sink, write_all,
+    FILE_MAX, Failed, Files, HostErr, HostFiles, HostOut, MemFiles, MemSink, ReadFault, Sink,
+    write_all,
 };
 use std::alloc::Global;
 use std::fs;
@@ -38,36 +38,6 @@ fn files_in_memory(rt: HostRuntime) -> Result<(), Fail> {
     ] {
         assert_eq!(rt; length(&mut files, alloc, name), want, "at {name}");
     }
-    Ok(())
-}
-
-// Calls are counted from 0, whatever they answer.
-#[test]
-fn calls_that_are_to_fail(rt: HostRuntime) -> Result<(), Fail> {
-    let alloc = rt.alloc();
-    let mut files = MemFiles::new(alloc);
-    files.put("there", b"text")?;
-    files.fail_at(4)?;
-    files.fail_at(1)?;
-    for (call, name, want) in [
-        (0, "there", Ok(4)),
-        (1, "there", Err(ReadFault::Failed)),
-        (2, "none", Err(ReadFault::Failed)),
-        (3, "there", Ok(4)),
-        (4, "there", Err(ReadFault::Failed)),
-        (5, "there", Ok(4)),
-    ] {
-        assert_eq!(rt; length(&mut files, alloc, name), want, "at call {call}");
-    }
-    Ok(())
-}
-
-#[test]
-fn a_sink_that_keeps_nothing(rt: HostRuntime) -> Result<(), Fail> {
-    let mut sink = NullSink::new();
-    assert_eq!(rt; sink.write(b"hello"), Ok(5));
-    assert_eq!(rt; sink.write(b""), Ok(0));
-    assert_eq!(rt; write_all(&mut sink, b"hello"), Ok(()));
     Ok(())
 }
 

@@ -1,5 +1,5 @@
 -- What is taken by one write after the other, and prefixes of it.
-use Rattle.std.proofs.Common.{ℕ, List, [], ◌∷◌, ◌++◌, None, Some, sym, ap, ◌∙◌, append_assoc, append-nil, Result, Ok, Err, IsErr, length, ◌≡◌, ◌≤◌, refl, arith}
+use Rattle.std.proofs.Common.{ℕ, List, [], ◌∷◌, ◌++◌, None, Some, sym, ap, ◌∙◌, append_assoc, append-nil, Result, Ok, Err, IsErr, length, ◌≡◌, refl}
 use Rattle.std.specs.declared.option.Option.{Option}
 use Rattle.std.specs.Io.KnownBytes.{Appends, Keeps}
 use Rattle.js_io.specs.Counts.{next_count}
@@ -33,22 +33,21 @@ prefix_second a b c bs cs first (prefix, (byte, rest, split), took) =
 
 -- some bytes were taken, and then the write of what was left failed
 pub stopped : {E : Type 0} (r : Result Unit E) (a b c : SinkState) (bs done rest : List ℕ) → IsErr r → (length rest ≡ 0 → ⊥) → bs ≡ done ++ rest
-    → Takes a b done → b.faults ≡ a.faults → Keeps b.taken c.taken → c.faults ≡ next_count b.faults → b.faults ≤ c.faults → WritesAll r a c bs
-stopped (Ok done) a b c bs front rest err some split took calm kept failed counted = cc
-stopped (Err e) a b c bs front [] err some split took calm kept failed counted = absurd (some refl)
-stopped (Err e) a b c bs front (byte ∷ rest) err some split took calm kept failed counted = record {
+    → Takes a b done → b.faults ≡ a.faults → Keeps b.taken c.taken → c.faults ≡ next_count b.faults → WritesAll r a c bs
+stopped (Ok done) a b c bs front rest err some split took calm kept failed = cc
+stopped (Err e) a b c bs front [] err some split took calm kept failed = absurd (some refl)
+stopped (Err e) a b c bs front (byte ∷ rest) err some split took calm kept failed = record {
   all = tt;
   calm = tt;
   prefix = (front, (byte, rest, split), Appends-kept a.taken b.taken c.taken front took kept);
   once = failed ∙ ap next_count calm;
-  counted = omega (arith, calm, counted);
 }
 
 -- the first of two writes failed, and the second wasn't tried
 pub first_failed : {E : Type 0} (e : E) (a b : SinkState) (bs cs : List ℕ) → WritesAll {E = E} (Err e) a b bs → WritesAll {E = E} (Err e) a b (bs ++ cs)
-first_failed e a b bs cs w = record { all = tt; calm = tt; prefix = prefix_first a b bs cs w.prefix; once = w.once; counted = w.counted }
+first_failed e a b bs cs w = record { all = tt; calm = tt; prefix = prefix_first a b bs cs w.prefix; once = w.once }
 
 -- the first of two was written, and the second is tried
 pub then_second : {E : Type 0} (r : Result Unit E) (a b c : SinkState) (bs cs : List ℕ) → WritesAll {E = E} (Ok tt) a b bs → WritesAll r b c cs → WritesAll r a c (bs ++ cs)
-then_second (Ok done) a b c bs cs v w = record { all = Appends-trans a.taken b.taken c.taken bs cs v.all w.all; calm = w.calm ∙ v.calm; prefix = tt; once = tt; counted = omega (arith, v.counted, w.counted) }
-then_second (Err e) a b c bs cs v w = record { all = tt; calm = tt; prefix = prefix_second a b c bs cs v.all w.prefix; once = w.once ∙ ap next_count v.calm; counted = omega (arith, v.counted, w.counted) }
+then_second (Ok done) a b c bs cs v w = record { all = Appends-trans a.taken b.taken c.taken bs cs v.all w.all; calm = w.calm ∙ v.calm; prefix = tt; once = tt }
+then_second (Err e) a b c bs cs v w = record { all = tt; calm = tt; prefix = prefix_second a b c bs cs v.all w.prefix; once = w.once ∙ ap next_count v.calm }

@@ -1,5 +1,4 @@
--- What the reading of an open file gives, by the bytes that it had left, where these are known. No public contract
--- cites it.
+-- What the reading of an open file gives, by the bytes that it had left, where these are known.
 use Rattle.std.specs.Prelude.{◌≡◌, ℕ, ◌<◌, ◌≤◌, List, length, None, Some, ⊤}
 use Rattle.std.specs.declared.option.Option.{Option}
 use Rattle.js_io.specs.declared.files.TheConstants.{FILE_MAX}
@@ -16,8 +15,7 @@ abbrev pub AreTooMany : Option (List ℕ) → Type 0
 AreTooMany None = ⊤
 AreTooMany (Some left) = FILE_MAX < length left
 
--- whole bytes are all that were left, and few enough; where there are too many, more than may be were read
 abbrev pub IsContent : Option (List ℕ) → Content → Type 0
 IsContent left (Whole bytes) = (length bytes.items ≤ FILE_MAX) × AreAll left bytes.items
-IsContent left (TooLarge bytes) = (FILE_MAX < length bytes.items) × AreTooMany left
+IsContent left TooLarge = AreTooMany left
 IsContent left _ = ⊤

@@ -1,11 +1,9 @@
 -- Files in memory, the newest first.
-use Rattle.std.specs.Prelude.{◌≡◌, ℕ, Bool, List, [], ◌∷◌, None, Some, if◌then◌else◌}
+use Rattle.std.specs.Prelude.{◌≡◌, ℕ, List, [], ◌∷◌, None, Some, if◌then◌else◌}
 use Rattle.std.specs.declared.option.Option.{Option}
 use Rattle.std.specs.String.{string_bytes}
-use Rattle.std.specs.List.{list_any}
 use Rattle.std.specs.Cmp.Lexicographic.{pointwise}
 use Rattle.std.specs.Bool.{nat_eq}
-use Rattle.js_io.specs.FilesState.{FilesState}
 use Rattle.js_io.specs.declared.mem_files.MemFile.{MemFile}
 use Rattle.js_io.specs.declared.mem_files.MemFiles.{MemFiles}
 
@@ -13,13 +11,6 @@ use Rattle.js_io.specs.declared.mem_files.MemFiles.{MemFiles}
 abbrev pub found : List MemFile → List ℕ → Option (List ℕ)
 found [] name = None
 found (file ∷ files) name = if pointwise nat_eq (string_bytes file.name) name then Some file.bytes.items else found files name
-
--- a source that tells the bytes of its files
-abbrev pub told_files : List MemFile → ℕ → List ℕ → FilesState
-told_files files faults blamed = record { held = found files; faults = faults; oversize = 0; blamed = blamed }
-
-abbrev pub files_in : MemFiles → FilesState
-files_in files = told_files files.files.items files.faults (string_bytes files.blamed)
 
 abbrev pub held_in : MemFiles → List ℕ → Option (List ℕ)
 held_in files name = found files.files.items name
@@ -32,22 +23,6 @@ faults_in files = files.faults
 abbrev pub blamed_in : MemFiles → List ℕ
 blamed_in files = string_bytes files.blamed
 
--- how many times `read` was called, also in vain
-abbrev pub calls_in : MemFiles → ℕ
-calls_in files = files.calls
-
--- the calls of `read` that are to fail, counted from 0
-abbrev pub failing_in : MemFiles → List ℕ
-failing_in files = files.failing.items
-
--- this call is among them
-abbrev pub is_among : List ℕ → ℕ → Bool
-is_among failing call = list_any (λ n. nat_eq n call) failing
-
--- the bytes that a call of `read` finds: none where it is to fail, or where there is no such file
-abbrev pub found_at : List MemFile → List ℕ → ℕ → List ℕ → Option (List ℕ)
-found_at files failing call name = if is_among failing call then None else found files name
-
--- a read of this name fails: its call is to fail, or there is no such file
+-- a read of this name fails: there is no such file
 abbrev pub Fails : MemFiles → List ℕ → Type 0
-Fails files name = found_at files.files.items files.failing.items files.calls name ≡ None
+Fails files name = held_in files name ≡ None

@@ -1,5 +1,5 @@
 -- What a sink has taken, and how often a write to it failed.
-use Rattle.std.specs.Prelude.{◌≡◌, ℕ, ◌≤◌, List, ◌∷◌, ◌++◌, None, Some, Result, OnOk, OnErr}
+use Rattle.std.specs.Prelude.{◌≡◌, ℕ, List, ◌∷◌, ◌++◌, Result, OnOk, OnErr}
 use Rattle.std.specs.declared.option.Option.{Option}
 use Rattle.std.specs.Io.KnownBytes.{Appends}
 use Rattle.js_io.specs.Counts.{next_count}
@@ -9,13 +9,8 @@ pub record SinkState : Type 0 where
   pub taken : Option (List ℕ)
   pub faults : ℕ
 
--- a sink that tells what it took
-abbrev pub told_sink : List ℕ → ℕ → SinkState
-told_sink bytes faults = record { taken = Some bytes; faults = faults }
-
--- a sink that tells nothing of it
-abbrev pub untold_sink : ℕ → SinkState
-untold_sink faults = record { taken = None; faults = faults }
+abbrev pub sink_state : {S : Type 0} → (S → Option (List ℕ)) → (S → ℕ) → S → SinkState
+sink_state taken faults sink = record { taken = taken sink; faults = faults sink }
 
 -- the whole is the prefix and at least one byte more
 abbrev pub IsProperPrefix : List ℕ → List ℕ → Type 0
@@ -30,10 +25,9 @@ abbrev pub TakesPrefix : SinkState → SinkState → List ℕ → Type 0
 TakesPrefix old new bytes = (prefix : List ℕ) × IsProperPrefix prefix bytes × Takes old new prefix
 
 -- at Ok the sink took all of the bytes and no write failed; at Err it took a prefix of them, and the one write of what
--- was left failed. The count of faults never falls.
+-- was left failed
 pub record WritesAll {E : Type 0} (result : Result Unit E) (old new : SinkState) (bytes : List ℕ) : Type 0 where
   pub all : OnOk result (Takes old new bytes)
   pub calm : OnOk result (new.faults ≡ old.faults)
   pub prefix : OnErr result (TakesPrefix old new bytes)
   pub once : OnErr result (new.faults ≡ next_count old.faults)
-  pub counted : old.faults ≤ new.faults

@@ -1,7 +1,7 @@
 // Where files are read from.
-ghost use Rattle.std.specs.Prelude.{◌≡◌, ◌≤◌, ℕ, List, length, IfOk, IsErrOf};
+ghost use Rattle.std.specs.Prelude.{◌≡◌, ◌≤◌, ℕ, List, Option, length, IfOk, IsErrOf};
 ghost use Rattle.js_io.specs.Counts.{next_count};
-ghost use Rattle.js_io.specs.FilesState.{FilesState, Tells, IsTooLarge};
+ghost use Rattle.js_io.specs.FilesState.{Tells, IsTooLarge};
 
 use std::alloc::Global;
 
@@ -21,34 +21,36 @@ pub enum ReadFault {
 
 /// A source of files, each read whole.
 pub trait Files {
-    // All that callers see of a source: the bytes of the file of each name, where they are told,
-    // how many reads failed, how many files of untold bytes were too large, and the name of the
-    // last read that failed or found too large a file, empty at first.
-    ghost state: { Self → FilesState };
+    /// The bytes of the file of this name, where they are told.
+    ghost held: { Self → List ℕ → Option (List ℕ) };
+
+    /// How many reads have failed.
+    ghost faults: { Self → ℕ };
+
+    /// How many files of untold bytes were found to be too large.
+    ghost oversize: { Self → ℕ };
+
+    /// The name of the last read that failed or found too large a file, empty at first.
+    ghost blamed: { Self → List ℕ };
 
     /// All bytes of a file. A file of more than [`FILE_MAX`] bytes isn't read to its end.
     fn read(&mut self, alloc: Global, name: &str) -> Result<Vec<u8>, ReadFault>
-        ensures held { (other : List ℕ) → (state self.new).held other ≡ (state self.old).held other }
+        ensures held { (other : List ℕ) → held self.new other ≡ held self.old other }
 
-        ensures bytes { IfOk result (λ bytes. Tells ((state self.old).held name.now) bytes.items) }
+        ensures bytes { IfOk result (λ bytes. Tells (held self.old name.now) bytes.items) }
         ensures small { IfOk result (λ bytes. length bytes.items ≤ FILE_MAX) }
 
-        ensures failed { IsErrOf result ReadFault.Failed
-            → (state self.new).faults ≡ next_count (state self.old).faults }
-        ensures calm { (IsErrOf result ReadFault.Failed → ⊥)
-            → (state self.new).faults ≡ (state self.old).faults }
-        ensures counted { (state self.old).faults ≤ (state self.new).faults }
+        ensures failed { IsErrOf result ReadFault.Failed → faults self.new ≡ next_count (faults self.old) }
+        ensures calm { (IsErrOf result ReadFault.Failed → ⊥) → faults self.new ≡ faults self.old }
+        ensures counted { faults self.old ≤ faults self.new }
 
         ensures large { IsErrOf result ReadFault.TooLarge
-            → IsTooLarge ((state self.old).held name.now)
-            (state self.old).oversize (state self.new).oversize }
-        ensures not_large { (IsErrOf result ReadFault.TooLarge → ⊥)
-            → (state self.new).oversize ≡ (state self.old).oversize }
-        ensures sized { (state self.old).oversize ≤ (state self.new).oversize }
+            → IsTooLarge (held self.old name.now) (oversize self.old) (oversize self.new) }
+        ensures not_large { (IsErrOf result ReadFault.TooLarge → ⊥) → oversize self.new ≡ oversize self.old }
+        ensures sized { oversize self.old ≤ oversize self.new }
 
-        ensures blamed_failed { IsErrOf result ReadFault.Failed → (state self.new).blamed ≡ name.now }
-        ensures blamed_large { IsErrOf result ReadFault.TooLarge → (state self.new).blamed ≡ name.now }
-        ensures blamed_memory { IsErrOf result ReadFault.Memory
-            → (state self.new).blamed ≡ (state self.old).blamed }
-        ensures blamed_ok { IfOk result (λ _. (state self.new).blamed ≡ (state self.old).blamed) };
+        ensures blamed_failed { IsErrOf result ReadFault.Failed → blamed self.new ≡ name.now }
+        ensures blamed_large { IsErrOf result ReadFault.TooLarge → blamed self.new ≡ name.now }
+        ensures blamed_memory { IsErrOf result ReadFault.Memory → blamed self.new ≡ blamed self.old }
+        ensures blamed_ok { IfOk result (λ _. blamed self.new ≡ blamed self.old) };
 }

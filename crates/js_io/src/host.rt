@@ -2,8 +2,6 @@
 ghost use Rattle.std.specs.Prelude.{◌≡◌, ◌≤◌, ◌<◌, None, [], length, take, IfSome, IsSome, MatchOption};
 ghost use Rattle.std.specs.Io.KnownBytes.{Appends, Keeps};
 ghost use Rattle.js_io.specs.Content.{IsContent};
-ghost use Rattle.js_io.specs.FilesState.{untold_files};
-ghost use Rattle.js_io.specs.SinkState.{untold_sink};
 ghost use Rattle.std.specs.String.{string_bytes};
 
 use crate::{FILE_MAX, Failed, Files, ReadFault, Sink};
@@ -28,8 +26,7 @@ pub struct HostFiles<'a, R: OpenFiles> {
 #[derive(Debug, Drop)]
 enum Content {
     Whole(Vec<u8>),
-    // the bytes that were read, which are too many already
-    TooLarge(Vec<u8>),
+    TooLarge,
     Failed,
     Memory,
 }
@@ -37,7 +34,9 @@ enum Content {
 impl<'a, R: OpenFiles> HostFiles<'a, R> {
     /// The files that this runtime opens. It takes no memory.
     pub fn new(rt: &'a R, alloc: Global) -> Self
-        ensures { ⟦<HostFiles<'a, R> as Files>⟧.state result ≡ untold_files 0 0 [] }
+        ensures faults { ⟦<HostFiles<'a, R> as Files>⟧.faults result ≡ 0 }
+        ensures oversize { ⟦<HostFiles<'a, R> as Files>⟧.oversize result ≡ 0 }
+        ensures blamed { ⟦<HostFiles<'a, R> as Files>⟧.blamed result ≡ [] }
     {
         HostFiles {
             rt,
@@ -62,7 +61,7 @@ fn read_all<S: Read>(source: &mut S, alloc: Global) -> Content
                     return Content::Memory;
                 }
                 if bytes.len() > FILE_MAX as usize {
-                    return Content::TooLarge(bytes);
+                    return Content::TooLarge;
                 }
             }
             Err(_) => return Content::Failed,
@@ -81,7 +80,13 @@ fn read_file<R: OpenFiles>(rt: &R, alloc: Global, name: &str) -> Content
 }
 
 impl<R: OpenFiles> Files for HostFiles<'_, R> {
-    ghost state = { λ files. untold_files files.faults files.oversize (string_bytes files.blamed) };
+    ghost held = { λ files name. None };
+
+    ghost faults = { λ files. files.faults };
+
+    ghost oversize = { λ files. files.oversize };
+
+    ghost blamed = { λ files. string_bytes files.blamed };
 
     fn read(&mut self, alloc: Global, name: &str) -> Result<Vec<u8>, ReadFault> {
         let Ok(blamed) = String::from_str(alloc, name) else {
@@ -90,7 +95,7 @@ impl<R: OpenFiles> Files for HostFiles<'_, R> {
         match read_file(self.rt, alloc, name) {
             Content::Whole(bytes) => Ok(bytes),
             Content::Memory => Err(ReadFault::Memory),
-            Content::TooLarge(_) => {
+            Content::TooLarge => {
                 self.oversize = self.oversize.saturating_add(1);
                 self.blamed = blamed;
                 Err(ReadFault::TooLarge)
@@ -113,7 +118,7 @@ pub struct HostOut {
 
 impl HostOut {
     pub fn new(rt: &HostRuntime) -> Self
-        ensures { ⟦<HostOut as Sink>⟧.state result ≡ untold_sink 0 }
+        ensures { ⟦<HostOut as Sink>⟧.faults result ≡ 0 }
     {
         HostOut {
             stream: rt.stdout(),
@@ -131,7 +136,7 @@ pub struct HostErr {
 
 impl HostErr {
     pub fn new(rt: &HostRuntime) -> Self
-        ensures { ⟦<HostErr as Sink>⟧.state result ≡ untold_sink 0 }
+        ensures { ⟦<HostErr as Sink>⟧.faults result ≡ 0 }
     {
         HostErr {
             stream: rt.stderr(),
@@ -160,7 +165,9 @@ fn write_some<W: Write>(stream: &mut W, piece: &[u8]) -> Option<usize>
 }
 
 impl Sink for HostOut {
-    ghost state = { λ sink. untold_sink sink.faults };
+    ghost taken = { λ sink. None };
+
+    ghost faults = { λ sink. sink.faults };
 
     fn write(&mut self, piece: &[u8]) -> Result<usize, Failed> {
         match write_some(&mut self.stream, piece) {
@@ -174,7 +181,9 @@ impl Sink for HostOut {
 }
 
 impl Sink for HostErr {
-    ghost state = { λ sink. untold_sink sink.faults };
+    ghost taken = { λ sink. None };
+
+    ghost faults = { λ sink. sink.faults };
 
     fn write(&mut self, piece: &[u8]) -> Result<usize, Failed> {
         match write_some(&mut self.stream, piece) {

@@ -1,12 +1,11 @@
 //! The outside of the program: where files are read from ([`Files`]), where bytes are written to
 //! ([`Sink`]), and the gate that a worker passes before each script ([`Gate`]).
 //!
-//! Files and sinks have a written meaning: the bytes of a file and those that a sink took, where
-//! they are told, and counts of faults that never fall. A fault is answered exactly where its
-//! count took one step, so code over the traits can't make one up. There are implementations in
-//! memory ([`MemFiles`], [`MemSink`]), which tell all, over the runtime ([`HostFiles`],
-//! [`HostOut`], [`HostErr`]), which tell nothing of content, and a sink that keeps nothing
-//! ([`NullSink`]).
+//! Each trait has a written meaning: the bytes of a file and those that a sink took, where they
+//! are told, and counts of faults that never fall. A fault is answered exactly where its count
+//! took one step, so code over the traits can't make one up. There are implementations in memory
+//! ([`MemFiles`], [`MemSink`]), which tell all, and over the runtime ([`HostFiles`], [`HostOut`],
+//! [`HostErr`]), which tell nothing of content.
 #![tactic(auto)]
 
 mod files;
@@ -14,7 +13,6 @@ mod gate;
 mod host;
 mod mem_files;
 mod mem_sink;
-mod null_sink;
 mod sink;
 
 pub use files::{FILE_MAX, Files, ReadFault};
@@ -22,5 +20,4 @@ pub use gate::{FreeGate, Gate};
 pub use host::{HostErr, HostFiles, HostOut};
 pub use mem_files::MemFiles;
 pub use mem_sink::MemSink;
-pub use null_sink::NullSink;
 pub use sink::{Failed, Sink, write_all};

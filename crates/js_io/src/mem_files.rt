@@ -1,9 +1,9 @@
 // Files in memory.
-ghost use Rattle.std.specs.Prelude.{◌≡◌, ◌≤◌, ◌<◌, ◌++◌, ℕ, List, [], ◌∷◌, None, Some, length, IfOk, OnOk, OnErr, IsErrOf};
+ghost use Rattle.std.specs.Prelude.{◌≡◌, ◌≤◌, ◌<◌, ℕ, List, [], None, Some, length, IfOk, OnOk, OnErr, IsErrOf};
 ghost use Rattle.std.specs.Option.{option_copied};
 ghost use Rattle.std.specs.String.{string_bytes};
 ghost use Rattle.js_io.specs.Counts.{next_count};
-ghost use Rattle.js_io.specs.MemFiles.{found, found_at, told_files, files_in, held_in, faults_in, blamed_in, calls_in, failing_in, Fails};
+ghost use Rattle.js_io.specs.MemFiles.{found, held_in, faults_in, blamed_in, Fails};
 
 use crate::{FILE_MAX, Files, ReadFault};
 use js_units::NoMemory;
@@ -15,16 +15,13 @@ struct MemFile {
     bytes: Vec<u8>,
 }
 
-/// Files in memory, which tell their bytes. To read a name that isn't there is a fault, and so is
-/// a call of `read` that [`MemFiles::fail_at`] named.
+/// Files in memory, which tell their bytes. To read a name that isn't there is a fault.
 #[derive(Debug, Drop)]
 pub struct MemFiles {
     alloc: Global,
     files: Vec<MemFile>,
     faults: u64,
     blamed: String,
-    calls: u64,
-    failing: Vec<u64>,
 }
 
 impl MemFiles {
@@ -33,51 +30,28 @@ impl MemFiles {
         ensures held { (name : List ℕ) → held_in result name ≡ None }
         ensures faults { faults_in result ≡ 0 }
         ensures blamed { blamed_in result ≡ [] }
-        ensures calls { calls_in result ≡ 0 }
-        ensures failing { failing_in result ≡ [] }
     {
         MemFiles {
             alloc,
             files: Vec::new(alloc),
             faults: 0,
             blamed: String::new(alloc),
-            calls: 0,
-            failing: Vec::new(alloc),
         }
     }
 
     /// Puts a file in place of the one of this name. A refusal changes nothing.
     pub fn put(&mut self, name: &str, bytes: &[u8]) -> Result<(), NoMemory>
         ensures put { OnOk result (held_in self.new name.now ≡ Some bytes.now) }
-        ensures others { (other : List ℕ) → (other ≡ name.now → ⊥)
-            → held_in self.new other ≡ held_in self.old other }
-        ensures unchanged { OnErr result
-            ((other : List ℕ) → held_in self.new other ≡ held_in self.old other) }
+        ensures others { (other : List ℕ) → (other ≡ name.now → ⊥) → held_in self.new other ≡ held_in self.old other }
+        ensures unchanged { OnErr result ((other : List ℕ) → held_in self.new other ≡ held_in self.old other) }
         ensures faults { faults_in self.new ≡ faults_in self.old }
         ensures blamed { blamed_in self.new ≡ blamed_in self.old }
-        ensures calls { calls_in self.new ≡ calls_in self.old }
-        ensures failing { failing_in self.new ≡ failing_in self.old }
     {
         match mem_file(self.alloc, name, bytes) {
             Ok(file) => match self.files.insert(0, file) {
                 Ok(()) => Ok(()),
                 Err(_) => Err(NoMemory),
             },
-            Err(_) => Err(NoMemory),
-        }
-    }
-
-    /// Makes one call of `read` fail, beside those that were named before. Calls are counted from
-    /// 0, and each counts, whatever it answers. To name a call that was made already changes
-    /// nothing of any answer. A refusal changes nothing.
-    pub fn fail_at(&mut self, call: u32) -> Result<(), NoMemory>
-        ensures failing { OnOk result (failing_in self.new ≡ failing_in self.old ++ call ∷ []) }
-        ensures unchanged { OnErr result (failing_in self.new ≡ failing_in self.old) }
-        ensures calls { calls_in self.new ≡ calls_in self.old }
-        ensures files { files_in self.new ≡ files_in self.old }
-    {
-        match self.failing.push(u64::from(call)) {
-            Ok(()) => Ok(()),
             Err(_) => Err(NoMemory),
         }
     }
@@ -105,18 +79,14 @@ fn find<'a>(files: &'a [MemFile], name: &str) -> Option<&'a [u8]>
     None
 }
 
-// The bytes that this call of `read` finds.
-fn find_at<'a>(files: &'a [MemFile], failing: &[u64], call: u64, name: &str) -> Option<&'a [u8]>
-    ensures { option_copied result ≡ found_at files.now failing.now call name.now }
-{
-    if failing.contains(&call) {
-        return None;
-    }
-    find(files, name)
-}
-
 impl Files for MemFiles {
-    ghost state = { λ files. told_files files.files.items files.faults (string_bytes files.blamed) };
+    ghost held = { λ files name. found files.files.items name };
+
+    ghost faults = { λ files. files.faults };
+
+    ghost oversize = { λ files. 0 };
+
+    ghost blamed = { λ files. string_bytes files.blamed };
 
     fn read(&mut self, alloc: Global, name: &str) -> Result<Vec<u8>, ReadFault>
         ensures held { (other : List ℕ) → held_in self.new other ≡ held_in self.old other }
@@ -125,15 +95,8 @@ impl Files for MemFiles {
         ensures small { IfOk result (λ bytes. length bytes.items ≤ FILE_MAX) }
 
         ensures fails { IsErrOf result ReadFault.Failed → Fails self.old name.now }
-        ensures fails_not_ok { IfOk result (λ _. Fails self.old name.now → ⊥) }
-        ensures fails_not_large { IsErrOf result ReadFault.TooLarge → Fails self.old name.now → ⊥ }
-        ensures calls { calls_in self.new ≡ next_count (calls_in self.old) }
-        ensures failing { failing_in self.new ≡ failing_in self.old }
-
-        ensures failed { IsErrOf result ReadFault.Failed
-            → faults_in self.new ≡ next_count (faults_in self.old) }
+        ensures failed { IsErrOf result ReadFault.Failed → faults_in self.new ≡ next_count (faults_in self.old) }
         ensures calm { (IsErrOf result ReadFault.Failed → ⊥) → faults_in self.new ≡ faults_in self.old }
-        ensures counted { faults_in self.old ≤ faults_in self.new }
 
         ensures large { IsErrOf result ReadFault.TooLarge
             → (bytes : List ℕ) × (held_in self.old name.now ≡ Some bytes) × (FILE_MAX < length bytes) }
@@ -143,13 +106,11 @@ impl Files for MemFiles {
         ensures blamed_memory { IsErrOf result ReadFault.Memory → blamed_in self.new ≡ blamed_in self.old }
         ensures blamed_ok { IfOk result (λ _. blamed_in self.new ≡ blamed_in self.old) }
     {
-        let call = self.calls;
-        self.calls = call.saturating_add(1);
         // the name is copied first, so that a fault is always told with its name
         let Ok(blamed) = String::from_str(self.alloc, name) else {
             return Err(ReadFault::Memory);
         };
-        match find_at(&self.files, &self.failing, call, name) {
+        match find(&self.files, name) {
             None => {
                 self.faults = self.faults.saturating_add(1);
                 self.blamed = blamed;

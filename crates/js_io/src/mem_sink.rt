@@ -54,26 +54,24 @@ impl Sink for MemSink {
     ghost use Rattle.std.specs.Prelude.{◌≡◌, ◌≤◌, ◌<◌, ◌-◌, ℕ, Some, length, min, IfOk, OnErr};
     ghost use Rattle.std.specs.Io.KnownBytes.{WriteAppends};
     ghost use Rattle.js_io.specs.Counts.{next_count};
-    ghost use Rattle.js_io.specs.SinkState.{told_sink};
     ghost use Rattle.js_io.specs.MemSink.{sink_bytes, sink_faults, sink_left, sink_most};
 
-    ghost state = { λ sink. told_sink sink.bytes.items sink.faults };
+    ghost taken = { λ sink. Some sink.bytes.items };
+
+    ghost faults = { λ sink. sink.faults };
 
     /// Takes as many bytes as the piece, `most` and the room left allow. It fails exactly where
     /// the piece isn't empty and no room is left.
     fn write(&mut self, piece: &[u8]) -> Result<usize, Failed>
         ensures bound { IfOk result (λ count. count ≤ length piece.now) }
         ensures some { IfOk result (λ count. 0 < length piece.now → 0 < count) }
-        ensures bytes { WriteAppends (Some (sink_bytes self.old)) (Some (sink_bytes self.new))
-            result piece.now }
+        ensures bytes { WriteAppends (Some (sink_bytes self.old)) (Some (sink_bytes self.new)) result piece.now }
 
         ensures empty { length piece.now ≡ 0 → OnErr result ⊥ }
         ensures failed { OnErr result (sink_faults self.new ≡ next_count (sink_faults self.old)) }
         ensures calm { IfOk result (λ _. sink_faults self.new ≡ sink_faults self.old) }
-        ensures counted { sink_faults self.old ≤ sink_faults self.new }
 
-        ensures takes { IfOk result (λ count.
-            count ≡ min (min (length piece.now) (sink_most self.old)) (sink_left self.old)) }
+        ensures takes { IfOk result (λ count. count ≡ min (min (length piece.now) (sink_most self.old)) (sink_left self.old)) }
         ensures full { OnErr result (sink_left self.old ≡ 0) }
         ensures most { sink_most self.new ≡ sink_most self.old }
         ensures left { IfOk result (λ count. sink_left self.new ≡ sink_left self.old - count) }

@@ -15,7 +15,7 @@ use Rattle.js_run.specs.Verdict.{NoMemory, Ran}
 use Rattle.js_run.specs.Answer.{Runs, Judges}
 use Rattle.js_run.proofs.Ends.{reports_one}
 use Rattle.js_run.specs.Cause as cause
-use Rattle.js_run.specs.Cause.{KeepsFiles, IsQuiet, Read, ReadUpTo, IsUnread, IsLarge, IsRefused, IsRun}
+use Rattle.js_run.specs.Cause.{KeepsFiles, Read, ReadUpTo, IsUnread, IsLarge, IsRefused, IsRun}
 
 module _ (old new : FilesState) (name : Name) where
   none_before : ReadUpTo old.held (name ∷ []) name
@@ -24,43 +24,43 @@ module _ (old new : FilesState) (name : Name) where
   read_one : (bytes : List ℕ) → Tells (old.held name) bytes → length bytes ≤ FILE_MAX → Read old.held (name ∷ []) (bytes ∷ [])
   read_one bytes tells small = cause.Read.next name [] bytes [] tells small cause.Read.none
 
-  pub unread_one : new.faults ≡ next_count old.faults → new.oversize ≡ old.oversize → new.blamed ≡ name → IsUnread old new (name ∷ []) name
-  unread_one once not_large blames = record { up_to = none_before; once = once; not_large = not_large; blames = blames }
+  pub unread_one : new.faults ≡ next_count old.faults → new.blamed ≡ name → IsUnread old new (name ∷ []) name
+  unread_one once blames = record { up_to = none_before; once = once; blames = blames }
 
   pub large_one : new.faults ≡ old.faults → IsTooLarge (old.held name) old.oversize new.oversize → new.blamed ≡ name → IsLarge old new (name ∷ []) name
   large_one calm larger blames = record { up_to = none_before; calm = calm; larger = larger; blames = blames }
 
-  pub refused_one : (bytes : List ℕ) (fault : ParseFault) → Tells (old.held name) bytes → length bytes ≤ FILE_MAX → IsQuiet old new → script.Refused Main [] bytes fault
+  pub refused_one : (bytes : List ℕ) (fault : ParseFault) → Tells (old.held name) bytes → length bytes ≤ FILE_MAX → new.faults ≡ old.faults → script.Refused Main [] bytes fault
       → IsRefused old new (name ∷ []) name fault
-  refused_one bytes fault tells small quiet refused = record {
+  refused_one bytes fault tells small calm refused = record {
     contents = bytes ∷ [];
     read = read_one bytes tells small;
-    quiet = quiet;
+    calm = calm;
     first = cause.FirstRefused.here name [] bytes [] fault refused;
   }
 
-  pub run_one : (bytes : List ℕ) (tree : Tree) → Tells (old.held name) bytes → length bytes ≤ FILE_MAX → IsQuiet old new → script.Spells Main [] bytes tree
+  pub run_one : (bytes : List ℕ) (tree : Tree) → Tells (old.held name) bytes → length bytes ≤ FILE_MAX → new.faults ≡ old.faults → script.Spells Main [] bytes tree
       → IsRun old new (name ∷ []) (runs_of (name ∷ []) (tree ∷ []))
-  run_one bytes tree tells small quiet spells = record {
+  run_one bytes tree tells small calm spells = record {
     contents = bytes ∷ [];
     trees = tree ∷ [];
     read = read_one bytes tells small;
-    quiet = quiet;
+    calm = calm;
     spell = cause.AllSpell.next bytes [] tree [] spells cause.AllSpell.none;
     ran = refl;
   }
 
 -- the answer on a script that was read
 pub judged : (old new : FilesState) (name : Name) (bytes : List ℕ) (tree : Tree) (a : Answer) → Runs name tree a → KeepsFiles old new
-    → Tells (old.held name) bytes → length bytes ≤ FILE_MAX → IsQuiet old new → script.Spells Main [] bytes tree → Judges (Some (one_file name)) old new a
-judged old new name bytes tree (answer.Ran named end lines) ran keeps tells small quiet spells = record {
+    → Tells (old.held name) bytes → length bytes ≤ FILE_MAX → new.faults ≡ old.faults → script.Spells Main [] bytes tree → Judges (Some (one_file name)) old new a
+judged old new name bytes tree (answer.Ran named end lines) ran keeps tells small calm spells = record {
   verdict = Ran (runs_of (name ∷ []) (tree ∷ []));
-  cause = run_one old new name bytes tree tells small quiet spells;
+  cause = run_one old new name bytes tree tells small calm spells;
   reports = reports_one name tree named.now end lines ran;
   keeps = keeps;
 }
-judged old new name bytes tree answer.NoMemory ran keeps tells small quiet spells = record { verdict = NoMemory; cause = quiet; reports = refl; keeps = keeps }
-judged old new name bytes tree answer.BadWords ran keeps tells small quiet spells = absurd ran
-judged old new name bytes tree (answer.NotRead other) ran keeps tells small quiet spells = absurd ran
-judged old new name bytes tree (answer.TooLarge other) ran keeps tells small quiet spells = absurd ran
-judged old new name bytes tree (answer.Refused other fault) ran keeps tells small quiet spells = absurd ran
+judged old new name bytes tree answer.NoMemory ran keeps tells small calm spells = record { verdict = NoMemory; cause = calm; reports = refl; keeps = keeps }
+judged old new name bytes tree answer.BadWords ran keeps tells small calm spells = absurd ran
+judged old new name bytes tree (answer.NotRead other) ran keeps tells small calm spells = absurd ran
+judged old new name bytes tree (answer.TooLarge other) ran keeps tells small calm spells = absurd ran
+judged old new name bytes tree (answer.Refused other fault) ran keeps tells small calm spells = absurd ran

@@ -31,7 +31,7 @@ module _ (held : Name → Option (List ℕ)) where
   not_large before after name names contents oversize later told split larger =
       let (bytes, is, small) = told_small before after name names contents told split in
       let longer : IsTooLarge (Some bytes) oversize later = subst (λ (o : Option (List ℕ)). IsTooLarge o oversize later) is larger in
-      omega (arith, longer.0, small)
+      omega (arith, longer, small)
 
   tells_same : (bytes read : List ℕ) (told : Option (List ℕ)) → told ≡ Some bytes → Tells told read → read ≡ bytes
   tells_same bytes read told is tells = subst (λ (o : Option (List ℕ)). Tells o read) is tells

@@ -2,12 +2,12 @@
 use Rattle.std.proofs.Common.{◌≡◌, ◌⊎◌, inl, inr, ℕ, ◌≤◌, ◌<◌, List, None, Some, refl, sym, ap, ◌∙◌, subst, arith}
 use Rattle.std.specs.declared.option.Option.{Option}
 use Rattle.js_io.specs.Counts.{next_count}
-use Rattle.js_io.specs.FilesState.{FilesState}
+use Rattle.js_io.specs.FilesState.{IsTooLarge, FilesState}
 use Rattle.js_run.specs.Words.{Name, Plan, files_of, plan_of}
 use Rattle.js_run.specs.Meaning.{Run, runs_of}
 use Rattle.js_run.specs.Verdict.{Verdict, BadWords, NotRead, TooLarge, Refused, NoMemory, Ran, Report, Refusal, Printed, report_of, status_of, unread_line, large_line}
 use Rattle.js_run.specs.Moment.{Moment, Sinks, Ended}
-use Rattle.js_run.specs.Cause.{AllSpell, FirstRefused, IsQuiet, IsUnread, IsLarge, HasCauseBy, HasCauseIn, IsRun}
+use Rattle.js_run.specs.Cause.{AllSpell, FirstRefused, ReadUpTo, HasCauseBy, HasCauseIn, IsRun}
 use Rattle.js_run.specs.Ending.{TakesAll, IsEnd}
 use Rattle.js_run.specs.Outcome.{Outcome}
 use Rattle.js_run.specs.Rows as row
@@ -63,12 +63,14 @@ file_fault : (words : List (List ℕ)) (plan : Option Plan) (old new : FilesStat
 file_fault words (Some plan) old new (NotRead name) planned why is = record {
   plan = plan;
   planned = planned;
-  why = inl (subst (λ (n : Name). IsUnread old new (files_of plan) n) (sym why.blames) why);
+  up_to = subst (λ (n : Name). ReadUpTo old.held (files_of plan) n) (sym why.blames) why.up_to;
+  why = inl why.once;
 }
 file_fault words (Some plan) old new (TooLarge name) planned why is = record {
   plan = plan;
   planned = planned;
-  why = inr (subst (λ (n : Name). IsLarge old new (files_of plan) n) (sym why.blames) why);
+  up_to = subst (λ (n : Name). ReadUpTo old.held (files_of plan) n) (sym why.blames) why.up_to;
+  why = inr (subst (λ (n : Name). IsTooLarge (old.held n) old.oversize new.oversize) (sym why.blames) why.larger);
 }
 file_fault words plan old new BadWords planned why is = absurd (omega (arith, is))
 file_fault words plan old new (Refused name fault) planned why is = absurd (omega (arith, is))
@@ -80,24 +82,7 @@ file_fault words None old new (TooLarge name) planned why is = absurd why
 
 -- a read that failed was counted
 counted : (before after : ℕ) → after ≡ next_count before → NoFault before after → ⊥
-counted before after once calm = calm.1 (omega (arith, once, calm.0))
-
--- but for 3
-
-quiet_but : (plan : Option Plan) (code : ℕ) (old new : Moment) (v : Verdict) → HasCauseBy plan old.files new.files v → IsEnd (report_of v) code old.sinks new.sinks → (code ≡ 3 → ⊥)
-    → IsQuiet old.files new.files
-quiet_but None code old new BadWords why end other = why
-quiet_but None code old new NoMemory why end other = why
-quiet_but None code old new (NotRead name) why end other = absurd why
-quiet_but None code old new (TooLarge name) why end other = absurd why
-quiet_but None code old new (Refused name fault) why end other = absurd why
-quiet_but None code old new (Ran runs) why end other = absurd why
-quiet_but (Some plan) code old new BadWords why end other = absurd why
-quiet_but (Some plan) code old new NoMemory why end other = why
-quiet_but (Some plan) code old new (NotRead name) why end other = absurd (other end.status)
-quiet_but (Some plan) code old new (TooLarge name) why end other = absurd (other end.status)
-quiet_but (Some plan) code old new (Refused name fault) why end other = why.quiet
-quiet_but (Some plan) code old new (Ran runs) why end other = why.quiet
+counted before after once calm = omega (arith, once, calm.0, calm.1)
 
 large_end : (words : List (List ℕ)) (ended : Ended) (old new : Moment) (large : IsToldLarge words old.files new.files) (v : Verdict) → HasCauseIn old.files new.files (files_of large.plan) v
     → IsEnd (report_of v) ended.code old.sinks new.sinks → OrWant 3 ended old new
@@ -156,15 +141,14 @@ refusal_told words plan ended old new BadWords planned why end is = record {
 refusal_told words None ended old new (NotRead name) planned why end is = absurd why
 refusal_told words (Some plan) ended old new (NotRead name) planned why end is = record {
   line = _;
-  is = subst (λ (n : Name). row.IsLine words ended.code old.files new.files (unread_line n)) why.blames
-      (row.IsLine.unread end.status plan planned (subst (λ (n : Name). IsUnread old.files new.files (files_of plan) n) (sym why.blames) why));
+  is = subst (λ (n : Name). row.IsLine words ended.code old.files new.files (unread_line n)) why.blames (row.IsLine.unread end.status why.once);
   told = record { status = refl; silent = end.silent; told = end.told };
 }
 refusal_told words None ended old new (TooLarge name) planned why end is = absurd why
 refusal_told words (Some plan) ended old new (TooLarge name) planned why end is = record {
   line = _;
   is = subst (λ (n : Name). row.IsLine words ended.code old.files new.files (large_line n)) why.blames
-      (row.IsLine.large end.status plan planned (subst (λ (n : Name). IsLarge old.files new.files (files_of plan) n) (sym why.blames) why));
+      (row.IsLine.large end.status (subst (λ (n : Name). IsTooLarge (old.files.held n) old.files.oversize new.files.oversize) (sym why.blames) why.larger));
   told = record { status = refl; silent = end.silent; told = end.told };
 }
 refusal_told words None ended old new (Refused name fault) planned why end is = absurd why
@@ -192,7 +176,7 @@ module _ (words : List (List ℕ)) (plan : Plan) (old new : FilesState) (planned
     contents = why.contents;
     trees = why.trees;
     read = why.read;
-    quiet = why.quiet;
+    calm = why.calm;
     spell = why.spell;
   }
 
@@ -227,7 +211,6 @@ prints words status ended old new small is run (inr (inr cut)) = absurd (omega (
 prints_all : (words : List (List ℕ)) (old new : Moment) → Prints words 0 old new → PrintsAll words old new
 prints_all words old new p = record {
   run = p.run;
-  ends = p.ends;
   out = p.out;
   err = subst (λ (l : List ℕ). TakesAll old.sinks.err new.sinks.err l) (quiet (files_of p.run.plan) p.run.trees p.ends) p.err;
 }
@@ -269,9 +252,6 @@ module _ (words : List (List ℕ)) (ended : Ended) (old new : Moment) (o : Outco
 
   pub read_row : ended.code ≡ 3 → IsFileFault words old.files new.files
   read_row is = file_fault words (plan_of words) old.files new.files o.verdict refl o.cause (decided _ _ 3 ends is (omega arith))
-
-  pub quiet_row : (ended.code ≡ 3 → ⊥) → IsQuiet old.files new.files
-  quiet_row other = quiet_but (plan_of words) ended.code old new o.verdict o.cause o.ending other
 
   pub large_row : IsToldLarge words old.files new.files → OrWant 3 ended old new
   large_row large = large_end words ended old new large o.verdict (because (Some large.plan) large.planned) o.ending

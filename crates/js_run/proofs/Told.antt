@@ -13,13 +13,13 @@ takes_nothing a = record { took = Appends-nil a.taken; calm = refl }
 pub told : {E : Type 0} (status : ℕ) (line : List ℕ) (r : Result Unit E) (out a b : SinkState) → WritesAll r a b line
     → IsTold status line status (record { out = out; err = a }) (record { out = out; err = b })
 told status line (Ok done) out a b w = record { status = refl; silent = takes_nothing out; told = inl (record { took = w.all; calm = w.calm }) }
-told status line (Err e) out a b w = record { status = refl; silent = takes_nothing out; told = inr (record { took = w.prefix; once = w.once; counted = w.counted }) }
+told status line (Err e) out a b w = record { status = refl; silent = takes_nothing out; told = inr (record { took = w.prefix; once = w.once }) }
 
 calm_counts : (a b : SinkState) (bytes : List ℕ) → TakesAll a b bytes → a.faults ≤ b.faults
 calm_counts a b bytes took = omega (arith, took.calm)
 
 until_counts : (a b : SinkState) (bytes : List ℕ) → TakesUntil a b bytes → a.faults ≤ b.faults
-until_counts a b bytes took = took.counted
+until_counts a b bytes took = omega (arith, took.once)
 
 -- no count of a sink falls
 pub counts_kept : (r : Report) (code : ℕ) (old new : Sinks) → IsEnd r code old new → (old.out.faults ≤ new.out.faults) × (old.err.faults ≤ new.err.faults)

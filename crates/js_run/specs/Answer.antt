@@ -1,4 +1,4 @@
--- What an answer of the code reports. No public contract cites it.
+-- What an answer of the code reports.
 use Rattle.std.specs.Prelude.{◌≡◌, ℕ, List, ⊤}
 use Rattle.std.specs.List.{concat}
 use Rattle.js_io.specs.FilesState.{FilesState}

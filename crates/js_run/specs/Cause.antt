@@ -1,5 +1,4 @@
--- Why a call has its verdict. With every verdict but that a file can't be read or is too large, no read failed or found
--- too large a file.
+-- Why a call has its verdict.
 use Rattle.std.specs.Prelude.{◌≡◌, ℕ, ◌≤◌, List, [], ◌∷◌, ◌++◌, length, None, Some}
 use Rattle.std.specs.declared.option.Option.{Option}
 use Rattle.js_io.specs.Counts.{next_count}
@@ -18,12 +17,6 @@ pub record KeepsFiles (old new : FilesState) : Type 0 where
   pub held : (name : Name) → new.held name ≡ old.held name
   pub faults : old.faults ≤ new.faults
   pub oversize : old.oversize ≤ new.oversize
-
--- no read failed or found too large a file: both counts, and the blamed name, are as they were
-pub record IsQuiet (old new : FilesState) : Type 0 where
-  pub calm : new.faults ≡ old.faults
-  pub not_large : new.oversize ≡ old.oversize
-  pub unblamed : new.blamed ≡ old.blamed
 
 -- files of these names have these contents, as far as contents are told. None is too large: this is what keeps a told
 -- file that is too large from being taken for one that was read.
@@ -53,14 +46,13 @@ pub record ReadUpTo (held : Name → Option (List ℕ)) (names : List Name) (nam
   pub split : names ≡ before ++ name ∷ after
   pub read : Read held before contents
 
--- one read failed, that of the file of this name, and none found too large a file; all files before it were read
+-- one read failed: that of the file of this name, and all before it were read
 pub record IsUnread (old new : FilesState) (names : List Name) (name : Name) : Type 0 where
   pub up_to : ReadUpTo old.held names name
   pub once : new.faults ≡ next_count old.faults
-  pub not_large : new.oversize ≡ old.oversize
   pub blames : new.blamed ≡ name
 
--- no read failed, the file of this name is too large, and all files before it were read
+-- no read failed, the file of this name is too large, and all before it were read
 pub record IsLarge (old new : FilesState) (names : List Name) (name : Name) : Type 0 where
   pub up_to : ReadUpTo old.held names name
   pub calm : new.faults ≡ old.faults
@@ -71,7 +63,7 @@ pub record IsLarge (old new : FilesState) (names : List Name) (name : Name) : Ty
 pub record IsRefused (old new : FilesState) (names : List Name) (name : Name) (fault : ParseFault) : Type 0 where
   pub contents : List (List ℕ)
   pub read : Read old.held names contents
-  pub quiet : IsQuiet old new
+  pub calm : new.faults ≡ old.faults
   pub first : FirstRefused names contents name fault
 
 -- all files were read and spell scripts, and these were run
@@ -79,7 +71,7 @@ pub record IsRun (old new : FilesState) (names : List Name) (runs : List Run) : 
   pub contents : List (List ℕ)
   pub trees : List Tree
   pub read : Read old.held names contents
-  pub quiet : IsQuiet old new
+  pub calm : new.faults ≡ old.faults
   pub spell : AllSpell contents trees
   pub ran : runs ≡ runs_of names trees
 
@@ -89,13 +81,13 @@ HasCauseIn old new names BadWords = ⊥
 HasCauseIn old new names (NotRead name) = IsUnread old new names name
 HasCauseIn old new names (TooLarge name) = IsLarge old new names name
 HasCauseIn old new names (Refused name fault) = IsRefused old new names name fault
-HasCauseIn old new names NoMemory = IsQuiet old new
+HasCauseIn old new names NoMemory = new.faults ≡ old.faults
 HasCauseIn old new names (Ran runs) = IsRun old new names runs
 
--- of words that aren't lawful
+-- of words that aren't lawful: no file is read
 abbrev pub IsBadWords : FilesState → FilesState → Verdict → Type 0
-IsBadWords old new BadWords = IsQuiet old new
-IsBadWords old new NoMemory = IsQuiet old new
+IsBadWords old new BadWords = new.faults ≡ old.faults
+IsBadWords old new NoMemory = new.faults ≡ old.faults
 IsBadWords old new _ = ⊥
 
 abbrev pub HasCauseBy : Option Plan → FilesState → FilesState → Verdict → Type 0

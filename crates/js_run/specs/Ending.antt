@@ -1,5 +1,5 @@
 -- The status, and what the sinks took.
-use Rattle.std.specs.Prelude.{◌≡◌, ◌⊎◌, ℕ, ◌≤◌, List, []}
+use Rattle.std.specs.Prelude.{◌≡◌, ◌⊎◌, ℕ, List, []}
 use Rattle.js_io.specs.Counts.{next_count}
 use Rattle.js_io.specs.SinkState.{SinkState, Takes, TakesPrefix}
 use Rattle.js_run.specs.Moment.{Sinks}
@@ -16,7 +16,6 @@ pub record TakesAll (old new : SinkState) (bytes : List ℕ) : Type 0 where
 pub record TakesUntil (old new : SinkState) (bytes : List ℕ) : Type 0 where
   pub took : TakesPrefix old new bytes
   pub once : new.faults ≡ next_count old.faults
-  pub counted : old.faults ≤ new.faults
 
 -- nothing was run: out takes nothing, a line is told, and a write that fails there changes no status
 pub record IsTold (wanted : ℕ) (line : List ℕ) (code : ℕ) (old new : Sinks) : Type 0 where

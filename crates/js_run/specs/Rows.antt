@@ -1,7 +1,8 @@
 -- Each status by itself: when it comes, and what was written then. All of it follows from the outcome.
 use Rattle.std.specs.Prelude.{◌≡◌, ◌⊎◌, ℕ, ◌-◌, ◌^◌, ◌≤◌, ◌<◌, List, [], ◌∷◌, ◌++◌, length, Some}
 use Rattle.std.specs.declared.option.Option.{Option}
-use Rattle.js_io.specs.FilesState.{FilesState}
+use Rattle.js_io.specs.Counts.{next_count}
+use Rattle.js_io.specs.FilesState.{FilesState, IsTooLarge}
 use Rattle.js_io.specs.declared.files.TheConstants.{FILE_MAX}
 use Rattle.js_parse.specs.declared.parser.ParseFault.{ParseFault}
 use Rattle.js_tree.specs.Tree.{Tree}
@@ -9,12 +10,12 @@ use Rattle.js_run.specs.Words.{Name, Plan, files_of, plan_of}
 use Rattle.js_run.specs.Meaning.{Run, runs_of}
 use Rattle.js_run.specs.Verdict.{Printed, status_of, out_of, err_of, words_line, unread_line, large_line, refused_line, memory_line}
 use Rattle.js_run.specs.Moment.{Moment, Ended}
-use Rattle.js_run.specs.Cause.{Read, AllSpell, FirstRefused, IsUnread, IsLarge, IsRefused, IsQuiet}
+use Rattle.js_run.specs.Cause.{Read, AllSpell, FirstRefused, ReadUpTo, IsRefused}
 use Rattle.js_run.specs.Ending.{TakesAll, IsTold, IsCutAtOut, IsCutAtErr, IsEnd}
 
--- no fault was counted, and the count doesn't stand at the last value of its counter
+-- no fault was counted, and the count isn't at the end of its 64 bits
 abbrev pub NoFault : ℕ → ℕ → Type 0
-NoFault before after = (after ≤ before) × (after ≡ 2 ^ 64 - 1 → ⊥)
+NoFault before after = (after ≤ before) × (after < 2 ^ 64 - 1)
 
 -- want of memory before anything was run: out took nothing, and err its line
 abbrev pub IsWant : Ended → Moment → Moment → Type 0
@@ -38,7 +39,8 @@ pub data Told (held : Name → Option (List ℕ)) : List Name → List (List ℕ
 pub record IsFileFault (words : List (List ℕ)) (old new : FilesState) : Type 0 where
   pub plan : Plan
   pub planned : plan_of words ≡ Some plan
-  pub why : IsUnread old new (files_of plan) new.blamed ⊎ IsLarge old new (files_of plan) new.blamed
+  pub up_to : ReadUpTo old.held (files_of plan) new.blamed
+  pub why : (new.faults ≡ next_count old.faults) ⊎ IsTooLarge (old.held new.blamed) old.oversize new.oversize
 
 -- no read failed, and the first file that isn't told to have at most so many bytes is told to have more
 pub record IsToldLarge (words : List (List ℕ)) (old new : FilesState) : Type 0 where
@@ -77,10 +79,8 @@ pub record IsToldRefused (words : List (List ℕ)) (old new : FilesState) : Type
 -- the line of a refusal, by its status
 pub data IsLine (words : List (List ℕ)) (code : ℕ) (old new : FilesState) : List ℕ → Type 0 where
   bad_words : code ≡ 2 → IsLine words code old new words_line
-  unread : code ≡ 3 → (plan : Plan) → plan_of words ≡ Some plan → IsUnread old new (files_of plan) new.blamed
-      → IsLine words code old new (unread_line new.blamed)
-  large : code ≡ 3 → (plan : Plan) → plan_of words ≡ Some plan → IsLarge old new (files_of plan) new.blamed
-      → IsLine words code old new (large_line new.blamed)
+  unread : code ≡ 3 → new.faults ≡ next_count old.faults → IsLine words code old new (unread_line new.blamed)
+  large : code ≡ 3 → IsTooLarge (old.held new.blamed) old.oversize new.oversize → IsLine words code old new (large_line new.blamed)
   refused : code ≡ 4 → (plan : Plan) → plan_of words ≡ Some plan → (name : Name) (fault : ParseFault) → IsRefused old new (files_of plan) name fault
       → IsLine words code old new (refused_line name fault)
   no_memory : code ≡ 6 → IsLine words code old new memory_line
@@ -102,7 +102,7 @@ pub record AreRun (words : List (List ℕ)) (old new : FilesState) : Type 0 wher
   pub contents : List (List ℕ)
   pub trees : List Tree
   pub read : Read old.held (files_of plan) contents
-  pub quiet : IsQuiet old new
+  pub calm : new.faults ≡ old.faults
   pub spell : AllSpell contents trees
 
 -- how each script ended and what it printed, by its meaning
@@ -116,10 +116,9 @@ pub record Prints (words : List (List ℕ)) (status : ℕ) (old new : Moment) : 
   pub out : TakesAll old.sinks.out new.sinks.out (out_of (runs_by words old.files new.files run))
   pub err : TakesAll old.sinks.err new.sinks.err (err_of (runs_by words old.files new.files run))
 
--- the same where every script ended Done, which is status 0, so that err took nothing
+-- the same where every script ended Done, so that err took nothing
 pub record PrintsAll (words : List (List ℕ)) (old new : Moment) : Type 0 where
   pub run : AreRun words old.files new.files
-  pub ends : status_of (runs_by words old.files new.files run) ≡ 0
   pub out : TakesAll old.sinks.out new.sinks.out (out_of (runs_by words old.files new.files run))
   pub err : TakesAll old.sinks.err new.sinks.err []
 

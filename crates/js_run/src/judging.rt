@@ -1,6 +1,7 @@
 // Reads the words and the files, and runs the scripts.
 ghost use Rattle.std.specs.Prelude.{◌≡◌, [], ◌∷◌, None, Some, map, MatchOption};
 ghost use Rattle.std.specs.String.{string_bytes};
+ghost use Rattle.js_io.specs.FilesState.{files_state};
 ghost use Rattle.js_tree.specs.Tree.{tree_of};
 ghost use Rattle.js_run.specs.Answer.{Judges, Runs};
 ghost use Rattle.js_run.specs.Words.{plan_of, one_file};
@@ -44,7 +45,8 @@ fn run_script<'a>(alloc: Global, name: &'a str, script: &Script) -> Answer<'a>
 }
 
 fn judge_file<'a, F: Files>(alloc: Global, name: &'a str, files: &mut F) -> Answer<'a>
-    ensures { Judges (Some (one_file name.now)) (F.state files.old) (F.state files.new) result }
+    ensures { Judges (Some (one_file name.now)) (files_state F.held F.faults F.oversize F.blamed files.old)
+        (files_state F.held F.faults F.oversize F.blamed files.new) result }
 {
     let bytes = match files.read(alloc, name) {
         Ok(bytes) => bytes,
@@ -67,7 +69,8 @@ fn judge_file<'a, F: Files>(alloc: Global, name: &'a str, files: &mut F) -> Answ
 
 /// What becomes of the call.
 pub(crate) fn judge<'a, F: Files>(alloc: Global, words: &'a [String], files: &mut F) -> Answer<'a>
-    ensures { Judges (plan_of (map string_bytes words.now)) (F.state files.old) (F.state files.new) result }
+    ensures { Judges (plan_of (map string_bytes words.now)) (files_state F.held F.faults F.oversize F.blamed files.old)
+        (files_state F.held F.faults F.oversize F.blamed files.new) result }
 {
     match file_word(words) {
         Some(name) => judge_file(alloc, name, files),

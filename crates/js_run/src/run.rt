@@ -1,9 +1,9 @@
 // The top call.
 ghost use Rattle.std.specs.Prelude.{◌≡◌, None, map};
 ghost use Rattle.std.specs.String.{string_bytes};
+ghost use Rattle.js_io.specs.FilesState.{files_state};
 ghost use Rattle.js_run.specs.Words.{plan_of};
 ghost use Rattle.js_run.specs.Moment.{moment, ended};
-ghost use Rattle.js_run.specs.Cause.{IsQuiet};
 ghost use Rattle.js_run.specs.Outcome.{Outcome, Keeps};
 ghost use Rattle.js_run.specs.Rows.{Exactly, OrWant, IsFileFault, IsToldLarge, IsNoScript, IsToldRefused, IsRefusal, IsRefusalTold, Prints, PrintsAll, IsCut, IsHonest, IsDone};
 
@@ -28,8 +28,8 @@ fn run<F: Files, O: Sink, E: Sink>(
     err: &mut E,
 ) -> Status
     ensures { Outcome (map string_bytes words.now) (ended result)
-        (moment (F.state files.old) (O.state out.old) (E.state err.old))
-        (moment (F.state files.new) (O.state out.new) (E.state err.new)) }
+        (moment F.held F.faults F.oversize F.blamed O.taken O.faults E.taken E.faults files.old out.old err.old)
+        (moment F.held F.faults F.oversize F.blamed O.taken O.faults E.taken E.faults files.new out.new err.new) }
 {
     let answer = judge(alloc, words, files);
     Status {
@@ -58,51 +58,53 @@ pub fn run_words<R: Threads + Sync, F: Files, O: Sink, E: Sink, G: Gate + Sync>(
     gate: &G,
 ) -> Status
     ensures outcome { Outcome (map string_bytes words.now) (ended result)
-        (moment (F.state files.old) (O.state out.old) (E.state err.old))
-        (moment (F.state files.new) (O.state out.new) (E.state err.new)) }
+        (moment F.held F.faults F.oversize F.blamed O.taken O.faults E.taken E.faults files.old out.old err.old)
+        (moment F.held F.faults F.oversize F.blamed O.taken O.faults E.taken E.faults files.new out.new err.new) }
 
     ensures words { Exactly 2 (ended result)
-        (moment (F.state files.old) (O.state out.old) (E.state err.old))
-        (moment (F.state files.new) (O.state out.new) (E.state err.new))
+        (moment F.held F.faults F.oversize F.blamed O.taken O.faults E.taken E.faults files.old out.old err.old)
+        (moment F.held F.faults F.oversize F.blamed O.taken O.faults E.taken E.faults files.new out.new err.new)
         (plan_of (map string_bytes words.now) ≡ None) }
 
-    ensures read { result.code ≡ 3
-        → IsFileFault (map string_bytes words.now) (F.state files.old) (F.state files.new) }
-    ensures quiet { (result.code ≡ 3 → ⊥) → IsQuiet (F.state files.old) (F.state files.new) }
-    ensures large { IsToldLarge (map string_bytes words.now) (F.state files.old) (F.state files.new)
+    ensures read { result.code ≡ 3 → IsFileFault (map string_bytes words.now)
+        (files_state F.held F.faults F.oversize F.blamed files.old) (files_state F.held F.faults F.oversize F.blamed files.new) }
+    ensures large { IsToldLarge (map string_bytes words.now)
+        (files_state F.held F.faults F.oversize F.blamed files.old) (files_state F.held F.faults F.oversize F.blamed files.new)
         → OrWant 3 (ended result)
-        (moment (F.state files.old) (O.state out.old) (E.state err.old))
-        (moment (F.state files.new) (O.state out.new) (E.state err.new)) }
+        (moment F.held F.faults F.oversize F.blamed O.taken O.faults E.taken E.faults files.old out.old err.old)
+        (moment F.held F.faults F.oversize F.blamed O.taken O.faults E.taken E.faults files.new out.new err.new) }
 
-    ensures script { result.code ≡ 4
-        → IsNoScript (map string_bytes words.now) (F.state files.old) (F.state files.new) }
-    ensures no_script { IsToldRefused (map string_bytes words.now) (F.state files.old) (F.state files.new)
+    ensures script { result.code ≡ 4 → IsNoScript (map string_bytes words.now)
+        (files_state F.held F.faults F.oversize F.blamed files.old) (files_state F.held F.faults F.oversize F.blamed files.new) }
+    ensures no_script { IsToldRefused (map string_bytes words.now)
+        (files_state F.held F.faults F.oversize F.blamed files.old) (files_state F.held F.faults F.oversize F.blamed files.new)
         → OrWant 4 (ended result)
-        (moment (F.state files.old) (O.state out.old) (E.state err.old))
-        (moment (F.state files.new) (O.state out.new) (E.state err.new)) }
+        (moment F.held F.faults F.oversize F.blamed O.taken O.faults E.taken E.faults files.old out.old err.old)
+        (moment F.held F.faults F.oversize F.blamed O.taken O.faults E.taken E.faults files.new out.new err.new) }
 
     ensures told { IsRefusal (ended result) → IsRefusalTold (map string_bytes words.now) (ended result)
-        (moment (F.state files.old) (O.state out.old) (E.state err.old))
-        (moment (F.state files.new) (O.state out.new) (E.state err.new)) }
+        (moment F.held F.faults F.oversize F.blamed O.taken O.faults E.taken E.faults files.old out.old err.old)
+        (moment F.held F.faults F.oversize F.blamed O.taken O.faults E.taken E.faults files.new out.new err.new) }
 
     ensures print { result.code ≡ 0 → PrintsAll (map string_bytes words.now)
-        (moment (F.state files.old) (O.state out.old) (E.state err.old))
-        (moment (F.state files.new) (O.state out.new) (E.state err.new)) }
+        (moment F.held F.faults F.oversize F.blamed O.taken O.faults E.taken E.faults files.old out.old err.old)
+        (moment F.held F.faults F.oversize F.blamed O.taken O.faults E.taken E.faults files.new out.new err.new) }
     ensures early { result.code ≡ 1 → Prints (map string_bytes words.now) 1
-        (moment (F.state files.old) (O.state out.old) (E.state err.old))
-        (moment (F.state files.new) (O.state out.new) (E.state err.new)) }
+        (moment F.held F.faults F.oversize F.blamed O.taken O.faults E.taken E.faults files.old out.old err.old)
+        (moment F.held F.faults F.oversize F.blamed O.taken O.faults E.taken E.faults files.new out.new err.new) }
     ensures write { result.code ≡ 7 → IsCut (map string_bytes words.now) 7
-        (moment (F.state files.old) (O.state out.old) (E.state err.old))
-        (moment (F.state files.new) (O.state out.new) (E.state err.new)) }
+        (moment F.held F.faults F.oversize F.blamed O.taken O.faults E.taken E.faults files.old out.old err.old)
+        (moment F.held F.faults F.oversize F.blamed O.taken O.faults E.taken E.faults files.new out.new err.new) }
 
-    ensures honest { (honest : IsHonest (map string_bytes words.now) (F.state files.old) (F.state files.new))
+    ensures honest { (honest : IsHonest (map string_bytes words.now)
+        (files_state F.held F.faults F.oversize F.blamed files.old) (files_state F.held F.faults F.oversize F.blamed files.new))
         → IsDone (map string_bytes words.now) (ended result)
-        (moment (F.state files.old) (O.state out.old) (E.state err.old))
-        (moment (F.state files.new) (O.state out.new) (E.state err.new)) honest }
+        (moment F.held F.faults F.oversize F.blamed O.taken O.faults E.taken E.faults files.old out.old err.old)
+        (moment F.held F.faults F.oversize F.blamed O.taken O.faults E.taken E.faults files.new out.new err.new) honest }
 
     ensures keeps { Keeps
-        (moment (F.state files.old) (O.state out.old) (E.state err.old))
-        (moment (F.state files.new) (O.state out.new) (E.state err.new)) }
+        (moment F.held F.faults F.oversize F.blamed O.taken O.faults E.taken E.faults files.old out.old err.old)
+        (moment F.held F.faults F.oversize F.blamed O.taken O.faults E.taken E.faults files.new out.new err.new) }
 {
     let _rt = rt;
     let _gate = gate;

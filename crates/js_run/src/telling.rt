@@ -1,6 +1,6 @@
 // Writes what becomes of a call.
 ghost use Rattle.std.specs.Prelude.{◌≡◌, ◌++◌, decimal};
-ghost use Rattle.js_io.specs.SinkState.{WritesAll};
+ghost use Rattle.js_io.specs.SinkState.{sink_state, WritesAll};
 ghost use Rattle.js_run.specs.Answer.{report};
 ghost use Rattle.js_run.specs.Verdict.{end_line, full_text, kind_text, status_or};
 ghost use Rattle.js_run.specs.Moment.{sinks};
@@ -14,7 +14,8 @@ use js_io::{Failed, Sink, write_all};
 use js_store::FullReport;
 
 fn write_both<O: Sink>(sink: &mut O, first: &[u8], second: &[u8]) -> Result<(), Failed>
-    ensures { WritesAll result (O.state sink.old) (O.state sink.new) (first.now ++ second.now) }
+    ensures { WritesAll result (sink_state O.taken O.faults sink.old) (sink_state O.taken O.faults sink.new)
+        (first.now ++ second.now) }
 {
     match write_all(sink, first) {
         Ok(()) => write_all(sink, second),
@@ -30,7 +31,7 @@ fn write_place<O: Sink>(
     at: u32,
     behind: &[u8],
 ) -> Result<(), Failed>
-    ensures { WritesAll result (O.state sink.old) (O.state sink.new)
+    ensures { WritesAll result (sink_state O.taken O.faults sink.old) (sink_state O.taken O.faults sink.new)
         (name.now ++ (before.now ++ (decimal at ++ behind.now))) }
 {
     let mut digits = Buffer::new();
@@ -72,7 +73,7 @@ fn full_words(report: FullReport) -> &'static [u8]
 
 // Writes the line of a script that didn't end Done.
 fn write_end<E: Sink>(err: &mut E, name: &str, end: End) -> Result<(), Failed>
-    ensures { WritesAll result (E.state err.old) (E.state err.new) (end_line name.now end) }
+    ensures { WritesAll result (sink_state E.taken E.faults err.old) (sink_state E.taken E.faults err.new) (end_line name.now end) }
 {
     match end {
         End::Done => Ok(()),
@@ -96,7 +97,7 @@ fn end_status(end: End) -> u8
 
 // The status of a script that was run and whose lines were written, once its own line is told.
 fn tell_end<E: Sink>(err: &mut E, name: &str, end: End) -> u8
-    ensures { IsEndTold name.now end result (E.state err.old) (E.state err.new) }
+    ensures { IsEndTold name.now end result (sink_state E.taken E.faults err.old) (sink_state E.taken E.faults err.new) }
 {
     match write_end(err, name, end) {
         Ok(()) => end_status(end),
@@ -106,8 +107,8 @@ fn tell_end<E: Sink>(err: &mut E, name: &str, end: End) -> u8
 
 /// Writes what the answer reports, and gives the status.
 pub(crate) fn tell<O: Sink, E: Sink>(answer: Answer<'_>, out: &mut O, err: &mut E) -> u8
-    ensures { IsEnd (report answer.entry) result (sinks (O.state out.old) (E.state err.old))
-        (sinks (O.state out.new) (E.state err.new)) }
+    ensures { IsEnd (report answer.entry) result (sinks O.taken O.faults E.taken E.faults out.old err.old)
+        (sinks O.taken O.faults E.taken E.faults out.new err.new) }
 {
     // a fault of err changes no status
     match answer {

@@ -1,7 +1,7 @@
 // The program over files and sinks in memory: sinks that fail, the longest file, and no words.
 ghost use Rattle.std.specs.Prelude.{◌≤◌};
 
-use js_io::{FILE_MAX, FreeGate, MemFiles, MemSink, NullSink};
+use js_io::{FILE_MAX, FreeGate, MemFiles, MemSink};
 use js_run::run_words;
 use std::alloc::{AllocError, Global};
 use std::test::Fail;
@@ -113,30 +113,6 @@ fn a_file_has_at_most_so_many_bytes(rt: HostRuntime) -> Result<(), Fail> {
         let ran = run(&rt, rt.alloc(), &["jsstr", "a.js"], &text, 100, 100)?;
         assert_eq!(rt; ran.code, code, "at {len}");
         assert_eq!(rt; ran.err.taken(), err.as_bytes(), "at {len}");
-    }
-    Ok(())
-}
-
-// The first read fails, and the second, of another run, doesn't.
-#[test]
-fn a_read_fails(rt: HostRuntime) -> Result<(), Fail> {
-    let words = owned(rt.alloc(), &["jsstr", "a.js"])?;
-    let mut files = MemFiles::new(rt.alloc());
-    files.put("a.js", b"print('x');")?;
-    files.fail_at(0)?;
-    let mut err = MemSink::new(rt.alloc(), 7, 100)?;
-    for code in [3, 0] {
-        let status = run_words(
-            &rt,
-            rt.alloc(),
-            &words,
-            &mut files,
-            &mut NullSink::new(),
-            &mut err,
-            &FreeGate,
-        );
-        assert_eq!(rt; status.code, code);
-        assert_eq!(rt; err.taken(), b"a.js: cannot be read\n".as_slice());
     }
     Ok(())
 }

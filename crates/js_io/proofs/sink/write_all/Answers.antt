@@ -1,5 +1,6 @@
 use Rattle.std.proofs.Common.{◌≡◌, ℕ, ◌-◌, List, ◌++◌, length, take, drop, sym, ap, ◌∙◌, append_assoc, take-append-drop}
 use Rattle.std.proofs.lemmas.List.{take_rest}
+use Rattle.js_io.specs.SinkState.{sink_state}
 use Rattle.js_io.proofs.Prefixes.{Appends-trans, stopped}
 use Rattle.js_io.proofs.sink.write_all.Goals as goal
 
@@ -21,6 +22,6 @@ pub returns-in_err-count : goal.returns-in_err-count
 returns-in_err-count g c =
     let (done, split, appended) = c.loop-rest.invariant.taken in
     let failed = c.in_err-count.ensures in
-    let state = g.O.Sink.state in
+    let state = sink_state g.O.Sink.taken g.O.Sink.faults in
     stopped c.from_residual.result (state c.args.sink.now) (state c.loop-rest.sink) (state c.write.new.self) c.args.bytes.now done c.loop-rest.rest.now
-    c.from_residual.ensures.0 failed.empty split appended c.loop-rest.invariant.calm failed.bytes failed.failed failed.counted
+    c.from_residual.ensures.0 failed.empty split appended c.loop-rest.invariant.calm failed.bytes failed.failed

@@ -4,8 +4,8 @@ use Rattle.js_io.proofs.sink.write_all.Given as goal
 
 abbrev pub invariant-loop-rest : goal.invariant-loop-rest
 invariant-loop-rest g l = record {
-  taken : (done : List ℕ) × (l.initial.rest ≡ done ++ l.rest) × Appends (g.O.Sink.state l.initial.sink).taken (g.O.Sink.state l.sink).taken done;
-  calm : (g.O.Sink.state l.sink).faults ≡ (g.O.Sink.state l.initial.sink).faults;
+  taken : (done : List ℕ) × (l.initial.rest ≡ done ++ l.rest) × Appends (g.O.Sink.taken l.initial.sink) (g.O.Sink.taken l.sink) done;
+  calm : g.O.Sink.faults l.sink ≡ g.O.Sink.faults l.initial.sink;
 }
 
 abbrev pub decreases-loop-rest : goal.decreases-loop-rest

@@ -8,8 +8,9 @@ use Rattle.js_run.proofs.run.run.Goals as goal
 pub returns : goal.returns
 returns g c =
     let judged = c.judge-answer.ensures in
-    let old : Sinks = sinks (g.O.Sink.state c.args.out.now) (g.E.Sink.state c.args.err.now) in
-    let new : Sinks = sinks (g.O.Sink.state c.tell.new.out) (g.E.Sink.state c.tell.new.err) in
+    let state = sinks g.O.Sink.taken g.O.Sink.faults g.E.Sink.taken g.E.Sink.faults in
+    let old : Sinks = state c.args.out.now c.args.err.now in
+    let new : Sinks = state c.tell.new.out c.tell.new.err in
     let kept = counts_kept _ c.tell.result old new c.tell.ensures in
     record {
       verdict = judged.verdict;

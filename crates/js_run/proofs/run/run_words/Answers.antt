@@ -1,4 +1,4 @@
-use Rattle.js_run.proofs.Rows.{words_row, read_row, quiet_row, large_row, script_row, refused_row, told_row, print_row, early_row, write_row, honest_row}
+use Rattle.js_run.proofs.Rows.{words_row, read_row, large_row, script_row, refused_row, told_row, print_row, early_row, write_row, honest_row}
 use Rattle.js_run.proofs.run.run_words.Goals as goal
 
 pub returns-clause-words : goal.returns-clause-words
@@ -6,9 +6,6 @@ returns-clause-words g c = words_row _ _ _ _ c.run.ensures
 
 pub returns-clause-read : goal.returns-clause-read
 returns-clause-read g c = read_row _ _ _ _ c.run.ensures
-
-pub returns-clause-quiet : goal.returns-clause-quiet
-returns-clause-quiet g c = quiet_row _ _ _ _ c.run.ensures
 
 pub returns-clause-large : goal.returns-clause-large
 returns-clause-large g c = large_row _ _ _ _ c.run.ensures

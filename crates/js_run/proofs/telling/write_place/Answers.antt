@@ -1,5 +1,5 @@
 use Rattle.std.proofs.Common.{◌++◌, ℕ, List, Result, Err, decimal, append_assoc, subst}
-use Rattle.js_io.specs.SinkState.{SinkState, WritesAll}
+use Rattle.js_io.specs.SinkState.{SinkState, sink_state, WritesAll}
 use Rattle.js_io.proofs.Prefixes.{then_second, first_failed}
 use Rattle.js_run.proofs.telling.write_place.Goals as goal
 
@@ -9,7 +9,7 @@ regroup r a b name before rest w = subst (λ (l : List ℕ). WritesAll r a b l) 
 
 pub returns-in-Ok : goal.returns-in-Ok
 returns-in-Ok g c =
-    let state = g.O.Sink.state in
+    let state = sink_state g.O.Sink.taken g.O.Sink.faults in
     let old = state c.args.sink.now in
     let mid = state c.write_both.new.sink in
     let new = state c.write_both-in-Ok.new.sink in
@@ -19,7 +19,7 @@ returns-in-Ok g c =
 
 pub returns-in-Err : goal.returns-in-Err
 returns-in-Err g c =
-    let state = g.O.Sink.state in
+    let state = sink_state g.O.Sink.taken g.O.Sink.faults in
     let old = state c.args.sink.now in
     let new = state c.write_both.new.sink in
     regroup (Err c.in-Err.field-0) old new c.args.name.now c.args.before.now (decimal c.args.at ++ c.args.behind.now)

@@ -1,4 +1,0 @@
-pub mod States
-pub mod Rows
-pub mod Calls
-pub mod Shares

@@ -1,5 +1,0 @@
-pub mod Limits
-pub mod Sessions
-pub mod Shares
-pub mod Faults
-pub mod Sound
