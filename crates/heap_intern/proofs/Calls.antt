@@ -1,22 +1,17 @@
 -- What each call on a text or on the string table is as a step of a store.
-use Rattle.std.proofs.Common.{◌≡◌, ℕ, zero, suc, ◌+◌, ◌-◌, ◌<◌, ◌≤◌, ◌⊎◌, ⊎_elim, inl, inr, Bool, true, false, List, [], ◌∷◌, ◌++◌, drop, length, length-drop, length-take-le, sym, refl, ap, ◌∙◌, subst, arith, Option, Some, None, Result, Ok, Err, IsTrue, if◌then◌else◌, IfOk}
+use Rattle.std.proofs.Common.{◌≡◌, ℕ, zero, suc, ◌+◌, ◌-◌, ◌<◌, ◌≤◌, ◌⊎◌, ⊎_elim, inl, inr, Bool, List, [], ◌++◌, drop, length, length-drop, length-take-le, sym, refl, ap, subst, arith, Some, None, Ok, Err}
 use Rattle.std.proofs.lemmas.List.{length-append}
 use mathlib.Core.Logic.{dite}
 use native.Mathlib.Decide.{ℕ_discrete}
 use Rattle.js_units.specs.Lanes.{words_over}
 use Rattle.atomic_table.specs.Seated.{TableId}
-use Rattle.js_store.specs.declared.faults.FullReport.TheVariants as report
-use Rattle.js_store.specs.declared.faults.StoreFault.TheVariants.{Full}
 use Rattle.js_store.specs.Faults.{Honest, JoinFault as JoinTold, NeverSlots, SlotsShut, Step, concat_part}
 use Rattle.js_store.specs.Rows.{copy_words, cut_ids, cut_words, flat_words, join_ids, join_words}
-use Rattle.js_store.specs.Rows as rows
-use Rattle.js_store.specs.State.{State}
 use Rattle.heap_rule.specs.declared.size.Counters.{Counters}
 use Rattle.heap_rule.specs.declared.size.HeapSize.{HeapSize}
 use Rattle.heap_rule.specs.declared.view.View.{View}
 use Rattle.heap_rule.specs.Births.{part}
 use Rattle.heap_rule.specs.Layout.{MAX}
-use Rattle.heap_rule.specs.Maps.{Has}
 use Rattle.heap_rule.specs.Paths.{Calls}
 use Rattle.heap_rule.specs.Sound.{IsPossible}
 use Rattle.heap_slots.specs.declared.faults.TableFull.{TableFull}
@@ -32,7 +27,7 @@ use Rattle.heap_text.specs.Joins.{IsCut, IsJoined}
 use Rattle.heap_text.specs.Texts.{Continues, IsSpared, Told, Uses}
 use Rattle.heap_text.specs.Texts as texts
 use Rattle.heap_intern.specs.Faults.{fault_in_join, fault_in_table, fault_in_text}
-use Rattle.heap_intern.specs.Sessions.{SessionFrame, state_by}
+use Rattle.heap_intern.specs.Sessions.{state_by}
 use Rattle.heap_intern.proofs.Rows.{copy_bound, cut_ids_one, cut_words_copy, join_ids_one, join_words_copy, wide_same}
 use Rattle.heap_intern.proofs.States.{grows_continues, grows_goes}
 

@@ -1,5 +1,5 @@
 -- What calls on texts use, against the rows of a store.
-use Rattle.std.proofs.Common.{◌≡◌, ℕ, ◌+◌, ◌-◌, ◌/◌, ◌<◌, ◌≤◌, Bool, true, false, ◌||◌, cond, List, [], ◌∷◌, length, refl, ap, ◌∙◌, arith, if◌then◌else◌, nat_eq, nat_lt, ltb-true, ne_eqb, eqb-true}
+use Rattle.std.proofs.Common.{◌≡◌, ℕ, ◌+◌, ◌-◌, ◌<◌, ◌≤◌, Bool, true, false, ◌||◌, List, [], ◌∷◌, refl, ap, ◌∙◌, arith, if◌then◌else◌, nat_eq, nat_lt, ltb-true, ne_eqb, eqb-true}
 use Rattle.js_units.specs.Lanes.{words_over}
 use Rattle.js_store.specs.Rows.{copy_words, cut_ids, cut_words, flat_words, is_part_empty, is_whole, join_ids, join_words, wide_words}
 use Rattle.js_store.specs.Rows as rows

@@ -1,8 +1,8 @@
 -- The states of sessions that are split and joined.
-use Rattle.std.proofs.Common.{◌≡◌, ℕ, ◌+◌, ◌-◌, true, List, [], ◌++◌, sym, refl, ap, ◌∙◌, append-nil, append_assoc}
+use Rattle.std.proofs.Common.{◌≡◌, ℕ, ◌++◌, sym, refl, ap, ◌∙◌, append-nil, append_assoc}
 use Rattle.std.proofs.lemmas.List.{append_cancel_left}
 use Rattle.atomic_table.specs.Seated.{TableId}
-use Rattle.js_store.specs.State.{Sizes, State}
+use Rattle.js_store.specs.State.{Sizes}
 use Rattle.heap_rule.specs.declared.size.HeapSize.{HeapSize}
 use Rattle.heap_rule.specs.declared.view.View.{View}
 use Rattle.heap_rule.specs.Agents.{joined, left_after_split, right_after_split}
@@ -16,7 +16,7 @@ use Rattle.heap_table.specs.declared.agent.Agent.{Agent}
 use Rattle.heap_table.specs.declared.heap.Heap.{Heap}
 use Rattle.heap_table.specs.Agents.{Belongs, size_of, view_of}
 use Rattle.heap_table.specs.Known.{KeepsKnown}
-use Rattle.heap_intern.specs.Sessions.{SessionFrame, state_by, table_of}
+use Rattle.heap_intern.specs.Sessions.{state_by, table_of}
 use Rattle.heap_intern.specs.Shares.{IsJoined, left_by, right_by, sizes_of, total_by}
 use Rattle.heap_intern.proofs.States.{known_same, settled_same, shut_same}
 

@@ -1,5 +1,5 @@
 -- What a store's callers see of a view that goes on.
-use Rattle.std.proofs.Common.{◌≡◌, ℕ, ◌+◌, ◌<◌, ◌≤◌, Bool, true, false, List, [], ◌∷◌, ◌++◌, sym, refl, ap, ◌∙◌, subst, arith, append-nil, append_assoc, Option, Some, None, IsTrue}
+use Rattle.std.proofs.Common.{◌≡◌, ℕ, ◌<◌, ◌≤◌, true, false, List, [], ◌++◌, sym, refl, ap, ◌∙◌, subst, arith, append_assoc, Option, Some, None, IsTrue}
 use Rattle.std.specs.Prelude.{Contains, unwrap_or, IsSome}
 use Rattle.std.proofs.lemmas.List.Elements.{Contains-append_left}
 use Rattle.std.specs.FinMap.{FinMap, get}
@@ -8,17 +8,16 @@ use Rattle.atomic_table.specs.Seated.{TableId}
 use Rattle.js_header.specs.declared.form.Form.{Form}
 use Rattle.js_header.specs.declared.form.Form.TheVariants.{Unborn, Flat, Cons, Sliced, Thin}
 use Rattle.js_store.specs.declared.faults.StoreFault.{StoreFault}
-use Rattle.js_store.specs.Faults.{Honest, Step, ids_wanted, words_wanted}
-use Rattle.js_store.specs.State.{Grows, Sizes, State}
+use Rattle.js_store.specs.Faults.{Step}
+use Rattle.js_store.specs.State.{Grows}
 use Rattle.js_store.proofs.Laws.{step_within}
 use Rattle.heap_rule.specs.declared.size.Counters.{Counters}
 use Rattle.heap_rule.specs.declared.size.HeapSize.{HeapSize}
 use Rattle.heap_rule.specs.declared.view.View.{View}
 use Rattle.heap_rule.specs.Forms.{IsCons}
-use Rattle.heap_rule.specs.Maps.{Has, HasKey}
+use Rattle.heap_rule.specs.Maps.{Has}
 use Rattle.heap_rule.specs.Paths.{Calls}
 use Rattle.heap_rule.specs.SlotTests.{shut}
-use Rattle.heap_rule.specs.Slots.{IsShutAt}
 use Rattle.heap_rule.specs.Sound.{IsPossible}
 use Rattle.heap_rule.specs.Views.{IsSettled, history}
 use Rattle.heap_rule.proofs.MapLemmas.{has_key}
@@ -27,7 +26,7 @@ use Rattle.heap_table.specs.Known.{KeepsKnown}
 use Rattle.heap_text.specs.Texts.{Continues, Reads}
 use Rattle.heap_slots.specs.Goes.{Goes, Looks}
 use Rattle.heap_slots.proofs.Visiting.{shut_kept}
-use Rattle.heap_intern.specs.Sessions.{SessionFrame, is_settled, state_by}
+use Rattle.heap_intern.specs.Sessions.{is_settled, state_by}
 
 -- the test of a settled string
 test_of : (f : Form) → (IsCons f → ⊥) → IsTrue (is_settled (Some f))

@@ -1,4 +1,3 @@
-pub mod Limits
 pub mod Sessions
 pub mod Shares
 pub mod Faults

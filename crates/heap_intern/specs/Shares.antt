@@ -1,5 +1,5 @@
 -- Sessions that are split and joined.
-use Rattle.std.specs.Prelude.{◌≡◌, ℕ, ◌+◌, ◌-◌, max, List, [], ◌++◌, IsSome, IsTrue}
+use Rattle.std.specs.Prelude.{◌≡◌, ℕ, ◌+◌, ◌-◌, max, List, ◌++◌, IsSome, IsTrue}
 use Rattle.heap_rule.specs.Paths.{Calls, StartsWith}
 use Rattle.heap_table.specs.Agents.{Belongs, size_of}
 use Rattle.heap_table.specs.declared.agent.Agent.{Agent}

@@ -1,15 +1,15 @@
 -- What the trait of stores asks of every session at every moment.
-use Rattle.std.specs.Prelude.{◌≡◌, ℕ, ◌<◌, ◌≤◌, List, Contains, IsTrue}
-use Rattle.std.proofs.Common.{arith, inl, sym, ◌∙◌}
+use Rattle.std.specs.Prelude.{◌≡◌, ℕ, ◌≤◌, List, Contains}
+use Rattle.std.proofs.Common.{arith, inl, ◌∙◌}
 use Rattle.std.proofs.Math.Logic.{∥∥₁_elim}
 use Rattle.std.proofs.Props.{props}
 use Rattle.atomic_table.specs.Seated.{TableId}
-use Rattle.heap_intern.specs.declared.limit.Limit.{Limit}
-use Rattle.heap_intern.specs.declared.limit.Limit.TheVariants.{Bits32, Bits64}
-use Rattle.heap_intern.specs.Limits.{limit_units}
+use Rattle.js_store.specs.declared.limit.Limit.{Limit}
+use Rattle.js_store.specs.declared.limit.Limit.TheVariants.{Bits32, Bits64}
+use Rattle.js_store.specs.Limits.{limit_units}
 use Rattle.js_store.specs.State.{Sound}
 use Rattle.heap_rule.specs.declared.view.View.{View}
-use Rattle.heap_rule.specs.Maps.{Has, HasKey}
+use Rattle.heap_rule.specs.Maps.{Has}
 use Rattle.heap_rule.specs.Paths.{IsLegal}
 use Rattle.heap_rule.specs.Sound.{IsPossible, StandsIn}
 use Rattle.heap_rule.specs.Views.{history}
@@ -18,7 +18,7 @@ use Rattle.heap_rule.proofs.MapLemmas.{key_of}
 use Rattle.heap_rule.proofs.Possible.{possible_lawful, possible_short}
 use Rattle.heap_rule.proofs.SlotTests.{possible_apart}
 use Rattle.heap_rule.proofs.Steps.{possible_within}
-use Rattle.heap_intern.specs.Sessions.{SessionFrame, state_by}
+use Rattle.heap_intern.specs.Sessions.{state_by}
 
 legal_in : (v : View) → StandsIn v → IsLegal (history v)
 legal_in v (z, agents, W, vs, j, s, at, live) = legal z agents W vs s j v at live j v at live

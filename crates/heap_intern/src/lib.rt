@@ -7,10 +7,8 @@
 #![tactic(auto)]
 
 mod faults;
-mod limit;
 mod session;
 mod sharing;
 mod strings;
 
-pub use limit::Limit;
 pub use session::Session;

@@ -1,3 +1,4 @@
+pub mod Limits
 pub mod State
 pub mod Rows
 pub mod Faults

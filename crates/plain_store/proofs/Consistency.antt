@@ -9,6 +9,7 @@ use Rattle.std.specs.Ordering.{nat_cmp, is_eq, eq_by_cmp}
 use Rattle.std.specs.Cmp.{tied_itself}
 use Rattle.std.specs.Cmp.Lexicographic.{slice_cmp, nat_list_cmp_total}
 use Rattle.std.specs.FinMap.{get, empty, insert, get-insert, get-empty, nat_cmp-IsAntisymmetric, slice_cmp-IsAntisymmetric}
+use Rattle.js_store.specs.declared.limit.Limit.{Limit}
 use Rattle.js_store.specs.State.{Grows}
 use Rattle.plain_store.specs.Plain.{IsConsistent, units_at, history_of, plain_state}
 use Rattle.plain_store.specs.Sound.{Numbers, some_same}
@@ -113,8 +114,8 @@ interned_still strings answers m u n h =
     subst (λ (l : List (List ℕ × ℕ)). Contains l (u, n)) (sym (history_push strings answers m)) (Contains-append_left (history_of strings answers) ((units_at strings m, m) ∷ []) (u, n) h)
 
 -- what one more call of `intern` keeps
-pub grows_answer : (strings now : List (List ℕ)) (answers more : List ℕ) (m : ℕ) → now ≡ strings → more ≡ answers ++ m ∷ [] → Grows (plain_state strings answers) (plain_state now more)
-grows_answer strings now answers more m e f = rw (e, f) (record {
+pub grows_answer : (strings now : List (List ℕ)) (answers more : List ℕ) (m : ℕ) (l same : Limit) → now ≡ strings → more ≡ answers ++ m ∷ [] → same ≡ l → Grows (plain_state strings answers l) (plain_state now more same)
+grows_answer strings now answers more m l same e f g = rw (e, f, g) (record {
   known = λ n k. refl;
   settled = λ n k. k;
   shut = λ u k. k;

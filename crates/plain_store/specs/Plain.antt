@@ -3,6 +3,8 @@ use Rattle.std.specs.Prelude.{◌≡◌, ℕ, ◌<◌, ◌≤◌, true, false, L
 use Rattle.std.specs.Ordering.{nat_cmp}
 use Rattle.std.specs.Cmp.Lexicographic.{slice_cmp}
 use Rattle.std.specs.FinMap.{FinMap, get}
+use Rattle.js_store.specs.declared.limit.Limit.{Limit}
+use Rattle.js_store.specs.Limits.{limit_units}
 use Rattle.js_store.specs.State.{State}
 
 -- the units of a number
@@ -13,9 +15,9 @@ units_at strings n = unwrap_or (slice_get strings n) []
 abbrev pub history_of : List (List ℕ) → List ℕ → List (List ℕ × ℕ)
 history_of strings answers = map (λ n. (units_at strings n, n)) answers
 
--- the meaning of the strings and of the numbers that `intern` answered
-abbrev pub plain_state : List (List ℕ) → List ℕ → State (Unit {0})
-plain_state strings answers = record {
+-- the meaning of the strings and of the numbers that `intern` answered, with the limit
+abbrev pub plain_state : List (List ℕ) → List ℕ → Limit → State (Unit {0})
+plain_state strings answers limit = record {
   known = λ n. slice_get strings n;
   settled = λ n. true;
   shut = λ u. false;
@@ -25,7 +27,7 @@ plain_state strings answers = record {
   low_ids = 0;
   low_words = 0;
   sizes = record { ids = 0; words = 0; slots = 0 };
-  limit = 536870888;
+  limit = limit_units limit;
   bounded = false;
   sure = false;
   frame = tt;

@@ -2,23 +2,21 @@
 //! for programs without a shared heap and for tests.
 //!
 //! It is never full, and each of its calls may want memory. Every string is settled from the
-//! start, nothing is counted as used, and the limit is the greatest length of all stores.
+//! start, and nothing is counted as used.
 #![tactic(auto)]
 
 ghost use Rattle.std.specs.Prelude.{◌≡◌, ◌<◌, ◌≤◌, [], ◌∷◌, ◌++◌, length, IfOk, OnErr, None, Some, slice_get, ℕ};
 ghost use Rattle.std.proofs.Props.{props};
 ghost use Rattle.std.specs.FinMap as map;
+ghost use Rattle.js_store.specs.Limits.{limit_units};
 ghost use Rattle.plain_store.specs.Plain.{IsConsistent, units_at, history_of};
 
 mod table;
 
 use crate::table::Table;
-use js_store::{ConcatFault, StoreFault, Strings};
+use js_store::{ConcatFault, Limit, StoreFault, Strings};
 use js_units::{NoMemory, Units};
 use std::alloc::Global;
-
-/// The greatest length of a string, 2^29 - 24, as V8 has it on 64-bit machines.
-const MAX_LENGTH: u32 = 536_870_888;
 
 /// A store of plain lists. A string's number is its place in the order in which strings were
 /// made.
@@ -30,20 +28,23 @@ pub struct PlainStore {
     answers: Vec<u32>,
     // the number interned for each list of units
     table: Table,
+    limit: Limit,
     ghost consistent: { IsConsistent strings.items answers.items table } by { Prim.hlevel props },
 }
 
 impl PlainStore {
-    /// The empty store. It takes no memory.
-    pub fn new(alloc: Global) -> PlainStore
+    /// The empty store, which makes strings up to this limit. It takes no memory.
+    pub fn new(alloc: Global, limit: Limit) -> PlainStore
         ensures known { (n : ℕ) → (⟦<PlainStore as Strings>⟧.state result).known n ≡ None }
         ensures history { (⟦<PlainStore as Strings>⟧.state result).history ≡ [] }
+        ensures limit { (⟦<PlainStore as Strings>⟧.state result).limit ≡ limit_units limit }
     {
         PlainStore {
             alloc,
             strings: Vec::new(alloc),
             answers: Vec::new(alloc),
             table: Table::new(alloc),
+            limit,
         }
     }
 
@@ -55,6 +56,7 @@ impl PlainStore {
         ensures err { OnErr result (self.new.strings.items ≡ self.old.strings.items) }
         ensures history { history_of self.new.strings.items self.new.answers.items ≡ history_of self.old.strings.items self.old.answers.items }
         ensures answers { self.new.answers.items ≡ self.old.answers.items }
+        ensures limit { self.new.limit ≡ self.old.limit }
     {
         if self.strings.len() >= u32::MAX as usize {
             return Err(NoMemory);
@@ -70,6 +72,7 @@ impl PlainStore {
         requires { s < length self.old.strings.items }
         ensures strings { self.new.strings.items ≡ self.old.strings.items }
         ensures answers { self.new.answers.items ≡ self.old.answers.items }
+        ensures limit { self.new.limit ≡ self.old.limit }
         ensures ok { IfOk result (λ n. map.get self.new.table (units_at self.old.strings.items s) ≡ Some n) }
         ensures units { IfOk result (λ n. slice_get self.old.strings.items n ≡ Some (units_at self.old.strings.items s)) }
     {
@@ -92,7 +95,7 @@ impl Strings for PlainStore {
 
     ghost number = { λ r. r };
 
-    ghost state = { λ s. plain_state s.strings.items s.answers.items };
+    ghost state = { λ s. plain_state s.strings.items s.answers.items s.limit };
 
     fn from_units(&mut self, units: &[u16]) -> Result<u32, StoreFault> {
         let mut copy = Units::new(self.alloc);
@@ -115,7 +118,7 @@ impl Strings for PlainStore {
     fn concat(&mut self, a: u32, b: u32) -> Result<u32, ConcatFault> {
         let left = self.len(a);
         let right = self.len(b);
-        if left > MAX_LENGTH - right {
+        if left + right > self.limit.units() {
             return Err(ConcatFault::TooLong { left, right });
         }
         let mut both = Units::new(self.alloc);
@@ -145,8 +148,8 @@ impl Strings for PlainStore {
     }
 
     fn limit(&self) -> u32 {
-        MAX_LENGTH
+        self.limit.units()
     }
 
-    ghost sound = { λ s. sound_of s.strings.items s.answers.items s.table s.consistent };
+    ghost sound = { λ s. sound_of s.strings.items s.answers.items s.limit s.table s.consistent };
 }

@@ -1,4 +1,4 @@
-use Rattle.heap_intern.specs.Limits.{limit_units}
+use Rattle.js_store.specs.Limits.{limit_units}
 use Rattle.heap_intern.specs.Sessions.{table_of}
 use Rattle.heap_intern.proofs.States.{step_looks}
 use Rattle.heap_intern.proofs.session.Session.count_interned.Goals as goal

@@ -1,7 +1,6 @@
-use Rattle.std.proofs.Common.{◌∙◌, sym, subst}
-use Rattle.heap_intern.specs.Limits.{limit_units}
+use Rattle.std.proofs.Common.{sym, subst}
+use Rattle.js_store.specs.Limits.{limit_units}
 use Rattle.heap_rule.specs.declared.view.View.{View}
-use Rattle.heap_rule.specs.Agents.{joined}
 use Rattle.heap_table.specs.Known.{KeepsKnown}
 use Rattle.heap_intern.specs.Sessions.{state_by, table_of}
 use Rattle.heap_intern.specs.Shares.{IsJoined}

@@ -1,5 +1,5 @@
 use Rattle.std.proofs.Common.{◌∙◌, ap}
-use Rattle.heap_intern.specs.Limits.{limit_units}
+use Rattle.js_store.specs.Limits.{limit_units}
 use Rattle.heap_rule.specs.declared.view.View.{View}
 use Rattle.heap_intern.specs.Sessions.{state_by, table_of}
 use Rattle.heap_intern.proofs.Shares.{state_total}

@@ -1,8 +1,8 @@
-use Rattle.std.proofs.Common.{◌≡◌, ◌+◌, ◌++◌, ◌≤◌, ◌∙◌, ℕ, List, [], None, Some, Ok, Err, length, ap, subst, sym, arith}
+use Rattle.std.proofs.Common.{◌≡◌, ◌+◌, ◌++◌, ◌≤◌, ◌∙◌, ℕ, List, [], None, Ok, Err, length, ap, subst, sym, arith}
 use Rattle.std.specs.Prelude.{unwrap_or}
 use Rattle.std.specs.FinMap.{get}
 use Rattle.js_store.specs.Faults.{JoinFault as JoinTold, Step, concat_part}
-use Rattle.heap_intern.specs.Limits.{limit_units}
+use Rattle.js_store.specs.Limits.{limit_units}
 use Rattle.js_store.specs.Rows.{join_ids, join_words}
 use Rattle.js_store.proofs.Laws.{step_after, step_within}
 use Rattle.heap_rule.specs.declared.size.HeapSize.{HeapSize}
@@ -18,7 +18,7 @@ use Rattle.heap_intern.specs.Faults.{fault_in_join}
 use Rattle.heap_intern.specs.Sessions.{state_by, table_of}
 use Rattle.heap_intern.specs.Sound.{limit_high}
 use Rattle.heap_intern.proofs.Calls.{joined_ok, joined_step, joined_told}
-use Rattle.heap_intern.proofs.States.{step_at, step_most, step_reads, text_is}
+use Rattle.heap_intern.proofs.States.{step_at, step_reads, text_is}
 use Rattle.heap_intern.proofs.strings.SessionStrings.concat.Goals as goal
 
 pub overflow_add-left : goal.overflow_add-left

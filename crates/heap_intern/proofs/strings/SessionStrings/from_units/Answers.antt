@@ -1,12 +1,9 @@
-use Rattle.std.proofs.Common.{◌≡◌, ◌+◌, ◌≤◌, ◌∙◌, ℕ, List, None, Some, length, refl, ap, subst, sym, arith}
+use Rattle.std.proofs.Common.{◌≡◌, ◌∙◌, ℕ, List, None, Some, length, ap, arith}
 use Rattle.js_header.specs.declared.form.Form.TheVariants.{Flat}
 use Rattle.js_units.specs.Lanes.{words_over}
 use Rattle.js_store.specs.Rows.{flat_words}
-use Rattle.heap_rule.specs.declared.size.HeapSize.{HeapSize}
 use Rattle.heap_rule.specs.declared.view.View.{View}
-use Rattle.heap_intern.specs.Limits.{limit_units}
-use Rattle.heap_rule.proofs.MapLemmas.{has_key, key_of}
-use Rattle.heap_rule.proofs.Possible.{possible_short}
+use Rattle.js_store.specs.Limits.{limit_units}
 use Rattle.heap_intern.specs.Sessions.{table_of}
 use Rattle.heap_table.specs.Agents.{size_of}
 use Rattle.heap_text.specs.Texts as texts

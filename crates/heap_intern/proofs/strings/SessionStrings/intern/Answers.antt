@@ -1,8 +1,8 @@
-use Rattle.std.proofs.Common.{◌≡◌, ◌+◌, ◌≤◌, ℕ, true, List, [], ◌∷◌, None, Some, length, ap, subst, sym, arith}
+use Rattle.std.proofs.Common.{true, [], ◌∷◌, None, Some, length, ap, subst, sym, arith}
 use Rattle.std.specs.Prelude.{unwrap_or}
 use Rattle.std.specs.FinMap.{get}
 use Rattle.js_header.specs.declared.form.Form.TheVariants.{Flat}
-use Rattle.heap_intern.specs.Limits.{limit_units}
+use Rattle.js_store.specs.Limits.{limit_units}
 use Rattle.js_store.specs.Rows.{intern_words}
 use Rattle.js_store.proofs.Laws.{step_after}
 use Rattle.heap_rule.specs.declared.view.View.{View}

@@ -1,9 +1,7 @@
 use Rattle.std.proofs.Common.{rules}
 use Rattle.js_store.proofs.Laws.{same_units}
 use Rattle.heap_rule.specs.declared.view.View.{View}
-use Rattle.heap_intern.specs.Limits.{limit_units}
-use Rattle.heap_rule.proofs.MapLemmas.{has_key, key_of}
-use Rattle.heap_rule.proofs.Possible.{possible_short}
+use Rattle.js_store.specs.Limits.{limit_units}
 use Rattle.heap_intern.specs.Sessions.{table_of}
 use Rattle.heap_intern.specs.Sessions.{state_by}
 use Rattle.heap_intern.specs.Sound.{sound_of}

@@ -1,8 +1,6 @@
-use Rattle.std.proofs.Common.{◌∙◌, ℕ, List, None, length, ap, sym, arith}
+use Rattle.std.proofs.Common.{None, ap}
 use Rattle.heap_rule.specs.declared.view.View.{View}
-use Rattle.heap_intern.specs.Limits.{limit_units}
-use Rattle.heap_rule.proofs.MapLemmas.{has_key, key_of}
-use Rattle.heap_rule.proofs.Possible.{possible_short}
+use Rattle.js_store.specs.Limits.{limit_units}
 use Rattle.heap_intern.specs.Sessions.{table_of}
 use Rattle.heap_intern.proofs.States.{history_reads, settled_test, step_at, step_most}
 use Rattle.heap_intern.proofs.strings.SessionStrings.settle.Goals as goal

@@ -1,20 +1,18 @@
-use Rattle.std.proofs.Common.{◌≡◌, ◌+◌, ◌-◌, ◌≤◌, ◌∙◌, ℕ, List, None, Some, Ok, Err, length, slice_range, refl, ap, subst, sym, arith}
+use Rattle.std.proofs.Common.{◌≡◌, ◌≤◌, ◌∙◌, ℕ, List, None, Some, Ok, Err, length, slice_range, ap, subst, sym}
 use Rattle.js_store.specs.Faults.{Step}
 use Rattle.js_store.specs.Rows.{cut_ids, cut_words}
 use Rattle.heap_rule.specs.declared.size.HeapSize.{HeapSize}
 use Rattle.heap_rule.specs.declared.view.View.{View}
-use Rattle.heap_intern.specs.Limits.{limit_units}
-use Rattle.heap_rule.proofs.MapLemmas.{has_key, key_of}
-use Rattle.heap_rule.proofs.Possible.{possible_short}
+use Rattle.js_store.specs.Limits.{limit_units}
+use Rattle.heap_rule.proofs.MapLemmas.{has_key}
 use Rattle.heap_intern.specs.Sessions.{table_of}
 use Rattle.heap_rule.specs.Maps.{Has}
 use Rattle.heap_table.specs.Agents.{size_of}
-use Rattle.heap_text.specs.declared.string.JsStr.{JsStr}
 use Rattle.heap_text.specs.Joins.{IsCut}
 use Rattle.heap_intern.specs.Faults.{fault_in_text}
 use Rattle.heap_intern.specs.Sessions.{state_by}
-use Rattle.heap_intern.proofs.Calls.{cut_err, cut_ok, never_slots}
-use Rattle.heap_intern.proofs.States.{history_continues, settled_test, step_at, test_settled, text_is}
+use Rattle.heap_intern.proofs.Calls.{cut_err, cut_ok}
+use Rattle.heap_intern.proofs.States.{settled_test, step_at, test_settled, text_is}
 use Rattle.heap_intern.proofs.strings.SessionStrings.slice.Goals as goal
 
 pub slice-requires-clause-settled : goal.slice-requires-clause-settled

@@ -1,0 +1,6 @@
+//! Tests of sessions by their public calls, among them two sessions in two threads. They stand
+//! apart, since a crate with tests is proved twice.
+#![tactic(auto)]
+
+#[cfg(test)]
+mod sessions;

@@ -1,0 +1,6 @@
+//! Tests of the string table on the running heap by its public calls, among them two agents that
+//! intern in two threads. They stand apart, since a crate with tests is proved twice.
+#![tactic(auto)]
+
+#[cfg(test)]
+mod slots;
