@@ -1,7 +1,7 @@
 // Every call on a plain store, with ample memory.
 ghost use Rattle.std.specs.Prelude.{◌≤◌, length};
 
-use js_store::{StoreFault, Strings};
+use js_store::{Limit, StoreFault, Strings};
 use plain_store::PlainStore;
 use std::process::Abort;
 use std::test::Fail;
@@ -21,7 +21,7 @@ fn parts_and_wholes<S: Strings>(rt: &impl Abort, store: &mut S) -> Result<(), Fa
 
 #[test]
 fn the_calls_of_a_store(rt: HostRuntime) -> Result<(), Fail> {
-    let mut store = PlainStore::new(rt.alloc());
+    let mut store = PlainStore::new(rt.alloc(), Limit::Bits64);
     parts_and_wholes(&rt, &mut store)
 }
 
@@ -54,7 +54,7 @@ fn equal_units_are_interned_once(rt: HostRuntime) -> Result<(), Fail> {
     ];
     for (early, late, want) in table {
         assert!(rt; early.len() <= 100 && late.len() <= 100);
-        let mut store = PlainStore::new(rt.alloc());
+        let mut store = PlainStore::new(rt.alloc(), Limit::Bits64);
         let found = interned(&mut store, early, late)?;
         assert_eq!(rt; found, want, "{early:?} and {late:?}");
     }

@@ -4,39 +4,26 @@ use Rattle.js_store.specs.State.{State, Grows, IsKnown, text}
 use Rattle.js_store.proofs.Laws.{text_still}
 use Rattle.js_values.specs.declared.value.Value.{Value}
 use Rattle.js_values.specs.declared.value.Stop.{Stop}
-use Rattle.js_values.specs.Outcome.{Val, Converted, Out, bind, converting}
-use Rattle.js_values.specs.Need.{Row, reads}
+use Rattle.js_values.specs.Outcome.{Val, Converted}
+use Rattle.js_values.specs.Need.{reads}
 use Rattle.js_values.specs.Conversions.{to_string, text_units, string_units}
 use Rattle.js_calls.specs.Searching.{found, search_call}
 use Rattle.js_calls.specs.Building.{joined_text, one_joined, concat_call}
 use Rattle.js_values.specs.Seen.{seen, IsFine, all_seen, AllFine}
 use Rattle.js_values.specs.Does.{Does, GivesText}
-use Rattle.js_values.proofs.Compose.{did_bind, did_stop, did_convert, did_fail}
+use Rattle.js_values.proofs.Compose.{did_convert, did_fail}
+use Rattle.js_values.proofs.TextArguments.{text_then, text_stops, text_converts}
 use Rattle.js_texts.proofs.Lists.{drop_at, every_at}
 use Rattle.js_values.proofs.Still.{seen_still}
 
 module _ {F R : Type 0} (name : R → ℕ) where
-  -- a string, and then a value that is made of it; or an early end
-  pub text_then : (a b c : State F) (w : R) (r : Result (Value R) Stop) (o : Out (List ℕ)) (go : List ℕ → Out Val) → GivesText name a b (Ok w) o → Does name b c r (go (text b (name w))) → Does name a c r (bind o go)
-  text_then a b c w r o go d e = did_bind a b c (λ s v. text s (name v)) (λ s v. IsKnown s (name v)) (λ s v. seen s name v) (λ s v. IsFine s name v) w r o go d e
-
-  pub text_stops : (a b : State F) (n : Stop) (o : Out (List ℕ)) (go : List ℕ → Out Val) → GivesText name a b (Err n) o → Does name a b (Err n) (bind o go)
-  text_stops a b n o go d = did_stop a b (λ s v. text s (name v)) (λ s v. IsKnown s (name v)) (λ s v. seen s name v) (λ s v. IsFine s name v) n o go d
-
-  -- the same within an operation, whose operands need so much where it throws
-  pub text_converts : (row : Row) (a b c : State F) (w : R) (r : Result (Value R) Stop) (o : Out (List ℕ)) (go : List ℕ → Out Val) → GivesText name a b (Ok w) o → Does name b c r (go (text b (name w))) → Does name a c r (converting row o go)
-  text_converts row a b c w r o go d e = did_convert row a b c (λ s v. text s (name v)) (λ s v. IsKnown s (name v)) (λ s v. seen s name v) (λ s v. IsFine s name v) w r o go d e
-
-  pub text_fails : (row : Row) (a b : State F) (n : Stop) (o : Out (List ℕ)) (go : List ℕ → Out Val) → GivesText name a b (Err n) o → Does name a b (Err n) (converting row o go)
-  text_fails row a b n o go d = did_fail row a b (λ s v. text s (name v)) (λ s v. IsKnown s (name v)) (λ s v. seen s name v) (λ s v. IsFine s name v) n o go d
-
   -- a string to look for, and then what it and a number give
   pub search_does : {N : Type 0} (a b c : State F) (s w : R) (r : Result (Value R) Stop) (m n : ℕ) (answer : List ℕ → List ℕ → N → Val) (v : Val) (q : Converted N) → Grows a b → IsKnown a (name s) → length (text b (name w)) ≤ n + 40 → GivesText name a b (Ok w) (to_string a.limit v) → ((t : ℕ) → length (text b (name s)) + length (text b (name w)) ≤ t + 40 → Does name b c r (found t (answer (text b (name s)) (text b (name w))) q)) → Does name a c r (search_call a.limit m (length (text a (name s)) + n) (answer (text a (name s))) v q)
   search_does a b c s w r m n answer v q g k h d f =
       let same : text b (name s) ≡ text a (name s) = text_still g (name s) k in
       let t : ℕ = length (text a (name s)) + n in
       let z : Does name b c r (found t (answer (text b (name s)) (text b (name w))) q) = f t (rw same (omega (arith, h))) in
-      text_converts (reads m) a b c w r (to_string a.limit v) (λ x. found t (answer (text a (name s)) x) q) d
+      text_converts name (reads m) a b c w r (to_string a.limit v) (λ x. found t (answer (text a (name s)) x) q) d
       (subst (λ (u : List ℕ). Does name b c r (found t (answer u (text b (name w))) q)) same z)
 
   -- one more argument of `concat`
@@ -60,10 +47,10 @@ module _ {F R : Type 0} (name : R → ℕ) where
     concat_turn z w r x y =
         let x' : GivesText name b d (Ok w) (one_joined a.limit (text b (name t)) (seen a name v)) = subst (λ (l : ℕ). GivesText name b d (Ok w) (one_joined l (text b (name t)) (seen a name v))) g.limit (subst (λ (q : Val). GivesText name b d (Ok w) (one_joined b.limit (text b (name t)) q)) same_value x) in
         subst (λ (q : List (Value R)). Does name b z r (concat_call a.limit (text b (name t)) (all_seen a name q))) (sym (drop_at vs i v l p))
-        (text_then b d z w r (one_joined a.limit (text b (name t)) (seen a name v)) (λ u. concat_call a.limit u (all_seen a name (drop (i + 1) vs))) x' y)
+        (text_then name b d z w r (one_joined a.limit (text b (name t)) (seen a name v)) (λ u. concat_call a.limit u (all_seen a name (drop (i + 1) vs))) x' y)
 
     pub concat_halt : (n : Stop) → GivesText name b d (Err n) (one_joined b.limit (text b (name t)) (seen b name v)) → Does name b d (Err n) (concat_call a.limit (text b (name t)) (all_seen a name (drop i vs)))
     concat_halt n x =
         let x' : GivesText name b d (Err n) (one_joined a.limit (text b (name t)) (seen a name v)) = subst (λ (l : ℕ). GivesText name b d (Err n) (one_joined l (text b (name t)) (seen a name v))) g.limit (subst (λ (q : Val). GivesText name b d (Err n) (one_joined b.limit (text b (name t)) q)) same_value x) in
         subst (λ (q : List (Value R)). Does name b d (Err n) (concat_call a.limit (text b (name t)) (all_seen a name q))) (sym (drop_at vs i v l p))
-        (text_stops b d n (one_joined a.limit (text b (name t)) (seen a name v)) (λ u. concat_call a.limit u (all_seen a name (drop (i + 1) vs))) x')
+        (text_stops name b d n (one_joined a.limit (text b (name t)) (seen a name v)) (λ u. concat_call a.limit u (all_seen a name (drop (i + 1) vs))) x')

@@ -13,7 +13,7 @@ use Rattle.js_values.specs.Conversions.{to_string, list_units, all_units, first_
 use Rattle.js_values.specs.Arguments.{first_of, is_undefined}
 use Rattle.js_calls.specs.Arrays.{joined_with, join_call}
 use Rattle.js_values.specs.Does.{Does, GivesText}
-use Rattle.js_calls.proofs.Calls.{text_converts}
+use Rattle.js_values.proofs.TextArguments.{text_converts}
 use Rattle.js_values.proofs.Needs.{some_most, settle_few}
 
 module _ {F R : Type 0} (name : R → ℕ) where

@@ -1,9 +1,7 @@
 mod Calls
-mod Within
-mod Numbers
+mod Joined
 mod Pads
 mod Parts
 mod Made
 mod Replacements
-mod Quoted
 mod Elements

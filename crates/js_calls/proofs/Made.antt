@@ -15,10 +15,10 @@ use Rattle.js_values.specs.Outcome.{gives, throws, ledger_of}
 use Rattle.js_values.specs.Stops.{stop_of}
 use Rattle.js_values.specs.Need.{parts_ids, parts_words}
 use Rattle.js_values.specs.Outcome.{text as text_value}
-use Rattle.js_calls.specs.Cutting.{within}
+use Rattle.js_values.specs.Limited.{within}
 use Rattle.js_values.specs.Ran.{Cut}
 use Rattle.js_values.specs.Does.{Does}
-use Rattle.js_calls.proofs.Within.{within_given, within_thrown}
+use Rattle.js_values.proofs.Limited.{within_given, within_thrown}
 use Rattle.js_values.proofs.Needs.{some_part, made_most, made_none, cut_of_part}
 
 -- the string r of an operation of p parts, whose operands have t units, where all but the string takes i ids and k words

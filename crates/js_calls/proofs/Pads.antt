@@ -2,7 +2,7 @@
 use Rattle.std.proofs.Common.{arith, ◌≡◌, ℕ, ◌<◌, ◌≤◌, List, length, refl, subst, Bool, true, false, nat_le, if◌then◌else◌, pos, negsuc, Some, None, Result, Ok, Err}
 use Rattle.js_number.specs.declared.Num.{Num}
 use Rattle.js_number.specs.declared.Num.TheVariants.{Int, NaN, PosInf, NegInf}
-use Rattle.js_store.specs.State.{State, Grows, Has, IsKnown, text}
+use Rattle.js_store.specs.State.{State, Grows, IsKnown, text}
 use Rattle.js_store.specs.Faults.{Step, NeverSlots, method_part}
 use Rattle.js_store.specs.Answers.{IsLong}
 use Rattle.js_store.specs.declared.faults.MethodFault.{MethodFault}
@@ -12,14 +12,13 @@ use Rattle.js_store.specs.declared.faults.Cause.{Cause}
 use Rattle.js_store.proofs.Laws.{text_still}
 use Rattle.js_methods.specs.Repeating.{is_count, repeat_of, made, IsCountFault, IsRepeatFault}
 use Rattle.js_values.specs.declared.value.Value.{Value}
-use Rattle.js_values.specs.declared.value.Value.TheVariants.{Text}
 use Rattle.js_values.specs.declared.value.Kind.TheVariants.{RangeError}
 use Rattle.js_values.specs.declared.value.Stop.{Stop}
 use Rattle.js_values.specs.declared.value.Stop.TheVariants.{Threw}
 use Rattle.js_values.specs.Outcome.{Val, gives, throws, ledger_of}
 use Rattle.js_values.specs.Outcome.{text as text_value}
 use Rattle.js_values.specs.Conversions.{to_string, string_units}
-use Rattle.js_calls.specs.Cutting.{within}
+use Rattle.js_values.specs.Limited.{within}
 use Rattle.js_values.specs.Arguments.{is_undefined, second_of}
 use Rattle.js_values.proofs.Still.{values_still}
 use Rattle.js_values.specs.Stops.{stop_of}
@@ -29,8 +28,8 @@ use Rattle.js_values.specs.Seen.{seen, IsFine, all_seen, AllFine}
 use Rattle.js_values.specs.Ran.{Cut}
 use Rattle.js_values.specs.Does.{Does, GivesText}
 use Rattle.js_values.proofs.Compose.{cut_of_step, ran_of_step, did_before}
-use Rattle.js_calls.proofs.Within.{within_thrown}
-use Rattle.js_calls.proofs.Calls.{text_converts, text_fails}
+use Rattle.js_values.proofs.Limited.{within_thrown}
+use Rattle.js_values.proofs.TextArguments.{text_converts, text_fails}
 
 made_most : (limit n : ℕ) → made limit n ≤ n
 made_most limit n = elim (nat_le n limit) as (λ v. (if v then n else 0) ≤ n) [

@@ -25,7 +25,7 @@ use Rattle.js_calls.specs.Arrays.{split_into, split_most}
 use Rattle.js_values.specs.Ran.{Ran, Cut}
 use Rattle.js_values.specs.Does.{Does, GivesText}
 use Rattle.js_values.proofs.Compose.{cut_of_full, full_same}
-use Rattle.js_calls.proofs.Calls.{text_converts}
+use Rattle.js_values.proofs.TextArguments.{text_converts}
 
 -- what copies and settling take, four times over
 copy_most : (n : ℕ) → 4 * copy_words n ≤ n + 12

@@ -10,7 +10,7 @@ use Rattle.js_values.specs.Conversions.{to_string, text_units}
 use Rattle.js_calls.specs.Replacing.{replacement, replace_call}
 use Rattle.js_values.specs.Seen.{seen, IsFine}
 use Rattle.js_values.specs.Does.{Does, GivesText}
-use Rattle.js_calls.proofs.Calls.{text_converts, text_fails}
+use Rattle.js_values.proofs.TextArguments.{text_converts, text_fails}
 use Rattle.js_values.proofs.Still.{seen_still}
 
 module _ {F R : Type 0} (name : R → ℕ) (o m t : ℕ) (count : List ℕ → List ℕ → ℕ) (replaced : List ℕ → List ℕ → List ℕ → List ℕ) (a b c : State F) (s : R) (v w : Value R) where

@@ -6,15 +6,15 @@ use Rattle.js_number.specs.Arith.{modulo}
 use Rattle.js_methods.specs.Places.{at_of}
 use Rattle.js_texts.specs.Joined.{joined as joined_list}
 use Rattle.js_replace.specs.Parts.{parts as parts_of}
-use Rattle.js_tree.specs.declared.tree.Method.{Method}
-use Rattle.js_tree.specs.declared.tree.Method.TheVariants.{At, CharAt, CharCodeAt, CodePointAt, Concat, EndsWith, Includes, IndexOf, IsWellFormed, Join, LastIndexOf, PadEnd, PadStart, Repeat, Replace, ReplaceAll, Slice, Split, StartsWith, Substr, Substring, ToWellFormed, Trim, TrimEnd, TrimStart}
+use Rattle.js_syntax.specs.declared.tree.Method.{Method}
+use Rattle.js_syntax.specs.declared.tree.Method.TheVariants.{At, CharAt, CharCodeAt, CodePointAt, Concat, EndsWith, Includes, IndexOf, IsWellFormed, Join, LastIndexOf, PadEnd, PadStart, Repeat, Replace, ReplaceAll, Slice, Split, StartsWith, Substr, Substring, ToWellFormed, Trim, TrimEnd, TrimStart}
 use Rattle.js_values.specs.declared.value.Kind.TheVariants.{TypeError}
-use Rattle.js_values.specs.Outcome.{Val, undefined, null, bool, number, text, list, Converted, Out, gave, converting, free, needing, throwing, refuses, converts}
+use Rattle.js_values.specs.Outcome.{Val, undefined, null, bool, number, text, symbol, list, Converted, Out, gave, converting, free, needing, throwing, refuses, converts}
 use Rattle.js_values.specs.Need.{reads, parts}
 use Rattle.js_values.specs.Conversions.{to_string, list_units, string_units, all_units, first_text_units}
 use Rattle.js_values.specs.Arguments.{first_of, is_undefined}
 use Rattle.js_calls.specs.Reading.{maybe_text}
-use Rattle.js_calls.specs.Cutting.{bounded}
+use Rattle.js_values.specs.Limited.{bounded}
 
 -- an index is a number
 abbrev pub as_number : Val → Option Num
@@ -23,6 +23,7 @@ as_number null = None
 as_number (bool b) = None
 as_number (number n) = Some n
 as_number (text u) = None
+as_number (symbol k) = None
 as_number (list us) = None
 
 -- the one unit at an index, and the element at an index, counted from 0 (ECMA-262, "StringGetOwnProperty")
@@ -65,6 +66,7 @@ indexed at null i = throwing (reads (string_units i)) TypeError
 indexed at (bool b) i = indexed_other at (as_number i)
 indexed at (number n) i = indexed_other at (as_number i)
 indexed at (text u) i = indexed_text at u (as_number i)
+indexed at (symbol k) i = indexed_other at (as_number i)
 indexed at (list us) i = indexed_list at us (as_number i)
 
 -- the elements with a separator between two, of operands with t units

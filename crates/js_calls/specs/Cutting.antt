@@ -1,27 +1,9 @@
 -- Methods that give a part of a string, or the string with units replaced. The operands of a call have t units.
-use Rattle.std.specs.Prelude.{ℕ, ◌+◌, List, length, Option, nat_le, if◌then◌else◌}
+use Rattle.std.specs.Prelude.{ℕ, List, Option}
 use Rattle.js_number.specs.declared.Num.{Num}
-use Rattle.js_values.specs.declared.value.Kind.TheVariants.{RangeError}
-use Rattle.js_values.specs.Outcome.{Val, text, Converted, Out, gives, throws, needing, throwing, converts}
-use Rattle.js_values.specs.Need.{Row, reads}
-
--- a string, unless it is longer than a string may be; it needs so many ids, and words by the units of the result, of which
--- there are none where it throws
-abbrev pub within : ℕ → ℕ → (ℕ → ℕ) → List ℕ → Out Val
-within limit ids words w =
-    if nat_le (length w) limit
-    then gives (text w) ids (words (length w))
-    else throws RangeError ids (words 0)
-
--- the same by the row of the operation, where its result has so many units
-abbrev pub bounded : ℕ → (ℕ → Row) → List ℕ → Out Val
-bounded limit row w =
-    if nat_le (length w) limit
-    then needing (row (length w)) (text w)
-    else throwing (row 0) RangeError
-
-abbrev pub limited : ℕ → ℕ → List ℕ → Out Val
-limited limit t w = bounded limit (λ r. reads (t + r)) w
+use Rattle.js_values.specs.Outcome.{Val, Converted, Out, converts}
+use Rattle.js_values.specs.Need.{reads}
+use Rattle.js_values.specs.Limited.{limited}
 
 -- "String.prototype.slice", "String.prototype.substring", "String.prototype.substr": the part of two numbers, of which the second may be missing
 abbrev pub cut_call : ℕ → ℕ → (Num → Option Num → List ℕ) → Converted Num → Converted (Option Num) → Out Val

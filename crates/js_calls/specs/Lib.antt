@@ -4,8 +4,6 @@ pub mod Searching
 pub mod Building
 pub mod Padding
 pub mod Replacing
-pub mod Quoting
 pub mod Arrays
 pub mod Members
 pub mod Groups
-pub mod Numbers

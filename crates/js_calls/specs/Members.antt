@@ -1,5 +1,5 @@
 -- Members and methods of values.
-use Rattle.std.specs.Prelude.{ℕ, ◌+◌, List, [], length, pos}
+use Rattle.std.specs.Prelude.{ℕ, ◌+◌, List, length, pos}
 use Rattle.js_number.specs.declared.Num.TheVariants.{Int}
 use Rattle.js_units.specs.Text.{well}
 use Rattle.js_methods.specs.Cuts.{slice_of, substring_of, substr_of}
@@ -9,22 +9,20 @@ use Rattle.js_methods.specs.Trimming.{trimmed, trimmed_start, trimmed_end}
 use Rattle.js_replace.specs.Matches.{matches}
 use Rattle.js_replace.specs.Replaced.{replaced_first, replaced_all}
 use Rattle.js_methods.specs.WellFormed.{all_paired}
-use Rattle.js_tree.specs.declared.tree.Builtin.{Builtin}
-use Rattle.js_tree.specs.declared.tree.Builtin.TheVariants.{FromCharCode, FromCodePoint, Stringify}
-use Rattle.js_tree.specs.declared.tree.Method.{Method}
-use Rattle.js_tree.specs.declared.tree.Method.TheVariants.{At, CharAt, CharCodeAt, CodePointAt, Concat, EndsWith, Includes, IndexOf, IsWellFormed, Join, LastIndexOf, PadEnd, PadStart, Repeat, Replace, ReplaceAll, Slice, Split, StartsWith, Substr, Substring, ToWellFormed, Trim, TrimEnd, TrimStart}
+use Rattle.js_syntax.specs.declared.tree.Method.{Method}
+use Rattle.js_syntax.specs.declared.tree.Method.TheVariants.{At, CharAt, CharCodeAt, CodePointAt, Concat, EndsWith, Includes, IndexOf, IsWellFormed, Join, LastIndexOf, PadEnd, PadStart, Repeat, Replace, ReplaceAll, Slice, Split, StartsWith, Substr, Substring, ToWellFormed, Trim, TrimEnd, TrimStart}
 use Rattle.js_values.specs.declared.value.Kind.TheVariants.{TypeError}
-use Rattle.js_values.specs.Outcome.{Val, undefined, null, bool, number, text, list, Out, gave, free, number_of, needing, throwing}
+use Rattle.js_values.specs.Outcome.{Val, undefined, null, bool, number, text, symbol, list, Out, gave, free, number_of, needing, throwing}
 use Rattle.js_values.specs.Need.{nothing, reads}
 use Rattle.js_values.specs.Conversions.{to_number, list_units, all_units, first_text_units}
 use Rattle.js_values.specs.Arguments.{first_of, second_of, end_in}
 use Rattle.js_calls.specs.Reading.{at_call, char_at_call, char_code_call, code_point_call}
-use Rattle.js_calls.specs.Cutting.{limited, cut_call}
+use Rattle.js_values.specs.Limited.{limited}
+use Rattle.js_calls.specs.Cutting.{cut_call}
 use Rattle.js_calls.specs.Searching.{place_value, search_call}
-use Rattle.js_calls.specs.Building.{concat_call, char_codes_call, code_points_call}
+use Rattle.js_calls.specs.Building.{concat_call}
 use Rattle.js_calls.specs.Padding.{repeat_call, pad_call}
 use Rattle.js_calls.specs.Replacing.{two_text_units, replace_call}
-use Rattle.js_calls.specs.Quoting.{stringify_call}
 use Rattle.js_calls.specs.Arrays.{list_call, split_call}
 
 abbrev pub length_of : Val → Out Val
@@ -33,6 +31,7 @@ length_of null = throwing nothing TypeError
 length_of (bool b) = needing nothing undefined
 length_of (number n) = needing nothing undefined
 length_of (text u) = needing nothing (number (Int (pos (length u))))
+length_of (symbol k) = needing nothing undefined
 length_of (list us) = needing nothing (number_of (length us))
 
 -- a value that has members (ECMA-262, "RequireObjectCoercible")
@@ -74,9 +73,3 @@ abbrev pub called : Method → ℕ → ℕ → Val → List Val → Out Val
 called m at limit (text u) vs = string_call m at limit (length u + all_units vs) u vs
 called m at limit (list us) vs = list_call m at limit (list_units us + all_units vs) us vs
 called m at limit v vs = throwing (reads (all_units vs)) TypeError
-
--- a call of a built-in function, with all its arguments
-abbrev pub built : Builtin → ℕ → ℕ → List Val → Out Val
-built FromCharCode at limit vs = char_codes_call at vs
-built FromCodePoint at limit vs = code_points_call at vs
-built Stringify at limit vs = stringify_call limit (first_of vs)

@@ -8,7 +8,7 @@ use Rattle.js_values.specs.Outcome.{Val, Converted, Out, gave, converting, free,
 use Rattle.js_values.specs.Conversions.{to_string, string_units}
 use Rattle.js_values.specs.Arguments.{is_undefined}
 use Rattle.js_values.specs.Need.{repeats, pads}
-use Rattle.js_calls.specs.Cutting.{bounded}
+use Rattle.js_values.specs.Limited.{bounded}
 
 -- so many copies of a string, where the number is a count
 abbrev pub repeated : Bool → ℕ → List ℕ → Num → Out Val

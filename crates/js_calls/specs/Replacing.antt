@@ -4,7 +4,7 @@ use Rattle.std.specs.Prelude.{ℕ, ◌+◌, List, [], ◌∷◌}
 use Rattle.js_values.specs.Outcome.{Val, Out, converting}
 use Rattle.js_values.specs.Need.{reads, parts}
 use Rattle.js_values.specs.Conversions.{to_string, text_units, first_text_units}
-use Rattle.js_calls.specs.Cutting.{bounded}
+use Rattle.js_values.specs.Limited.{bounded}
 
 -- the units of the arguments, of which the first two were converted by ToString
 abbrev pub two_text_units : List Val → ℕ

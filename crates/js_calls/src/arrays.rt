@@ -12,7 +12,7 @@ ghost use Rattle.js_values.specs.Does.{Does};
 
 use js_number::Num;
 use js_store::Strings;
-use js_tree::Method;
+use js_syntax::Method;
 use js_values::{Kind, Stop, Value, first_is_missing, first_text, joined_by_commas};
 use std::alloc::Global;
 
@@ -32,7 +32,7 @@ pub fn read_index<S: Strings>(
     let number = index_number(store, index);
     match value {
         Value::Undefined | Value::Null => Err(Stop::Threw(Kind::TypeError)),
-        Value::Bool(_) | Value::Number(_) => no_element(store, at, number),
+        Value::Bool(_) | Value::Number(_) | Value::Symbol(_) => no_element(store, at, number),
         Value::Text(s) => unit(store, at, *s, number),
         Value::List(list) => element(store, at, list, number),
     }
@@ -46,7 +46,12 @@ fn index_number<S: Strings>(_store: &S, index: &Value<S::Ref>) -> Option<Num>
 {
     match index {
         Value::Number(n) => Some(*n),
-        Value::Undefined | Value::Null | Value::Bool(_) | Value::Text(_) | Value::List(_) => None,
+        Value::Undefined
+        | Value::Null
+        | Value::Bool(_)
+        | Value::Text(_)
+        | Value::Symbol(_)
+        | Value::List(_) => None,
     }
 }
 

@@ -1,7 +1,7 @@
 // Methods that make longer strings.
 ghost use Rattle.std.specs.Prelude.{ℕ, ◌+◌, ◌≤◌, length, IfOk};
 ghost use Rattle.js_store.specs.State.{Grows, IsKnown, text};
-ghost use Rattle.js_calls.specs.Cutting.{within};
+ghost use Rattle.js_values.specs.Limited.{within};
 ghost use Rattle.js_calls.specs.Building.{joined_text, one_joined, concat_call};
 ghost use Rattle.js_values.specs.Seen.{seen, IsFine, all_seen, AllFine};
 ghost use Rattle.js_values.specs.Does.{Does, GivesText};

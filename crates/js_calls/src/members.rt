@@ -21,7 +21,7 @@ use crate::searching::{Search, call_ends_with, call_search};
 use crate::splitting::call_split;
 use js_number::Num;
 use js_store::Strings;
-use js_tree::Method;
+use js_syntax::Method;
 use js_values::{Kind, Stop, Value, number_value};
 use std::alloc::Global;
 
@@ -34,7 +34,7 @@ pub fn read_length<S: Strings>(store: &mut S, value: &Value<S::Ref>) -> Result<V
 {
     match value {
         Value::Undefined | Value::Null => Err(Stop::Threw(Kind::TypeError)),
-        Value::Bool(_) | Value::Number(_) => Ok(Value::Undefined),
+        Value::Bool(_) | Value::Number(_) | Value::Symbol(_) => Ok(Value::Undefined),
         Value::List(list) => Ok(number_value(list.len() as u64)),
         Value::Text(s) => {
             let len = store.len(*s);
@@ -49,7 +49,8 @@ pub fn present<S: Strings>(_store: &S, value: &Value<S::Ref>) -> Result<(), Stop
 {
     match value {
         Value::Undefined | Value::Null => Err(Stop::Threw(Kind::TypeError)),
-        Value::Bool(_) | Value::Number(_) | Value::Text(_) | Value::List(_) => Ok(()),
+        Value::Bool(_) | Value::Number(_) | Value::Text(_) | Value::Symbol(_) | Value::List(_) =>
+            Ok(()),
     }
 }
 
@@ -71,7 +72,7 @@ pub fn call<S: Strings>(
     match value {
         Value::Text(s) => call_string(alloc, store, at, method, *s, args),
         Value::List(list) => call_list(alloc, store, at, method, list, args),
-        Value::Undefined | Value::Null | Value::Bool(_) | Value::Number(_) => {
+        Value::Undefined | Value::Null | Value::Bool(_) | Value::Number(_) | Value::Symbol(_) => {
             Err(Stop::Threw(Kind::TypeError))
         }
     }

@@ -7,7 +7,7 @@ ghost use Rattle.js_methods.specs.Repeating.{made};
 ghost use Rattle.js_methods.specs.Padding as methods;
 ghost use Rattle.js_values.specs.Conversions.{to_number};
 ghost use Rattle.js_values.specs.Arguments.{first_of, second_of};
-ghost use Rattle.js_calls.specs.Cutting.{within};
+ghost use Rattle.js_values.specs.Limited.{within};
 ghost use Rattle.js_values.specs.Need.{pad_ids, pad_words};
 ghost use Rattle.js_calls.specs.Padding.{filled, padded, pad_call, repeat_call};
 ghost use Rattle.js_calls.specs.Groups.{padded_of};

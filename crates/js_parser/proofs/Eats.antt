@@ -13,9 +13,10 @@ use Rattle.js_syntax.specs.Grammar.{Which, Whole, Operand, link_of, within_room}
 use Rattle.js_syntax.proofs.Stops.{begins_unary, is_step}
 use Rattle.js_syntax.proofs.Expressions.{Inner, step_part, step_starts, unary_part, unary_starts, sum_part, sum_starts, comparison_part, comparison_starts, equality_part, equality_starts, conjunction_part, conjunction_starts}
 use Rattle.js_syntax.proofs.Scripts.{lowest, inner_levels, same_expressions}
-use Rattle.js_parser.specs.declared.look.Level.{Level}
-use Rattle.js_parser.specs.declared.look.Level.TheVariants as level
-use Rattle.js_parser.specs.At.{has_room, inner, operators, step_at, operand_at}
+use Rattle.js_look.specs.declared.look.Level.{Level}
+use Rattle.js_look.specs.declared.look.Level.TheVariants as level
+use Rattle.js_look.specs.Look.{operators}
+use Rattle.js_parser.specs.At.{has_room, inner, step_at, operand_at}
 
 abbrev pub Any : Kind → Type 0
 Any k = Unit {0}

@@ -19,8 +19,8 @@ use Rattle.js_syntax.specs.Grammar.{if_of, Expression, Statement}
 use Rattle.js_syntax.specs.Reading.{goes_on}
 use Rattle.js_syntax.proofs.Statements.{first, arm_part, else_part}
 use Rattle.js_syntax.proofs.Scripts.{same_expressions, same_levels, starts_at}
-use Rattle.js_parser.specs.declared.fault.Fault.{Fault}
-use Rattle.js_parser.specs.Gives.{Fails}
+use Rattle.js_look.specs.declared.fault.Fault.{Fault}
+use Rattle.js_look.specs.Gives.{Fails}
 use Rattle.js_parser.specs.At.{expression_at, init_at, statement_at, statements_at, arm_at, others_at, rest_at, if_at}
 use Rattle.js_parser.proofs.Eats.{Any}
 use Rattle.js_parser.proofs.Turns.{handed_on}

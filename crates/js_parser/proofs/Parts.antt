@@ -7,8 +7,8 @@ use Rattle.js_syntax.specs.Tree as tree
 use Rattle.js_syntax.specs.Tree.{ExprTree, StepTree}
 use Rattle.js_syntax.specs.Terminals.{member_word, method, open_bracket, close_bracket, sign, question, colon}
 use Rattle.js_syntax.specs.Grammar.{call_of, index_of, unary_of}
-use Rattle.js_parser.specs.declared.fault.Fault.{Fault}
-use Rattle.js_parser.specs.Gives.{Fails}
+use Rattle.js_look.specs.declared.fault.Fault.{Fault}
+use Rattle.js_look.specs.Gives.{Fails}
 use Rattle.js_parser.specs.At.{args_at, member_at, step_at, unary_at, branches_at, expression_at}
 use Rattle.js_parser.proofs.Rooms.{member_call, step_index, unary_signed, branches_some}
 use Rattle.js_parser.proofs.Turns.{handed_on}

@@ -16,10 +16,11 @@ use Rattle.js_syntax.specs.Tree.{ExprTree, StepTree}
 use Rattle.js_syntax.specs.Terminals.{member_word, method, opening, closing, open_bracket, close_bracket, point, question, colon, sign, simple, string_word, symbol_word, json_word, from_word, symbol_function, stringify_word}
 use Rattle.js_syntax.specs.Grammar.{Whole, Operand, pair_of, single_of, plain_string, builtin_of, call_of, index_of, unary_of, branches_of, cond_of}
 use Rattle.js_syntax.specs.Reading.{read_within, read_parens, read_args, read_index, read_json}
-use Rattle.js_parser.specs.declared.look.Level.TheVariants as level
-use Rattle.js_parser.specs.declared.look.Opener.{Opener}
-use Rattle.js_parser.specs.declared.look.Opener.TheVariants as opener
-use Rattle.js_parser.specs.At.{has_room, inner, openers, read_string_called, read_called, parens_at, args_at, given_at, builtin_at, primary_at, member_at, step_at, post_at, unary_at, chain_at, branches_at, expression_at}
+use Rattle.js_look.specs.declared.look.Level.TheVariants as level
+use Rattle.js_look.specs.declared.look.Opener.{Opener}
+use Rattle.js_look.specs.declared.look.Opener.TheVariants as opener
+use Rattle.js_look.specs.Look.{openers, read_string_called, read_called}
+use Rattle.js_parser.specs.At.{has_room, inner, parens_at, args_at, given_at, builtin_at, primary_at, member_at, step_at, post_at, unary_at, chain_at, branches_at, expression_at}
 
 -- answers
 

@@ -13,12 +13,13 @@ use Rattle.js_syntax.specs.Tree.{ExprTree, LinkTree, StepTree, expr_tree, step_t
 use Rattle.js_syntax.specs.Terminals.{opening, closing, comma}
 use Rattle.js_syntax.specs.Grammar.{link_of, chain_of, post_of, Whole}
 use Rattle.js_syntax.specs.Reading.{step_mark}
-use Rattle.js_parser.specs.declared.fault.Fault.{Fault}
-use Rattle.js_parser.specs.declared.fault.Fault.TheVariants as fault
-use Rattle.js_parser.specs.declared.look.Level.{Level}
-use Rattle.js_parser.specs.declared.look.Level.TheVariants as level
-use Rattle.js_parser.specs.Gives.{Fails}
-use Rattle.js_parser.specs.At.{operators, inner, operand_at, chain_at, step_at, post_at, primary_at, args_at, expression_at}
+use Rattle.js_look.specs.declared.fault.Fault.{Fault}
+use Rattle.js_look.specs.declared.fault.Fault.TheVariants as fault
+use Rattle.js_look.specs.declared.look.Level.{Level}
+use Rattle.js_look.specs.declared.look.Level.TheVariants as level
+use Rattle.js_look.specs.Gives.{Fails}
+use Rattle.js_look.specs.Look.{operators}
+use Rattle.js_parser.specs.At.{inner, operand_at, chain_at, step_at, post_at, primary_at, args_at, expression_at}
 use Rattle.js_parser.proofs.Rooms.{head_of, inner_whole, bind_got}
 use Rattle.js_parser.proofs.Eats.{item_eats, step_eats, link_eats}
 

@@ -8,9 +8,9 @@ use Rattle.js_syntax.specs.Tree.{StmtTree}
 use Rattle.js_syntax.specs.Grammar.{Statements}
 use Rattle.js_syntax.specs.Reading.{read_statements}
 use Rattle.js_syntax.proofs.Scripts.{reads_all, all_read, refuses}
-use Rattle.js_parser.specs.declared.fault.Fault.{Fault}
-use Rattle.js_parser.specs.declared.fault.Fault.TheVariants as fault
-use Rattle.js_parser.specs.Gives.{Gives, OnFault, IsOrMemory}
+use Rattle.js_look.specs.declared.fault.Fault.{Fault}
+use Rattle.js_look.specs.declared.fault.Fault.TheVariants as fault
+use Rattle.js_look.specs.Gives.{Gives, OnFault, IsOrMemory}
 
 module _ {X : Type 0} (view : X → List StmtTree) (names : List (List ℕ)) (prints : Bool) (n : ℕ) (ts : List Token) where
   pub is_spelled : (r : Result X Fault) → Gives view (λ _. []) r (read_whole (read_statements names prints n) ts) → IfOk r (λ e. Statements names prints n ts (view e))

@@ -1,89 +1,20 @@
 -- The readers with room for so many that are open, as the parser's functions give them.
-use Rattle.std.specs.Prelude.{ℕ, zero, suc, Bool, true, false, List, [], ◌∷◌, Option, Some, None}
+use Rattle.std.specs.Prelude.{ℕ, zero, suc, Bool, true, false, List, Option, None}
 use Rattle.js_grammar.specs.Lang.{second_of}
 use Rattle.js_grammar.specs.Reader.{Reader, ◌>>=◌, Got, wrong, and_then, map_by, one_of, choose, all_of, opens, heads, heads_two, succeed}
 use Rattle.js_syntax.specs.declared.token.Token.{Token}
-use Rattle.js_syntax.specs.declared.token.Token.TheVariants as token
-use Rattle.js_lex.specs.declared.token.Mark.TheVariants as mark
-use Rattle.js_syntax.specs.declared.token.Word.TheVariants as word
-use Rattle.js_syntax.specs.declared.tree.Op.{Op}
 use Rattle.js_syntax.specs.declared.tree.Builtin.{Builtin}
 use Rattle.js_syntax.specs.declared.tree.Builtin.TheVariants as builtin
 use Rattle.js_syntax.specs.Tree.{ExprTree, StepTree, StmtTree, BlockTree, ArmTree}
-use Rattle.js_syntax.specs.Terminals.{Ident, member_word, method, or_op, and_op, equal_op, compare_op, sum_op, else_word, if_word, string_word, symbol_word, json_word, point, from_word, symbol_function, stringify_word, directive, let_word, const_word, print_word, for_word, opening, closing, close_bracket, open_brace, close_brace, comma, semicolon, colon, question, less, assign_mark, increment, nought}
-use Rattle.js_syntax.specs.Grammar.{Which, Whole, Operand, single_of, pair_of, call_of, cond_of}
+use Rattle.js_syntax.specs.Terminals.{member_word, method, else_word, if_word, string_word, symbol_word, question}
+use Rattle.js_syntax.specs.Grammar.{Which, Whole, Operand, single_of, call_of, cond_of}
 use Rattle.js_syntax.specs.Reading.{read_within, read_parens, read_args, read_string, read_symbol, read_json, read_primary, read_branches, read_step, read_post, read_unary, read_sum, read_comparison, read_equality, read_conjunction, read_disjunction, read_conditional, goes_on, read_block, read_init, read_let, read_const, read_assign, read_print, read_arm, read_rest, read_if, read_for, read_statement, read_at}
-use Rattle.js_parser.specs.declared.look.Level.{Level}
-use Rattle.js_parser.specs.declared.look.Level.TheVariants as level
-use Rattle.js_parser.specs.declared.look.Opener.{Opener}
-use Rattle.js_parser.specs.declared.look.Opener.TheVariants as opener
-use Rattle.js_parser.specs.declared.look.Fixed.{Fixed}
-use Rattle.js_parser.specs.declared.look.Fixed.TheVariants as fixed
+use Rattle.js_look.specs.declared.look.Level.{Level}
+use Rattle.js_look.specs.declared.look.Level.TheVariants as level
 
 abbrev pub has_room : ℕ → Bool
 has_room zero = false
 has_room (suc n) = true
-
--- a word or mark that is nothing but itself
-abbrev pub terminal : Fixed → Token → Option (Unit {0})
-terminal fixed.OpenParen = opening
-terminal fixed.CloseParen = closing
-terminal fixed.CloseBracket = close_bracket
-terminal fixed.OpenBrace = open_brace
-terminal fixed.CloseBrace = close_brace
-terminal fixed.Comma = comma
-terminal fixed.Point = point
-terminal fixed.Semicolon = semicolon
-terminal fixed.Question = question
-terminal fixed.Colon = colon
-terminal fixed.Less = less
-terminal fixed.Assign = assign_mark
-terminal fixed.Increment = increment
-terminal fixed.Nought = nought
-terminal fixed.Directive = directive
-terminal fixed.Let = let_word
-terminal fixed.Const = const_word
-terminal fixed.Print = print_word
-terminal fixed.If = if_word
-terminal fixed.Else = else_word
-terminal fixed.For = for_word
-
--- the operators by level
-abbrev pub operators : Level → Token → Option (ℕ × Op)
-operators level.Or = or_op
-operators level.And = and_op
-operators level.Equal = equal_op
-operators level.Compare = compare_op
-operators level.Sum = sum_op
-
-abbrev pub ident : ℕ → ℕ → Ident
-ident at n = record { at = at; number = n }
-
--- what a primary of several tokens begins with
-abbrev pub opener_of : Token → Option Opener
-opener_of (token.Mark at mark.OpenParen l) = Some opener.Paren
-opener_of (token.Word at word.String) = Some opener.Builtin
-opener_of (token.Word at word.Symbol) = Some opener.Builtin
-opener_of (token.Word at word.Json) = Some opener.Builtin
-opener_of _ = None
-
-abbrev pub openers : List Token → Option Opener
-openers [] = None
-openers (t ∷ s) = opener_of t
-
--- the function that is called
-
-abbrev pub read_string_called : Reader Token Builtin
-read_string_called = choose (heads point) (and_then second_of (one_of point) (one_of from_word)) (succeed builtin.String)
-
-abbrev pub read_symbol_called : Reader Token Builtin
-read_symbol_called = and_then second_of (one_of point) (one_of symbol_function)
-
-abbrev pub read_json_called : Reader Token Builtin
-read_json_called = and_then second_of (one_of point) (one_of stringify_word)
-
-abbrev pub read_called : Reader Token (ℕ × Builtin)
-read_called = choose (heads string_word) (and_then pair_of (one_of string_word) read_string_called) (choose (heads symbol_word) (and_then pair_of (one_of symbol_word) read_symbol_called) (and_then pair_of (one_of json_word) read_json_called))
 
 module _ (names : List (List ℕ)) where
   -- an expression or an operand where one more is open

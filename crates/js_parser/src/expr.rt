@@ -2,14 +2,13 @@
 ghost use Rattle.std.specs.Prelude.{◌≡◌, ◌<◌, map};
 ghost use Rattle.js_syntax.specs.Tree.{expr_tree, step_tree};
 ghost use Rattle.js_parser.specs.At.{args_at, parens_at, given_at, builtin_at, primary_at, member_at, step_at, post_at, unary_at, operand_at, chain_at, branches_at, expression_at};
-ghost use Rattle.js_parser.specs.Gives.{Gives};
+ghost use Rattle.js_look.specs.Gives.{Gives};
 
-use crate::fault::{Fault, refused, too_deep};
-use crate::look::{
-    Fixed, Level, Opener, begins_step, behind, called, member, method, next_opener, open_bracket,
-    operator, sign, simple, take,
-};
 use crate::node::{add, builtin, call, chain, conditional, index, link, post, signed};
+use js_look::{
+    Fault, Fixed, Level, Opener, begins_step, behind, called, member, method, next_opener,
+    open_bracket, operator, refused, sign, simple, take, too_deep,
+};
 use js_syntax::{Builtin, Expr, Name, PostStep, Token};
 use std::alloc::Global;
 

@@ -2,11 +2,9 @@
 #![tactic(auto)]
 
 mod expr;
-mod fault;
-mod look;
 mod node;
 mod statement;
 
-pub use fault::Fault;
+pub use js_look::Fault;
 pub use node::declared;
 pub use statement::statements;

@@ -2,10 +2,10 @@
 ghost use Rattle.std.specs.Prelude.{◌≡◌, ◌++◌, ◌∷◌, [], map, take, IfOk, OnOk, OnErr, MatchOption};
 ghost use Rattle.js_syntax.specs.Tree.{expr_tree, link_tree, step_tree, init_tree, stmt_tree, arm_tree, block_tree, arms as arms_tree};
 ghost use Rattle.js_syntax.specs.Grammar.{call_of, index_of, builtin_of, post_of, unary_of, link_of, chain_of, own_name, own_names, inside_of, no_inside, print_of, arm_of, let_of, const_of, assign_of, for_of};
-ghost use Rattle.js_parser.specs.At.{ident};
+ghost use Rattle.js_look.specs.Look.{ident};
 ghost use Rattle.js_syntax.specs.Tree as tree;
 
-use crate::look::{Ident, letters};
+use js_look::{Ident, letters};
 use js_syntax::{Arm, Block, Builtin, Expr, Link, Method, Name, Names, Op, PostStep, Stmt};
 use js_units::NoMemory;
 use std::alloc::{AllocError, Global};

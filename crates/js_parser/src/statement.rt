@@ -6,16 +6,17 @@ ghost use Rattle.js_syntax.specs.Tree.{StmtTree, init_tree, stmt_tree, arm_tree,
 ghost use Rattle.js_syntax.specs.Grammar.{Statements, most};
 ghost use Rattle.js_syntax.specs.Reading.{read_strict, read_statements};
 ghost use Rattle.js_parser.specs.At.{init_at, let_at, const_at, assign_at, print_at, statement_at, statements_at, block_at, arm_at, rest_at, if_at, for_at};
-ghost use Rattle.js_parser.specs.Gives.{Gives, OnFault, IsOrMemory};
+ghost use Rattle.js_look.specs.Gives.{Gives, OnFault, IsOrMemory};
 
 use crate::expr::{args, expression, parens};
-use crate::fault::{Fault, refused, too_deep};
-use crate::look::{Fixed, assign_op, behind, else_if, goes_on, header, name, next, take};
 use crate::node::{
     add, arm, assignment, block, block_line, conditions, const_line, for_line, let_line, no_block,
     print,
 };
 use js_lex::Mark;
+use js_look::{
+    Fault, Fixed, assign_op, behind, else_if, goes_on, header, name, next, refused, take, too_deep,
+};
 use js_syntax::{Arm, Block, Expr, Name, Stmt, Token, Word};
 use std::alloc::Global;
 

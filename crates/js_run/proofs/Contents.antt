@@ -3,10 +3,11 @@ use Rattle.std.proofs.Common.{◌≡◌, ℕ, ◌≤◌, List, [], ◌∷◌, �
 use Rattle.std.specs.declared.option.Option.{Option}
 use Rattle.js_io.specs.FilesState.{Tells, IsTooLarge}
 use Rattle.js_io.specs.declared.files.TheConstants.{FILE_MAX}
-use Rattle.js_parse.specs.declared.parser.Role.TheVariants.{Main}
-use Rattle.js_parse.specs.declared.parser.ParseFault.{ParseFault}
-use Rattle.js_tree.specs.Tree.{Tree}
-use Rattle.js_parse.proofs.Scripts.{one_tree, not_refused}
+use Rattle.js_script.specs.declared.fault.Role.{Role}
+use Rattle.js_script.specs.declared.fault.Role.TheVariants.{Main}
+use Rattle.js_script.specs.declared.fault.ParseFault.{ParseFault}
+use Rattle.js_script.specs.Spells.{Spells, Refused}
+use Rattle.js_syntax.specs.Tree.{Tree}
 use Rattle.js_run.specs.Words.{Name}
 use Rattle.js_run.specs.Cause as cause
 use Rattle.js_run.specs.Cause.{Read, AllSpell, FirstRefused}
@@ -56,17 +57,24 @@ module _ (held : Name → Option (List ℕ)) where
   read_small (b ∷ before) after name bytes _ _ is (cause.Read.next n names found contents tells small rest) split =
       read_small before after name bytes names contents is rest (cc split)
 
+-- the laws of what is spelled
+abbrev pub OneScript : Type 0
+OneScript = (role : Role) (outer : List (List ℕ)) (bytes : List ℕ) (x y : Tree) → Spells role outer bytes x → Spells role outer bytes y → x ≡ y
+
+abbrev pub NoneRefused : Type 0
+NoneRefused = (role : Role) (outer : List (List ℕ)) (bytes : List ℕ) (x : Tree) (fault : ParseFault) → Spells role outer bytes x → Refused role outer bytes fault → ⊥
+
 -- where all spell scripts, none is refused
-pub none_refused : (contents : List (List ℕ)) (trees : List Tree) (names : List Name) (name : Name) (fault : ParseFault) → AllSpell contents trees → FirstRefused names contents name fault → ⊥
-none_refused _ _ _ _ _ cause.AllSpell.none first = elim first [ ]
-none_refused _ _ _ _ _ (cause.AllSpell.next bytes contents tree trees spells rest) (cause.FirstRefused.here name names _ _ fault refused) = not_refused Main [] bytes tree fault spells refused
-none_refused _ _ _ _ _ (cause.AllSpell.next bytes contents tree trees spells rest) (cause.FirstRefused.later name names _ _ refused fault tree' spells' first) =
-    none_refused contents trees names refused fault rest first
+pub none_refused : NoneRefused → (contents : List (List ℕ)) (trees : List Tree) (names : List Name) (name : Name) (fault : ParseFault) → AllSpell contents trees → FirstRefused names contents name fault → ⊥
+none_refused law _ _ _ _ _ cause.AllSpell.none first = elim first [ ]
+none_refused law _ _ _ _ _ (cause.AllSpell.next bytes contents tree trees spells rest) (cause.FirstRefused.here name names _ _ fault refused) = law Main [] bytes tree fault spells refused
+none_refused law _ _ _ _ _ (cause.AllSpell.next bytes contents tree trees spells rest) (cause.FirstRefused.later name names _ _ refused fault tree' spells' first) =
+    none_refused law contents trees names refused fault rest first
 
 -- the same contents spell the same scripts
-pub same_trees : (contents : List (List ℕ)) (trees others : List Tree) → AllSpell contents trees → AllSpell contents others → trees ≡ others
-same_trees _ _ _ cause.AllSpell.none cause.AllSpell.none = refl
-same_trees _ _ _ (cause.AllSpell.next bytes contents tree trees spells rest) (cause.AllSpell.next _ _ other others spells' rest') =
-    let here : tree ≡ other = one_tree Main [] bytes tree other spells spells' in
-    let there : trees ≡ others = same_trees contents trees others rest rest' in
+pub same_trees : OneScript → (contents : List (List ℕ)) (trees others : List Tree) → AllSpell contents trees → AllSpell contents others → trees ≡ others
+same_trees law _ _ _ cause.AllSpell.none cause.AllSpell.none = refl
+same_trees law _ _ _ (cause.AllSpell.next bytes contents tree trees spells rest) (cause.AllSpell.next _ _ other others spells' rest') =
+    let here : tree ≡ other = law Main [] bytes tree other spells spells' in
+    let there : trees ≡ others = same_trees law contents trees others rest rest' in
     cc

@@ -1,5 +1,9 @@
 pub mod Told
+pub mod Lawful
+pub mod Turns
 pub mod Ends
-pub mod Causes
 pub mod Contents
 pub mod Rows
+pub mod Written
+pub mod Stages
+pub mod Single

@@ -4,28 +4,35 @@ use Rattle.std.specs.declared.option.Option.{Option}
 use Rattle.js_io.specs.Counts.{next_count}
 use Rattle.js_io.specs.FilesState.{FilesState}
 use Rattle.js_run.specs.Words.{Name, Plan, files_of, plan_of}
-use Rattle.js_run.specs.Meaning.{Run, runs_of}
-use Rattle.js_run.specs.Verdict.{Verdict, BadWords, NotRead, TooLarge, Refused, NoMemory, Ran, Report, Refusal, Printed, report_of, status_of, unread_line, large_line}
+use Rattle.js_run.specs.Meaning.{Run, AllRun, runs_of}
+use Rattle.js_run.specs.Verdict.{Verdict, BadWords, NotRead, TooLarge, Refused, NoMemory, Ran, Report, Refusal, Printed, report_of, status_of, out_of, err_of, unread_line, large_line}
 use Rattle.js_run.specs.Moment.{Moment, Sinks, Ended}
 use Rattle.js_run.specs.Cause.{AllSpell, FirstRefused, IsQuiet, IsUnread, IsLarge, HasCauseBy, HasCauseIn, IsRun}
 use Rattle.js_run.specs.Ending.{TakesAll, IsEnd}
 use Rattle.js_run.specs.Outcome.{Outcome}
 use Rattle.js_run.specs.Rows as row
-use Rattle.js_run.specs.Rows.{NoFault, IsWant, OrWant, Exactly, IsFileFault, IsToldLarge, IsNoScript, IsToldRefused, IsRefusal, IsRefusalTold, AreRun, runs_by, Prints, PrintsAll, IsCut, IsHonest, IsDone}
-use Rattle.js_run.proofs.Ends.{status_is, quiet}
-use Rattle.js_run.proofs.Contents.{not_large, read_same, read_small, none_refused, same_trees}
+use Rattle.js_run.specs.Rows.{NoFault, IsWant, OrWant, Exactly, IsFileFault, IsToldLarge, IsNoScript, IsToldRefused, IsRefusal, IsRefusalTold, IsMemory, AreRun, runs_by, Prints, PrintsAll, PrintsEarly, IsCut, IsHonest, IsRanTo, IsDone}
+use Rattle.js_syntax.specs.Tree.{Tree}
+use Rattle.js_run.proofs.Ends.{IsRunStatus, all_meant, early_meant, quiet, status_is}
+use Rattle.js_run.proofs.Contents.{OneScript, NoneRefused, not_large, read_same, read_small, none_refused, same_trees}
 
 -- the status of scripts that were run
-ran_status : (old new : FilesState) (names : List Name) (runs : List Run) → IsRun old new names runs → (status_of runs ≡ 0) ⊎ (status_of runs ≡ 1)
-ran_status old new names runs why = subst (λ (r : List Run). (status_of r ≡ 0) ⊎ (status_of r ≡ 1)) (sym why.ran) (status_is names why.trees)
+ran_status : (old new : FilesState) (names : List Name) (runs : List Run) → IsRun old new names runs → IsRunStatus (status_of runs)
+ran_status old new names runs why = status_is names why.trees runs why.ran
 
-not_ran : (status wanted : ℕ) → (status ≡ 0) ⊎ (status ≡ 1) → status ≡ wanted → 2 ≤ wanted → ⊥
-not_ran status wanted (inl none) is low = omega (arith, none, is, low)
-not_ran status wanted (inr one) is low = omega (arith, one, is, low)
+not_ran : (status wanted : ℕ) → IsRunStatus status → status ≡ wanted → 2 ≤ wanted → wanted < 6 → ⊥
+not_ran status wanted (inl none) is low high = omega (arith, none, is, low)
+not_ran status wanted (inr (inl one)) is low high = omega (arith, one, is, low)
+not_ran status wanted (inr (inr six)) is low high = omega (arith, six, is, high)
 
 abbrev status_in : Report → ℕ
 status_in (Refusal status line) = status
 status_in (Printed status written told) = status
+
+not_seven : (status : ℕ) → IsRunStatus status → status ≡ 7 → ⊥
+not_seven status (inl none) is = omega (arith, none, is)
+not_seven status (inr (inl one)) is = omega (arith, one, is)
+not_seven status (inr (inr six)) is = omega (arith, six, is)
 
 -- the status is that of the report, or 7
 code_of : (r : Report) (code : ℕ) (old new : Sinks) → IsEnd r code old new → (code ≡ status_in r) ⊎ (code ≡ 7)
@@ -47,7 +54,7 @@ bad_words (Some plan) old new (NotRead name) why is = absurd (omega (arith, is))
 bad_words (Some plan) old new (TooLarge name) why is = absurd (omega (arith, is))
 bad_words (Some plan) old new (Refused name fault) why is = absurd (omega (arith, is))
 bad_words (Some plan) old new NoMemory why is = absurd (omega (arith, is))
-bad_words (Some plan) old new (Ran runs) why is = absurd (not_ran _ 2 (ran_status old new (files_of plan) runs why) is (omega arith))
+bad_words (Some plan) old new (Ran runs) why is = absurd (not_ran _ 2 (ran_status old new (files_of plan) runs why) is (omega arith) (omega arith))
 
 refused_words : (ended : Ended) (old new : Moment) (v : Verdict) → HasCauseBy None old.files new.files v → IsEnd (report_of v) ended.code old.sinks new.sinks → OrWant 2 ended old new
 refused_words ended old new BadWords why end = inl end.status
@@ -73,7 +80,7 @@ file_fault words (Some plan) old new (TooLarge name) planned why is = record {
 file_fault words plan old new BadWords planned why is = absurd (omega (arith, is))
 file_fault words plan old new (Refused name fault) planned why is = absurd (omega (arith, is))
 file_fault words plan old new NoMemory planned why is = absurd (omega (arith, is))
-file_fault words (Some plan) old new (Ran runs) planned why is = absurd (not_ran _ 3 (ran_status old new (files_of plan) runs why) is (omega arith))
+file_fault words (Some plan) old new (Ran runs) planned why is = absurd (not_ran _ 3 (ran_status old new (files_of plan) runs why) is (omega arith) (omega arith))
 file_fault words None old new (Ran runs) planned why is = absurd why
 file_fault words None old new (NotRead name) planned why is = absurd why
 file_fault words None old new (TooLarge name) planned why is = absurd why
@@ -119,32 +126,36 @@ no_script words plan old new BadWords planned why is = absurd (omega (arith, is)
 no_script words plan old new (NotRead name) planned why is = absurd (omega (arith, is))
 no_script words plan old new (TooLarge name) planned why is = absurd (omega (arith, is))
 no_script words plan old new NoMemory planned why is = absurd (omega (arith, is))
-no_script words (Some plan) old new (Ran runs) planned why is = absurd (not_ran _ 4 (ran_status old new (files_of plan) runs why) is (omega arith))
+no_script words (Some plan) old new (Ran runs) planned why is = absurd (not_ran _ 4 (ran_status old new (files_of plan) runs why) is (omega arith) (omega arith))
 no_script words None old new (Ran runs) planned why is = absurd why
 
-refused_end : (words : List (List ℕ)) (ended : Ended) (old new : Moment) (told : IsToldRefused words old.files new.files) (v : Verdict) → HasCauseIn old.files new.files (files_of told.plan) v
+refused_end : NoneRefused → (words : List (List ℕ)) (ended : Ended) (old new : Moment) (told : IsToldRefused words old.files new.files) (v : Verdict) → HasCauseIn old.files new.files (files_of told.plan) v
     → IsEnd (report_of v) ended.code old.sinks new.sinks → OrWant 4 ended old new
-refused_end words ended old new told BadWords why end = absurd why
-refused_end words ended old new told (NotRead name) why end = absurd (counted old.files.faults new.files.faults why.once told.calm)
-refused_end words ended old new told (TooLarge name) why end =
+refused_end law words ended old new told BadWords why end = absurd why
+refused_end law words ended old new told (NotRead name) why end = absurd (counted old.files.faults new.files.faults why.once told.calm)
+refused_end law words ended old new told (TooLarge name) why end =
     absurd (not_large old.files.held why.up_to.before why.up_to.after name (files_of told.plan) told.contents old.files.oversize new.files.oversize told.told why.up_to.split why.larger)
-refused_end words ended old new told (Refused name fault) why end = inl end.status
-refused_end words ended old new told NoMemory why end = inr end
-refused_end words ended old new told (Ran runs) why end =
+refused_end law words ended old new told (Refused name fault) why end = inl end.status
+refused_end law words ended old new told NoMemory why end = inr end
+refused_end law words ended old new told (Ran runs) why end =
     let same = read_same old.files.held (files_of told.plan) told.contents why.contents told.told why.read in
-    absurd (none_refused told.contents why.trees (files_of told.plan) told.name told.fault (subst (λ (c : List (List ℕ)). AllSpell c why.trees) same why.spell) told.first)
+    absurd (none_refused law told.contents why.trees (files_of told.plan) told.name told.fault (subst (λ (c : List (List ℕ)). AllSpell c why.trees) same why.spell) told.first)
 
 -- what a refusal tells
 
-not_code : (code status wanted : ℕ) → (status ≡ 0) ⊎ (status ≡ 1) → (code ≡ status) ⊎ (code ≡ 7) → code ≡ wanted → 2 ≤ wanted → wanted < 7 → ⊥
-not_code code status wanted ran (inl is) w low high = not_ran status wanted ran (sym is ∙ w) low
+not_code : (code status wanted : ℕ) → IsRunStatus status → (code ≡ status) ⊎ (code ≡ 7) → code ≡ wanted → 2 ≤ wanted → wanted < 6 → ⊥
+not_code code status wanted ran (inl is) w low high = not_ran status wanted ran (sym is ∙ w) low high
 not_code code status wanted ran (inr is) w low high = omega (arith, is, w, high)
 
-not_refusal : (ended : Ended) (status : ℕ) → (status ≡ 0) ⊎ (status ≡ 1) → (ended.code ≡ status) ⊎ (ended.code ≡ 7) → IsRefusal ended → ⊥
+not_refusal : (ended : Ended) (status : ℕ) → IsRunStatus status → (ended.code ≡ status) ⊎ (ended.code ≡ 7) → IsRefusal ended → ⊥
 not_refusal ended status ran is (inl two) = not_code ended.code status 2 ran is two (omega arith) (omega arith)
 not_refusal ended status ran is (inr (inl three)) = not_code ended.code status 3 ran is three (omega arith) (omega arith)
-not_refusal ended status ran is (inr (inr (inl four))) = not_code ended.code status 4 ran is four (omega arith) (omega arith)
-not_refusal ended status ran is (inr (inr (inr six))) = not_code ended.code status 6 ran is six (omega arith) (omega arith)
+not_refusal ended status ran is (inr (inr four)) = not_code ended.code status 4 ran is four (omega arith) (omega arith)
+
+no_six : (ended : Ended) → ended.code ≡ 6 → IsRefusal ended → ⊥
+no_six ended six (inl two) = omega (arith, six, two)
+no_six ended six (inr (inl three)) = omega (arith, six, three)
+no_six ended six (inr (inr four)) = omega (arith, six, four)
 
 refusal_told : (words : List (List ℕ)) (plan : Option Plan) (ended : Ended) (old new : Moment) (v : Verdict) → plan_of words ≡ plan → HasCauseBy plan old.files new.files v
     → IsEnd (report_of v) ended.code old.sinks new.sinks → IsRefusal ended → IsRefusalTold words ended old new
@@ -173,16 +184,12 @@ refusal_told words (Some plan) ended old new (Refused name fault) planned why en
   is = row.IsLine.refused end.status plan planned name fault why;
   told = record { status = refl; silent = end.silent; told = end.told };
 }
-refusal_told words plan ended old new NoMemory planned why end is = record {
-  line = _;
-  is = row.IsLine.no_memory end.status;
-  told = record { status = refl; silent = end.silent; told = end.told };
-}
+refusal_told words plan ended old new NoMemory planned why end is = absurd (no_six ended end.status is)
 refusal_told words None ended old new (Ran runs) planned why end is = absurd why
 refusal_told words (Some plan) ended old new (Ran runs) planned why end is =
     absurd (not_refusal ended (status_of runs) (ran_status old.files new.files (files_of plan) runs why) (code_of (report_of (Ran runs)) ended.code old.sinks new.sinks end) is)
 
--- 0, 1 and 7
+-- 0, 1, 6 and 7
 
 module _ (words : List (List ℕ)) (plan : Plan) (old new : FilesState) (planned : plan_of words ≡ Some plan) (runs : List Run) (why : IsRun old new (files_of plan) runs) where
   abbrev are_run : AreRun words old new
@@ -198,7 +205,13 @@ module _ (words : List (List ℕ)) (plan : Plan) (old new : FilesState) (planned
 
 record RanTo (words : List (List ℕ)) (ended : Ended) (old new : Moment) : Type 0 where
   run : AreRun words old.files new.files
-  end : IsEnd (report_of (Ran (runs_by words old.files new.files run))) ended.code old.sinks new.sinks
+  runs : List Run
+  ran : AllRun (files_of run.plan) run.trees runs
+  end : IsEnd (report_of (Ran runs)) ended.code old.sinks new.sinks
+
+ran_to_end : (words : List (List ℕ)) (plan : Plan) (ended : Ended) (old new : Moment) (runs : List Run) → plan_of words ≡ Some plan → IsRun old.files new.files (files_of plan) runs
+    → IsEnd (report_of (Ran runs)) ended.code old.sinks new.sinks → RanTo words ended old new
+ran_to_end words plan ended old new runs planned why end = record { run = are_run words plan old.files new.files planned runs why; runs = runs; ran = why.ran; end = end }
 
 other : (code status : ℕ) → code ≡ status → (code < 2) ⊎ (code ≡ 7) → 2 ≤ status → status < 7 → ⊥
 other code status is (inl few) low high = omega (arith, is, few, low)
@@ -213,48 +226,66 @@ ran_only words plan ended old new (TooLarge name) planned why end is = absurd (o
 ran_only words plan ended old new (Refused name fault) planned why end is = absurd (other ended.code 4 end.status is (omega arith) (omega arith))
 ran_only words plan ended old new NoMemory planned why end is = absurd (other ended.code 6 end.status is (omega arith) (omega arith))
 ran_only words None ended old new (Ran runs) planned why end is = absurd why
-ran_only words (Some plan) ended old new (Ran runs) planned why end is = record {
-  run = are_run words plan old.files new.files planned runs why;
-  end = subst (λ (r : List Run). IsEnd (report_of (Ran r)) ended.code old.sinks new.sinks) why.ran end;
-}
+ran_only words (Some plan) ended old new (Ran runs) planned why end is = ran_to_end words plan ended old new runs planned why end
 
-prints : (words : List (List ℕ)) (status : ℕ) (ended : Ended) (old new : Moment) → status < 2 → ended.code ≡ status → (run : AreRun words old.files new.files)
-    → IsEnd (report_of (Ran (runs_by words old.files new.files run))) ended.code old.sinks new.sinks → Prints words status old new
-prints words status ended old new small is run (inl whole) = record { run = run; ends = sym whole.status ∙ is; out = whole.out; err = whole.err }
-prints words status ended old new small is run (inr (inl cut)) = absurd (omega (arith, cut.status, is, small))
-prints words status ended old new small is run (inr (inr cut)) = absurd (omega (arith, cut.status, is, small))
+prints : (words : List (List ℕ)) (status : ℕ) (ended : Ended) (old new : Moment) → status < 7 → ended.code ≡ status → RanTo words ended old new → Prints words status old new
+prints words status ended old new small is r = by r.end
+  where
+    by : IsEnd (report_of (Ran r.runs)) ended.code old.sinks new.sinks → Prints words status old new
+    by (inl whole) = record { run = r.run; runs = r.runs; ran = r.ran; ends = sym whole.status ∙ is; out = whole.out; err = whole.err }
+    by (inr (inl cut)) = absurd (omega (arith, cut.status, is, small))
+    by (inr (inr cut)) = absurd (omega (arith, cut.status, is, small))
 
 prints_all : (words : List (List ℕ)) (old new : Moment) → Prints words 0 old new → PrintsAll words old new
-prints_all words old new p = record {
-  run = p.run;
-  ends = p.ends;
-  out = p.out;
-  err = subst (λ (l : List ℕ). TakesAll old.sinks.err new.sinks.err l) (quiet (files_of p.run.plan) p.run.trees p.ends) p.err;
-}
+prints_all words old new p =
+    let same : p.runs ≡ runs_of (files_of p.run.plan) p.run.trees = all_meant (files_of p.run.plan) p.run.trees p.runs p.ran p.ends in
+    let ends : status_of (runs_of (files_of p.run.plan) p.run.trees) ≡ 0 = subst (λ (r : List Run). status_of r ≡ 0) same p.ends in
+    record {
+      run = p.run;
+      ends = ends;
+      out = subst (λ (r : List Run). TakesAll old.sinks.out new.sinks.out (out_of r)) same p.out;
+      err = subst (λ (l : List ℕ). TakesAll old.sinks.err new.sinks.err l) (ap err_of same ∙ quiet (files_of p.run.plan) p.run.trees ends) p.err;
+    }
 
-cut_short : (words : List (List ℕ)) (ended : Ended) (old new : Moment) → ended.code ≡ 7 → (run : AreRun words old.files new.files)
-    → IsEnd (report_of (Ran (runs_by words old.files new.files run))) ended.code old.sinks new.sinks → IsCut words ended.code old new
-cut_short words ended old new is run (inl whole) =
-    absurd (not_ran (status_of (runs_by words old.files new.files run)) 7 (status_is (files_of run.plan) run.trees) (sym whole.status ∙ is) (omega arith))
-cut_short words ended old new is run (inr cut) = record { run = run; cut = cut }
+prints_early : (words : List (List ℕ)) (old new : Moment) → Prints words 1 old new → PrintsEarly words old new
+prints_early words old new p = record { prints = p; meant = early_meant (files_of p.run.plan) p.run.trees p.runs p.ran p.ends }
 
-honest_end : (words : List (List ℕ)) (ended : Ended) (old new : Moment) (honest : IsHonest words old.files new.files) (v : Verdict) → HasCauseIn old.files new.files (files_of honest.plan) v
+-- memory was wanting
+
+memory_end : (words : List (List ℕ)) (plan : Option Plan) (ended : Ended) (old new : Moment) (v : Verdict) → plan_of words ≡ plan → HasCauseBy plan old.files new.files v
+    → IsEnd (report_of v) ended.code old.sinks new.sinks → ended.code ≡ 6 → IsMemory words ended old new
+memory_end words plan ended old new BadWords planned why end is = absurd (omega (arith, end.status, is))
+memory_end words plan ended old new (NotRead name) planned why end is = absurd (omega (arith, end.status, is))
+memory_end words plan ended old new (TooLarge name) planned why end is = absurd (omega (arith, end.status, is))
+memory_end words plan ended old new (Refused name fault) planned why end is = absurd (omega (arith, end.status, is))
+memory_end words plan ended old new NoMemory planned why end is = inl end
+memory_end words None ended old new (Ran runs) planned why end is = absurd why
+memory_end words (Some plan) ended old new (Ran runs) planned why end is =
+    inr (prints words 6 ended old new (omega arith) is (ran_to_end words plan ended old new runs planned why end))
+
+cut_short : (words : List (List ℕ)) (ended : Ended) (old new : Moment) → ended.code ≡ 7 → RanTo words ended old new → IsCut words ended.code old new
+cut_short words ended old new is r = by r.end
+  where
+    by : IsEnd (report_of (Ran r.runs)) ended.code old.sinks new.sinks → IsCut words ended.code old new
+    by (inl whole) = absurd (not_seven (status_of r.runs) (status_is (files_of r.run.plan) r.run.trees r.runs r.ran) (sym whole.status ∙ is))
+    by (inr cut) = record { run = r.run; runs = r.runs; ran = r.ran; cut = cut }
+
+honest_end : OneScript → NoneRefused → (words : List (List ℕ)) (ended : Ended) (old new : Moment) (honest : IsHonest words old.files new.files) (v : Verdict) → HasCauseIn old.files new.files (files_of honest.plan) v
     → IsEnd (report_of v) ended.code old.sinks new.sinks → IsDone words ended old new honest
-honest_end words ended old new honest BadWords why end = absurd why
-honest_end words ended old new honest (NotRead name) why end = absurd (counted old.files.faults new.files.faults why.once honest.calm)
-honest_end words ended old new honest (TooLarge name) why end =
+honest_end one none words ended old new honest BadWords why end = absurd why
+honest_end one none words ended old new honest (NotRead name) why end = absurd (counted old.files.faults new.files.faults why.once honest.calm)
+honest_end one none words ended old new honest (TooLarge name) why end =
     absurd (not_large old.files.held why.up_to.before why.up_to.after name (files_of honest.plan) honest.contents old.files.oversize new.files.oversize honest.told why.up_to.split why.larger)
-honest_end words ended old new honest (Refused name fault) why end =
+honest_end one none words ended old new honest (Refused name fault) why end =
     let same = read_same old.files.held (files_of honest.plan) honest.contents why.contents honest.told why.read in
-    absurd (none_refused honest.contents honest.trees (files_of honest.plan) name fault honest.spell (subst (λ (c : List (List ℕ)). FirstRefused (files_of honest.plan) c name fault) same why.first))
-honest_end words ended old new honest NoMemory why end = inr end
-honest_end words ended old new honest (Ran runs) why end =
+    absurd (none_refused none honest.contents honest.trees (files_of honest.plan) name fault honest.spell (subst (λ (c : List (List ℕ)). FirstRefused (files_of honest.plan) c name fault) same why.first))
+honest_end one none words ended old new honest NoMemory why end = inr end
+honest_end one none words ended old new honest (Ran runs) why end =
     let same = read_same old.files.held (files_of honest.plan) honest.contents why.contents honest.told why.read in
-    let trees = same_trees honest.contents why.trees honest.trees (subst (λ (c : List (List ℕ)). AllSpell c why.trees) same why.spell) honest.spell in
-    let ran : runs ≡ runs_of (files_of honest.plan) honest.trees = why.ran ∙ ap (runs_of (files_of honest.plan)) trees in
-    inl (subst (λ (r : List Run). IsEnd (report_of (Ran r)) ended.code old.sinks new.sinks) ran end)
+    let trees = same_trees one honest.contents why.trees honest.trees (subst (λ (c : List (List ℕ)). AllSpell c why.trees) same why.spell) honest.spell in
+    inl (record { runs = runs; ran = subst (λ (ts : List Tree). AllRun (files_of honest.plan) ts runs) trees why.ran; end = end })
 
-module _ (words : List (List ℕ)) (ended : Ended) (old new : Moment) (o : Outcome words ended old new) where
+module _ (words : List (List ℕ)) (ended : Ended) (old new : Moment) (one : OneScript) (none : NoneRefused) (o : Outcome words ended old new) where
   ends : (ended.code ≡ status_in (report_of o.verdict)) ⊎ (ended.code ≡ 7)
   ends = code_of (report_of o.verdict) ended.code old.sinks new.sinks o.ending
 
@@ -264,7 +295,7 @@ module _ (words : List (List ℕ)) (ended : Ended) (old new : Moment) (o : Outco
   pub words_row : Exactly 2 ended old new (plan_of words ≡ None)
   words_row = (
     λ is. bad_words (plan_of words) old.files new.files o.verdict o.cause (decided _ _ 2 ends is (omega arith)),
-    λ none. refused_words ended old new o.verdict (because None none) o.ending,
+    λ is. refused_words ended old new o.verdict (because None is) o.ending,
   )
 
   pub read_row : ended.code ≡ 3 → IsFileFault words old.files new.files
@@ -280,7 +311,7 @@ module _ (words : List (List ℕ)) (ended : Ended) (old new : Moment) (o : Outco
   script_row is = no_script words (plan_of words) old.files new.files o.verdict refl o.cause (decided _ _ 4 ends is (omega arith))
 
   pub refused_row : IsToldRefused words old.files new.files → OrWant 4 ended old new
-  refused_row told = refused_end words ended old new told o.verdict (because (Some told.plan) told.planned) o.ending
+  refused_row told = refused_end none words ended old new told o.verdict (because (Some told.plan) told.planned) o.ending
 
   pub told_row : IsRefusal ended → IsRefusalTold words ended old new
   told_row is = refusal_told words (plan_of words) ended old new o.verdict refl o.cause o.ending is
@@ -288,14 +319,17 @@ module _ (words : List (List ℕ)) (ended : Ended) (old new : Moment) (o : Outco
   ran_to : (ended.code < 2) ⊎ (ended.code ≡ 7) → RanTo words ended old new
   ran_to is = ran_only words (plan_of words) ended old new o.verdict refl o.cause o.ending is
 
-  pub print_row : ended.code ≡ 0 → PrintsAll words old new
-  print_row is = let ran = ran_to (inl (omega (arith, is))) in prints_all words old new (prints words 0 ended old new (omega arith) is ran.run ran.end)
+  pub memory_row : ended.code ≡ 6 → IsMemory words ended old new
+  memory_row is = memory_end words (plan_of words) ended old new o.verdict refl o.cause o.ending is
 
-  pub early_row : ended.code ≡ 1 → Prints words 1 old new
-  early_row is = let ran = ran_to (inl (omega (arith, is))) in prints words 1 ended old new (omega arith) is ran.run ran.end
+  pub print_row : ended.code ≡ 0 → PrintsAll words old new
+  print_row is = prints_all words old new (prints words 0 ended old new (omega arith) is (ran_to (inl (omega (arith, is)))))
+
+  pub early_row : ended.code ≡ 1 → PrintsEarly words old new
+  early_row is = prints_early words old new (prints words 1 ended old new (omega arith) is (ran_to (inl (omega (arith, is)))))
 
   pub write_row : ended.code ≡ 7 → IsCut words 7 old new
-  write_row is = let ran = ran_to (inr is) in subst (λ (n : ℕ). IsCut words n old new) is (cut_short words ended old new is ran.run ran.end)
+  write_row is = subst (λ (n : ℕ). IsCut words n old new) is (cut_short words ended old new is (ran_to (inr is)))
 
   pub honest_row : (honest : IsHonest words old.files new.files) → IsDone words ended old new honest
-  honest_row honest = honest_end words ended old new honest o.verdict (because (Some honest.plan) honest.planned) o.ending
+  honest_row honest = honest_end one none words ended old new honest o.verdict (because (Some honest.plan) honest.planned) o.ending

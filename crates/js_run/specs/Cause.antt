@@ -5,12 +5,12 @@ use Rattle.std.specs.declared.option.Option.{Option}
 use Rattle.js_io.specs.Counts.{next_count}
 use Rattle.js_io.specs.FilesState.{Tells, IsTooLarge, FilesState}
 use Rattle.js_io.specs.declared.files.TheConstants.{FILE_MAX}
-use Rattle.js_parse.specs.declared.parser.Role.TheVariants.{Main}
-use Rattle.js_parse.specs.declared.parser.ParseFault.{ParseFault}
-use Rattle.js_tree.specs.Tree.{Tree}
-use Rattle.js_parse.specs.Spells as script
+use Rattle.js_script.specs.declared.fault.Role.TheVariants.{Main}
+use Rattle.js_script.specs.declared.fault.ParseFault.{ParseFault}
+use Rattle.js_syntax.specs.Tree.{Tree}
+use Rattle.js_script.specs.Spells as script
 use Rattle.js_run.specs.Words.{Name, Plan, files_of, plan_of}
-use Rattle.js_run.specs.Meaning.{Run, runs_of}
+use Rattle.js_run.specs.Meaning.{Run, AllRun}
 use Rattle.js_run.specs.Verdict.{Verdict, BadWords, NotRead, TooLarge, Refused, NoMemory, Ran}
 
 -- the files are as they were, as far as they are told, and no count fell
@@ -81,7 +81,7 @@ pub record IsRun (old new : FilesState) (names : List Name) (runs : List Run) : 
   pub read : Read old.held names contents
   pub quiet : IsQuiet old new
   pub spell : AllSpell contents trees
-  pub ran : runs ≡ runs_of names trees
+  pub ran : AllRun names trees runs
 
 -- of lawful words
 abbrev pub HasCauseIn : FilesState → FilesState → List Name → Verdict → Type 0

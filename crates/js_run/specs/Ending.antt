@@ -3,9 +3,7 @@ use Rattle.std.specs.Prelude.{◌≡◌, ◌⊎◌, ℕ, ◌≤◌, List, []}
 use Rattle.js_io.specs.Counts.{next_count}
 use Rattle.js_io.specs.SinkState.{SinkState, Takes, TakesPrefix}
 use Rattle.js_run.specs.Moment.{Sinks}
-use Rattle.js_eval.specs.declared.ending.End.{End}
-use Rattle.js_run.specs.Words.{Name}
-use Rattle.js_run.specs.Verdict.{Report, Refusal, Printed, status_or, end_line}
+use Rattle.js_run.specs.Verdict.{Report, Refusal, Printed}
 
 -- the sink took all of these bytes, and no write failed
 pub record TakesAll (old new : SinkState) (bytes : List ℕ) : Type 0 where
@@ -45,15 +43,3 @@ pub record IsCutAtErr (written told : List ℕ) (code : ℕ) (old new : Sinks) :
 abbrev pub IsEnd : Report → ℕ → Sinks → Sinks → Type 0
 IsEnd (Refusal status line) code old new = IsTold status line code old new
 IsEnd (Printed status written told) code old new = IsWhole status written told code old new ⊎ (IsCutAtOut written code old new ⊎ IsCutAtErr written told code old new)
-
--- the line of a script that was run was told, and its status is given; or a write of it failed
-pub record IsEndWhole (name : Name) (end : End) (code : ℕ) (old new : SinkState) : Type 0 where
-  pub status : code ≡ status_or end 0
-  pub err : TakesAll old new (end_line name end)
-
-pub record IsEndCut (name : Name) (end : End) (code : ℕ) (old new : SinkState) : Type 0 where
-  pub status : code ≡ 7
-  pub err : TakesUntil old new (end_line name end)
-
-abbrev pub IsEndTold : Name → End → ℕ → SinkState → SinkState → Type 0
-IsEndTold name end code old new = IsEndWhole name end code old new ⊎ IsEndCut name end code old new

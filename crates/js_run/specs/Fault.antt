@@ -6,8 +6,8 @@ use Rattle.js_literal.specs.declared.fault.NumberFault.{NumberFault}
 use Rattle.js_literal.specs.declared.fault.NumberFault.TheVariants as number
 use Rattle.js_lex.specs.declared.token.LexFault.{LexFault}
 use Rattle.js_lex.specs.declared.token.LexFault.TheVariants as lexical
-use Rattle.js_parse.specs.declared.parser.ParseFault.{ParseFault}
-use Rattle.js_parse.specs.declared.parser.ParseFault.TheVariants as fault
+use Rattle.js_script.specs.declared.fault.ParseFault.{ParseFault}
+use Rattle.js_script.specs.declared.fault.ParseFault.TheVariants as fault
 
 abbrev pub literal_at : LiteralFault → ℕ
 literal_at (literal.Unclosed at) = at
@@ -33,7 +33,11 @@ lexical_at lexical.Memory = 0
 -- the byte offset of the fault
 abbrev pub fault_at : ParseFault → ℕ
 fault_at (fault.Lex f) = lexical_at f
+fault_at (fault.Unexpected at) = at
 fault_at (fault.NotInProfile at) = at
+fault_at (fault.TooDeep at) = at
+fault_at (fault.Duplicate at) = at
+fault_at (fault.LoopName at) = at
 fault_at fault.Memory = 0
 
 abbrev pub literal_text : LiteralFault → List ℕ
@@ -60,5 +64,9 @@ lexical_text lexical.Memory = []
 -- the words of the fault, with the end of the line
 abbrev pub fault_text : ParseFault → List ℕ
 fault_text (fault.Lex f) = lexical_text f
+fault_text (fault.Unexpected at) = codes ": refused: unexpected\n"
 fault_text (fault.NotInProfile at) = codes ": refused: not in profile\n"
+fault_text (fault.TooDeep at) = codes ": refused: too deep\n"
+fault_text (fault.Duplicate at) = codes ": refused: duplicate\n"
+fault_text (fault.LoopName at) = codes ": refused: loop name\n"
 fault_text fault.Memory = []

@@ -3,10 +3,10 @@ use Rattle.std.specs.Prelude.{◌≡◌, ◌⊎◌, ℕ, ◌-◌, ◌^◌, ◌�
 use Rattle.std.specs.declared.option.Option.{Option}
 use Rattle.js_io.specs.FilesState.{FilesState}
 use Rattle.js_io.specs.declared.files.TheConstants.{FILE_MAX}
-use Rattle.js_parse.specs.declared.parser.ParseFault.{ParseFault}
-use Rattle.js_tree.specs.Tree.{Tree}
+use Rattle.js_script.specs.declared.fault.ParseFault.{ParseFault}
+use Rattle.js_syntax.specs.Tree.{Tree}
 use Rattle.js_run.specs.Words.{Name, Plan, files_of, plan_of}
-use Rattle.js_run.specs.Meaning.{Run, runs_of}
+use Rattle.js_run.specs.Meaning.{Run, runs_of, AllRun}
 use Rattle.js_run.specs.Verdict.{Printed, status_of, out_of, err_of, words_line, unread_line, large_line, refused_line, memory_line}
 use Rattle.js_run.specs.Moment.{Moment, Ended}
 use Rattle.js_run.specs.Cause.{Read, AllSpell, FirstRefused, IsUnread, IsLarge, IsRefused, IsQuiet}
@@ -83,11 +83,10 @@ pub data IsLine (words : List (List ℕ)) (code : ℕ) (old new : FilesState) : 
       → IsLine words code old new (large_line new.blamed)
   refused : code ≡ 4 → (plan : Plan) → plan_of words ≡ Some plan → (name : Name) (fault : ParseFault) → IsRefused old new (files_of plan) name fault
       → IsLine words code old new (refused_line name fault)
-  no_memory : code ≡ 6 → IsLine words code old new memory_line
 
--- the statuses of what isn't run
+-- the statuses of what isn't run, but for want of memory
 abbrev pub IsRefusal : Ended → Type 0
-IsRefusal ended = (ended.code ≡ 2) ⊎ ((ended.code ≡ 3) ⊎ ((ended.code ≡ 4) ⊎ (ended.code ≡ 6)))
+IsRefusal ended = (ended.code ≡ 2) ⊎ ((ended.code ≡ 3) ⊎ (ended.code ≡ 4))
 
 -- out took nothing, and err the line; or, where a write to err failed, a prefix of it
 pub record IsRefusalTold (words : List (List ℕ)) (ended : Ended) (old new : Moment) : Type 0 where
@@ -109,25 +108,38 @@ pub record AreRun (words : List (List ℕ)) (old new : FilesState) : Type 0 wher
 abbrev pub runs_by : (words : List (List ℕ)) (old new : FilesState) → AreRun words old new → List Run
 runs_by words old new run = runs_of (files_of run.plan) run.trees
 
--- scripts were run, the status is theirs, and all was written: out took exactly what they print, and err the lines of those that didn't end Done
+-- the scripts were run, each as it is meant or until memory was wanting, the status is that of the first that didn't end Done, and
+-- all was written: out took exactly what they print, and err the lines of those that didn't end Done
 pub record Prints (words : List (List ℕ)) (status : ℕ) (old new : Moment) : Type 0 where
   pub run : AreRun words old.files new.files
-  pub ends : status_of (runs_by words old.files new.files run) ≡ status
-  pub out : TakesAll old.sinks.out new.sinks.out (out_of (runs_by words old.files new.files run))
-  pub err : TakesAll old.sinks.err new.sinks.err (err_of (runs_by words old.files new.files run))
+  pub runs : List Run
+  pub ran : AllRun (files_of run.plan) run.trees runs
+  pub ends : status_of runs ≡ status
+  pub out : TakesAll old.sinks.out new.sinks.out (out_of runs)
+  pub err : TakesAll old.sinks.err new.sinks.err (err_of runs)
 
--- the same where every script ended Done, which is status 0, so that err took nothing
+-- the same where every script ended Done, which is status 0: all as it is meant, and err took nothing
 pub record PrintsAll (words : List (List ℕ)) (old new : Moment) : Type 0 where
   pub run : AreRun words old.files new.files
   pub ends : status_of (runs_by words old.files new.files run) ≡ 0
   pub out : TakesAll old.sinks.out new.sinks.out (out_of (runs_by words old.files new.files run))
   pub err : TakesAll old.sinks.err new.sinks.err []
 
+-- the same where the first script that didn't end Done threw or is unsupported: it is also the first that isn't meant to end Done
+pub record PrintsEarly (words : List (List ℕ)) (old new : Moment) : Type 0 where
+  pub prints : Prints words 1 old new
+  pub meant : status_of (runs_by words old.files new.files prints.run) ≡ 1
+
+-- memory was wanting: before a script was run, or while the first one ran that didn't end Done
+abbrev pub IsMemory : List (List ℕ) → Ended → Moment → Moment → Type 0
+IsMemory words ended old new = IsWant ended old new ⊎ Prints words 6 old new
+
 -- scripts were run, and a write failed: one to out after a prefix of what they print, and err took nothing; or one to err
 pub record IsCut (words : List (List ℕ)) (code : ℕ) (old new : Moment) : Type 0 where
   pub run : AreRun words old.files new.files
-  pub cut : IsCutAtOut (out_of (runs_by words old.files new.files run)) code old.sinks new.sinks
-      ⊎ IsCutAtErr (out_of (runs_by words old.files new.files run)) (err_of (runs_by words old.files new.files run)) code old.sinks new.sinks
+  pub runs : List Run
+  pub ran : AllRun (files_of run.plan) run.trees runs
+  pub cut : IsCutAtOut (out_of runs) code old.sinks new.sinks ⊎ IsCutAtErr (out_of runs) (err_of runs) code old.sinks new.sinks
 
 -- the words are lawful, all files are told, not too large and spell scripts, and no read failed
 pub record IsHonest (words : List (List ℕ)) (old new : FilesState) : Type 0 where
@@ -139,8 +151,12 @@ pub record IsHonest (words : List (List ℕ)) (old new : FilesState) : Type 0 wh
   pub spell : AllSpell contents trees
   pub calm : NoFault old.faults new.faults
 
--- these scripts were run to their end and all was written, or a write failed; or want of memory
+-- these scripts were run, each as it is meant or until memory was wanting, and all was written, or a write failed
+pub record IsRanTo (names : List Name) (trees : List Tree) (ended : Ended) (old new : Moment) : Type 0 where
+  pub runs : List Run
+  pub ran : AllRun names trees runs
+  pub end : IsEnd (Printed (status_of runs) (out_of runs) (err_of runs)) ended.code old.sinks new.sinks
+
+-- the scripts were run; or memory was wanting before that
 abbrev pub IsDone : (words : List (List ℕ)) (ended : Ended) (old new : Moment) → IsHonest words old.files new.files → Type 0
-IsDone words ended old new honest =
-    let runs = runs_of (files_of honest.plan) honest.trees in
-    IsEnd (Printed (status_of runs) (out_of runs) (err_of runs)) ended.code old.sinks new.sinks ⊎ IsWant ended old new
+IsDone words ended old new honest = IsRanTo (files_of honest.plan) honest.trees ended old new ⊎ IsWant ended old new

@@ -1,13 +1,13 @@
 -- What becomes of a call, and what is reported of it: the status and the bytes for each sink.
 use Rattle.std.specs.Prelude.{ℕ, List, [], ◌∷◌, ◌++◌, codes, decimal}
 use Rattle.std.specs.List.{concat}
-use Rattle.js_parse.specs.declared.parser.ParseFault.{ParseFault}
+use Rattle.js_script.specs.declared.fault.ParseFault.{ParseFault}
 use Rattle.js_store.specs.declared.faults.FullReport.{FullReport}
 use Rattle.js_store.specs.declared.faults.FullReport.TheVariants.{Ids, Words, Slots}
 use Rattle.js_values.specs.declared.value.Kind.{Kind}
 use Rattle.js_values.specs.declared.value.Kind.TheVariants.{RangeError, TypeError, ReferenceError}
-use Rattle.js_eval.specs.declared.ending.End.{End}
-use Rattle.js_eval.specs.declared.ending.End.TheVariants.{Done, Threw, Unsupported, Full, Memory}
+use Rattle.js_evaluator.specs.declared.ending.End.{End}
+use Rattle.js_evaluator.specs.declared.ending.End.TheVariants.{Done, Threw, Unsupported, Full, Memory}
 use Rattle.js_run.specs.Words.{Name}
 use Rattle.js_run.specs.Meaning.{Run}
 use Rattle.js_run.specs.Fault.{fault_at, fault_text}

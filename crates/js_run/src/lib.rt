@@ -11,5 +11,6 @@ mod judging;
 mod refusing;
 mod run;
 mod telling;
+mod words;
 
 pub use run::{Status, run_words};

@@ -4,7 +4,7 @@ ghost use Rattle.js_run.specs.Fault.{fault_at, fault_text, lexical_at, lexical_t
 
 use js_lex::LexFault;
 use js_literal::{LiteralFault, NumberFault};
-use js_parse::ParseFault;
+use js_script::ParseFault;
 
 /// The byte offset of the fault.
 pub(crate) fn place(fault: ParseFault) -> u32
@@ -12,7 +12,11 @@ pub(crate) fn place(fault: ParseFault) -> u32
 {
     match fault {
         ParseFault::Lex(fault) => lexical_place(fault),
+        ParseFault::Unexpected { at } => at,
         ParseFault::NotInProfile { at } => at,
+        ParseFault::TooDeep { at } => at,
+        ParseFault::Duplicate { at } => at,
+        ParseFault::LoopName { at } => at,
         ParseFault::Memory => 0,
     }
 }
@@ -59,7 +63,11 @@ pub(crate) fn words(fault: ParseFault) -> &'static [u8]
 {
     match fault {
         ParseFault::Lex(fault) => lexical_words(fault),
+        ParseFault::Unexpected { at: _ } => b": refused: unexpected\n",
         ParseFault::NotInProfile { at: _ } => b": refused: not in profile\n",
+        ParseFault::TooDeep { at: _ } => b": refused: too deep\n",
+        ParseFault::Duplicate { at: _ } => b": refused: duplicate\n",
+        ParseFault::LoopName { at: _ } => b": refused: loop name\n",
         ParseFault::Memory => b"",
     }
 }

@@ -5,11 +5,12 @@ ghost use Rattle.js_run.specs.Words.{plan_of};
 ghost use Rattle.js_run.specs.Moment.{moment, ended};
 ghost use Rattle.js_run.specs.Cause.{IsQuiet};
 ghost use Rattle.js_run.specs.Outcome.{Outcome, Keeps};
-ghost use Rattle.js_run.specs.Rows.{Exactly, OrWant, IsFileFault, IsToldLarge, IsNoScript, IsToldRefused, IsRefusal, IsRefusalTold, Prints, PrintsAll, IsCut, IsHonest, IsDone};
+ghost use Rattle.js_run.specs.Rows.{Exactly, OrWant, IsFileFault, IsToldLarge, IsNoScript, IsToldRefused, IsRefusal, IsRefusalTold, IsMemory, PrintsAll, PrintsEarly, IsCut, IsHonest, IsDone};
 
 use crate::judging::judge;
-use crate::telling::tell;
+use crate::telling::{tell_runs, tell_stop};
 use js_io::{Files, Gate, Sink};
+use js_script::{no_refused_script, one_script};
 use std::alloc::Global;
 use std::thread::Threads;
 
@@ -31,9 +32,13 @@ fn run<F: Files, O: Sink, E: Sink>(
         (moment (F.state files.old) (O.state out.old) (E.state err.old))
         (moment (F.state files.new) (O.state out.new) (E.state err.new)) }
 {
-    let answer = judge(alloc, words, files);
-    Status {
-        code: tell(answer, out, err),
+    match judge(alloc, words, files) {
+        Ok(finishes) => Status {
+            code: tell_runs(&finishes, out, err),
+        },
+        Err(stop) => Status {
+            code: tell_stop(stop, err),
+        },
     }
 }
 
@@ -41,13 +46,16 @@ fn run<F: Files, O: Sink, E: Sink>(
 ///
 /// | Status | Comes |
 /// |---|---|
-/// | 0 | the script was read and ended Done, and everything was written |
-/// | 1 | the script threw, or met what the profile leaves out; its lines before that were written |
-/// | 2 | the words aren't the program's name and one word that doesn't begin with `-` |
-/// | 3 | the file can't be read, or has more than [`js_io::FILE_MAX`] bytes |
-/// | 4 | the file spells no script |
-/// | 6 | want of memory |
-/// | 7 | a write of what the script prints failed |
+/// | 0 | all files were read and all scripts ended Done, and everything was written |
+/// | 1 | the first script that didn't end Done threw, or met what the profile leaves out |
+/// | 2 | the words don't name 1 to 4096 files, or ask for more than that |
+/// | 3 | a file can't be read, or has more than [`js_io::FILE_MAX`] bytes |
+/// | 4 | all files were read, and one spells no script |
+/// | 6 | want of memory: before any script ran, or of the first script that didn't end Done |
+/// | 7 | a write of what the scripts print failed |
+///
+/// With 0, 1 and the second 6 what the scripts printed was written in the order of the words, also
+/// the lines before a script's end, and then a line for each script that didn't end Done.
 pub fn run_words<R: Threads + Sync, F: Files, O: Sink, E: Sink, G: Gate + Sync>(
     rt: &R,
     alloc: Global,
@@ -85,10 +93,14 @@ pub fn run_words<R: Threads + Sync, F: Files, O: Sink, E: Sink, G: Gate + Sync>(
         (moment (F.state files.old) (O.state out.old) (E.state err.old))
         (moment (F.state files.new) (O.state out.new) (E.state err.new)) }
 
+    ensures memory { result.code ≡ 6 → IsMemory (map string_bytes words.now) (ended result)
+        (moment (F.state files.old) (O.state out.old) (E.state err.old))
+        (moment (F.state files.new) (O.state out.new) (E.state err.new)) }
+
     ensures print { result.code ≡ 0 → PrintsAll (map string_bytes words.now)
         (moment (F.state files.old) (O.state out.old) (E.state err.old))
         (moment (F.state files.new) (O.state out.new) (E.state err.new)) }
-    ensures early { result.code ≡ 1 → Prints (map string_bytes words.now) 1
+    ensures early { result.code ≡ 1 → PrintsEarly (map string_bytes words.now)
         (moment (F.state files.old) (O.state out.old) (E.state err.old))
         (moment (F.state files.new) (O.state out.new) (E.state err.new)) }
     ensures write { result.code ≡ 7 → IsCut (map string_bytes words.now) 7
@@ -106,5 +118,8 @@ pub fn run_words<R: Threads + Sync, F: Files, O: Sink, E: Sink, G: Gate + Sync>(
 {
     let _rt = rt;
     let _gate = gate;
+    // laws of what is spelled
+    one_script();
+    no_refused_script();
     run(alloc, words, files, out, err)
 }

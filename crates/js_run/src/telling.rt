@@ -1,15 +1,15 @@
 // Writes what becomes of a call.
 ghost use Rattle.std.specs.Prelude.{◌≡◌, ◌++◌, decimal};
-ghost use Rattle.js_io.specs.SinkState.{WritesAll};
-ghost use Rattle.js_run.specs.Answer.{report};
+ghost use Rattle.js_io.specs.SinkState.{SinkState, WritesAll};
+ghost use Rattle.js_run.specs.Answer.{written, told, status, finish_report, stop_report};
 ghost use Rattle.js_run.specs.Verdict.{end_line, full_text, kind_text, status_or};
 ghost use Rattle.js_run.specs.Moment.{sinks};
-ghost use Rattle.js_run.specs.Ending.{IsEnd, IsEndTold};
+ghost use Rattle.js_run.specs.Ending.{IsEnd};
 
-use crate::answer::Answer;
+use crate::answer::{Finish, Stop};
 use crate::refusing::{place, words};
 use itoa::Buffer;
-use js_eval::{End, Kind};
+use js_evaluator::{End, Kind};
 use js_io::{Failed, Sink, write_all};
 use js_store::FullReport;
 
@@ -94,46 +94,78 @@ fn end_status(end: End) -> u8
     }
 }
 
-// The status of a script that was run and whose lines were written, once its own line is told.
-fn tell_end<E: Sink>(err: &mut E, name: &str, end: End) -> u8
-    ensures { IsEndTold name.now end result (E.state err.old) (E.state err.new) }
+// Writes what the scripts printed, in order.
+fn write_lines<O: Sink>(out: &mut O, finishes: &[Finish<'_>]) -> Result<(), Failed>
+    ensures { WritesAll result (O.state out.old) (O.state out.new) (written finishes.now) }
 {
-    match write_end(err, name, end) {
-        Ok(()) => end_status(end),
+    for finish in finishes {
+        write_all(out, finish.lines.bytes())?;
+    }
+    Ok(())
+}
+
+// Writes the lines of the scripts that didn't end Done, in order.
+fn write_ends<E: Sink>(err: &mut E, finishes: &[Finish<'_>]) -> Result<(), Failed>
+    ensures { WritesAll result (E.state err.old) (E.state err.new) (told finishes.now) }
+{
+    for finish in finishes {
+        write_end(err, finish.name, finish.end)?;
+    }
+    Ok(())
+}
+
+// The status of the first script that didn't end Done.
+fn first_status(finishes: &[Finish<'_>]) -> u8
+    ensures { result ≡ status finishes.now }
+{
+    for finish in finishes {
+        let status = end_status(finish.end);
+        if status != 0 {
+            return status;
+        }
+    }
+    0
+}
+
+/// Writes what scripts printed and how they ended, and gives the status.
+pub(crate) fn tell_runs<O: Sink, E: Sink>(finishes: &[Finish<'_>], out: &mut O, err: &mut E) -> u8
+    ensures { IsEnd (finish_report finishes.now) result (sinks (O.state out.old) (E.state err.old))
+        (sinks (O.state out.new) (E.state err.new)) }
+{
+    match write_lines(out, finishes) {
+        Ok(()) => match write_ends(err, finishes) {
+            Ok(()) => first_status(finishes),
+            Err(Failed) => 7,
+        },
         Err(Failed) => 7,
     }
 }
 
-/// Writes what the answer reports, and gives the status.
-pub(crate) fn tell<O: Sink, E: Sink>(answer: Answer<'_>, out: &mut O, err: &mut E) -> u8
-    ensures { IsEnd (report answer.entry) result (sinks (O.state out.old) (E.state err.old))
-        (sinks (O.state out.new) (E.state err.new)) }
+/// Tells why no script was run, whatever the other sink took, and gives the status.
+pub(crate) fn tell_stop<E: Sink>(stop: Stop<'_>, err: &mut E) -> u8
+    ensures { (out : SinkState) → IsEnd (stop_report stop.entry) result (sinks out (E.state err.old)) (sinks out (E.state err.new)) }
 {
     // a fault of err changes no status
-    match answer {
-        Answer::BadWords => {
+    match stop {
+        Stop::BadWords => {
             let _ = write_all(err, b"jsstr: the words are refused\n");
             2
         }
-        Answer::NotRead(name) => {
+        Stop::NotRead(name) => {
             let _ = write_both(err, name.as_bytes(), b": cannot be read\n");
             3
         }
-        Answer::TooLarge(name) => {
+        Stop::TooLarge(name) => {
             let _ = write_both(err, name.as_bytes(), b": larger than 1048576 bytes\n");
             3
         }
-        Answer::Refused(name, fault) => {
+        Stop::Refused(name, fault) => {
             let _ = write_place(err, name, b":", place(fault), words(fault));
             4
         }
-        Answer::NoMemory => {
+        Stop::NoMemory => {
             let _ = write_all(err, b"jsstr: out of memory\n");
             6
         }
-        Answer::Ran(name, end, lines) => match write_all(out, lines.bytes()) {
-            Ok(()) => tell_end(err, name, end),
-            Err(Failed) => 7,
-        },
     }
 }

@@ -5,9 +5,9 @@ use Rattle.js_lex.specs.declared.token.LexFault.TheVariants as lex
 use Rattle.js_lex.specs.Tokens.{LexFaultOf}
 use Rattle.js_grammar.specs.Reader.{Kind, Wrong, TooDeep}
 use Rattle.js_grammar.specs.Refused.{IsRefused}
-use Rattle.js_parser.specs.declared.fault.Fault.{Fault}
-use Rattle.js_parser.specs.declared.fault.Fault.TheVariants as parser
-use Rattle.js_parser.specs.Gives.{OnFault}
+use Rattle.js_look.specs.declared.fault.Fault.{Fault}
+use Rattle.js_look.specs.declared.fault.Fault.TheVariants as parser
+use Rattle.js_look.specs.Gives.{OnFault}
 use Rattle.js_syntax.specs.declared.token.Token.{Token}
 use Rattle.js_syntax.specs.Grammar.{Statements, most}
 use Rattle.js_token.specs.Tokens.{Reads}

@@ -3,8 +3,8 @@ use Rattle.std.specs.Prelude.{◌≡◌, ◌⊎◌, ℕ, List}
 use Rattle.js_lex.specs.declared.token.LexFault.{LexFault}
 use Rattle.js_lex.specs.declared.token.LexFault.TheVariants as lexical
 use Rattle.js_grammar.specs.Reader.{Wrong, TooDeep}
-use Rattle.js_parser.specs.declared.fault.Fault.{Fault}
-use Rattle.js_parser.specs.declared.fault.Fault.TheVariants as grammatical
+use Rattle.js_look.specs.declared.fault.Fault.{Fault}
+use Rattle.js_look.specs.declared.fault.Fault.TheVariants as grammatical
 use Rattle.js_script.specs.declared.fault.Role.{Role}
 use Rattle.js_script.specs.declared.fault.ParseFault.{ParseFault}
 use Rattle.js_script.specs.declared.fault.ParseFault.TheVariants as fault

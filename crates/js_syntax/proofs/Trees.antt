@@ -1,5 +1,5 @@
 -- What the tree of each recursive node is.
-use Rattle.std.proofs.Common.{◌≡◌, ℕ, Bool, ap, sym, ◌∙◌, refl, List, [], ◌∷◌, map, Box, Vec, Global}
+use Rattle.std.proofs.Common.{◌≡◌, ℕ, Bool, ap, sym, ◌∙◌, refl, List, [], ◌∷◌, map, Option, Box, Vec, Global}
 use Rattle.js_syntax.specs.declared.tree.Method.{Method}
 use Rattle.js_syntax.specs.declared.tree.Builtin.{Builtin}
 use Rattle.js_syntax.specs.declared.tree.Expr.{Expr, fold-roll-Expr}
@@ -10,6 +10,13 @@ use Rattle.js_syntax.specs.declared.tree.Expr.TheViews.{Chain, rolls-Chain, Cond
 use Rattle.js_syntax.specs.declared.tree.Expr.TheViews.{Call, rolls-Call, out-PostStep}
 use denote.Hole.Carrier.{out}
 use Rattle.js_syntax.specs.declared.tree.PostStep.TheVariants.{Index}
+use Rattle.js_syntax.specs.declared.tree.Stmt.{fold-roll-Stmt, fold_out-Stmt}
+use Rattle.js_syntax.specs.declared.tree.Stmt.TheOpen.{Stmt-F}
+use Rattle.js_syntax.specs.declared.tree.Stmt.TheViews.{out-Stmt, For, rolls-For, If, rolls-If, Block as Inner, rolls-Block}
+use Rattle.js_syntax.specs.declared.tree.Stmt.TheVariants.{Let, Const, Assign, Append, Print}
+use Rattle.js_syntax.specs.declared.tree.Arm.{Arm, fold_out-Arm}
+use Rattle.js_syntax.specs.declared.tree.Block.{Block, fold_out-Block}
+use Rattle.js_syntax.specs.Tree.{StmtTree, ArmTree, BlockTree, block, let_line, const_line, assign, append, print, if_line, for_line, block_of, arms, init_tree, stmt_layer, arm_layer, block_layer, stmt_tree, stmts_tree, arm_tree, block_tree}
 use Rattle.js_syntax.specs.Tree.{ExprTree, StepTree, LinkTree, chain, conditional, unary, post, builtin, of_call, of_index, links, expr_layer, step_layer, link_layer, expr_tree, step_tree, link_tree, links_tree, steps_tree, exprs_tree}
 
 link_is : (l : Link) → fold-Link ExprTree StepTree LinkTree expr_layer step_layer link_layer l ≡ link_tree l
@@ -53,3 +60,45 @@ pub tree_of_conditional : (test then other : Box Expr Global) → expr_tree (Con
 tree_of_conditional test then other =
     ap expr_tree (sym (rolls-Cond test then other))
     ∙ fold-roll-Expr ExprTree StepTree LinkTree expr_layer step_layer link_layer (Expr-F.Cond test then other)
+
+-- statements, arms and blocks
+pub block_is : (b : Block) → block_tree b ≡ block_of b.names (stmts_tree b.body.items)
+block_is b = fold_out-Block StmtTree ArmTree BlockTree stmt_layer arm_layer block_layer b
+
+pub arm_is : (a : Arm) → arm_tree a ≡ record { test = expr_tree a.test; body = block_tree a.body }
+arm_is a = fold_out-Arm StmtTree ArmTree BlockTree stmt_layer arm_layer block_layer a
+
+pub tree_of_block : (inner : Block) → stmt_tree (Inner inner) ≡ block (block_tree inner)
+tree_of_block inner =
+    ap stmt_tree (sym (rolls-Block inner))
+    ∙ fold-roll-Stmt StmtTree ArmTree BlockTree stmt_layer arm_layer block_layer (Stmt-F.Block inner)
+
+pub tree_of_if : (tests : Vec Arm Global) (rest : Block) → stmt_tree (If tests rest) ≡ if_line (arms (map arm_tree tests.items)) (block_tree rest)
+tree_of_if tests rest =
+    ap stmt_tree (sym (rolls-If tests rest))
+    ∙ fold-roll-Stmt StmtTree ArmTree BlockTree stmt_layer arm_layer block_layer (Stmt-F.If tests rest)
+
+pub tree_of_for : (x : List ℕ) (n : ℕ) (body : Block) → stmt_tree (For x n body) ≡ for_line x n (block_tree body)
+tree_of_for x n body =
+    ap stmt_tree (sym (rolls-For x n body))
+    ∙ fold-roll-Stmt StmtTree ArmTree BlockTree stmt_layer arm_layer block_layer (Stmt-F.For x n body)
+
+pub tree_of_let : (at : ℕ) (x : List ℕ) (init : Option Expr) → stmt_tree (Let at x init) ≡ let_line at x (init_tree init)
+unfolding out-Stmt out
+tree_of_let at x init = fold_out-Stmt StmtTree ArmTree BlockTree stmt_layer arm_layer block_layer (Let at x init)
+
+pub tree_of_const : (at : ℕ) (x : List ℕ) (e : Expr) → stmt_tree (Const at x e) ≡ const_line at x (expr_tree e)
+unfolding out-Stmt out
+tree_of_const at x e = fold_out-Stmt StmtTree ArmTree BlockTree stmt_layer arm_layer block_layer (Const at x e)
+
+pub tree_of_assign : (at : ℕ) (x : List ℕ) (e : Expr) → stmt_tree (Assign at x e) ≡ assign at x (expr_tree e)
+unfolding out-Stmt out
+tree_of_assign at x e = fold_out-Stmt StmtTree ArmTree BlockTree stmt_layer arm_layer block_layer (Assign at x e)
+
+pub tree_of_append : (at name_at : ℕ) (x : List ℕ) (e : Expr) → stmt_tree (Append at name_at x e) ≡ append at name_at x (expr_tree e)
+unfolding out-Stmt out
+tree_of_append at name_at x e = fold_out-Stmt StmtTree ArmTree BlockTree stmt_layer arm_layer block_layer (Append at name_at x e)
+
+pub tree_of_print : (args : Vec Expr Global) → stmt_tree (Print args) ≡ print (exprs_tree args.items)
+unfolding out-Stmt out
+tree_of_print args = fold_out-Stmt StmtTree ArmTree BlockTree stmt_layer arm_layer block_layer (Print args)

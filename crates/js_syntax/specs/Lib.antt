@@ -1,3 +1,4 @@
+pub mod Keys
 pub mod Tree
 pub mod Terminals
 pub mod Grammar

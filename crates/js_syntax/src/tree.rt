@@ -1,5 +1,6 @@
 // The tree of a script.
-ghost use Rattle.std.specs.Prelude.{◌≡◌, ◌∷◌, ◌++◌, [], IfOk, OnOk, OnErr};
+ghost use Rattle.std.specs.Prelude.{◌≡◌, ◌∷◌, ◌++◌, [], IfOk, OnOk, OnErr, bytes_eq};
+ghost use Rattle.js_syntax.specs.Keys.{key_of};
 
 use js_units::{NoMemory, Units};
 use std::alloc::Global;
@@ -208,10 +209,13 @@ pub enum Builtin {
     Stringify,
 }
 
-/// A name. Contracts see it as the list of its bytes.
+/// A name. Contracts see it as the list of its bytes. Its key, a number that most names have alone,
+/// tells names apart before their bytes are compared.
 #[derive(Drop)]
 pub struct Name {
+    key: u32,
     bytes: Vec<u8>,
+    ghost keyed: { key ≡ key_of bytes.items },
 }
 
 impl Model for Name {
@@ -227,7 +231,8 @@ impl Name {
     pub fn new(bytes: Vec<u8>) -> Name
         ensures { result ≡ bytes.items }
     {
-        Name { bytes }
+        let key = key(&bytes);
+        Name { key, bytes }
     }
 
     /// The letters.
@@ -241,10 +246,37 @@ impl Name {
     pub fn copy(&self) -> Result<Name, NoMemory>
         ensures { IfOk result (λ name. name ≡ self.now) }
     {
+        let key = self.key;
         Ok(Name {
+            key,
             bytes: self.bytes.clone()?,
         })
     }
+
+    /// Whether two names are the same.
+    pub fn is(&self, other: &Name) -> bool
+        ensures { result ≡ bytes_eq self.now other.now }
+    {
+        self.key == other.key && self.bytes.as_slice() == other.bytes.as_slice()
+    }
+
+    /// The key: names that are the same have the same one.
+    pub fn key(&self) -> u32
+        ensures { result ≡ key_of self.now }
+    {
+        self.key
+    }
+}
+
+// The key of these letters.
+fn key(bytes: &[u8]) -> u32
+    ensures { result ≡ key_of bytes.now }
+{
+    let mut key: u32 = 0;
+    for b in bytes {
+        key = (key % 16_777_216) * 31 + *b as u32;
+    }
+    key
 }
 
 /// Names that a script declares at its top. Contracts see them as a list of names.

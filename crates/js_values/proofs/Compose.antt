@@ -155,7 +155,7 @@ did_stop a b see fine see' fine' (Unsupported k) (ended (unsupported n) l) go d 
 did_stop a b see fine see' fine' (Store f) (gave x l) go d = cut_after l (go x) d
 did_stop a b see fine see' fine' (Store f) (ended e l) go d = d
 
-honest_full : {F : Type 0} (b : State F) (f : StoreFault) → Honest b (Some f) → Honest b (full_only f)
+pub honest_full : {F : Type 0} (b : State F) (f : StoreFault) → Honest b (Some f) → Honest b (full_only f)
 honest_full b (Full r) h = h
 honest_full b Memory h = tt
 

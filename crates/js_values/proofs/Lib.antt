@@ -5,3 +5,6 @@ pub mod ListTexts
 pub mod Still
 pub mod Strings
 pub mod Sums
+mod Orders
+pub mod TextArguments
+pub mod Limited

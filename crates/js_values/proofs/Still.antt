@@ -1,10 +1,10 @@
 -- What a value stands for stays while the store grows.
-use Rattle.std.proofs.Common.{◌≡◌, ℕ, List, refl, ap}
-use Rattle.js_store.specs.State.{State, Grows}
+use Rattle.std.proofs.Common.{◌≡◌, ℕ, List, refl, ap, sym, subst}
+use Rattle.js_store.specs.State.{State, Grows, Interned, text as units_of}
 use Rattle.js_store.proofs.Laws.{known_still, text_still}
 use Rattle.js_values.specs.declared.value.Value.{Value}
-use Rattle.js_values.specs.declared.value.Value.TheVariants.{Undefined, Null, Bool, Number, Text, List as Listed}
-use Rattle.js_values.specs.Outcome.{text, list}
+use Rattle.js_values.specs.declared.value.Value.TheVariants.{Undefined, Null, Bool, Number, Text, Symbol, List as Listed}
+use Rattle.js_values.specs.Outcome.{text, symbol, list}
 use Rattle.js_texts.proofs.Lists.{every_map, texts_still, all_known_still}
 use Rattle.js_values.specs.Seen.{seen, IsFine, all_seen, AllFine}
 use Rattle.js_texts.proofs.Lists.{map_same}
@@ -16,6 +16,7 @@ module _ {F R : Type 0} (a b : State F) (name : R → ℕ) (g : Grows a b) where
   seen_still (Bool b) h = refl
   seen_still (Number n) h = refl
   seen_still (Text r) h = ap text (text_still g (name r) h)
+  seen_still (Symbol r) h = ap symbol (text_still g (name r) h.0)
   seen_still (Listed v) h = ap list (texts_still name a b v.items g h)
 
   pub fine_still : (v : Value R) → IsFine a name v → IsFine b name v
@@ -24,6 +25,7 @@ module _ {F R : Type 0} (a b : State F) (name : R → ℕ) (g : Grows a b) where
   fine_still (Bool b) h = tt
   fine_still (Number n) h = h
   fine_still (Text r) h = known_still g (name r) h
+  fine_still (Symbol r) h = (known_still g (name r) h.0, subst (λ (u : List ℕ). Interned b u (name r)) (sym (text_still g (name r) h.0)) (g.interned (units_of a (name r)) (name r) h.1))
   fine_still (Listed v) h = all_known_still name a b v.items g h
 
   pub values_still : (vs : List (Value R)) → AllFine a name vs → all_seen b name vs ≡ all_seen a name vs

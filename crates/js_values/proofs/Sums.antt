@@ -24,7 +24,7 @@ module _ {F R : Type 0} (name : R → ℕ) where
   text_ends a b v n d = did_stop a b (λ s q. text s (name q)) (λ s q. IsKnown s (name q)) (λ s q. seen s name q) (λ s q. IsFine s name q) n (to_string a.limit v) (λ u. gave (text_value u) free) d
 
   -- what is meant of a value stays while the store grows
-  meant : (a b c : State F) (v : Value R) (r : Result (Value R) Stop) → Grows a b → IsFine a name v → Does name b c r (primitive b.limit (seen b name v)) → Does name b c r (primitive a.limit (seen a name v))
+  pub meant : (a b c : State F) (v : Value R) (r : Result (Value R) Stop) → Grows a b → IsFine a name v → Does name b c r (primitive b.limit (seen b name v)) → Does name b c r (primitive a.limit (seen a name v))
   meant a b c v r g h d =
       subst (λ (l : ℕ). Does name b c r (primitive l (seen a name v))) g.limit
       (subst (λ (o : Val). Does name b c r (primitive b.limit o)) (seen_still a b name g v h) d)

@@ -1,7 +1,7 @@
 -- The arguments of a call, and their conversions.
 use Rattle.std.specs.Prelude.{ℕ, List, [], ◌∷◌, Option, Some, None, Bool, true, false}
 use Rattle.js_number.specs.declared.Num.{Num}
-use Rattle.js_values.specs.Outcome.{Val, undefined, null, bool, number, text, list, Converted, into, fails}
+use Rattle.js_values.specs.Outcome.{Val, undefined, null, bool, number, text, symbol, list, Converted, into, fails}
 use Rattle.js_values.specs.Conversions.{to_number, text_units}
 
 -- the argument at a place; a missing one is undefined
@@ -32,4 +32,5 @@ end_in at null = some_number (to_number at null)
 end_in at (bool b) = some_number (to_number at (bool b))
 end_in at (number n) = some_number (to_number at (number n))
 end_in at (text u) = some_number (to_number at (text u))
+end_in at (symbol k) = some_number (to_number at (symbol k))
 end_in at (list us) = some_number (to_number at (list us))

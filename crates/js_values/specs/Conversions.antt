@@ -4,8 +4,8 @@ use Rattle.js_number.specs.declared.Num.{Num}
 use Rattle.js_number.specs.declared.Num.TheVariants.{Int, NaN, PosInf, NegInf}
 use Rattle.js_number.specs.Arith.{text_of}
 use Rattle.js_texts.specs.Joined.{joined as joined_list}
-use Rattle.js_values.specs.declared.value.Kind.TheVariants.{RangeError}
-use Rattle.js_values.specs.Outcome.{Val, undefined, null, bool, number, text, list, Converted, into, fails, Out, gave, unsupported, free, cost, throwing}
+use Rattle.js_values.specs.declared.value.Kind.TheVariants.{RangeError, TypeError}
+use Rattle.js_values.specs.Outcome.{Val, undefined, null, bool, number, text, symbol, list, Converted, into, fails, Out, gave, ended, threw, unsupported, free, cost, throwing}
 use Rattle.js_values.specs.Need.{reads, parts}
 
 -- a new string of these units
@@ -40,6 +40,7 @@ to_string limit null = spelled (codes "null")
 to_string limit (bool b) = spelled (word_of b)
 to_string limit (number n) = spelled (text_of n)
 to_string limit (text u) = gave u free
+to_string limit (symbol k) = ended (threw TypeError) free
 to_string limit (list us) = list_string limit us
 
 -- whether a value's primitive value is a string (ECMA-262, "ToPrimitive")
@@ -60,6 +61,7 @@ to_number at null = into (Int (pos 0))
 to_number at (bool b) = into (one_or_zero b)
 to_number at (number n) = into n
 to_number at (text u) = fails (unsupported at)
+to_number at (symbol k) = fails (threw TypeError)
 to_number at (list us) = fails (unsupported at)
 
 abbrev pub number_truth : Num → Bool
@@ -76,6 +78,7 @@ to_boolean null = false
 to_boolean (bool b) = b
 to_boolean (number n) = number_truth n
 to_boolean (text u) = not (nat_eq (length u) 0)
+to_boolean (symbol k) = true
 to_boolean (list us) = true
 
 -- the units of a value that is a string, or of the elements of an array, and of all such values

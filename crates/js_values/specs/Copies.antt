@@ -10,6 +10,7 @@ pub data Content (R : Type 0) : Type 0 where
   bool : Bool → Content R
   number : Num → Content R
   text : R → Content R
+  symbol : R → Content R
   list : List R → Content R
 
 abbrev pub content : {R : Type 0} → Value R → Content R
@@ -18,4 +19,5 @@ content value.Null = null
 content (value.Bool b) = bool b
 content (value.Number n) = number n
 content (value.Text r) = text r
+content (value.Symbol r) = symbol r
 content (value.List v) = list v.items

@@ -23,6 +23,10 @@ GivesAll name a b r o = Did a b (λ s v. all_seen s name v.items) (λ s v. AllFi
 abbrev pub GivesTexts : {F R : Type 0} → (R → ℕ) → State F → State F → Result (Vec R Global) Stop → Out (List (List ℕ)) → Type 0
 GivesTexts name a b r o = Did a b (λ s v. texts_seen s name v.items) (λ s v. AllKnown s name v.items) r o
 
+-- a result that is no value of the language
+abbrev pub Tells : {F A : Type 0} → State F → State F → Result A Stop → Out A → Type 0
+Tells a b r o = Did a b (λ s v. v) (λ s v. Unit {0}) r o
+
 -- what settling the strings of values takes at most
 abbrev pub string_words : List Val → ℕ
 string_words [] = 0

@@ -2,9 +2,11 @@ pub mod Outcome
 pub mod Need
 pub mod Conversions
 pub mod Operators
+pub mod Comparing
 pub mod Arguments
 pub mod Copies
 pub mod Seen
 pub mod Ran
 pub mod Does
 pub mod Stops
+pub mod Limited

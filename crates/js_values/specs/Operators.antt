@@ -2,10 +2,8 @@
 use Rattle.std.specs.Prelude.{ℕ, ◌+◌, List, ◌++◌, length, Option, Some, None, nat_le, if◌then◌else◌, Bool, true, false, not, ◌||◌}
 use Rattle.js_number.specs.declared.Num.{Num}
 use Rattle.js_number.specs.Arith.{sum, difference, negative}
-use Rattle.js_tree.specs.declared.tree.Op.{Op}
-use Rattle.js_tree.specs.declared.tree.Op.TheVariants.{Plus, Minus}
 use Rattle.js_values.specs.declared.value.Kind.TheVariants.{RangeError}
-use Rattle.js_values.specs.Outcome.{Val, undefined, null, bool, number, text, list, Converted, into, fails, threw, unsupported, Out, gave, free, bind, needing, throwing, refuses, converts, converting}
+use Rattle.js_values.specs.Outcome.{Val, undefined, null, bool, number, text, symbol, list, Converted, into, fails, threw, unsupported, Out, gave, free, bind, needing, throwing, refuses, converts, converting}
 use Rattle.js_values.specs.Need.{nothing, reads}
 use Rattle.js_values.specs.Conversions.{to_string, to_number, to_boolean, is_text, text_units, string_units}
 
@@ -52,6 +50,7 @@ primitive limit null = gave null free
 primitive limit (bool b) = gave (bool b) free
 primitive limit (number n) = gave (number n) free
 primitive limit (text u) = gave (text u) free
+primitive limit (symbol k) = gave (symbol k) free
 primitive limit (list us) = bind (to_string limit (list us)) (λ u. gave (text u) free)
 
 -- the sum of two primitive values, of which a string makes both strings
@@ -67,11 +66,6 @@ abbrev pub plus : ℕ → ℕ → Val → Val → Out Val
 plus at limit v w =
     converting (reads (string_units v + string_units w)) (primitive limit v) (λ x.
     converting (reads (text_units v + string_units w)) (primitive limit w) (λ y. plus_primitives at limit x y))
-
--- ECMA-262, "ApplyStringOrNumericBinaryOperator"
-abbrev pub operated : Op → ℕ → ℕ → Val → Val → Out Val
-operated Plus at limit v w = plus at limit v w
-operated Minus at limit v w = difference_in at v w
 
 -- unary minus, or else `!`
 abbrev pub unary_out : Bool → ℕ → Val → Out Val

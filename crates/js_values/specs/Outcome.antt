@@ -5,14 +5,15 @@ use Rattle.js_number.specs.declared.Num.TheVariants.{Int}
 use Rattle.js_values.specs.declared.value.Kind.{Kind}
 use Rattle.js_values.specs.Need.{Row, ids_in, words_in}
 
--- the language values of the profile, where a string is its list of units, and an array, whose elements are all strings, is
--- the list of these (ECMA-262, "ECMAScript Language Types")
+-- the language values of the profile, where a string is its list of units, a symbol, which is always a registered one, its
+-- key, and an array, whose elements are all strings, the list of these (ECMA-262, "ECMAScript Language Types")
 pub data Val : Type 0 where
   undefined : Val
   null : Val
   bool : Bool → Val
   number : Num → Val
   text : List ℕ → Val
+  symbol : List ℕ → Val
   list : List (List ℕ) → Val
 
 -- `interned`: the lists that were interned, in order; `texts`: the strings that expressions gave;

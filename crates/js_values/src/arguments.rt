@@ -10,7 +10,7 @@ ghost use Rattle.js_values.specs.Seen.{seen, IsFine, all_seen, AllFine, LawfulEn
 ghost use Rattle.js_values.specs.Does.{GivesText};
 
 use crate::conversions::{number_of, to_text};
-use crate::value::{Refusal, Stop, Value};
+use crate::value::{Kind, Refusal, Stop, Value};
 use js_number::Num;
 use js_store::Strings;
 use std::alloc::Global;
@@ -76,7 +76,12 @@ fn is_missing<S: Strings>(_store: &S, value: &Value<S::Ref>) -> bool
 {
     match value {
         Value::Undefined => true,
-        Value::Null | Value::Bool(_) | Value::Number(_) | Value::Text(_) | Value::List(_) => false,
+        Value::Null
+        | Value::Bool(_)
+        | Value::Number(_)
+        | Value::Text(_)
+        | Value::Symbol(_)
+        | Value::List(_) => false,
     }
 }
 
@@ -136,5 +141,6 @@ fn number_or_none<S: Strings>(
         Value::Bool(false) => Ok(Some(Num::Int(0))),
         Value::Number(n) => Ok(Some(*n)),
         Value::Text(_) | Value::List(_) => Err(Refusal::Unsupported { at }),
+        Value::Symbol(_) => Err(Refusal::Threw(Kind::TypeError)),
     }
 }

@@ -15,7 +15,7 @@ ghost use Rattle.js_values.specs.Seen.{seen, IsFine, all_seen, AllFine};
 ghost use Rattle.js_values.specs.Does.{GivesText, GivesTexts, string_words};
 
 use crate::lists::push;
-use crate::value::{Refusal, Stop, Value};
+use crate::value::{Kind, Refusal, Stop, Value};
 use js_number::{Num, append_text};
 use js_store::{MethodFault, StoreFault, Strings};
 use js_units::Units;
@@ -41,6 +41,7 @@ pub fn to_text<S: Strings>(
         Value::Bool(false) => word(alloc, store, "false"),
         Value::Number(n) => number_text(alloc, store, *n),
         Value::Text(s) => Ok(*s),
+        Value::Symbol(_) => Err(Stop::Threw(Kind::TypeError)),
         Value::List(list) => list_text(alloc, store, list),
     }
 }
@@ -124,7 +125,8 @@ pub fn is_string<S: Strings>(_store: &S, value: &Value<S::Ref>) -> bool
 {
     match value {
         Value::Text(_) | Value::List(_) => true,
-        Value::Undefined | Value::Null | Value::Bool(_) | Value::Number(_) => false,
+        Value::Undefined | Value::Null | Value::Bool(_) | Value::Number(_) | Value::Symbol(_) =>
+            false,
     }
 }
 
@@ -141,6 +143,7 @@ pub fn number_of<S: Strings>(_store: &S, at: u32, value: &Value<S::Ref>) -> Resu
         Value::Bool(false) => Ok(Num::Int(0)),
         Value::Number(n) => Ok(*n),
         Value::Text(_) | Value::List(_) => Err(Refusal::Unsupported { at }),
+        Value::Symbol(_) => Err(Refusal::Threw(Kind::TypeError)),
     }
 }
 
@@ -156,7 +159,7 @@ pub fn truth<S: Strings>(store: &mut S, value: &Value<S::Ref>) -> bool
         Value::Bool(b) => *b,
         Value::Number(n) => is_nonzero(*n),
         Value::Text(s) => store.len(*s) != 0,
-        Value::List(_) => true,
+        Value::Symbol(_) | Value::List(_) => true,
     }
 }
 

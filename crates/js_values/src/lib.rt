@@ -8,6 +8,7 @@
 #![tactic(auto)]
 
 mod arguments;
+mod comparing;
 mod conversions;
 mod lists;
 mod operators;
@@ -17,7 +18,8 @@ pub use arguments::{
     first_is_missing, first_number, first_text, second_is_missing, second_number, second_or_none,
     second_text,
 };
-pub use conversions::{joined_by_commas, number_of, texts, to_text};
+pub use comparing::{compare, is_same};
+pub use conversions::{joined_by_commas, number_of, texts, to_text, truth};
 pub use lists::push;
-pub use operators::{apply_unary, operate};
+pub use operators::{apply_unary, plus, subtract, to_primitive};
 pub use value::{Kind, Refusal, Stop, Value, number_value};

@@ -5,7 +5,7 @@ ghost use Rattle.js_store.specs.State.{Grows, IsKnown, text};
 ghost use Rattle.js_values.specs.Outcome;
 ghost use Rattle.js_values.specs.Outcome.{gave, bind, free};
 ghost use Rattle.js_values.specs.Conversions.{is_text, to_number, to_string};
-ghost use Rattle.js_values.specs.Operators.{counted, sum_in, paired, difference_in, negative_in, joined, joined_strings, primitive, plus as sum_out, plus_primitives as primitive_sum, operated, unary_out};
+ghost use Rattle.js_values.specs.Operators.{counted, sum_in, paired, difference_in, negative_in, joined, joined_strings, primitive, plus as sum_out, plus_primitives as primitive_sum, unary_out};
 ghost use Rattle.js_values.specs.Stops.{converted_of};
 ghost use Rattle.js_values.specs.Seen.{seen, IsFine};
 ghost use Rattle.js_values.specs.Does.{Does};
@@ -14,32 +14,10 @@ use crate::conversions::{is_string, number_of, to_text, truth};
 use crate::value::{Kind, Refusal, Stop, Value};
 use js_number::Num;
 use js_store::{ConcatFault, Strings};
-use js_tree::Op;
 use std::alloc::Global;
 
-/// An operator of a chain, at the byte offset `at`, on its two sides.
-pub fn operate<S: Strings>(
-    alloc: Global,
-    store: &mut S,
-    at: u32,
-    op: Op,
-    left: &Value<S::Ref>,
-    right: &Value<S::Ref>,
-) -> Result<Value<S::Ref>, Stop>
-    requires left { IsFine (S.state store.old) S.number left.now }
-    requires right { IsFine (S.state store.old) S.number right.now }
-    ensures grows { Grows (S.state store.old) (S.state store.new) }
-    ensures fine { IfOk result (λ v. IsFine (S.state store.new) S.number v) }
-    ensures did { Does S.number (S.state store.old) (S.state store.new) result (operated op at (S.state store.old).limit (seen (S.state store.old) S.number left.now) (seen (S.state store.old) S.number right.now)) }
-{
-    match op {
-        Op::Plus => plus(alloc, store, at, left, right),
-        Op::Minus => subtract(store, at, left, right),
-    }
-}
-
-// `+`, before which arrays become strings.
-fn plus<S: Strings>(
+/// `+` at the byte offset `at`, before which arrays become strings ("Addition Operator").
+pub fn plus<S: Strings>(
     alloc: Global,
     store: &mut S,
     at: u32,
@@ -57,8 +35,8 @@ fn plus<S: Strings>(
     plus_primitives(alloc, store, at, &first, &second)
 }
 
-// The primitive value of a value, which is no array.
-fn to_primitive<S: Strings>(
+/// The primitive value of a value, which is no array.
+pub fn to_primitive<S: Strings>(
     alloc: Global,
     store: &mut S,
     value: &Value<S::Ref>,
@@ -74,6 +52,7 @@ fn to_primitive<S: Strings>(
         Value::Bool(b) => Ok(Value::Bool(*b)),
         Value::Number(n) => Ok(Value::Number(*n)),
         Value::Text(s) => Ok(Value::Text(*s)),
+        Value::Symbol(s) => Ok(Value::Symbol(*s)),
         Value::List(_) => text_value(alloc, store, value),
     }
 }
@@ -173,7 +152,8 @@ fn add<S: Strings>(
     count(store, at, m.add(n))
 }
 
-fn subtract<S: Strings>(
+/// `-` at the byte offset `at` ("Subtraction Operator").
+pub fn subtract<S: Strings>(
     store: &S,
     at: u32,
     left: &Value<S::Ref>,
@@ -188,7 +168,7 @@ fn subtract<S: Strings>(
 }
 
 // ToNumber of both sides. One that throws goes before one that is left out, whatever its side.
-fn two_numbers<S: Strings>(
+pub fn two_numbers<S: Strings>(
     store: &S,
     at: u32,
     left: &Value<S::Ref>,

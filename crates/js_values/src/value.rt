@@ -16,8 +16,9 @@ pub enum Kind {
     ReferenceError,
 }
 
-/// A value (ECMA-262, "ECMAScript Language Types"), where strings are references into a store. An
-/// array is the list of its elements, which are all strings.
+/// A value (ECMA-262, "ECMAScript Language Types"), where strings are references into a store. A
+/// symbol is the interned string of its key. An array is the list of its elements, which are all
+/// strings.
 #[derive(Debug, Drop)]
 pub enum Value<R> {
     Undefined,
@@ -25,6 +26,7 @@ pub enum Value<R> {
     Bool(bool),
     Number(Num),
     Text(R),
+    Symbol(R),
     List(Vec<R>),
 }
 
@@ -39,6 +41,7 @@ impl<R: Copy> Value<R> {
             Value::Bool(b) => Value::Bool(*b),
             Value::Number(n) => Value::Number(*n),
             Value::Text(s) => Value::Text(*s),
+            Value::Symbol(s) => Value::Symbol(*s),
             Value::List(list) => Value::List(copied(alloc, list)?),
         })
     }

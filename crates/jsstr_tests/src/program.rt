@@ -50,7 +50,7 @@ fn run<R: Threads + Sync>(
 #[test]
 fn a_sink_fails_at_any_place(rt: HostRuntime) -> Result<(), Fail> {
     let written = b"hello\nyou\n";
-    let told = b"a.js:0: refused: not in profile\n";
+    let told = b"a.js:3: refused: unexpected\n";
     for most in 1..4 {
         for room in 0..11 {
             let file = ["jsstr", "a.js"];
@@ -137,6 +137,38 @@ fn a_read_fails(rt: HostRuntime) -> Result<(), Fail> {
         );
         assert_eq!(rt; status.code, code);
         assert_eq!(rt; err.taken(), b"a.js: cannot be read\n".as_slice());
+    }
+    Ok(())
+}
+
+// One of three reads fails: its file is named, and nothing is printed.
+#[test]
+fn a_read_fails_among_several(rt: HostRuntime) -> Result<(), Fail> {
+    let words = owned(rt.alloc(), &["jsstr", "a.js", "b.js", "c.js"])?;
+    for (call, told) in [
+        (0, "a.js: cannot be read\n"),
+        (1, "b.js: cannot be read\n"),
+        (2, "c.js: cannot be read\n"),
+    ] {
+        let mut files = MemFiles::new(rt.alloc());
+        files.put("a.js", b"print('x');")?;
+        files.put("b.js", b"no script")?;
+        files.put("c.js", b"print('y');")?;
+        files.fail_at(call)?;
+        let mut out = MemSink::new(rt.alloc(), 7, 100)?;
+        let mut err = MemSink::new(rt.alloc(), 7, 100)?;
+        let status = run_words(
+            &rt,
+            rt.alloc(),
+            &words,
+            &mut files,
+            &mut out,
+            &mut err,
+            &FreeGate,
+        );
+        assert_eq!(rt; status.code, 3, "at {call}");
+        assert_eq!(rt; out.taken(), b"".as_slice(), "at {call}");
+        assert_eq!(rt; err.taken(), told.as_bytes(), "at {call}");
     }
     Ok(())
 }

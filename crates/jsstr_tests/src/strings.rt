@@ -3,7 +3,7 @@ ghost use Rattle.std.specs.Prelude.{◌≤◌, length};
 
 use js_replace::substitution;
 use js_search::{compare, equal, stands_at};
-use js_store::{MethodFault, StoreFault, Strings};
+use js_store::{Limit, MethodFault, StoreFault, Strings};
 use js_texts::copied;
 use plain_store::PlainStore;
 use std::alloc::Global;
@@ -37,7 +37,7 @@ fn strings_are_ordered_by_their_units(rt: HostRuntime) -> Result<(), Fail> {
     ];
     for (a, b, order) in table {
         assert!(rt; a.len() <= 100 && b.len() <= 100);
-        let mut store = PlainStore::new(rt.alloc());
+        let mut store = PlainStore::new(rt.alloc(), Limit::Bits64);
         let found = ordered(&mut store, a, b)?;
         assert_eq!(rt; found, (order, order == Ordering::Equal), "{a:?} and {b:?}");
     }
@@ -79,7 +79,7 @@ fn a_template_stands_for_a_text_at_a_match(rt: HostRuntime) -> Result<(), Fail> 
         (5, None),
     ];
     for (place, wanted) in table {
-        let mut store = PlainStore::new(rt.alloc());
+        let mut store = PlainStore::new(rt.alloc(), Limit::Bits64);
         match (matched(rt.alloc(), &mut store, &template, place)?, wanted) {
             (Some(found), Some(wanted)) => assert_eq!(rt; found.as_slice(), wanted, "at {place}"),
             (None, None) => {}

@@ -1,6 +1,6 @@
 use Rattle.std.proofs.lemmas.Result.{err_from_is_err_and}
 use Rattle.js_store.specs.State.{text}
-use Rattle.js_calls.proofs.Within.{joined_stops}
+use Rattle.js_calls.proofs.Joined.{joined_stops}
 use Rattle.js_calls.proofs.building.append.Goals as goal
 
 pub returns-in_err-concat-clause-did : goal.returns-in_err-concat-clause-did

@@ -5,7 +5,7 @@ use Rattle.js_store.specs.State.{text}
 use Rattle.js_store.proofs.Laws.{flat_words_most}
 use Rattle.js_methods.proofs.WellFormed.{well_length}
 use Rattle.js_values.specs.Need.{row_ids, row_words}
-use Rattle.js_calls.proofs.Within.{within_given, within_ends}
+use Rattle.js_values.proofs.Limited.{within_given, within_ends}
 use Rattle.js_calls.proofs.cutting.call_to_well_formed.Goals as goal
 
 pub returns-clause-did : goal.returns-clause-did

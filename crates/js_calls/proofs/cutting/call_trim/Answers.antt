@@ -3,7 +3,7 @@ use Rattle.std.proofs.lemmas.Result.{err_from_is_err_and}
 use Rattle.js_store.specs.State.{text}
 use Rattle.js_values.specs.Need.{row_ids, row_words}
 use Rattle.js_calls.specs.Groups.{trimmed_of}
-use Rattle.js_calls.proofs.Within.{within_stops}
+use Rattle.js_values.proofs.Limited.{within_stops}
 use Rattle.js_calls.proofs.cutting.call_trim.Goals as goal
 
 pub returns-in_err-r-clause-did : goal.returns-in_err-r-clause-did

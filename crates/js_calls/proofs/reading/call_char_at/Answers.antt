@@ -6,7 +6,7 @@ use Rattle.js_values.specs.Outcome.{text as text_value}
 use Rattle.js_values.specs.Need.{row_ids, row_words}
 use Rattle.js_values.specs.Conversions.{all_units}
 use Rattle.js_values.specs.Seen.{all_seen}
-use Rattle.js_calls.proofs.Within.{row_stops}
+use Rattle.js_values.proofs.Limited.{row_stops}
 use Rattle.js_calls.proofs.reading.call_char_at.Goals as goal
 
 pub returns-in_err-r-clause-did : goal.returns-in_err-r-clause-did

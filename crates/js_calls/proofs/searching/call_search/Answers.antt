@@ -8,7 +8,8 @@ use Rattle.js_values.specs.Stops.{converted_of}
 use Rattle.js_calls.specs.Searching.{found}
 use Rattle.js_calls.specs.Groups.{search_of}
 use Rattle.js_values.specs.Seen.{all_seen}
-use Rattle.js_calls.proofs.Calls.{text_fails, search_does}
+use Rattle.js_values.proofs.TextArguments.{text_fails}
+use Rattle.js_calls.proofs.Calls.{search_does}
 use Rattle.js_calls.proofs.searching.call_search.Goals as goal
 
 pub returns-in_err-w-clause-did : goal.returns-in_err-w-clause-did

@@ -4,7 +4,7 @@ use Rattle.js_store.specs.State.{text}
 use Rattle.js_methods.specs.Searching.{ends_at}
 use Rattle.js_values.specs.Outcome.{bool}
 use Rattle.js_values.specs.Need.{row_ids, row_words}
-use Rattle.js_calls.proofs.Within.{row_stops}
+use Rattle.js_values.proofs.Limited.{row_stops}
 use Rattle.js_calls.proofs.searching.find_end.Goals as goal
 
 pub returns-in_err-ends-clause-did : goal.returns-in_err-ends-clause-did

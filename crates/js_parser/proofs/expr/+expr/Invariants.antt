@@ -5,9 +5,10 @@ use Rattle.js_syntax.specs.Tree.{expr_tree, step_tree, link_tree}
 use Rattle.js_syntax.specs.Terminals.{comma}
 use Rattle.js_syntax.specs.Grammar.{link_of, Whole}
 use Rattle.js_syntax.specs.Reading.{step_mark}
-use Rattle.js_parser.specs.At.{operators, inner, step_at, operand_at}
-use Rattle.js_parser.specs.declared.look.Level.{Level}
-use Rattle.js_parser.specs.declared.look.Level.TheVariants as level
+use Rattle.js_look.specs.Look.{operators}
+use Rattle.js_parser.specs.At.{inner, step_at, operand_at}
+use Rattle.js_look.specs.declared.look.Level.{Level}
+use Rattle.js_look.specs.declared.look.Level.TheVariants as level
 use Rattle.js_parser.proofs.expr.+expr.Given as goal
 
 abbrev depth : Level → ℕ

@@ -2,7 +2,7 @@ use Rattle.std.proofs.Common.{subst, map, []}
 use Rattle.js_grammar.specs.Reader.{read_whole}
 use Rattle.js_syntax.specs.Tree.{stmt_tree}
 use Rattle.js_syntax.specs.Reading.{read_statements}
-use Rattle.js_parser.specs.Gives.{Gives}
+use Rattle.js_look.specs.Gives.{Gives}
 use Rattle.js_parser.proofs.Whole.{is_spelled, is_found, is_refused}
 use Rattle.js_parser.proofs.statement.statements.Goals as goal
 

@@ -1,0 +1,5 @@
+pub mod Codes
+pub mod Quoting
+pub mod Symbols
+pub mod Builtins
+pub mod Numbers

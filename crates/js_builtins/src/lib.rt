@@ -1,0 +1,15 @@
+//! The built-in functions and the description of a symbol, as a script calls them with values as
+//! arguments (ECMA-262, "Properties of the String Constructor", "Properties of the Symbol
+//! Constructor", "JSON.stringify"), over any store of strings.
+//!
+//! What each call means stands in `specs/Builtins.antt`, a line for each function, and what it
+//! cites.
+#![tactic(auto)]
+
+mod builtins;
+mod codes;
+mod quoting;
+mod symbols;
+
+pub use builtins::call_builtin;
+pub use symbols::read_description;

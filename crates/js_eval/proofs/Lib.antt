@@ -1,3 +1,0 @@
-mod Scopes
-mod Expressions
-mod Flows

@@ -1,0 +1,14 @@
+mod Mapped
+mod Kept
+mod Copied
+mod Within
+mod Names
+mod Assigned
+mod Stays
+mod Flows
+mod Printing
+mod Statements
+mod Scripts
+mod Applied
+mod Leaves
+mod Expressions

@@ -1,0 +1,6 @@
+pub mod Expression
+pub mod Script
+pub mod Seen
+pub mod Flows
+pub mod Evaluates
+pub mod Copies

@@ -1,0 +1,12 @@
+//! Looks at the next token, for the parser: which words and marks stand there, and the faults of
+//! the grammar with their place.
+#![tactic(auto)]
+
+mod fault;
+mod look;
+
+pub use fault::{Fault, refused, too_deep};
+pub use look::{
+    Fixed, Ident, Level, Opener, assign_op, begins_step, behind, called, else_if, goes_on, header,
+    letters, member, method, name, next, next_opener, open_bracket, operator, sign, simple, take,
+};

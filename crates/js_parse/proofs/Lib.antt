@@ -1,9 +1,0 @@
-pub mod Lawful
-pub mod Loops
-pub mod Stops
-pub mod Expressions
-pub mod Rooms
-pub mod Turns
-pub mod Classes
-pub mod Statements
-pub mod Scripts

@@ -1,7 +1,0 @@
-pub mod Token
-pub mod Lang
-pub mod Grammar
-pub mod Spells
-pub mod Reader
-pub mod Reading
-pub mod Gives

@@ -1,0 +1,91 @@
+-- The scope: a list of blocks, the innermost first, over the top (ECMA-262, "Declarative Environment Records"). V is the type
+-- of the values.
+use Rattle.std.specs.Prelude.{ℕ, Bool, true, false, List, [], ◌∷◌, ◌++◌, Option, Some, None, is_some, bytes_eq, if◌then◌else◌}
+
+-- a name that was declared and evaluated, whether by `const`, and its value
+pub record Bound (V : Type 0) : Type 0 where
+  pub name : List ℕ
+  pub constant : Bool
+  pub value : V
+
+-- a block that was entered: the names that it declares, and those that were evaluated. A name that was not evaluated yet
+-- hides one further out.
+pub record Frame (V : Type 0) : Type 0 where
+  pub names : List (List ℕ)
+  pub bound : List (Bound V)
+
+-- at the top a name that was not evaluated is as one that nothing declares, so its names aren't kept
+pub record Bindings (V : Type 0) : Type 0 where
+  pub blocks : List (Frame V)
+  pub top : List (Bound V)
+
+abbrev pub bound_in : {V : Type 0} → List (Bound V) → List ℕ → Option (Bound V)
+bound_in [] x = None
+bound_in (b ∷ bs) x = if bytes_eq b.name x then Some b else bound_in bs x
+
+abbrev pub is_among : List (List ℕ) → List ℕ → Bool
+is_among [] x = false
+is_among (n ∷ ns) x = if bytes_eq n x then true else is_among ns x
+
+-- what a block says of a name: its value, or that it has none yet, or what is said further out
+abbrev pub inner_first : {V : Type 0} → Option (Bound V) → Bool → Option (Bound V) → Option (Bound V)
+inner_first (Some b) declared outer = Some b
+inner_first None declared outer = if declared then None else outer
+
+-- the innermost block that declares a name has its value, if it was evaluated
+abbrev pub look : {V : Type 0} → List (Frame V) → List (Bound V) → List ℕ → Option (Bound V)
+look [] top x = bound_in top x
+look (f ∷ fs) top x = inner_first (bound_in f.bound x) (is_among f.names x) (look fs top x)
+
+-- what a name means ("ResolveBinding"); None where reading it is a ReferenceError
+abbrev pub meant : {V : Type 0} → Bindings V → List ℕ → Option (Bound V)
+meant bs x = look bs.blocks bs.top x
+
+-- another value for a name that has one
+abbrev pub with_value : {V : Type 0} → Bound V → V → Bound V
+with_value b v = record { name = b.name; constant = b.constant; value = v }
+
+abbrev pub changed : {V : Type 0} → List (Bound V) → List ℕ → V → List (Bound V)
+changed [] x v = []
+changed (b ∷ bs) x v = if bytes_eq b.name x then with_value b v ∷ bs else b ∷ changed bs x v
+
+abbrev pub with_bound : {V : Type 0} → Frame V → List (Bound V) → Frame V
+with_bound f bs = record { names = f.names; bound = bs }
+
+abbrev pub inside : {V : Type 0} → Frame V → Bindings V → Bindings V
+inside f bs = record { blocks = f ∷ bs.blocks; top = bs.top }
+
+abbrev pub write : {V : Type 0} → List (Frame V) → List (Bound V) → List ℕ → V → Bindings V
+write [] top x v = record { blocks = []; top = changed top x v }
+write (f ∷ fs) top x v =
+    if is_some (bound_in f.bound x)
+    then record { blocks = with_bound f (changed f.bound x v) ∷ fs; top = top }
+    else inside f (write fs top x v)
+
+-- "SetMutableBinding" of a name that has a value
+abbrev pub written : {V : Type 0} → Bindings V → List ℕ → V → Bindings V
+written bs x v = write bs.blocks bs.top x v
+
+abbrev pub declare : {V : Type 0} → List (Frame V) → List (Bound V) → Bound V → Bindings V
+declare [] top b = record { blocks = []; top = top ++ b ∷ [] }
+declare (f ∷ fs) top b = record { blocks = with_bound f (f.bound ++ b ∷ []) ∷ fs; top = top }
+
+-- a declaration of the innermost block, or of the top, is evaluated ("InitializeBinding")
+abbrev pub declared : {V : Type 0} → Bindings V → Bound V → Bindings V
+declared bs b = declare bs.blocks bs.top b
+
+-- a block is entered with these names, none of them evaluated ("BlockDeclarationInstantiation")
+abbrev pub entered : {V : Type 0} → List (List ℕ) → Bindings V → Bindings V
+entered names bs = inside (record { names = names; bound = [] }) bs
+
+-- a turn of a `for` is entered, with its name bound ("CreatePerIterationEnvironment")
+abbrev pub turned : {V : Type 0} → List ℕ → V → Bindings V → Bindings V
+turned x v bs = inside (record { names = []; bound = record { name = x; constant = false; value = v } ∷ [] }) bs
+
+abbrev pub all_but_first : {V : Type 0} → List (Frame V) → List (Frame V)
+all_but_first [] = []
+all_but_first (f ∷ fs) = fs
+
+-- the innermost block is left
+abbrev pub outer : {V : Type 0} → Bindings V → Bindings V
+outer bs = record { blocks = all_but_first bs.blocks; top = bs.top }
