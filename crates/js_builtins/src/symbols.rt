@@ -11,8 +11,7 @@ ghost use Rattle.js_values.specs.Outcome;
 ghost use Rattle.js_values.specs.Need.{reads};
 ghost use Rattle.js_values.specs.Seen.{seen, IsFine, all_seen, AllFine};
 ghost use Rattle.js_values.specs.Does.{Does};
-ghost use Rattle.js_values.specs.Limited.{limited};
-ghost use Rattle.js_builtins.specs.Symbols.{description_of, shown_symbol, string_call, registered, string_of as string_out, symbol_for as symbol_out, key_for as key_out};
+ghost use Rattle.js_builtins.specs.Symbols.{description_of, shown_symbol, shown_out, string_call, registered, string_of as string_out, symbol_for as symbol_out, key_for as key_out};
 
 use crate::quoting::give_text;
 use js_number::append_text;
@@ -88,7 +87,7 @@ fn show_symbol<S: Strings>(alloc: Global, store: &mut S, key: S::Ref) -> Result<
     requires { IsKnown (S.state store.old) (S.number key) }
     ensures grows { Grows (S.state store.old) (S.state store.new) }
     ensures fine { IfOk result (λ v. IsFine (S.state store.new) S.number v) }
-    ensures did { Does S.number (S.state store.old) (S.state store.new) result (limited (S.state store.old).limit (length (text (S.state store.old) (S.number key))) (shown_symbol (text (S.state store.old) (S.number key)))) }
+    ensures did { Does S.number (S.state store.old) (S.state store.new) result (shown_out (S.state store.old).limit (text (S.state store.old) (S.number key))) }
 {
     let r = shown(alloc, store, key)?;
     Ok(Value::Text(r))
