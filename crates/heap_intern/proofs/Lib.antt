@@ -2,3 +2,4 @@ pub mod States
 pub mod Rows
 pub mod Calls
 pub mod Shares
+pub mod Lately

@@ -2,3 +2,4 @@ pub mod Sessions
 pub mod Shares
 pub mod Faults
 pub mod Sound
+pub mod Lately

@@ -7,8 +7,10 @@
 #![tactic(auto)]
 
 mod faults;
+mod last;
 mod session;
 mod sharing;
 mod strings;
+mod words;
 
 pub use session::Session;

@@ -38,7 +38,8 @@ impl<'h> Strings for Session<'h> {
     }
 
     fn unit_at(&mut self, s: JsStr, i: u32) -> u16 {
-        self.text.unit_at(s, i)
+        let held = self.word_of(s, i);
+        held.unit(i)
     }
 
     fn concat(&mut self, a: JsStr, b: JsStr) -> Result<JsStr, ConcatFault> {
