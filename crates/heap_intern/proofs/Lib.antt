@@ -2,4 +2,3 @@ pub mod States
 pub mod Rows
 pub mod Calls
 pub mod Shares
-pub mod Lately

@@ -2,4 +2,3 @@ pub mod Sessions
 pub mod Shares
 pub mod Faults
 pub mod Sound
-pub mod Lately

@@ -7,10 +7,8 @@
 #![tactic(auto)]
 
 mod faults;
-mod last;
 mod session;
 mod sharing;
 mod strings;
-mod words;
 
 pub use session::Session;

@@ -38,8 +38,7 @@ impl<'h> Strings for Session<'h> {
     }
 
     fn unit_at(&mut self, s: JsStr, i: u32) -> u16 {
-        let held = self.word_of(s, i);
-        held.unit(i)
+        self.text.unit_at(s, i)
     }
 
     fn concat(&mut self, a: JsStr, b: JsStr) -> Result<JsStr, ConcatFault> {

@@ -12,13 +12,6 @@ use Rattle.heap_intern.specs.Faults.{fault_in_table}
 use Rattle.heap_intern.specs.Sessions.{is_settled, table_of}
 use Rattle.heap_intern.proofs.Calls.{interned_err, interned_ok}
 use Rattle.heap_intern.proofs.States.{settled_test, step_at, step_reads, text_is}
-use Rattle.heap_text.proofs.Loaded.{known_trans}
-use Rattle.heap_intern.proofs.Lately.{interns_known}
-use Rattle.heap_intern.proofs.Lately.{kept_by}
-use Rattle.std.proofs.Common.{◌≡◌, ◌∙◌, ◌++◌, ℕ, List}
-use Rattle.heap_intern.proofs.States.{history_goes, history_reads}
-use Rattle.heap_rule.specs.Views.{history}
-use Rattle.heap_rule.specs.Paths.{Calls}
 use Rattle.heap_intern.proofs.strings.SessionStrings.intern.Goals as goal
 
 pub returns-in-Ok-intern-clause-ok : goal.returns-in-Ok-intern-clause-ok
@@ -42,16 +35,3 @@ returns-in-Err-intern-clause-step c = let s = c.args.self.now in let v : View = 
     let i = c.in-Err-intern.ensures.interns u.0 (e.reads.known.units c.args.s.id u.0 u.1) in
     rw c.table_fault.ensures (step_at v w l t (table_of c.settle.new.self.heap.now) (Some (fault_in_table f)) 1 (intern_words (is_settled (get v.forms c.args.s.id)) (length (unwrap_or (get v.units c.args.s.id) []))) (ap (λ y. table_of y.now) e.heap)
     (step_after (step_reads v x l t s.belongs.5 e.reads) (interned_err x w u.0 l t f 0 e.text.5 i.0 i.1) (omega arith) (omega arith)))
-
-pub invariant_of-self-2-clause-last_kept : goal.invariant_of-self-2-clause-last_kept
-invariant_of-self-2-clause-last_kept c = let s = c.args.self.now in let v : View = s.text.agent.seat.me.0 in let w : View = c.intern.new.agent.seat.me.0 in let x : View = c.settle.new.self.agent.seat.me.0 in let e = c.settle.ensures in let u = has_key v.units c.args.s.id c.requires in kept_by v w (known_trans v x w e.reads.known (interns_known x w u.0 c.intern.result (c.intern.ensures.interns u.0 (e.reads.known.units c.args.s.id u.0 u.1)))) s.last s.last_kept
-
-pub invariant_of-self-2-clause-older_kept : goal.invariant_of-self-2-clause-older_kept
-invariant_of-self-2-clause-older_kept c = let s = c.args.self.now in let v : View = s.text.agent.seat.me.0 in let w : View = c.intern.new.agent.seat.me.0 in let x : View = c.settle.new.self.agent.seat.me.0 in let e = c.settle.ensures in let u = has_key v.units c.args.s.id c.requires in kept_by v w (known_trans v x w e.reads.known (interns_known x w u.0 c.intern.result (c.intern.ensures.interns u.0 (e.reads.known.units c.args.s.id u.0 u.1)))) s.older s.older_kept
-
-pub returns-in-Ok-intern-clause-grown : goal.returns-in-Ok-intern-clause-grown
-returns-in-Ok-intern-clause-grown c = let v : View = c.args.self.now.text.agent.seat.me.0 in let x : View = c.settle.new.self.agent.seat.me.0 in let w : View = c.intern.new.agent.seat.me.0 in
-    let u = has_key v.units c.args.s.id c.requires in let e = c.settle.ensures in let id = c.in-Ok-intern.id in
-    let i = c.in-Ok-intern.ensures.interns u.0 (e.reads.known.units c.args.s.id u.0 u.1) in
-    subst (λ (us : List ℕ). history w ≡ history v ++ (us, id) ∷ []) (sym (text_is v.units c.args.s.id u.0 u.1))
-    (history_goes x w ((u.0, id) ∷ []) i.0 ∙ ap (λ (h : Calls). h ++ (u.0, id) ∷ []) (history_reads v x e.reads))

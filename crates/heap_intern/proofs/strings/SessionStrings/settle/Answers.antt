@@ -3,7 +3,6 @@ use Rattle.heap_rule.specs.declared.view.View.{View}
 use Rattle.js_store.specs.Limits.{limit_units}
 use Rattle.heap_intern.specs.Sessions.{table_of}
 use Rattle.heap_intern.proofs.States.{history_reads, settled_test, step_at, step_most}
-use Rattle.heap_intern.proofs.Lately.{kept_by}
 use Rattle.heap_intern.proofs.strings.SessionStrings.settle.Goals as goal
 
 pub returns-in-Ok-clause-ok : goal.returns-in-Ok-clause-ok
@@ -25,9 +24,3 @@ returns-in-Err-clause-no_slots c = let bad = c.in-Err.ensures.ok in absurd (cc)
 
 pub returns-in-Err-clause-history : goal.returns-in-Err-clause-history
 returns-in-Err-clause-history c = history_reads c.args.self.now.text.agent.seat.me.0 c.settle.new.self.agent.seat.me.0 c.settle.ensures.reads
-
-pub invariant_of-self-clause-last_kept : goal.invariant_of-self-clause-last_kept
-invariant_of-self-clause-last_kept c = let s = c.args.self.now in let v : View = s.text.agent.seat.me.0 in let w : View = c.settle.new.self.agent.seat.me.0 in kept_by v w (c.settle.ensures.reads.known) s.last s.last_kept
-
-pub invariant_of-self-clause-older_kept : goal.invariant_of-self-clause-older_kept
-invariant_of-self-clause-older_kept c = let s = c.args.self.now in let v : View = s.text.agent.seat.me.0 in let w : View = c.settle.new.self.agent.seat.me.0 in kept_by v w (c.settle.ensures.reads.known) s.older s.older_kept
