@@ -37,7 +37,7 @@ def main():
         program = copied(folder)
         for _ in range(rounds):
             for slots in SLOTS:
-                ran = subprocess.run(["rt", "try", "--", str(slots)], cwd=program, capture_output=True, text=True)
+                ran = subprocess.run(["rt", "try", "--seconds", "900", "--", str(slots)], cwd=program, capture_output=True, text=True)
                 line = (ran.stdout.splitlines() or ["nothing was written"])[0]
                 print(line, flush=True)
                 if not line.startswith("50000 lists "):
