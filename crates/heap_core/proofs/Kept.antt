@@ -1,21 +1,24 @@
 -- Each enabled event keeps the rule, and the units of the born ids.
-use Rattle.std.proofs.Common.{◌≡◌, ℕ, ◌+◌, ◌<◌, ◌≤◌, inr, ⊎_elim, cond, List, [], get_or, set, sym, refl, ap, ◌∙◌, subst, arith, Option, Result, Ok, Err, eqb, eqb-true}
-use Rattle.std.specs.Prelude.{unwrap_or, IfOk, OnErr}
+use Rattle.std.proofs.Common.{◌≡◌, ◌≢◌, ℕ, ◌+◌, ◌<◌, ◌≤◌, inr, ⊎_elim, cond, List, [], get_or, set, sym, refl, ap, ◌∙◌, subst, arith, Result, Ok, Err, eqb, eqb-true, get_or-set_same}
+use Rattle.std.specs.Prelude.{IfOk, OnErr}
 use Rattle.js_header.specs.Form.{word_of}
 use Rattle.js_header.specs.declared.form.Form.{Form}
-use Rattle.js_header.specs.declared.form.Form.TheVariants.{Unborn, Flat, Cons, Sliced, Thin}
+use Rattle.js_header.specs.declared.form.Form.TheVariants as form
+use Rattle.js_header.specs.declared.form.Form.TheVariants.{Unborn, Flat, Cons, Sliced}
 use Rattle.heap_rule.specs.declared.view.View.{View}
 use Rattle.heap_core.specs.declared.event.Refusal.{Refusal}
 use Rattle.heap_core.specs.declared.event.Refusal.TheVariants.{NotEnabled, Memory}
 use Rattle.heap_core.specs.declared.event.Event.{Event}
-use Rattle.heap_core.specs.declared.event.Event.TheVariants.{Make, Split, Join, LoadCounter, Claim, StoreWord, StoreLength, Birth, LoadHeader, LoadWord, LoadSlot, TakeSlot}
-use Rattle.heap_rule.specs.Layout.{counter_at, content_at, length_at, form_at, slot_at, form, IsBorn}
+use Rattle.heap_core.specs.declared.event.Event.TheVariants.{Make, Split, Join, LoadCounter, Claim, StoreWord, StoreLength, Birth, LoadHeader, LoadWord, Flatten, Thin, LoadSlot, TakeSlot}
+use Rattle.heap_rule.specs.Layout.{counter_at, content_at, length_at, form_at, slot_at, IsBorn}
+use Rattle.heap_rule.specs.Layout as layout
 use Rattle.heap_rule.specs.Maps.{HasKey}
 use Rattle.heap_rule.specs.Sound.{total}
 use Rattle.heap_core.specs.Core.{Core, core}
-use Rattle.heap_core.specs.Events.{IsCore, IsSoundCore, LiveAt, view_at, Enabled, after, found, Applied, KeepsUnits, Kept, BornBy}
+use Rattle.heap_core.specs.Events.{IsCore, IsSoundCore, LiveAt, Enabled, after, found, Applied, KeepsUnits, Kept, BornBy}
 use Rattle.heap_rule.specs.Claims.{loaded_counter, MayClaim, won_claim}
-use Rattle.heap_rule.specs.Births.{stored_word, MayStoreLength, stored_length, MayBear, born_with, born}
+use Rattle.heap_rule.specs.Births.{stored_word, MayStoreLength, stored_length, Fits, MayBear}
+use Rattle.heap_rule.specs.HeaderMoves.{MayFlatten, flattened, MayThin, thinned}
 use Rattle.heap_rule.specs.Views.{IsKnown}
 use Rattle.heap_rule.specs.Learning.{MayLearn}
 use Rattle.heap_rule.specs.Loads.{MayLoadWord, loaded_word}
@@ -23,17 +26,17 @@ use Rattle.heap_rule.specs.Slots.{MayEnter, loaded_slot, MayTakeSlot, took_slot}
 use Rattle.heap_rule.specs.Agents.{spent, MayJoin}
 use Rattle.heap_rule.proofs.ListLemmas.{at_index}
 use Rattle.heap_rule.proofs.Making.{keeps_making}
-use Rattle.heap_rule.proofs.KindsKept.{counter_kept, claim_by, word_stored, length_stored, birth_by}
-use Rattle.heap_rule.proofs.Birth.{born_now}
-use Rattle.heap_core.proofs.StateLemmas.{sound_of}
-use Rattle.heap_core.proofs.KnowingKept.{split_kept, join_kept, load_header_kept, load_word_kept, load_slot_kept, take_slot_kept}
+use Rattle.heap_rule.proofs.KindsKept.{counter_kept, claim_by, word_stored, length_stored}
+use Rattle.heap_rule.proofs.MapLemmas.{key_of}
+use Rattle.heap_core.proofs.StateLemmas.{sound_of, own_id}
+use Rattle.heap_core.proofs.KnowingKept.{split_kept, join_kept, load_header_kept, load_word_kept, birth_kept, flatten_kept, thin_kept, load_slot_kept, take_slot_kept}
 
 same_kept : (s : Core) → KeepsUnits s s
 same_kept s i b = (b, refl)
 
 -- nothing is born where there is no view
 none_born : (s : Core) → IsCore s → s.views ≡ [] → (i : ℕ) → IsBorn s.size s.words i → ⊥
-none_born s h e i b = ⊎_elim (λ (n : (s.words ≡ []) × (s.views ≡ [])). b.1 (ap (λ (ws : List ℕ). form s.size ws i) n.0))
+none_born s h e i b = ⊎_elim (λ (n : (s.words ≡ []) × (s.views ≡ [])). b.1 (ap (λ (ws : List ℕ). layout.form s.size ws i) n.0))
     (λ (g : IsSoundCore s). let below = (g.standing i b).below in let added = (g.added).ids in
     let none = subst (λ (vs : List View). get_or s.words 0 0 ≡ total (λ v. v.used.ids) vs) e added in absurd (omega arith)) h
 
@@ -52,16 +55,11 @@ enabled_keeps s (StoreWord j c n) h en = let g : IsSoundCore s = sound_of s j (�
 enabled_keeps s (StoreLength j i n) h en = let g : IsSoundCore s = sound_of s j (λ v. MayStoreLength v i n) h en in
     subst (λ (v : View). Kept s (core s.size s.agents (set s.words (length_at s.size i) n) (set s.views j (stored_length v i n)))) (sym (at_index s.views j en.0 spent en.1))
     (length_stored s.size s.agents s.words s.views g j en.0 en.1 en.2 i n en.3)
-enabled_keeps s (Birth j i (Flat wide start fixed)) h (tt, live) = let f : Form = Flat wide start fixed in let g : IsSoundCore s = sound_of s j (λ v. MayBear v i f) h live in let n : ℕ = live.3.0 in let v : View = live.0 in
-    let is : born (view_at s j) i f ≡ born_with v i n f = ap (λ (u : View). born u i f) (at_index s.views j v spent live.1) ∙ ap (λ (o : Option ℕ). born_with v i (unwrap_or o 0) f) live.3.1 in
-    subst (λ (w : View). Kept s (core s.size s.agents (set s.words (form_at s.size i) (word_of f)) (set s.views j w))) (sym is)
-    (birth_by s.size s.agents s.words s.views g j v live.1 live.2 i n f live.3.1 live.3.2)
-enabled_keeps s (Birth j i Unborn) h (no', live) = absurd no'
-enabled_keeps s (Birth j i (Cons a b c)) h (no', live) = absurd no'
-enabled_keeps s (Birth j i (Sliced a b c)) h (no', live) = absurd no'
-enabled_keeps s (Birth j i (Thin a)) h (no', live) = absurd no'
+enabled_keeps s (Birth j i f) h en = birth_kept s j i f (sound_of s j (λ v. MayBear v i f) h en) en
 enabled_keeps s (LoadHeader j i len names) h en = load_header_kept s j i len names.items (sound_of s j (λ v. IsKnown v i) h en.0) en
 enabled_keeps s (LoadWord j c names) h en = load_word_kept s j c names.items (sound_of s j (λ v. MayLoadWord v c × MayLearn (loaded_word v c (get_or s.words (content_at s.size c) 0)) names.items) h en) en
+enabled_keeps s (Flatten j i old new names) h en = flatten_kept s j i old new names.items (sound_of s j (λ v. MayFlatten v i old new × MayLearn (flattened v i old new (get_or s.words (form_at s.size i) 0)) names.items) h en) en
+enabled_keeps s (Thin j i old t names) h en = thin_kept s j i old t names.items (sound_of s j (λ v. MayThin v i old t × MayLearn (thinned v i old t (get_or s.words (form_at s.size i) 0)) names.items) h en) en
 enabled_keeps s (LoadSlot j k entry names) h en = load_slot_kept s j k entry names.items (sound_of s j (λ v. (k < v.sizes.slots) × MayEnter v k entry × MayLearn (loaded_slot v k entry (get_or s.words (slot_at s.size k) 0)) names.items) h en) en
 enabled_keeps s (TakeSlot j k i names) h en = take_slot_kept s j k i names.items (sound_of s j (λ v. MayTakeSlot v k i × MayLearn (took_slot v k i (get_or s.words (slot_at s.size k) 0)) names.items) h en) en
 
@@ -83,13 +81,16 @@ pub applied_units : (s : Core) (e : Event) (t : Core) (r : Result ℕ Refusal) �
 applied_units s e t r h a = (applied_keeps s e t r h a).1
 
 -- who is born
+fits_word : (v : View) (i n : ℕ) (f : Form) → Fits v i n f → word_of f ≢ 0
+fits_word v i n (Flat a b c) h e = omega arith
+fits_word v i n (Cons a b c) h e = omega arith
+fits_word v i n (Sliced a b c) h e = omega arith
+fits_word v i n Unborn h e = absurd h
+fits_word v i n (form.Thin a) h e = absurd h
+
 pub birth_born : (s : Core) (j i : ℕ) (f : Form) → IsCore s → Enabled s (Birth j i f) → IsBorn s.size (after s (Birth j i f)).words i
-birth_born s j i (Flat wide start fixed) h (tt, live) = let f : Form = Flat wide start fixed in let g : IsSoundCore s = sound_of s j (λ v. MayBear v i f) h live in
-    born_now s.size s.agents s.words s.views g j live.0 live.1 live.2 i live.3.0 live.3.1 wide start fixed live.3.2
-birth_born s j i Unborn h (no', live) = absurd no'
-birth_born s j i (Cons a b c) h (no', live) = absurd no'
-birth_born s j i (Sliced a b c) h (no', live) = absurd no'
-birth_born s j i (Thin a) h (no', live) = absurd no'
+birth_born s j i f h live = let m = live.3 in let own = own_id s j i h (live.0, live.1, live.2, key_of live.0.own_ids i m.0 m.1) in
+    (own.1, λ e. fits_word live.0 i m.0 f m.2 (sym (get_or-set_same s.words (form_at s.size i) (word_of f) 0 own.2) ∙ e))
 
 pub applied_born : (s : Core) (e : Event) (t : Core) (r : Result ℕ Refusal) → IsCore s → Applied s e t r → IfOk r (λ _. BornBy e t)
 applied_born s (Birth j i f) t (Ok x) h a = subst (λ (u : Core). IsBorn u.size u.words i) (sym a.1) (birth_born s j i f h a.0)
@@ -102,6 +103,8 @@ applied_born s (StoreWord j c w) t (Ok x) h a = tt
 applied_born s (StoreLength j i n) t (Ok x) h a = tt
 applied_born s (LoadHeader j i len names) t (Ok x) h a = tt
 applied_born s (LoadWord j c names) t (Ok x) h a = tt
+applied_born s (Flatten j i old new names) t (Ok x) h a = tt
+applied_born s (Thin j i old target names) t (Ok x) h a = tt
 applied_born s (LoadSlot j k entry names) t (Ok x) h a = tt
 applied_born s (TakeSlot j k i names) t (Ok x) h a = tt
 applied_born s e t (Err q) h a = tt

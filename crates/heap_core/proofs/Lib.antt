@@ -2,7 +2,7 @@ pub mod StateLemmas
 pub mod KnowingKept
 pub mod LoadSteps
 pub mod Kept
-pub mod LaterKept
+pub mod HeaderMoves
 pub mod EveryRun
 pub mod Entries
 pub mod Reading

@@ -14,7 +14,7 @@ use Rattle.heap_rule.specs.Layout.{IsLawful, IsBorn, form, length_word, form_at,
 use Rattle.heap_rule.specs.Views.{IsKnown}
 use Rattle.heap_rule.specs.Learning.{learned, MayLearn}
 use Rattle.heap_rule.specs.Loads.{with_form, added_loads, loaded_form, loaded_length, MayLoadWord, loaded_word}
-use Rattle.heap_views.specs.Loading.{loaded_by, HasRoom}
+use Rattle.heap_views.specs.Loading.{loaded_by, HasRoom, IsRun}
 use Rattle.heap_core.specs.Headers.{IsHeaderLoad}
 use Rattle.heap_rule.specs.Agents.{spent}
 use Rattle.heap_rule.specs.Sound.{At, IsSound, AreStanding}
@@ -35,6 +35,11 @@ some_words false n h = omega arith
 pub room_of : (z : HeapSize) (agents : ℕ) (W : List ℕ) (vs : List View) (s : IsSound z agents W vs) (j : ℕ) (v : View) → At vs j v → v.live ≡ true → HasRoom v
 room_of z agents W vs s j v at live i wide start fixed n f l h = let k = s.knows j v at live in let b = k.of_forms i (Flat wide start fixed) f in let e = (k.of_lengths i n l).1 in let short = (s.standing i b.born).short in
     let some : 1 ≤ words_over wide (length_word z W i) = some_words wide (length_word z W i) (omega arith) in let low = (b.shows.1 start (omega arith) (omega arith)).below in let most = s.counted.words_end in let small = s.lawful.3 in omega arith
+
+-- a load of a header freezes nothing
+pub header_run : (z : HeapSize) (W : List ℕ) (i : ℕ) (len : Bool) (l : Load) → IsHeaderLoad z W i len l → IsRun l
+header_run z W i true l e = subst IsRun (sym e) tt
+header_run z W i false l e = subst IsRun (sym e.2) tt
 
 module _ (s : Core) (h : IsCore s) (j : ℕ) where
   pub live_here : (P : View → Type 0) (v : View) → LiveIn s.views j (λ _. Unit {0}) → v ≡ get_or s.views j v → P v → LiveIn s.views j P

@@ -5,17 +5,18 @@ use Rattle.std.proofs.lemmas.List.{set-get_or, set-append_left}
 use Rattle.std.proofs.Math.ListN.{get_or-append}
 use Rattle.std.specs.FinMap.{get}
 use mathlib.Core.Option.{some, some-injective}
-use Rattle.js_header.specs.Form.{word_of}
+use Rattle.js_header.specs.Form.{IsInRange, word_of}
 use Rattle.js_header.specs.declared.form.Form.{Form}
-use Rattle.js_header.specs.declared.form.Form.TheVariants.{Flat}
+use Rattle.js_header.specs.declared.form.Form.TheVariants.{Unborn, Flat, Cons, Sliced, Thin}
 use Rattle.heap_rule.specs.declared.view.View.{View}
 use Rattle.heap_rule.specs.declared.size.HeapSize.{HeapSize}
 use Rattle.heap_rule.specs.declared.size.Counter.{Counter}
 use Rattle.heap_rule.specs.declared.size.Counter.TheVariants.{Ids, Words}
 use Rattle.heap_core.specs.declared.event.Event.{Event}
 use Rattle.heap_core.specs.declared.event.Event.TheVariants.{Split, Join, LoadCounter, Claim, StoreWord, StoreLength, Birth}
-use Rattle.heap_rule.specs.Layout.{counter_at, content_at, length_at, form_at, form, end_of, MAX, count_in, IsLawful}
+use Rattle.heap_rule.specs.Layout.{counter_at, content_at, length_at, form_at, form, end_of, MAX, count_in, IsLawful, IsBorn}
 use Rattle.heap_rule.specs.Maps.{Has, HasKey}
+use Rattle.heap_rule.specs.Forms.{IsCons, IsSliced}
 use Rattle.heap_rule.specs.Sound.{At, EachLive, total}
 use Rattle.heap_core.specs.Core.{Core, core}
 use Rattle.heap_core.specs.Events.{IsCore, IsSoundCore, LiveIn, view_at, Enabled, Applied}
@@ -25,6 +26,7 @@ use Rattle.heap_rule.specs.Agents.{nothing_used, spent, left_after_split, right_
 use Rattle.heap_rule.proofs.MapLemmas.{has_key}
 use Rattle.heap_rule.proofs.ListLemmas.{any_default, at_within, at_index, set_else, total_set}
 use Rattle.heap_rule.proofs.Joining.{total_gone}
+use Rattle.heap_rule.proofs.Parts.{shown_part_right}
 
 pub at_here : {A : Type 0} (l : List A) (i : ℕ) (a : A) → i < length l → a ≡ get_or l i a → At l i a
 at_here [] i a h e = absurd (omega arith)
@@ -111,11 +113,10 @@ module _ (s : Core) (j : ℕ) (d : View) where
     found ∙ ap (λ (r : ℕ). get_or s.words r 0) pe,
   )
 
-  pub birth_done : (i n p x m : ℕ) (wide : Bool) (start : ℕ) (fixed : Bool) (w : View) → LiveIn s.views j (λ v. MayBear v i (Flat wide start fixed)) → p ≡ form_at s.size i → x ≡ get_or s.words p 0
-      → m ≡ word_of (Flat wide start fixed) → n ≡ unwrap_or (get here.own_ids i) 0 → w ≡ born_with here i n (Flat wide start fixed)
-      → Applied s (Birth j i (Flat wide start fixed)) (core s.size s.agents (set s.words p m) (set s.views j w)) (Ok x)
-  birth_done i n p x m wide start fixed w live pe found me ne is = let f : Form = Flat wide start fixed in (
-    (tt, live),
+  pub birth_done : (i n p x m : ℕ) (f : Form) (w : View) → LiveIn s.views j (λ v. MayBear v i f) → p ≡ form_at s.size i → x ≡ get_or s.words p 0
+      → m ≡ word_of f → n ≡ unwrap_or (get here.own_ids i) 0 → w ≡ born_with here i n f → Applied s (Birth j i f) (core s.size s.agents (set s.words p m) (set s.views j w)) (Ok x)
+  birth_done i n p x m f w live pe found me ne is = (
+    live,
     (λ k. core s.size s.agents (set s.words (pe k) (me k)) (set s.views j ((is ∙ ((λ r. born_with here i (ne r) f) ∙ ap (λ (u : View). born u i f) (same_view (λ v. MayBear v i f) live))) k))),
     found ∙ ap (λ (r : ℕ). get_or s.words r 0) pe,
   )
@@ -146,18 +147,32 @@ own_id s j i h live = let g : IsSoundCore s = sound_of s j (λ v. HasKey v.own_i
 pub own_lengths : (s : Core) (i : ℕ) → IsCore s → EachLive s.views (λ _ v. (n : ℕ) → Has v.own_ids i n → n ≤ MAX)
 own_lengths s i h j v at live n has = let g : IsSoundCore s = sound_of s j (λ v. Unit {0}) h (v, at, live, tt) in ((g.own_ids j v at live).each i n has).3
 
--- what a birth may rest on
-pub bears_small : (s : Core) (j i : ℕ) (wide : Bool) (start : ℕ) (fixed : Bool) (d : View) → IsCore s → LiveIn s.views j (λ v. MayBear v i (Flat wide start fixed)) → (unwrap_or (get (get_or s.views j d).own_ids i) 0 ≤ MAX) × (start < 2 ^ 29)
-bears_small s j i wide start fixed d h live = let v : View = live.0 in let is : get_or s.views j d ≡ v = at_index s.views j v d live.1 in let n : ℕ = live.3.0 in
+-- what a birth may rest on: the length is short, and the form is spelt by a word
+pub bears_short : (s : Core) (j i : ℕ) (f : Form) (d : View) → IsCore s → LiveIn s.views j (λ v. MayBear v i f) → unwrap_or (get (get_or s.views j d).own_ids i) 0 ≤ MAX
+bears_short s j i f d h live = let v : View = live.0 in let is : get_or s.views j d ≡ v = at_index s.views j v d live.1 in let n : ℕ = live.3.0 in
     let own : unwrap_or (get (get_or s.views j d).own_ids i) 0 ≡ n = (λ k. unwrap_or (get (is k).own_ids i) 0) ∙ ap (λ (o : Option ℕ). unwrap_or o 0) live.3.1 in
-    (subst (λ (m : ℕ). m ≤ MAX) (sym own) (own_lengths s i h j v live.1 live.2 n live.3.1), live.3.2.0)
+    subst (λ (m : ℕ). m ≤ MAX) (sym own) (own_lengths s i h j v live.1 live.2 n live.3.1)
+
+pub bears_range : (s : Core) (j i : ℕ) (f : Form) → IsCore s → LiveIn s.views j (λ v. MayBear v i f) → IsInRange f
+bears_range s j i (Flat wide start fixed) h live = live.3.2.0
+bears_range s j i (Cons wide left right) h live = let g : IsSoundCore s = sound_of s j (λ v. MayBear v i (Cons wide left right)) h live in let fit = live.3.2 in
+    let l = fit.0 in let r = fit.1 in let low = ((g.own_ids j live.0 live.1 live.2).each i live.3.0 live.3.1).0 in let end = g.counted.ids_end in let z = g.lawful.1 in (omega arith, omega arith)
+bears_range s j i (Sliced wide parent offset) h live = let g : IsSoundCore s = sound_of s j (λ v. MayBear v i (Sliced wide parent offset)) h live in let fit = live.3.2 in
+    let p = fit.0 in let low = ((g.own_ids j live.0 live.1 live.2).each i live.3.0 live.3.1).0 in let end = g.counted.ids_end in let z = g.lawful.1 in
+    let k = g.knows j live.0 live.1 live.2 in let n : ℕ = live.3.0 in
+    let room = (shown_part_right s.size s.words s.views g.standing live.0 k parent offset n fit.3.0 fit.3.1).1 in
+    let born : IsBorn s.size s.words parent = ⊎_elim (λ (t : (f : Form) × Has live.0.forms parent f × (IsCons f → ⊥) × (IsSliced f → ⊥)). (k.of_forms parent t.0 t.1).born)
+    (λ (t : (l : ℕ) × (x : Bool) × (o : ℕ) × Has live.0.forms l (Sliced x parent o)). (k.of_forms t.0 (Sliced t.1 parent t.2) t.3).shows.0) fit.2 in
+    let st = g.standing parent born in let long = st.length_is in let short = st.short in (omega arith, omega arith)
+bears_range s j i Unborn h live = absurd live.3.2
+bears_range s j i (Thin t) h live = absurd live.3.2
 
 none_or : {X : Type 0} (o : Option X) → ((x : X) → o ≡ Some x → ⊥) → o ≡ None
 none_or None f = refl
 none_or (Some x) f = absurd (f x refl)
 
-pub bears_fresh : (s : Core) (j i : ℕ) (wide : Bool) (start : ℕ) (fixed : Bool) (d : View) → IsCore s → LiveIn s.views j (λ v. MayBear v i (Flat wide start fixed)) → (get (get_or s.views j d).units i ≡ None) × (get (get_or s.views j d).forms i ≡ None)
-bears_fresh s j i wide start fixed d h live = let v : View = live.0 in let P : View → Type 0 = (λ v. MayBear v i (Flat wide start fixed)) in let g : IsSoundCore s = sound_of s j P h live in
+pub bears_fresh : (s : Core) (j i : ℕ) (f : Form) (d : View) → IsCore s → LiveIn s.views j (λ v. MayBear v i f) → (get (get_or s.views j d).units i ≡ None) × (get (get_or s.views j d).forms i ≡ None)
+bears_fresh s j i f d h live = let v : View = live.0 in let P : View → Type 0 = (λ v. MayBear v i f) in let g : IsSoundCore s = sound_of s j P h live in
     let unborn : form s.size s.words i ≡ 0 = ((g.own_ids j v live.1 live.2).each i live.3.0 live.3.1).1 in let k = g.knows j v live.1 live.2 in
     subst (λ (u : View). (get u.units i ≡ None) × (get u.forms i ≡ None)) (sym (at_index s.views j v d live.1))
     (none_or (get v.units i) (λ us e. (k.of_units i us e).0.1 unborn), none_or (get v.forms i) (λ f e. (k.of_forms i f e).born.1 unborn))

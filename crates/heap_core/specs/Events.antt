@@ -1,16 +1,18 @@
 -- The machine: where each event may come, and what it does. An event is one atomic step of one agent on one word, but for the making of the heap.
 use Rattle.std.specs.Prelude.{◌≡◌, ◌≢◌, ℕ, ◌+◌, ◌<◌, ◌≤◌, ◌⊎◌, ◌==◌, Bool, true, false, if◌then◌else◌, List, [], ◌∷◌, ◌++◌, slice_index, slice_index_or, slice_set, replicate, Option, Result, Ok, Err}
 use Rattle.js_header.specs.Form.{word_of}
+use Rattle.js_header.specs.declared.form.Form as form
+use Rattle.js_header.specs.declared.form.Form.TheVariants as header
 use Rattle.heap_rule.specs.declared.view.View.{View}
 use Rattle.heap_rule.specs.declared.size.HeapSize.{HeapSize}
 use Rattle.heap_core.specs.declared.event.Refusal.{Refusal}
 use Rattle.heap_core.specs.declared.event.Refusal.TheVariants.{NotEnabled, Memory}
 use Rattle.heap_core.specs.declared.event.Event.{Event}
-use Rattle.heap_core.specs.declared.event.Event.TheVariants.{Make, Split, Join, LoadCounter, Claim, StoreWord, StoreLength, Birth, LoadHeader, LoadWord, LoadSlot, TakeSlot}
+use Rattle.heap_core.specs.declared.event.Event.TheVariants.{Make, Split, Join, LoadCounter, Claim, StoreWord, StoreLength, Birth, LoadHeader, LoadWord, Flatten, Thin, LoadSlot, TakeSlot}
 use Rattle.heap_rule.specs.Layout.{IsLawful, counter_at, slot_at, form_at, length_at, content_at, word_count, IsBorn}
 use Rattle.heap_rule.specs.Contents.{units_of}
 use Rattle.heap_rule.specs.Maps.{Has, HasKey}
-use Rattle.heap_rule.specs.Forms.{IsBuilt}
+use Rattle.heap_rule.specs.HeaderMoves.{MayFlatten, flattened, MayThin, thinned}
 use Rattle.heap_rule.specs.Sound.{At, IsSound, AreLegal}
 use Rattle.heap_core.specs.Core.{Core}
 use Rattle.heap_rule.specs.Claims.{loaded_counter, MayClaim, claimed}
@@ -92,6 +94,28 @@ module _ (s : Core) where
   abbrev pub after_load_word : ℕ → ℕ → List ℕ → Core
   after_load_word j c names = looked s j (learned (loaded_word (view_at s j) c (slice_index s.words (content_at s.size c))) names)
 
+  -- a compare-exchange of the header of the string i that the view may make where it meets P, from `old` to `new`; F is what it makes of the view
+  abbrev pub CanMove : ℕ → ℕ → (View → Type 0) → (View → ℕ → View) → List ℕ → Type 0
+  CanMove j i P F names = LiveAt s j (λ v. P v × MayLearn (F v (slice_index s.words (form_at s.size i))) names)
+
+  abbrev pub after_move : ℕ → ℕ → form.Form → form.Form → (View → ℕ → View) → List ℕ → Core
+  after_move j i old new F names = moved s (form_at s.size i) (exchanged s (form_at s.size i) (word_of old) (word_of new)) j
+      (learned (F (view_at s j) (slice_index s.words (form_at s.size i))) names)
+
+  -- flattening
+  abbrev pub CanFlatten : ℕ → ℕ → form.Form → form.Form → List ℕ → Type 0
+  CanFlatten j i old new names = CanMove j i (λ v. MayFlatten v i old new) (λ v x. flattened v i old new x) names
+
+  abbrev pub after_flatten : ℕ → ℕ → form.Form → form.Form → List ℕ → Core
+  after_flatten j i old new names = after_move j i old new (λ v x. flattened v i old new x) names
+
+  -- thinning
+  abbrev pub CanThinTo : ℕ → ℕ → form.Form → ℕ → List ℕ → Type 0
+  CanThinTo j i old t names = CanMove j i (λ v. MayThin v i old t) (λ v x. thinned v i old t x) names
+
+  abbrev pub after_thin : ℕ → ℕ → form.Form → ℕ → List ℕ → Core
+  after_thin j i old t names = after_move j i old (header.Thin t) (λ v x. thinned v i old t x) names
+
   -- loading a slot of the table
   abbrev pub CanLoadSlot : ℕ → ℕ → Option (List ℕ) → List ℕ → Type 0
   CanLoadSlot j k entry names = LiveAt s j (λ v. (k < v.sizes.slots) × MayEnter v k entry × MayLearn (loaded_slot v k entry (slice_index s.words (slot_at s.size k))) names)
@@ -116,9 +140,11 @@ Enabled s (LoadCounter j k) = LiveAt s j (λ v. Unit {0})
 Enabled s (Claim j k at want) = LiveAt s j (λ v. MayClaim v k at want)
 Enabled s (StoreWord j c n) = LiveAt s j (λ v. HasKey v.own_words c)
 Enabled s (StoreLength j i n) = LiveAt s j (λ v. MayStoreLength v i n)
-Enabled s (Birth j i f) = IsBuilt f × LiveAt s j (λ v. MayBear v i f)
+Enabled s (Birth j i f) = LiveAt s j (λ v. MayBear v i f)
 Enabled s (LoadHeader j i len names) = CanLoadHeader s j i len names.items
 Enabled s (LoadWord j c names) = CanLoadWord s j c names.items
+Enabled s (Flatten j i old new names) = CanFlatten s j i old new names.items
+Enabled s (Thin j i old t names) = CanThinTo s j i old t names.items
 Enabled s (LoadSlot j k entry names) = CanLoadSlot s j k entry names.items
 Enabled s (TakeSlot j k i names) = CanTakeSlot s j k i names.items
 
@@ -134,6 +160,8 @@ after s (StoreLength j i n) = moved s (length_at s.size i) n j (stored_length (v
 after s (Birth j i f) = moved s (form_at s.size i) (word_of f) j (born (view_at s j) i f)
 after s (LoadHeader j i len names) = after_load_header s j i len names.items
 after s (LoadWord j c names) = after_load_word s j c names.items
+after s (Flatten j i old new names) = after_flatten s j i old new names.items
+after s (Thin j i old t names) = after_thin s j i old t names.items
 after s (LoadSlot j k entry names) = after_load_slot s j k entry names.items
 after s (TakeSlot j k i names) = after_take_slot s j k i names.items
 
@@ -146,6 +174,8 @@ place_of z (StoreLength j i n) = length_at z i
 place_of z (Birth j i f) = form_at z i
 place_of z (LoadHeader j i len names) = header_at z i len
 place_of z (LoadWord j c names) = content_at z c
+place_of z (Flatten j i old new names) = form_at z i
+place_of z (Thin j i old t names) = form_at z i
 place_of z (LoadSlot j k entry names) = slot_at z k
 place_of z (TakeSlot j k i names) = slot_at z k
 place_of z _ = 0
@@ -170,6 +200,11 @@ abbrev pub LoadedWord : Core → ℕ → ℕ → List ℕ → Core → Result �
 LoadedWord s j c names t (Ok x) = CanLoadWord s j c names × (t ≡ after_load_word s j c names) × (x ≡ slice_index s.words (content_at s.size c))
 LoadedWord s j c names t (Err NotEnabled) = (CanLoadWord s j c names → ⊥) × (t ≡ s)
 LoadedWord s j c names t (Err Memory) = t ≡ s
+
+abbrev pub Moved : Core → ℕ → ℕ → (View → Type 0) → (View → ℕ → View) → form.Form → form.Form → List ℕ → Core → Result ℕ Refusal → Type 0
+Moved s j i P F old new names t (Ok x) = CanMove s j i P F names × (t ≡ after_move s j i old new F names) × (x ≡ slice_index s.words (form_at s.size i))
+Moved s j i P F old new names t (Err NotEnabled) = (CanMove s j i P F names → ⊥) × (t ≡ s)
+Moved s j i P F old new names t (Err Memory) = t ≡ s
 
 abbrev pub LoadedSlot : Core → ℕ → ℕ → Option (List ℕ) → List ℕ → Core → Result ℕ Refusal → Type 0
 LoadedSlot s j k entry names t (Ok x) = CanLoadSlot s j k entry names × (t ≡ after_load_slot s j k entry names) × (x ≡ slice_index s.words (slot_at s.size k))

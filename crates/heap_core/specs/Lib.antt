@@ -2,4 +2,3 @@ pub mod Core
 pub mod Events
 pub mod Headers
 pub mod Steps
-pub mod Later

@@ -2,9 +2,9 @@
 use Rattle.std.specs.Prelude.{◌≡◌, ℕ, true, false, if◌then◌else◌, List, [], slice_index, slice_set, Option, Some, None, IfSome}
 use Rattle.heap_rule.specs.declared.view.View.{View}
 use Rattle.heap_rule.specs.Learning.{learned}
-use Rattle.heap_rule.specs.Kinds.{Kind, load_counter, claim, store_word, store_length, birth, load_form, load_length, load_word, load_slot, take_slot, MayCome, place_of, access_of, left_by, view_after, learns}
+use Rattle.heap_rule.specs.Kinds.{Kind, load_counter, claim, store_word, store_length, birth, load_form, load_length, load_word, flatten, thin, load_slot, take_slot, MayCome, place_of, access_of, left_by, view_after, learns}
 use Rattle.heap_core.specs.declared.event.Event.{Event}
-use Rattle.heap_core.specs.declared.event.Event.TheVariants.{Make, Split, Join, LoadCounter, Claim, StoreWord, StoreLength, Birth, LoadHeader, LoadWord, LoadSlot, TakeSlot}
+use Rattle.heap_core.specs.declared.event.Event.TheVariants.{Make, Split, Join, LoadCounter, Claim, StoreWord, StoreLength, Birth, LoadHeader, LoadWord, Flatten, Thin, LoadSlot, TakeSlot}
 use Rattle.heap_core.specs.Core.{Core, core}
 use Rattle.heap_core.specs.Events.{LiveAt, Enabled, after}
 
@@ -18,6 +18,8 @@ kind_of (Birth j i f) = Some (birth i f)
 kind_of (LoadHeader j i true names) = Some (load_length i)
 kind_of (LoadHeader j i false names) = Some (load_form i)
 kind_of (LoadWord j c names) = Some (load_word c)
+kind_of (Flatten j i old new names) = Some (flatten i old new)
+kind_of (Thin j i old t names) = Some (thin i old t)
 kind_of (LoadSlot j k entry names) = Some (load_slot k entry)
 kind_of (TakeSlot j k i names) = Some (take_slot k i)
 kind_of _ = None
@@ -33,6 +35,8 @@ agent_of (StoreLength j i n) = j
 agent_of (Birth j i f) = j
 agent_of (LoadHeader j i len names) = j
 agent_of (LoadWord j c names) = j
+agent_of (Flatten j i old new names) = j
+agent_of (Thin j i old t names) = j
 agent_of (LoadSlot j k entry names) = j
 agent_of (TakeSlot j k i names) = j
 agent_of (Make z agents) = 0
@@ -40,6 +44,8 @@ agent_of (Make z agents) = 0
 abbrev pub names_of : Event → List ℕ
 names_of (LoadHeader j i len names) = names.items
 names_of (LoadWord j c names) = names.items
+names_of (Flatten j i old new names) = names.items
+names_of (Thin j i old t names) = names.items
 names_of (LoadSlot j k entry names) = names.items
 names_of (TakeSlot j k i names) = names.items
 names_of _ = []

@@ -9,10 +9,11 @@
 
 mod contents;
 mod event;
+mod moves;
 mod play;
 mod slots;
 mod state;
 
 pub use event::{Event, Refusal};
 pub use heap_rule::{Counter, Counters, HeapSize, History, IdMap, MAX, View};
-pub use state::{CoreState, apply, enabled, every_event, every_later_kind, every_run};
+pub use state::{CoreState, apply, enabled, every_event, every_run};

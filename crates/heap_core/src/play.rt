@@ -2,10 +2,8 @@
 // parts stand apart, and not in one value, so that only `apply` closes the value again. What can
 // be refused for want of memory comes before the first change.
 ghost use Rattle.std.specs.Prelude.{◌≡◌, ◌≢◌, ℕ, ◌<◌, ◌≤◌, ◌↔◌, [], ◌∷◌, replicate, IsTrue, OnOk, OnErr};
-ghost use Rattle.js_header.specs.declared.form.Form.TheVariants as form;
-ghost use Rattle.heap_rule.specs.Layout.{IsLawful, word_count, MAX};
-ghost use Rattle.heap_rule.specs.Maps.{Has, HasKey};
-ghost use Rattle.heap_rule.specs.Sound.{EachLive};
+ghost use Rattle.heap_rule.specs.Layout.{IsLawful, word_count};
+ghost use Rattle.heap_rule.specs.Maps.{HasKey};
 ghost use Rattle.heap_core.specs.Core.{core};
 ghost use Rattle.heap_core.specs.Events.{LiveIn, IsCore, Enabled, Applied, LoadedHeader, LoadedWord, CanLoadHeader, CanLoadWord, header_at};
 ghost use Rattle.heap_rule.specs.Claims.{MayClaim};
@@ -15,7 +13,7 @@ ghost use Rattle.heap_core.specs.declared.event.Event.TheVariants as event;
 
 use crate::contents::header_load;
 use crate::event::{Event, Refusal};
-use crate::slots;
+use crate::{moves, slots};
 use heap_rule::{Counter, HeapSize, View};
 use heap_views::{agents, births, claims, learning};
 use js_header::{Form, encode};
@@ -88,22 +86,23 @@ pub(crate) fn may_store_length(views: &[View], view: u32, id: u32, length: u32) 
     births::may_store_length(&views[view as usize], id, length)
 }
 
-/// Whether the live view's own id may be born as a Flat.
+/// Whether the live view's own id may be born in this form.
 pub(crate) fn may_bear(
+    size: HeapSize,
+    agents: u32,
+    words: &[u64],
     views: &[View],
     view: u32,
     id: u32,
-    wide: bool,
-    start: u32,
-    fixed: bool,
+    form: Form,
 ) -> bool
-    requires { EachLive views.now (λ _ v. (n : ℕ) → Has v.own_ids id n → n ≤ MAX) }
-    ensures { IsTrue result ↔ LiveIn views.now view (λ v. MayBear v id (form.Flat wide start fixed)) }
+    requires { IsCore (core size agents words.now views.now) }
+    ensures { IsTrue result ↔ LiveIn views.now view (λ v. MayBear v id form) }
 {
     if !is_live(views, view) {
         return false;
     }
-    births::may_bear(&views[view as usize], id, wide, start, fixed)
+    births::may_bear(&views[view as usize], id, form)
 }
 
 /// Whether the header word may be loaded: the string is known, and the view afterwards justifies
@@ -342,7 +341,7 @@ pub(crate) fn store_length(
     Ok(found)
 }
 
-/// The birth of a Flat.
+/// A birth.
 pub(crate) fn birth(
     alloc: Global,
     size: HeapSize,
@@ -351,26 +350,24 @@ pub(crate) fn birth(
     views: &mut [View],
     view: u32,
     id: u32,
-    wide: bool,
-    start: u32,
-    fixed: bool,
+    form: Form,
 ) -> Result<u64, Refusal>
     requires { IsCore (core size agents words.old views.old) }
-    ensures { Applied (core size agents words.old views.old) (event.Birth view id (form.Flat wide start fixed)) (core size agents words.new views.new) result }
+    ensures { Applied (core size agents words.old views.old) (event.Birth view id form) (core size agents words.new views.new) result }
 {
-    if !may_bear(views, view, id, wide, start, fixed) {
+    if !may_bear(size, agents, words, views, view, id, form) {
         return Err(Refusal::NotEnabled);
     }
     let place = size.form_place(id);
     let found = words[place];
     let n = births::own_length(&views[view as usize], id);
-    let Ok(units) = births::span(&views[view as usize], alloc, wide, start, n) else {
+    let Ok(units) = births::units_for(&views[view as usize], alloc, n, form) else {
         return Err(Refusal::Memory);
     };
-    if births::bear(&mut views[view as usize], id, n, wide, start, fixed, units).is_err() {
+    if births::bear(&mut views[view as usize], id, n, form, units).is_err() {
         return Err(Refusal::Memory);
     }
-    words[place] = encode(Form::Flat { wide, start, fixed });
+    words[place] = encode(form);
     Ok(found)
 }
 
@@ -576,21 +573,16 @@ pub(crate) fn step(
             *id,
             *length,
         ),
-        Event::Birth { view, id, form } => match *form {
-            Form::Flat { wide, start, fixed } => birth(
-                alloc,
-                *size,
-                *agents,
-                words.as_mut_slice(),
-                views.as_mut_slice(),
-                *view,
-                *id,
-                wide,
-                start,
-                fixed,
-            ),
-            _ => Err(Refusal::NotEnabled),
-        },
+        Event::Birth { view, id, form } => birth(
+            alloc,
+            *size,
+            *agents,
+            words.as_mut_slice(),
+            views.as_mut_slice(),
+            *view,
+            *id,
+            *form,
+        ),
         Event::LoadHeader {
             view,
             id,
@@ -615,6 +607,42 @@ pub(crate) fn step(
             views.as_mut_slice(),
             *view,
             *at,
+            learn,
+        ),
+        Event::Flatten {
+            view,
+            id,
+            old,
+            new,
+            learn,
+        } => moves::play_flatten(
+            alloc,
+            *size,
+            *agents,
+            words.as_mut_slice(),
+            views.as_mut_slice(),
+            *view,
+            *id,
+            *old,
+            *new,
+            learn,
+        ),
+        Event::Thin {
+            view,
+            id,
+            old,
+            target,
+            learn,
+        } => moves::play_thin(
+            alloc,
+            *size,
+            *agents,
+            words.as_mut_slice(),
+            views.as_mut_slice(),
+            *view,
+            *id,
+            *old,
+            *target,
             learn,
         ),
         Event::LoadSlot {

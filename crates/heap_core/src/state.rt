@@ -4,13 +4,11 @@ ghost use Rattle.heap_rule.specs.Layout.{IsBorn};
 ghost use Rattle.heap_rule.specs.Contents.{units_of};
 ghost use Rattle.heap_core.specs.Events.{HasNoHeap, IsSoundCore, Enabled, after, found, KeepsUnits, BornBy, HasEntry, RunsAreSound, MadeRunsAreSound, RunsKeepUnits, RunsAreLegal};
 ghost use Rattle.heap_core.specs.Steps.{EventsAreSteps};
-ghost use Rattle.heap_core.specs.Later.{FlatteningKeeps, ThinningKeeps, BirthsKeep};
 ghost use Rattle.heap_core.specs.declared.event.Refusal.TheVariants as refusal;
 
 use crate::event::{Event, Refusal};
-use crate::{contents, play, slots};
+use crate::{contents, moves, play, slots};
 use heap_rule::{HeapSize, View};
-use js_header::Form;
 use js_units::{NoMemory, Units};
 use std::alloc::Global;
 use std::marker::Model;
@@ -111,12 +109,15 @@ pub fn enabled(state: &CoreState, event: &Event) -> bool
         Event::StoreLength { view, id, length } => {
             play::may_store_length(views, *view, *id, *length)
         }
-        Event::Birth { view, id, form } => match *form {
-            Form::Flat { wide, start, fixed } => {
-                play::may_bear(views, *view, *id, wide, start, fixed)
-            }
-            _ => false,
-        },
+        Event::Birth { view, id, form } => play::may_bear(
+            state.size,
+            state.agents,
+            state.words.as_slice(),
+            views,
+            *view,
+            *id,
+            *form,
+        ),
         Event::LoadHeader {
             view,
             id,
@@ -139,6 +140,40 @@ pub fn enabled(state: &CoreState, event: &Event) -> bool
             views,
             *view,
             *at,
+            learn.as_slice(),
+        ),
+        Event::Flatten {
+            view,
+            id,
+            old,
+            new,
+            learn,
+        } => moves::may_flatten(
+            state.size,
+            state.agents,
+            state.words.as_slice(),
+            views,
+            *view,
+            *id,
+            *old,
+            *new,
+            learn.as_slice(),
+        ),
+        Event::Thin {
+            view,
+            id,
+            old,
+            target,
+            learn,
+        } => moves::may_thin(
+            state.size,
+            state.agents,
+            state.words.as_slice(),
+            views,
+            *view,
+            *id,
+            *old,
+            *target,
             learn.as_slice(),
         ),
         Event::LoadSlot {
@@ -211,13 +246,4 @@ pub fn every_run()
 /// The call does nothing.
 pub fn every_event()
     ensures { EventsAreSteps }
-{}
-
-/// Each kind of event that the machine does not play yet keeps the rule and the units of every
-/// born id, wherever its condition holds, and so does the birth of any form. The call does
-/// nothing.
-pub fn every_later_kind()
-    ensures flattening { FlatteningKeeps }
-    ensures thinning { ThinningKeeps }
-    ensures births { BirthsKeep }
 {}

@@ -5,4 +5,6 @@
 #[cfg(test)]
 mod machine;
 #[cfg(test)]
+mod ropes;
+#[cfg(test)]
 mod table;

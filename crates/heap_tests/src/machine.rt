@@ -1,4 +1,5 @@
 // The machine on small heaps, word by word.
+use crate::ropes::thin;
 use heap_core::{CoreState, Counter, Event, HeapSize, Refusal, apply, enabled};
 use js_header::Form;
 use js_units::{Units, hash_step};
@@ -9,14 +10,14 @@ fn size(ids: u32, words: u32, slots: u32) -> HeapSize {
     HeapSize { ids, words, slots }
 }
 
-fn make(ids: u32, words: u32, slots: u32, agents: u32) -> Event {
+pub(crate) fn make(ids: u32, words: u32, slots: u32, agents: u32) -> Event {
     Event::Make {
         size: size(ids, words, slots),
         agents,
     }
 }
 
-fn claim(counter: Counter, at: u32, want: u32) -> Event {
+pub(crate) fn claim(counter: Counter, at: u32, want: u32) -> Event {
     Event::Claim {
         view: 0,
         counter,
@@ -25,11 +26,11 @@ fn claim(counter: Counter, at: u32, want: u32) -> Event {
     }
 }
 
-fn store_word(at: u32, word: u64) -> Event {
+pub(crate) fn store_word(at: u32, word: u64) -> Event {
     Event::StoreWord { view: 0, at, word }
 }
 
-fn store_length(id: u32, length: u32) -> Event {
+pub(crate) fn store_length(id: u32, length: u32) -> Event {
     Event::StoreLength {
         view: 0,
         id,
@@ -37,11 +38,11 @@ fn store_length(id: u32, length: u32) -> Event {
     }
 }
 
-fn birth(id: u32, form: Form) -> Event {
+pub(crate) fn birth(id: u32, form: Form) -> Event {
     Event::Birth { view: 0, id, form }
 }
 
-fn flat(wide: bool, start: u32) -> Form {
+pub(crate) fn flat(wide: bool, start: u32) -> Form {
     Form::Flat {
         wide,
         start,
@@ -50,7 +51,7 @@ fn flat(wide: bool, start: u32) -> Form {
 }
 
 // The event comes, and finds this word.
-fn play(rt: &impl Abort, state: &mut CoreState, event: &Event, found: u64) {
+pub(crate) fn play(rt: &impl Abort, state: &mut CoreState, event: &Event, found: u64) {
     assert!(rt; enabled(state, event));
     assert!(rt; apply(state, event) == Ok(found));
 }
@@ -63,7 +64,14 @@ fn refuse(rt: &impl Abort, state: &mut CoreState, event: &Event, words: &[u64]) 
 }
 
 // The birth comes, and the string has these units.
-fn bear(rt: &impl Abort, alloc: Global, state: &mut CoreState, id: u32, form: Form, want: &[u16]) {
+pub(crate) fn bear(
+    rt: &impl Abort,
+    alloc: Global,
+    state: &mut CoreState,
+    id: u32,
+    form: Form,
+    want: &[u16],
+) {
     let event = Event::Birth { view: 0, id, form };
     match apply(state, &event) {
         Ok(found) => {
@@ -186,11 +194,11 @@ fn words_are_shared_and_claims_are_lost(rt: HostRuntime) {
     assert!(rt; state.words() == [2, 1, 0, 1, 3, 17, 3, 6513249].as_slice());
 }
 
-fn split(view: u32, give: u32) -> Event {
+pub(crate) fn split(view: u32, give: u32) -> Event {
     Event::Split { view, give }
 }
 
-fn join(view: u32, other: u32) -> Event {
+pub(crate) fn join(view: u32, other: u32) -> Event {
     Event::Join { view, other }
 }
 
@@ -259,11 +267,11 @@ fn splits_and_joins_that_are_not_enabled(rt: HostRuntime) {
     play(&rt, &mut state, &split(1, 3), 0);
 }
 
-fn names(alloc: Global, ids: &[u32]) -> Result<Vec<u32>, AllocError> {
+pub(crate) fn names(alloc: Global, ids: &[u32]) -> Result<Vec<u32>, AllocError> {
     Vec::from_slice(alloc, ids)
 }
 
-fn load_header(
+pub(crate) fn load_header(
     rt: &impl Abort,
     alloc: Global,
     view: u32,
@@ -466,7 +474,7 @@ fn load_slot(rt: &impl Abort, alloc: Global, slot: u32, entry: Option<Units>) ->
     }
 }
 
-fn take_slot(rt: &impl Abort, alloc: Global, slot: u32, id: u32) -> Event {
+pub(crate) fn take_slot(rt: &impl Abort, alloc: Global, slot: u32, id: u32) -> Event {
     match names(alloc, [].as_slice()) {
         Ok(learn) => Event::TakeSlot {
             view: 0,
@@ -479,7 +487,8 @@ fn take_slot(rt: &impl Abort, alloc: Global, slot: u32, id: u32) -> Event {
 }
 
 // The string abc, and a fixed Flat over the same word, which goes into the slot of its hash,
-// 96354 modulo 2. The next slot isn't for it, since the one before has the same units.
+// 96354 modulo 2. The next slot isn't for it, since the one before has the same units. The first
+// one is then forwarded to it.
 #[test]
 fn a_string_goes_into_a_slot(rt: HostRuntime) {
     let alloc = rt.alloc();
@@ -512,6 +521,14 @@ fn a_string_goes_into_a_slot(rt: HostRuntime) {
         Some(units) => assert!(rt; units.as_slice() == [97, 98, 99].as_slice()),
         None => panic!(rt; "no entry"),
     }
+    play(
+        &rt,
+        &mut state,
+        &thin(&rt, alloc, 0, 0, flat(false, 0), 1),
+        1,
+    );
+    let words = [2, 1, 2, 0, 36, 3, 17, 3, 0, 0, 0, 0, 6513249, 0, 0, 0];
+    assert!(rt; state.words() == words.as_slice());
 }
 
 // Two lists with one hash.

@@ -4,3 +4,6 @@ pub mod Justified
 pub mod FrozenWords
 pub mod Behind
 pub mod SlotSteps
+pub mod Turning
+pub mod Joins
+pub mod Moving

@@ -1,22 +1,29 @@
--- What a load found, as a step of the machine has it at hand before it changes the view.
+-- What a load or a compare-exchange of a header found, as a step of the machine has it at hand before it changes the view.
 use Rattle.std.specs.Prelude.{◌≡◌, ℕ, ◌+◌, ◌-◌, ◌*◌, ◌⊎◌, ◌<◌, ◌≤◌, ◌^◌, Bool, Some}
 use Rattle.std.specs.FinMap.{insert}
 use Rattle.js_header.specs.declared.form.Form.{Form}
 use Rattle.js_header.specs.declared.form.Form.TheVariants.{Flat, Sliced, Thin}
 use Rattle.heap_rule.specs.declared.view.View.{View}
 use Rattle.heap_views.specs.declared.load.Load.{Load}
-use Rattle.heap_views.specs.declared.load.Load.TheVariants.{SeenForm, SeenLength, SeenWord, Own}
+use Rattle.heap_views.specs.declared.load.Load.TheVariants.{SeenForm, SeenLength, SeenWord, Turned, Own}
 use Rattle.js_units.specs.Lanes.{lane_count}
 use Rattle.heap_rule.specs.Maps.{Has}
 use Rattle.heap_rule.specs.Views.{HasLength}
 use Rattle.heap_rule.specs.Loads.{met_ids, with_form, added_loads, loaded_length}
+use Rattle.heap_rule.specs.Births.{freeze}
 
--- the view after a load
+-- the view after it
 abbrev pub loaded_by : View → Load → View
 loaded_by v (SeenForm i f) = record (with_form v i (Some f)) { form_loads = added_loads v.form_loads 1 }
 loaded_by v (SeenLength i n) = loaded_length v i n
 loaded_by v (SeenWord c x) = record v { frozen = insert v.frozen c x }
+loaded_by v (Turned i f start count) = record (freeze v start count) { forms = insert v.forms i f }
 loaded_by v Own = v
+
+-- the run of words that become frozen is counted by a machine's numbers
+abbrev pub IsRun : Load → Type 0
+IsRun (Turned i f start count) = start + count < 2 ^ 32
+IsRun _ = Unit {0}
 
 -- the ids that a form names are met
 abbrev pub met_by : View → Form → View

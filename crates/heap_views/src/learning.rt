@@ -9,7 +9,7 @@ ghost use Rattle.js_header.specs.declared.form.Form.{Form};
 ghost use Rattle.js_header.specs.declared.form.Form.TheVariants as form;
 ghost use Rattle.heap_rule.specs.Loads.{MayLoadWord, loaded_word};
 ghost use Rattle.heap_rule.specs.Learning.{split_by, by_thin, by_cons, by_flat, frozen_word, justified, learned};
-ghost use Rattle.heap_views.specs.Loading.{loaded_by, met_by, HasRoom, IsSpanned, Spans, EndsPast};
+ghost use Rattle.heap_views.specs.Loading.{loaded_by, met_by, HasRoom, IsRun, IsSpanned, Spans, EndsPast};
 
 use crate::load::Load;
 use heap_rule::{Twin, View};
@@ -42,7 +42,8 @@ pub fn may_load_word(view: &View, at: u32) -> bool
 
 /// What a load of a content word adds.
 pub fn word_load(view: &View, at: u32, word: u64) -> Load
-    ensures { loaded_by view.now result ≡ loaded_word view.now at word }
+    ensures view { loaded_by view.now result ≡ loaded_word view.now at word }
+    ensures run { IsRun result }
 {
     if view.own_words.contains_key(at) {
         return Load::Own;
@@ -173,7 +174,8 @@ pub(crate) fn twin(view: &View, alloc: Global) -> Result<View, NoMemory>
 
 /// The view after a load that learns the units of the named strings.
 pub fn loaded(view: &View, alloc: Global, load: Load, names: &[u32]) -> Result<View, NoMemory>
-    requires { HasRoom (loaded_by view.now load) }
+    requires room { HasRoom (loaded_by view.now load) }
+    requires run { IsRun load }
     ensures { IfOk result (λ w. w ≡ learned (loaded_by view.now load) names.now) }
 {
     let mut seen = twin(view, alloc)?;
@@ -184,6 +186,7 @@ pub fn loaded(view: &View, alloc: Global, load: Load, names: &[u32]) -> Result<V
 
 // A load without what is learned.
 fn add_load(view: &mut View, load: Load) -> Result<(), NoMemory>
+    requires { IsRun load }
     ensures { OnOk result (view.new ≡ loaded_by view.old load) }
 {
     match load {
@@ -195,6 +198,16 @@ fn add_load(view: &mut View, load: Load) -> Result<(), NoMemory>
         }
         Load::SeenLength { id, length } => view.lengths.insert(id, length),
         Load::SeenWord { at, word } => view.frozen.insert(at, word),
+        Load::Turned {
+            id,
+            form,
+            start,
+            count,
+        } => {
+            view.frozen.take_run(&view.own_words, start, count)?;
+            view.own_words.remove_run(start, count);
+            view.forms.insert(id, form)
+        }
         Load::Own => Ok(()),
     }
 }
@@ -286,7 +299,7 @@ fn by_thin(view: &View, id: u32, other: u32, form: Form) -> Option<&[u16]>
     }
 }
 
-fn units_at(view: &View, id: u32) -> Option<&[u16]>
+pub(crate) fn units_at(view: &View, id: u32) -> Option<&[u16]>
     ensures { option_copied result ≡ get view.now.units id }
 {
     match view.units.get(id) {

@@ -8,4 +8,6 @@ pub mod births;
 pub mod claims;
 pub mod learning;
 pub mod load;
+pub mod moves;
+pub mod parts;
 pub mod slots;

@@ -2,6 +2,7 @@
 // tests take no memory, so that a load can be refused before anything changes.
 ghost use Rattle.std.specs.Prelude.{◌≡◌, ℕ, ◌+◌, ◌<◌, ◌^◌, ◌↔◌, IsTrue, IsSome, Some, is_some};
 ghost use Rattle.std.specs.FinMap.{get, insert, contains_key};
+ghost use Rattle.heap_rule.specs.Maps.{with_run_of};
 ghost use Rattle.heap_rule.specs.Learning.{tells, by_flat, all_frozen, justified, MayLearn};
 ghost use Rattle.heap_views.specs.Loading.{loaded_by, HasRoom};
 
@@ -10,12 +11,28 @@ use js_header::Form;
 use js_units::words_for;
 
 /// What a load adds to a view: the form or the length of a string, a frozen word, or nothing new,
-/// as a load of an own word does.
+/// as a load of an own word does. `Turned` is what a compare-exchange of a header adds: the form
+/// that stands from then on, and the run of own words that is frozen by it, empty where none is.
 #[derive(Clone, Copy)]
 pub enum Load {
-    SeenForm { id: u32, form: Form },
-    SeenLength { id: u32, length: u32 },
-    SeenWord { at: u32, word: u64 },
+    SeenForm {
+        id: u32,
+        form: Form,
+    },
+    SeenLength {
+        id: u32,
+        length: u32,
+    },
+    SeenWord {
+        at: u32,
+        word: u64,
+    },
+    Turned {
+        id: u32,
+        form: Form,
+        start: u32,
+        count: u32,
+    },
     Own,
 }
 
@@ -38,6 +55,16 @@ fn get_copy<X: Copy>(map: &IdMap<X>, key: u32) -> Option<X>
     }
 }
 
+/// Whether the word is frozen once the own ones of a run are.
+fn is_frozen_by(view: &View, at: u32, start: u32, count: u32) -> bool
+    ensures { result ≡ contains_key (with_run_of view.now.own_words view.now.frozen start count) at }
+{
+    if start <= at && at - start < count && view.own_words.contains_key(at) {
+        return true;
+    }
+    view.frozen.contains_key(at)
+}
+
 impl Load {
     // The form of a string afterwards.
     fn form(&self, view: &View, id: u32) -> Option<Form>
@@ -47,6 +74,12 @@ impl Load {
             Load::SeenForm { id: at, form } => get_with(&view.forms, id, at, form),
             Load::SeenLength { id: _, length: _ } => get_copy(&view.forms, id),
             Load::SeenWord { at: _, word: _ } => get_copy(&view.forms, id),
+            Load::Turned {
+                id: at,
+                form,
+                start: _,
+                count: _,
+            } => get_with(&view.forms, id, at, form),
             Load::Own => get_copy(&view.forms, id),
         }
     }
@@ -59,6 +92,12 @@ impl Load {
             Load::SeenForm { id: _, form: _ } => get_copy(&view.lengths, id),
             Load::SeenLength { id: at, length } => get_with(&view.lengths, id, at, length),
             Load::SeenWord { at: _, word: _ } => get_copy(&view.lengths, id),
+            Load::Turned {
+                id: _,
+                form: _,
+                start: _,
+                count: _,
+            } => get_copy(&view.lengths, id),
             Load::Own => get_copy(&view.lengths, id),
         }
     }
@@ -71,6 +110,12 @@ impl Load {
             Load::SeenForm { id: _, form: _ } => view.frozen.contains_key(at),
             Load::SeenLength { id: _, length: _ } => view.frozen.contains_key(at),
             Load::SeenWord { at: place, word } => get_with(&view.frozen, at, place, word).is_some(),
+            Load::Turned {
+                id: _,
+                form: _,
+                start,
+                count,
+            } => is_frozen_by(view, at, start, count),
             Load::Own => view.frozen.contains_key(at),
         }
     }
@@ -143,6 +188,12 @@ impl Load {
             Load::SeenForm { id: at, form: _ } => self.tells(view, id, at),
             Load::SeenLength { id: _, length: _ } => false,
             Load::SeenWord { at: _, word: _ } => false,
+            Load::Turned {
+                id: at,
+                form: _,
+                start: _,
+                count: _,
+            } => self.tells(view, id, at),
             Load::Own => false,
         }
     }

@@ -2,7 +2,7 @@ use Rattle.std.proofs.Common.{◌∙◌, get_or, refl, sym}
 use Rattle.heap_core.specs.Core.{core}
 use Rattle.heap_rule.specs.Views.{IsKnown}
 use Rattle.heap_core.proofs.StateLemmas.{view_inside}
-use Rattle.heap_core.proofs.LoadSteps.{known_stands, known_inside, header_room, header_done, place_inside}
+use Rattle.heap_core.proofs.LoadSteps.{header_run, known_stands, known_inside, header_room, header_done, place_inside}
 use Rattle.heap_rule.proofs.ListLemmas.{at_index}
 use Rattle.heap_core.proofs.play.load_header.Goals as goal
 
@@ -15,8 +15,11 @@ header_load-load-requires-clause-born c = (known_stands (core c.args.size c.args
 pub bounds-views-view : goal.bounds-views-view
 bounds-views-view c = view_inside c.args.views.now c.args.view (λ v. IsKnown v c.args.id) (c.if-not-may_load_header.ensures.0 refl).0
 
-pub loaded-requires : goal.loaded-requires
-loaded-requires c = let t = (c.if-not-may_load_header.ensures.0 refl).0 in header_room (core c.args.size c.args.agents c.args.words.now c.args.views.now) c.requires c.args.view c.args.id c.args.length c.header_load-load.result (get_or c.args.views.now c.args.view c.index-views-view.result) t
+pub loaded-requires-clause-run : goal.loaded-requires-clause-run
+loaded-requires-clause-run c = header_run c.args.size c.args.words.now c.args.id c.args.length c.header_load-load.result c.header_load-load.ensures
+
+pub loaded-requires-clause-room : goal.loaded-requires-clause-room
+loaded-requires-clause-room c = let t = (c.if-not-may_load_header.ensures.0 refl).0 in header_room (core c.args.size c.args.agents c.args.words.now c.args.views.now) c.requires c.args.view c.args.id c.args.length c.header_load-load.result (get_or c.args.views.now c.args.view c.index-views-view.result) t
     (at_index c.args.views.now c.args.view t.0 (get_or c.args.views.now c.args.view c.index-views-view.result) t.1 ∙ sym (at_index c.args.views.now c.args.view t.0 c.index-views-view.result t.1)) c.header_load-load.ensures
 
 pub bounds-views-view-2 : goal.bounds-views-view-2

@@ -18,12 +18,12 @@ bounds-views-view c = view_inside c.args.views.now c.args.view (λ v. MayLoadWor
 pub bounds-views-view-2 : goal.bounds-views-view-2
 bounds-views-view-2 c = view_inside c.args.views.now c.args.view (λ v. MayLoadWord v c.args.at) (may_word (core c.args.size c.args.agents c.args.words.now c.args.views.now) c.requires c.args.view c.args.at c.args.names.now (c.if-not-may_load_word.ensures.0 refl))
 
-pub loaded-requires : goal.loaded-requires
-loaded-requires c = let t = (may_word (core c.args.size c.args.agents c.args.words.now c.args.views.now) c.requires c.args.view c.args.at c.args.names.now (c.if-not-may_load_word.ensures.0 refl)) in word_room (core c.args.size c.args.agents c.args.words.now c.args.views.now) c.requires c.args.view c.args.at c.content_place.result c.word_load-load.result (get_or c.args.views.now c.args.view c.index-views-view.result) (get_or c.args.views.now c.args.view c.index-views-view-2.result) t (at_index c.args.views.now c.args.view t.0 c.index-views-view.result t.1 ∙ sym (at_index c.args.views.now c.args.view t.0 (get_or c.args.views.now c.args.view c.index-views-view.result) t.1))
-    (at_index c.args.views.now c.args.view t.0 (get_or c.args.views.now c.args.view c.index-views-view-2.result) t.1 ∙ sym (at_index c.args.views.now c.args.view t.0 c.index-views-view-2.result t.1)) c.content_place.ensures c.word_load-load.ensures
+pub loaded-requires-clause-room : goal.loaded-requires-clause-room
+loaded-requires-clause-room c = let t = (may_word (core c.args.size c.args.agents c.args.words.now c.args.views.now) c.requires c.args.view c.args.at c.args.names.now (c.if-not-may_load_word.ensures.0 refl)) in word_room (core c.args.size c.args.agents c.args.words.now c.args.views.now) c.requires c.args.view c.args.at c.content_place.result c.word_load-load.result (get_or c.args.views.now c.args.view c.index-views-view.result) (get_or c.args.views.now c.args.view c.index-views-view-2.result) t (at_index c.args.views.now c.args.view t.0 c.index-views-view.result t.1 ∙ sym (at_index c.args.views.now c.args.view t.0 (get_or c.args.views.now c.args.view c.index-views-view.result) t.1))
+    (at_index c.args.views.now c.args.view t.0 (get_or c.args.views.now c.args.view c.index-views-view-2.result) t.1 ∙ sym (at_index c.args.views.now c.args.view t.0 c.index-views-view-2.result t.1)) c.content_place.ensures c.word_load-load.ensures.view
 
 pub bounds-views-view-3 : goal.bounds-views-view-3
 bounds-views-view-3 c = view_inside c.args.views.now c.args.view (λ v. MayLoadWord v c.args.at) (may_word (core c.args.size c.args.agents c.args.words.now c.args.views.now) c.requires c.args.view c.args.at c.args.names.now (c.if-not-may_load_word.ensures.0 refl))
 
 pub returns : goal.returns
-returns c = let t = (c.if-not-may_load_word.ensures.0 refl) in word_done (core c.args.size c.args.agents c.args.words.now c.args.views.now) c.requires c.args.view c.args.at c.content_place.result c.args.names.now c.word_load-load.result (get_or c.args.views.now c.args.view c.index-views-view.result) c.index-views-view-2.result c.in-Ok.seen t (at_index c.args.views.now c.args.view t.0 c.index-views-view.result t.1 ∙ sym (at_index c.args.views.now c.args.view t.0 (get_or c.args.views.now c.args.view c.index-views-view.result) t.1)) c.content_place.ensures c.word_load-load.ensures (c.in-Ok.ensures)
+returns c = let t = (c.if-not-may_load_word.ensures.0 refl) in word_done (core c.args.size c.args.agents c.args.words.now c.args.views.now) c.requires c.args.view c.args.at c.content_place.result c.args.names.now c.word_load-load.result (get_or c.args.views.now c.args.view c.index-views-view.result) c.index-views-view-2.result c.in-Ok.seen t (at_index c.args.views.now c.args.view t.0 c.index-views-view.result t.1 ∙ sym (at_index c.args.views.now c.args.view t.0 (get_or c.args.views.now c.args.view c.index-views-view.result) t.1)) c.content_place.ensures c.word_load-load.ensures.view (c.in-Ok.ensures)

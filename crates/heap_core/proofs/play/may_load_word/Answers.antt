@@ -27,7 +27,7 @@ pub bounds-views-view-3 : goal.bounds-views-view-3
 bounds-views-view-3 c = view_inside c.args.views.now c.args.view (λ v. Unit {0}) (c.if-not-is_live.ensures.0 refl)
 
 pub justifies_all-requires : goal.justifies_all-requires
-justifies_all-requires c = word_room (core c.args.size c.args.agents c.args.words.now c.args.views.now) c.requires c.args.view c.args.at c.content_place.result c.word_load.result c.index-views-view-2.result c.index-views-view-3.result (live_here (core c.args.size c.args.agents c.args.words.now c.args.views.now) c.requires c.args.view (λ v. MayLoadWord v c.args.at) c.index-views-view.result (c.if-not-is_live.ensures.0 refl) c.index-views-view.is (c.if-not-may_load_word.ensures.0 refl)) c.index-views-view-2.is (sym c.index-views-view-3.is) c.content_place.ensures c.word_load.ensures
+justifies_all-requires c = word_room (core c.args.size c.args.agents c.args.words.now c.args.views.now) c.requires c.args.view c.args.at c.content_place.result c.word_load.result c.index-views-view-2.result c.index-views-view-3.result (live_here (core c.args.size c.args.agents c.args.words.now c.args.views.now) c.requires c.args.view (λ v. MayLoadWord v c.args.at) c.index-views-view.result (c.if-not-is_live.ensures.0 refl) c.index-views-view.is (c.if-not-may_load_word.ensures.0 refl)) c.index-views-view-2.is (sym c.index-views-view-3.is) c.content_place.ensures c.word_load.ensures.view
 
 pub returns : goal.returns
-returns c = word_if (core c.args.size c.args.agents c.args.words.now c.args.views.now) c.requires c.args.view c.args.at c.content_place.result c.args.names.now c.word_load.result c.index-views-view-2.result c.index-views-view-3.result c.justifies_all.result (live_here (core c.args.size c.args.agents c.args.words.now c.args.views.now) c.requires c.args.view (λ v. MayLoadWord v c.args.at) c.index-views-view.result (c.if-not-is_live.ensures.0 refl) c.index-views-view.is (c.if-not-may_load_word.ensures.0 refl)) c.index-views-view-2.is c.index-views-view-3.is c.content_place.ensures c.word_load.ensures c.justifies_all.ensures
+returns c = word_if (core c.args.size c.args.agents c.args.words.now c.args.views.now) c.requires c.args.view c.args.at c.content_place.result c.args.names.now c.word_load.result c.index-views-view-2.result c.index-views-view-3.result c.justifies_all.result (live_here (core c.args.size c.args.agents c.args.words.now c.args.views.now) c.requires c.args.view (λ v. MayLoadWord v c.args.at) c.index-views-view.result (c.if-not-is_live.ensures.0 refl) c.index-views-view.is (c.if-not-may_load_word.ensures.0 refl)) c.index-views-view-2.is c.index-views-view-3.is c.content_place.ensures c.word_load.ensures.view c.justifies_all.ensures

@@ -1,22 +1,17 @@
-use Rattle.std.proofs.Common.{◌≢◌, ◌∙◌, ◌<◌, ◌≤◌, ℕ, List, ap, sym, subst}
-use Rattle.js_header.specs.declared.form.Form.{Form}
-use Rattle.js_header.specs.declared.form.Form.TheVariants.{Flat}
+use Rattle.std.proofs.Common.{◌≢◌, ◌<◌, ◌≤◌, ℕ, List, sym, subst}
 use Rattle.heap_rule.specs.declared.view.View.{View}
-use Rattle.heap_core.specs.declared.event.Event.TheVariants.{Split, Join, LoadCounter, Claim, StoreWord, StoreLength, Birth, LoadHeader, LoadWord, LoadSlot, TakeSlot}
-use Rattle.heap_rule.specs.Layout.{MAX}
-use Rattle.heap_rule.specs.Maps.{Has, HasKey}
-use Rattle.heap_rule.specs.Sound.{EachLive}
+use Rattle.heap_core.specs.declared.event.Event.TheVariants.{Split, Join, LoadCounter, Claim, StoreWord, StoreLength, Birth, LoadHeader, LoadWord, Flatten, Thin, LoadSlot, TakeSlot}
+use Rattle.heap_rule.specs.Maps.{HasKey}
 use Rattle.heap_core.specs.Core.{core}
-use Rattle.heap_core.specs.Events.{LiveIn, CanLoadHeader, CanLoadWord, CanLoadSlot, CanTakeSlot}
+use Rattle.heap_core.specs.Events.{IsCore, LiveIn, CanLoadHeader, CanLoadWord, CanFlatten, CanThinTo, CanLoadSlot, CanTakeSlot}
 use Rattle.heap_rule.specs.Agents.{MayJoin}
 use Rattle.heap_rule.specs.Claims.{MayClaim}
 use Rattle.heap_rule.specs.Births.{MayStoreLength, MayBear}
-use Rattle.heap_core.proofs.StateLemmas.{Tells, own_lengths, enabled_by, views_by}
+use Rattle.heap_core.proofs.StateLemmas.{Tells, enabled_by, views_by}
 use Rattle.heap_core.proofs.state.enabled.Goals as goal
 
 pub may_bear-requires : goal.may_bear-requires
-may_bear-requires c = subst (λ (vs : List View). EachLive vs (λ _ v. (n : ℕ) → Has v.own_ids c.in-Birth.id n → n ≤ MAX)) (sym c.as_slice-views.ensures.value)
-    (own_lengths (core c.state.inside.size c.state.inside.agents c.state.inside.words.items c.state.inside.views.items) c.in-Birth.id c.state.invariant)
+may_bear-requires c = subst (λ (p : List ℕ × List View). IsCore (core c.state.inside.size c.state.inside.agents p.0 p.1)) (λ k. (sym c.as_slice.ensures.value k, sym c.as_slice-views.ensures.value k)) c.state.invariant
 
 pub returns-in-Split : goal.returns-in-Split
 returns-in-Split c = enabled_by (core c.state.inside.size c.state.inside.agents c.state.inside.words.items c.state.inside.views.items) c.args.state.now c.args.event.now (Split c.in-Split.view c.in-Split.give) c.may_split.result c.state.view_is c.in-Split.is
@@ -42,21 +37,29 @@ pub returns-in-StoreLength : goal.returns-in-StoreLength
 returns-in-StoreLength c = enabled_by (core c.state.inside.size c.state.inside.agents c.state.inside.words.items c.state.inside.views.items) c.args.state.now c.args.event.now (StoreLength c.in-StoreLength.view c.in-StoreLength.id c.in-StoreLength.length) c.may_store_length.result c.state.view_is c.in-StoreLength.is
     (views_by c.as_slice-views.result.now c.state.inside.views.items c.in-StoreLength.view (λ v. MayStoreLength v c.in-StoreLength.id c.in-StoreLength.length) c.may_store_length.result c.as_slice-views.ensures.value c.may_store_length.ensures)
 
-pub returns-in-Flat : goal.returns-in-Flat
-returns-in-Flat c = let t = views_by c.as_slice-views.result.now c.state.inside.views.items c.in-Birth.view (λ v. MayBear v c.in-Birth.id (Flat c.in-Flat.wide c.in-Flat.start c.in-Flat.fixed)) c.may_bear.result c.as_slice-views.ensures.value c.may_bear.ensures in
-    enabled_by (core c.state.inside.size c.state.inside.agents c.state.inside.words.items c.state.inside.views.items) c.args.state.now c.args.event.now (Birth c.in-Birth.view c.in-Birth.id (Flat c.in-Flat.wide c.in-Flat.start c.in-Flat.fixed)) c.may_bear.result c.state.view_is
-    (c.in-Birth.is ∙ ap (λ (f : Form). Birth c.in-Birth.view c.in-Birth.id f) c.in-Flat.is)
-    ((λ h. (tt, t.0 h)), (λ h. t.1 h.1))
+pub returns-in-Birth : goal.returns-in-Birth
+returns-in-Birth c = enabled_by (core c.state.inside.size c.state.inside.agents c.state.inside.words.items c.state.inside.views.items) c.args.state.now c.args.event.now (Birth c.in-Birth.view c.in-Birth.id c.in-Birth.form) c.may_bear.result c.state.view_is c.in-Birth.is
+    (views_by c.as_slice-views.result.now c.state.inside.views.items c.in-Birth.view (λ v. MayBear v c.in-Birth.id c.in-Birth.form) c.may_bear.result c.as_slice-views.ensures.value c.may_bear.ensures)
 
 pub returns-in-LoadHeader : goal.returns-in-LoadHeader
 returns-in-LoadHeader c = enabled_by (core c.state.inside.size c.state.inside.agents c.state.inside.words.items c.state.inside.views.items) c.args.state.now c.args.event.now (LoadHeader c.in-LoadHeader.view c.in-LoadHeader.id c.in-LoadHeader.length c.in-LoadHeader.learn) c.may_load_header.result c.state.view_is c.in-LoadHeader.is
     (subst (λ (p : List ℕ × List View × List ℕ). Tells c.may_load_header.result (CanLoadHeader (core c.state.inside.size c.state.inside.agents p.0 p.1) c.in-LoadHeader.view c.in-LoadHeader.id c.in-LoadHeader.length p.2))
-    (λ k. (c.as_slice.ensures.value k, c.as_slice-views.ensures.value k, c.as_slice-in-LoadHeader.ensures.value k)) c.may_load_header.ensures)
+    (λ k. (c.as_slice-in-LoadHeader.ensures.value k, c.as_slice-views.ensures.value k, c.as_slice-in-LoadHeader-2.ensures.value k)) c.may_load_header.ensures)
 
 pub returns-in-LoadWord : goal.returns-in-LoadWord
 returns-in-LoadWord c = enabled_by (core c.state.inside.size c.state.inside.agents c.state.inside.words.items c.state.inside.views.items) c.args.state.now c.args.event.now (LoadWord c.in-LoadWord.view c.in-LoadWord.at c.in-LoadWord.learn) c.may_load_word.result c.state.view_is c.in-LoadWord.is
     (subst (λ (p : List ℕ × List View × List ℕ). Tells c.may_load_word.result (CanLoadWord (core c.state.inside.size c.state.inside.agents p.0 p.1) c.in-LoadWord.view c.in-LoadWord.at p.2))
     (λ k. (c.as_slice-in-LoadWord.ensures.value k, c.as_slice-views.ensures.value k, c.as_slice-in-LoadWord-2.ensures.value k)) c.may_load_word.ensures)
+
+pub returns-in-Flatten : goal.returns-in-Flatten
+returns-in-Flatten c = enabled_by (core c.state.inside.size c.state.inside.agents c.state.inside.words.items c.state.inside.views.items) c.args.state.now c.args.event.now (Flatten c.in-Flatten.view c.in-Flatten.id c.in-Flatten.old c.in-Flatten.new c.in-Flatten.learn) c.may_flatten.result c.state.view_is c.in-Flatten.is
+    (subst (λ (p : List ℕ × List View × List ℕ). Tells c.may_flatten.result (CanFlatten (core c.state.inside.size c.state.inside.agents p.0 p.1) c.in-Flatten.view c.in-Flatten.id c.in-Flatten.old c.in-Flatten.new p.2))
+    (λ k. (c.as_slice-in-Flatten.ensures.value k, c.as_slice-views.ensures.value k, c.as_slice-in-Flatten-2.ensures.value k)) c.may_flatten.ensures)
+
+pub returns-in-Thin : goal.returns-in-Thin
+returns-in-Thin c = enabled_by (core c.state.inside.size c.state.inside.agents c.state.inside.words.items c.state.inside.views.items) c.args.state.now c.args.event.now (Thin c.in-Thin.view c.in-Thin.id c.in-Thin.old c.in-Thin.target c.in-Thin.learn) c.may_thin.result c.state.view_is c.in-Thin.is
+    (subst (λ (p : List ℕ × List View × List ℕ). Tells c.may_thin.result (CanThinTo (core c.state.inside.size c.state.inside.agents p.0 p.1) c.in-Thin.view c.in-Thin.id c.in-Thin.old c.in-Thin.target p.2))
+    (λ k. (c.as_slice-in-Thin.ensures.value k, c.as_slice-views.ensures.value k, c.as_slice-in-Thin-2.ensures.value k)) c.may_thin.ensures)
 
 pub returns-in-LoadSlot : goal.returns-in-LoadSlot
 returns-in-LoadSlot c = enabled_by (core c.state.inside.size c.state.inside.agents c.state.inside.words.items c.state.inside.views.items) c.args.state.now c.args.event.now (LoadSlot c.in-LoadSlot.view c.in-LoadSlot.slot c.in-LoadSlot.entry c.in-LoadSlot.learn) c.may_load_slot.result c.state.view_is c.in-LoadSlot.is

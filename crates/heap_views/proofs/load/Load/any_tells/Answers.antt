@@ -25,6 +25,13 @@ returns-in-SeenForm c = (
       (λ k x ne h. sym (insert_other c.args.view.now.forms c.in-SeenForm.at k c.in-SeenForm.form ne) ∙ subst (λ (l : Load). Has (loaded_by c.args.view.now l).forms k x) c.in-SeenForm.is h) t),
 )
 
+pub returns-in-Turned : goal.returns-in-Turned
+returns-in-Turned c = (
+  (λ h. (c.in-Turned.at, sym c.tells-in-Turned.ensures ∙ h)),
+  (λ t. c.tells-in-Turned.ensures ∙ one_told c.args.view.now c.args.self.now c.args.id c.in-Turned.at (search_none (λ j _. IsTrue (tells (loaded_by c.args.view.now c.args.self.now) c.args.id j (get (loaded_by c.args.view.now c.args.self.now).forms j))) c.args.view.now.forms c.loop-other.other-iterator (rest_all deref_pair c.loop-other.other-iterator c.next.new.self c.next.result c.in-None.is c.next.ensures.steps) c.loop-other.invariant)
+      (λ k x ne h. sym (insert_other c.args.view.now.forms c.in-Turned.at k c.in-Turned.form ne) ∙ subst (λ (l : Load). Has (loaded_by c.args.view.now l).forms k x) c.in-Turned.is h) t),
+)
+
 pub returns-in-SeenLength : goal.returns-in-SeenLength
 returns-in-SeenLength c = ((λ (e : false ≡ true). absurd (cc)), (λ t. absurd (none_told c.args.view.now c.args.self.now c.args.id (search_none (λ j _. IsTrue (tells (loaded_by c.args.view.now c.args.self.now) c.args.id j (get (loaded_by c.args.view.now c.args.self.now).forms j))) c.args.view.now.forms c.loop-other.other-iterator (rest_all deref_pair c.loop-other.other-iterator c.next.new.self c.next.result c.in-None.is c.next.ensures.steps) c.loop-other.invariant) (λ k x h. subst (λ (l : Load). Has (loaded_by c.args.view.now l).forms k x) c.in-SeenLength.is h) t)))
 
