@@ -11,8 +11,8 @@ use Rattle.js_header.specs.declared.form.Form.{Form}
 use Rattle.js_header.specs.declared.form.Form.TheVariants.{Unborn, Flat, Cons, Sliced, Thin}
 use Rattle.heap_rule.specs.Maps.{Has}
 use Rattle.heap_rule.specs.Forms.{IsCons, IsLater, is_later}
-use Rattle.heap_rule.specs.Forms.{IsBuilt}
 use Rattle.heap_rule.proofs.MapLemmas.{key_of}
+use Rattle.heap_table.specs.Rule.{MayStand}
 use Rattle.heap_table.specs.Taken.{fits_there, fits_all, same_number, fits_form}
 
 pub false_true : false ≡ true → ⊥
@@ -61,27 +61,27 @@ module _ {X : Type 0} (fits : X → X → Bool) (m n : FinMap nat_cmp X) where
 pub same_number_decides : (m n : ℕ) → Decides (same_number m n) (m ≡ n)
 same_number_decides m n = unsigned_Decides m n
 
-pub fits_self : (f : Form) → IsBuilt f → fits_form f f ≡ true
+pub fits_self : (f : Form) → MayStand f → fits_form f f ≡ true
 fits_self (Flat wide start fixed) b = and_from _ _ ((booleans_Decides wide wide).1 refl) (and_from _ _ ((unsigned_Decides start start).1 refl) ((booleans_Decides fixed fixed).1 refl))
 fits_self Unborn b = absurd b
-fits_self (Cons wide left right) b = absurd b
+fits_self (Cons wide left right) b = refl
 fits_self (Sliced wide parent offset) b = absurd b
 fits_self (Thin target) b = absurd b
 
--- any form may stand where one was seen that a built one has followed
-pub fits_early : (f now g : Form) → IsBuilt now → IsLater f now → fits_form f g ≡ true
+-- any form fits where one was seen that another has followed
+pub fits_early : (f now g : Form) → MayStand now → IsLater f now → fits_form f g ≡ true
 fits_early (Cons wide left right) now g b l = refl
 fits_early Unborn now g b l = absurd (false_true l)
 fits_early (Thin target) now g b l = absurd (false_true l)
 fits_early (Flat wide start true) now g b l = absurd (false_true l)
 fits_early (Flat wide start false) (Flat w s f) g b l = absurd (false_true l)
 fits_early (Flat wide start false) Unborn g b l = absurd b
-fits_early (Flat wide start false) (Cons w s f) g b l = absurd b
+fits_early (Flat wide start false) (Cons w s f) g b l = absurd (false_true l)
 fits_early (Flat wide start false) (Sliced w s f) g b l = absurd b
 fits_early (Flat wide start false) (Thin t) g b l = absurd b
 fits_early (Sliced wide start p) (Flat w s f) g b l = absurd (false_true l)
 fits_early (Sliced wide start p) Unborn g b l = absurd b
-fits_early (Sliced wide start p) (Cons w s f) g b l = absurd b
+fits_early (Sliced wide start p) (Cons w s f) g b l = absurd (false_true l)
 fits_early (Sliced wide start p) (Sliced w s f) g b l = absurd b
 fits_early (Sliced wide start p) (Thin t) g b l = absurd b
 
@@ -108,7 +108,7 @@ not_self (Cons wide left right) = refl
 not_self (Sliced wide parent offset) = refl
 not_self (Thin target) = refl
 
-not_before : (g : Form) (wide : Bool) (left right : ℕ) → is_later g (Cons wide left right) ≡ false
+pub not_before : (g : Form) (wide : Bool) (left right : ℕ) → is_later g (Cons wide left right) ≡ false
 not_before Unborn w l r = refl
 not_before (Flat wide start true) w l r = refl
 not_before (Flat wide start false) w l r = refl

@@ -1,5 +1,5 @@
 -- Each step of the table keeps the rule.
-use Rattle.std.proofs.Common.{◌≡◌, ◌≢◌, ℕ, zero, suc, [], ◌∷◌, ◌+◌, ◌^◌, ◌<◌, ◌≤◌, ⊎_elim, eqb, List, get_or, set, sym, refl, ap, ◌∙◌, subst, arith, eq-eqb, ne_eqb, cond, Bool, true, false, Option, Some, None}
+use Rattle.std.proofs.Common.{◌≡◌, ◌≢◌, ℕ, zero, suc, [], ◌∷◌, ◌+◌, ◌^◌, ◌<◌, ◌≤◌, ⊎_elim, eqb, List, length, get_or, set, sym, refl, ap, ◌∙◌, subst, arith, eq-eqb, ne_eqb, cond, Bool, true, false, Option, Some, None}
 use Rattle.std.specs.Prelude.{unwrap_or, is_some}
 use Rattle.std.proofs.lemmas.List.{set-get_or}
 use mathlib.Core.Option.{none, some, some-injective}
@@ -13,16 +13,19 @@ use Rattle.heap_rule.specs.declared.size.Counter.TheVariants.{Ids, Words}
 use Rattle.heap_rule.specs.Layout.{IsLawful, counter_at, end_of, content_at, form_at, length_at, slot_at, word_count, MAX}
 use Rattle.heap_rule.specs.declared.size.HeapSize.{HeapSize}
 use Rattle.heap_rule.specs.Agents.{joined, spent, noted, left_after_split, right_after_split}
-use Rattle.heap_rule.specs.Loads.{with_form, loaded_form, loaded_length, loaded_word, MayLoadWord}
+use Rattle.heap_rule.specs.Loads.{with_form, added_loads, loaded_form, loaded_length, loaded_word, MayLoadWord}
 use Rattle.heap_rule.specs.Slots.{MayEnter, units_by, entry_in, loaded_slot, MayTakeSlot, took_slot}
 use Rattle.heap_rule.specs.Learning.{learned_all, all_named}
 use Rattle.heap_rule.specs.Claims.{loaded_counter, claimed, won_claim, MayClaim}
-use Rattle.heap_rule.specs.Births.{stored_word, MayStoreLength, stored_length, MayBear, born, born_with}
-use Rattle.heap_rule.specs.Forms.{IsBuilt}
-use Rattle.heap_rule.specs.Kinds.{Keeps}
-use Rattle.heap_rule.specs.Sound.{IsSound, IsPossible}
+use Rattle.heap_rule.specs.Births.{stored_word, MayStoreLength, stored_length, Fits, MayBear, freeze_form, born, born_with}
+use Rattle.heap_rule.specs.HeaderMoves.{MayFlatten, flattened, seen_form}
+use Rattle.heap_rule.specs.Forms.{IsCons}
+use Rattle.heap_rule.specs.Kinds.{Keeps, flatten}
+use Rattle.std.proofs.Math.Logic.{∥∥₁_elim}
+use Rattle.std.proofs.Props.{props}
+use Rattle.heap_rule.specs.Sound.{IsSound, IsPossible, StandsIn}
 use Rattle.heap_rule.specs.Maps.{Has, HasKey}
-use Rattle.heap_rule.specs.Views.{IsKnown, shown}
+use Rattle.heap_rule.specs.Views.{IsKnown, IsSettled, shown}
 use Rattle.js_header.specs.Form.{IsInRange, form_of, word_of}
 use Rattle.js_header.specs.declared.form.Form.{Form}
 use Rattle.js_header.specs.declared.form.Form.TheVariants.{Unborn, Flat, Cons, Sliced, Thin}
@@ -31,22 +34,22 @@ use Rattle.std.specs.FinMap.{contains_key, entries, get, insert}
 use Rattle.heap_rule.proofs.Steps.{keeps_loaded_counter, keeps_won_claim, keeps_stored_word, keeps_stored_length, possible_within, counter_found, known_below, sizes_are}
 use Rattle.heap_rule.proofs.Loading.{keeps_loaded_form, form_found, known_born}
 use Rattle.heap_rule.proofs.Loads.{keeps_loaded_length, keeps_loaded_word}
-use Rattle.heap_rule.proofs.Birth.{keeps_birth}
 use Rattle.heap_rule.proofs.Splitting.{keeps_learned, keeps_noted, keeps_split, set_twice}
 use Rattle.heap_rule.proofs.Seen.{keeps_loaded_slot}
-use Rattle.heap_rule.proofs.KindsKept.{take_by}
+use Rattle.heap_rule.proofs.KindsKept.{birth_by, kinds_keep, take_by}
 use Rattle.heap_rule.proofs.Whole.{share_within, whole_counter, whole_slot}
 use Rattle.heap_rule.proofs.Joining.{keeps_joined}
-use Rattle.heap_rule.proofs.Possible.{possible_frozen}
+use Rattle.heap_rule.proofs.Possible.{possible_frozen, possible_lawful}
 use Rattle.heap_rule.proofs.ListLemmas.{set_else, set_there}
 use Rattle.heap_rule.proofs.MapLemmas.{insert_same, has_key, key_of}
 use Rattle.heap_table.specs.declared.rule.HeapKey.{HeapKey}
-use Rattle.heap_table.specs.Rule.{AreBuilt, KeepsHeap}
+use Rattle.heap_table.specs.Rule.{MayBeBorn, MayStand, AllMayStand, KeepsHeap}
 use Rattle.heap_table.specs.Taken.{taken}
 use Rattle.heap_table.proofs.Agreeing.{both_agree, taken_is}
-use Rattle.heap_table.proofs.Stay.{built_else, built_born, known_form, known_length, known_word, known_birth, known_slot, known_took}
-use Rattle.heap_table.specs.Plays.{Looked, Noted, Sat, FoundCounter, LoadedCounter, Claimed, StoredWord, StoredLength, GaveBirth, LoadedForm, LoadedLength, LoadedWord, SawSlot, TookSlot, FoundSlot, Stays}
+use Rattle.heap_table.proofs.Stay.{stand_else, stand_put, stand_exchanged, known_form, known_length, known_word, known_birth, known_flattened, known_slot, known_took}
+use Rattle.heap_table.specs.Plays.{Looked, Noted, Sat, FoundCounter, LoadedCounter, Claimed, StoredWord, StoredLength, GaveBirth, FlattenedForm, LoadedForm, LoadedLength, LoadedWord, SawSlot, TookSlot, FoundSlot, Stays}
 use Rattle.heap_table.specs.Agents.{Belongs}
+use Rattle.heap_table.specs.Known.{KeepsKnown}
 use Rattle.heap_table.specs.declared.agent.Agent.{Agent}
 use Rattle.heap_table.specs.declared.heap.Heap.{Heap}
 
@@ -109,6 +112,39 @@ form_same : (v : View) (i : ℕ) (o : Option Form) → IsSameAgent v (with_form 
 form_same v i None = (refl, refl, refl)
 form_same v i (Some f) = (refl, refl, refl)
 
+born_same : (v : View) (i : ℕ) (f : Form) → IsSameAgent v (born v i f)
+born_same v i Unborn = (refl, refl, refl)
+born_same v i (Flat wide start fixed) = (refl, refl, refl)
+born_same v i (Cons wide left right) = (refl, refl, refl)
+born_same v i (Sliced wide parent offset) = (refl, refl, refl)
+born_same v i (Thin target) = (refl, refl, refl)
+
+seen_same : (v : View) (i : ℕ) (o : Option Form) → IsSameAgent v (seen_form v i o)
+seen_same v i None = (refl, refl, refl)
+seen_same v i (Some f) = (refl, refl, refl)
+
+flat_same : (v w : View) (i : ℕ) (o : Option Form) (b : Bool) → IsSameAgent v w → IsSameAgent v (cond b w (seen_form v i o))
+flat_same v w i o true t = t
+flat_same v w i o false t = seen_same v i o
+
+frozen_same : (v : View) (n : ℕ) (f : Form) → IsSameAgent v (freeze_form v n f)
+frozen_same v n Unborn = (refl, refl, refl)
+frozen_same v n (Flat wide start fixed) = (refl, refl, refl)
+frozen_same v n (Cons wide left right) = (refl, refl, refl)
+frozen_same v n (Sliced wide parent offset) = (refl, refl, refl)
+frozen_same v n (Thin target) = (refl, refl, refl)
+
+flattened_same : (v : View) (i : ℕ) (old new : Form) (x : ℕ) → IsSameAgent v (flattened v i old new x)
+flattened_same v i old new x = flat_same v (record (freeze_form v (length (unwrap_or (get v.units i) [])) new) { forms = insert v.forms i new }) i (form_of x) (eqb x (word_of old)) (frozen_same v (length (unwrap_or (get v.units i) [])) new)
+
+-- what may be born may stand
+born_stands : (f : Form) → MayBeBorn f → MayStand f
+born_stands (Flat wide start fixed) b = tt
+born_stands (Cons wide left right) b = tt
+born_stands Unborn b = b
+born_stands (Sliced wide parent offset) b = b
+born_stands (Thin target) b = b
+
 module _ (key : HeapKey) (slots id : ℕ) (me : Sat) (live : me.0.live ≡ true) where
   found : (k : Counter) (s : State (Unit {0}) View) → IsSound key.size key.agents s.words s.views → get_elem? s.views id ≡ some me.0 → FoundCounter me.0 k (get_or s.words (counter_at k) 0)
   found k s h at = let f = counter_found key.size key.agents s.words s.views h id me.0 at live k in record {
@@ -125,7 +161,7 @@ module _ (key : HeapKey) (slots id : ℕ) (me : Sat) (live : me.0.live ≡ true)
   after_possible s at W w l h = ∣ (key.size, key.agents, W, set s.views id w, id, h, set_there s.views id w me.0 at, l) ∣₁
 
   abbrev Holds : List ℕ → List View → Type 0
-  Holds W vs = IsSound key.size key.agents W vs × AreBuilt key.size W
+  Holds W vs = IsSound key.size key.agents W vs × AllMayStand key.size W
 
   -- a load of the word p that leaves the view w
   pub a_load : (p : ℕ) (s : State (Unit {0}) View) (w : View) → Holds s.words (set s.views id w) → Holds (set s.words p (get_or s.words p 0)) (set s.views id w)
@@ -138,7 +174,7 @@ module _ (key : HeapKey) (slots id : ℕ) (me : Sat) (live : me.0.live ≡ true)
         w,
         keeps,
         tt,
-        subst (λ (y : HeapSize). Holds (set s.words (content_at y c) n) (set s.views id w)) (sym same) (kept, built_else z s.words (content_at z c) n (λ i l e. omega arith) b),
+        subst (λ (y : HeapSize). Holds (set s.words (content_at y c) n) (set s.views id w)) (sym same) (kept, stand_else z s.words (content_at z c) n (λ i l e. omega arith) b),
         (record { slots = refl; sizes = refl; live = refl; share = refl; possible = after_possible s at (set s.words (content_at key.size c) n) w live kept }, λ d e. let is : c ≡ d = one_content me.0.sizes c d e in ap (λ (y : ℕ). stored_word me.0 y n) is),
       )
 
@@ -149,15 +185,15 @@ module _ (key : HeapKey) (slots id : ℕ) (me : Sat) (live : me.0.live ≡ true)
       (keeps_loaded_form key.size key.agents s.words s.views h id me.0 at live i known (all_named (entries (loaded_form me.0 i (get_or s.words (form_at key.size i) 0)).forms))) in
       let spelt = form_found key.size key.agents s.words s.views h id me.0 at live i known in
       let found : form_of x ≡ Some spelt.0 = ap (λ (y : HeapSize). form_of (get_or s.words (form_at y i) 0)) same ∙ spelt.1 in
-      let built : IsBuilt spelt.0 = b i spelt.0 (known_born key.size key.agents s.words s.views h id me.0 at live i known) spelt.1 in (
+      let may : MayStand spelt.0 = b i spelt.0 (known_born key.size key.agents s.words s.views h id me.0 at live i known) spelt.1 in (
         w,
         keeps,
         tt,
         a_load (form_at z i) s w (kept, b),
         (
           let t = form_same me.0 i (form_of x) in record { slots = refl; sizes = t.0; live = t.1; share = t.2; possible = after_possible s at s.words w (t.1 ∙ live) kept },
-          known_form key.size key.agents s.words s.views h id me.0 at live i x spelt.0 found spelt.1 built kept,
-          (spelt.0, found, built),
+          known_form key.size key.agents s.words s.views h id me.0 at live i x spelt.0 found spelt.1 may kept,
+          (spelt.0, found, may),
           λ d e. let is : i ≡ d = one_form z i d e in ap (λ (y : ℕ). learned_all (loaded_form me.0 y x)) is,
         ),
       )
@@ -171,9 +207,9 @@ module _ (key : HeapKey) (slots id : ℕ) (me : Sat) (live : me.0.live ≡ true)
     (record { slots = refl; sizes = refl; live = refl; share = refl; possible = after_possible s at s.words w live (keeps_loaded_counter key.size key.agents s.words s.views h id me.0 at live k x refl) }, λ l e. subst (λ (q : Counter). (w ≡ loaded_counter me.0 q x) × FoundCounter me.0 q x) (one_place k l e) (refl, found k s h at)),
   )
 
-  counter_built : (k : Counter) (W : List ℕ) (n : ℕ) → AreBuilt key.size W → AreBuilt key.size (set W (counter_at k) n)
-  counter_built Ids W n b = built_else key.size W 0 n (λ i l e. omega arith) b
-  counter_built Words W n b = built_else key.size W 1 n (λ i l e. omega arith) b
+  counter_stand : (k : Counter) (W : List ℕ) (n : ℕ) → AllMayStand key.size W → AllMayStand key.size (set W (counter_at k) n)
+  counter_stand Ids W n b = stand_else key.size W 0 n (λ i l e. omega arith) b
+  counter_stand Words W n b = stand_else key.size W 1 n (λ i l e. omega arith) b
 
   -- a claim, whether it is won or lost
   claim_keeps : (k : Counter) (a want : ℕ) → MayClaim me.0 k a want → (s : State (Unit {0}) View) → IsSound key.size key.agents s.words s.views → get_elem? s.views id ≡ some me.0 → (x : ℕ) → x ≡ get_or s.words (counter_at k) 0 → Dec (x ≡ a)
@@ -188,7 +224,7 @@ module _ (key : HeapKey) (slots id : ℕ) (me : Sat) (live : me.0.live ≡ true)
     w,
     keeps,
     tt,
-    (claim_keeps k a want may s h at x refl (ℕ_discrete x a), counter_built k s.words (either (eqb x a) (a + want) x) b),
+    (claim_keeps k a want may s h at x refl (ℕ_discrete x a), counter_stand k s.words (either (eqb x a) (a + want) x) b),
     (let t = claimed_same me.0 k a want x in record { slots = refl; sizes = t.0; live = t.1; share = t.2; possible = after_possible s at (set s.words (counter_at k) (either (eqb x a) (a + want) x)) w (t.1 ∙ live) (claim_keeps k a want may s h at x refl (ℕ_discrete x a)) }, λ l m e f. subst (λ (q : Counter × ℕ). (w ≡ claimed me.0 q.0 a q.1 x) × FoundCounter me.0 q.0 x) (λ i. (one_place k l e i, one_want a want m f i)) (refl, found k s h at)),
   )
 
@@ -199,35 +235,31 @@ module _ (key : HeapKey) (slots id : ℕ) (me : Sat) (live : me.0.live ≡ true)
         w,
         keeps,
         tt,
-        subst (λ (y : HeapSize). Holds (set s.words (length_at y i) n) (set s.views id w)) (sym same) (kept, built_else z s.words (length_at z i) n (λ k l e. omega arith) b),
+        subst (λ (y : HeapSize). Holds (set s.words (length_at y i) n) (set s.views id w)) (sym same) (kept, stand_else z s.words (length_at z i) n (λ k l e. omega arith) b),
         (record { slots = refl; sizes = refl; live = refl; share = refl; possible = after_possible s at (set s.words (length_at key.size i) n) w live kept }, λ d e. let is : i ≡ d = one_length me.0.sizes i d e in ap (λ (y : ℕ). stored_length me.0 y n) is),
       )
 
-  -- a birth of a Flat
-  bears_flat : (i : ℕ) (wide : Bool) (start : ℕ) (fixed : Bool) → MayBear me.0 i (Flat wide start fixed)
-      → Allows (KeepsHeap key) slots id me (form_at me.0.sizes i) (λ _. word_of (Flat wide start fixed)) (λ _. GaveBirth (step slots (form_at me.0.sizes i) (word_of (Flat wide start fixed)) 0 none) me (word_of (Flat wide start fixed)))
-  bears_flat i wide start fixed (n, own, fits) s (h, b) _ at _ = let f : Form = Flat wide start fixed in let w : View = born me.0 i f in let z : HeapSize = key.size in
+  -- a birth
+  bears_form : (i n : ℕ) (f : Form) → IsInRange f → MayStand f → Has me.0.own_ids i n → Fits me.0 i n f
+      → Allows (KeepsHeap key) slots id me (form_at me.0.sizes i) (λ _. word_of f) (λ _. GaveBirth (step slots (form_at me.0.sizes i) (word_of f) 0 none) me (word_of f))
+  bears_form i n f range may own fits s (h, b) _ at _ = let w : View = born me.0 i f in let z : HeapSize = key.size in let t = born_same me.0 i f in
       let same : me.0.sizes ≡ z = sizes_are key.size key.agents s.words s.views h id me.0 at live in
       let as_born : born_with me.0 i n f ≡ w = ap (λ (o : Option ℕ). born_with me.0 i (unwrap_or o 0) f) (sym own) in
       let kept : IsSound key.size key.agents (set s.words (form_at z i) (word_of f)) (set s.views id w) =
-      subst (λ (y : View). IsSound key.size key.agents (set s.words (form_at z i) (word_of f)) (set s.views id y)) as_born (keeps_birth key.size key.agents s.words s.views h id me.0 at live i n own wide start fixed fits) in (
+      subst (λ (y : View). IsSound key.size key.agents (set s.words (form_at z i) (word_of f)) (set s.views id y)) as_born (birth_by key.size key.agents s.words s.views h id me.0 at live i n f own fits).0 in (
         w,
         keeps,
         tt,
-        subst (λ (y : HeapSize). Holds (set s.words (form_at y i) (word_of f)) (set s.views id w)) (sym same) (kept, built_born z s.words i wide start fixed fits.0 h.counted.long b),
+        subst (λ (y : HeapSize). Holds (set s.words (form_at y i) (word_of f)) (set s.views id w)) (sym same) (kept, stand_put z s.words i f range may h.counted.long b),
         (
-          record { slots = refl; sizes = refl; live = refl; share = refl; possible = after_possible s at (set s.words (form_at z i) (word_of f)) w live kept },
-          known_birth z key.agents s.words s.views h id me.0 at live i wide start fixed (key_of me.0.own_ids i n own),
-          λ d g e q r. let is : i ≡ d = one_form me.0.sizes i d e in let alike : f ≡ g = one_spelling f g fits.0 r q in λ k. born me.0 (is k) (alike k),
+          record { slots = refl; sizes = t.0; live = t.1; share = t.2; possible = after_possible s at (set s.words (form_at z i) (word_of f)) w (t.1 ∙ live) kept },
+          known_birth z key.agents s.words s.views h id me.0 at live i f (key_of me.0.own_ids i n own),
+          λ d g e q r. let is : i ≡ d = one_form me.0.sizes i d e in let alike : f ≡ g = one_spelling f g range r q in λ k. born me.0 (is k) (alike k),
         ),
       )
 
-  pub bears : (i : ℕ) (f : Form) → IsBuilt f → MayBear me.0 i f → Allows (KeepsHeap key) slots id me (form_at me.0.sizes i) (λ _. word_of f) (λ _. GaveBirth (step slots (form_at me.0.sizes i) (word_of f) 0 none) me (word_of f))
-  bears i (Flat wide start fixed) built may = bears_flat i wide start fixed may
-  bears i Unborn built may = absurd built
-  bears i (Cons wide left right) built may = absurd built
-  bears i (Sliced wide parent offset) built may = absurd built
-  bears i (Thin target) built may = absurd built
+  pub bears : (i : ℕ) (f : Form) → MayBeBorn f → IsInRange f → MayBear me.0 i f → Allows (KeepsHeap key) slots id me (form_at me.0.sizes i) (λ _. word_of f) (λ _. GaveBirth (step slots (form_at me.0.sizes i) (word_of f) 0 none) me (word_of f))
+  bears i f born range (n, own, fits) = bears_form i n f range (born_stands f born) own fits
 
   -- what is learned comes on top of a step that changed no word
   then_learned : (s : State (Unit {0}) View) → get_elem? s.views id ≡ some me.0 → (w : View) → w.live ≡ true → IsSound key.size key.agents s.words (set s.views id w) → IsSound key.size key.agents s.words (set s.views id (learned_all w))
@@ -307,12 +339,39 @@ module _ (key : HeapKey) (slots id : ℕ) (me : Sat) (live : me.0.live ≡ true)
         w,
         keeps,
         tt,
-        (all.0, built_else z s.words (slot_at z k) n (λ q l e. omega arith) b),
+        (all.0, stand_else z s.words (slot_at z k) n (λ q l e. omega arith) b),
         (
           record { slots = refl; sizes = t.0; live = t.1; share = t.2; possible = after_possible s at (set s.words (slot_at z k) n) w (t.1 ∙ live) all.0 },
           known_took z key.agents s.words s.views h id me.0 at live (set s.words (slot_at z k) n) (λ q c. (all.1 q c).1) k i within x refl all.0,
           λ d m e f. let is : k ≡ d = one_slot z k d e in let alike : i ≡ m = omega arith in
               subst (λ (y : ℕ × ℕ). (w ≡ learned_all (took_slot me.0 y.0 y.1 x)) × FoundSlot me.0 y.0 x) (λ c. (is c, alike c)) (refl, slot_found s h at k within),
+        ),
+      )
+
+  -- a flattening, whether it is won or lost
+  pub flattens : (i : ℕ) (old new : Form) → IsInRange old → IsInRange new → MayStand new → MayFlatten me.0 i old new
+      → Allows (KeepsHeap key) slots id me (form_at me.0.sizes i) (λ n. either (eqb n (word_of old)) (word_of new) n) (FlattenedForm (step slots (form_at me.0.sizes i) (word_of old) (word_of new) none) me)
+  flattens i old new old_range range stands may s (h, b) _ at _ = let z : HeapSize = me.0.sizes in let X : HeapSize → ℕ = λ y. get_or s.words (form_at y i) 0 in let x : ℕ = X z in
+      let v : View = flattened me.0 i old new x in let w : View = learned_all v in let t = flattened_same me.0 i old new x in
+      let N : HeapSize → ℕ = λ y. either (eqb (X y) (word_of old)) (word_of new) (X y) in let W' : List ℕ = set s.words (form_at z i) (N z) in
+      let same : z ≡ key.size = sizes_are key.size key.agents s.words s.views h id me.0 at live in
+      let all : Keeps key.size key.agents s.words W' (set s.views id w) =
+      subst (λ (y : HeapSize). Keeps key.size key.agents s.words (set s.words (form_at y i) (N y)) (set s.views id (learned_all (flattened me.0 i old new (X y))))) (sym same)
+      (subst (λ (y : ℕ). Keeps key.size key.agents s.words (set s.words (form_at key.size i) y) (set s.views id (learned_all (flattened me.0 i old new (X key.size))))) (cond_either (eqb (X key.size) (word_of old)) (word_of new) (X key.size))
+      (kinds_keep key.size key.agents s.words s.views id me.0 (flatten i old new) (all_named (entries (flattened me.0 i old new (X key.size)).forms)) h at live may)) in
+      let stand : AllMayStand key.size W' = subst (λ (y : HeapSize). AllMayStand key.size (set s.words (form_at y i) (N y))) (sym same)
+      (subst (λ (y : ℕ). AllMayStand key.size (set s.words (form_at key.size i) y)) (cond_either (eqb (X key.size) (word_of old)) (word_of new) (X key.size))
+      (stand_exchanged key.size s.words i new (eqb (X key.size) (word_of old)) range stands h.counted.long b)) in
+      let k = known_flattened key.size key.agents s.words s.views h id me.0 at live W' (λ q c. (all.1 q c).1) i old new may x (ap X (sym same)) all.0 in (
+        w,
+        keeps,
+        tt,
+        (all.0, stand),
+        (
+          record { slots = refl; sizes = t.0; live = t.1; share = t.2; possible = after_possible s at W' w (t.1 ∙ live) all.0 },
+          k.0,
+          λ d e g p q r a c. let is : i ≡ d = one_form z i d p in let olds : old ≡ e = one_spelling old e old_range a q in let news : new ≡ g = one_spelling new g range c r in
+              subst (λ (y : ℕ × Form × Form). (w ≡ learned_all (flattened me.0 y.0 y.1 y.2 x)) × IsSettled w y.0) (λ m. (is m, olds m, news m)) (refl, k.1),
         ),
       )
 
@@ -360,12 +419,40 @@ pub word_within : (v : View) → IsPossible v → (c : ℕ) → MayLoadWord v c 
 word_within v p c may = ⊎_elim (λ (h : HasKey v.own_words c). (possible_within v p).words c h) (λ h. possible_frozen v p c h) may
 
 -- a form that may be born is spelt by a word
-pub born_in_range : (v : View) (i : ℕ) (f : Form) → IsBuilt f → MayBear v i f → IsInRange f
-born_in_range v i (Flat wide start fixed) built may = may.2.0
-born_in_range v i Unborn built may = absurd built
-born_in_range v i (Cons wide left right) built may = absurd built
-born_in_range v i (Sliced wide parent offset) built may = absurd built
-born_in_range v i (Thin target) built may = absurd built
+pub born_in_range : (v : View) → IsPossible v → (i : ℕ) (f : Form) → MayBeBorn f → MayBear v i f → IsInRange f
+born_in_range v p i (Flat wide start fixed) born may = may.2.0
+born_in_range v p i (Cons wide left right) born may = let l : left < i = may.2.0 in let r : right < i = may.2.1 in
+    let in_heap = (possible_within v p).ids i (key_of v.own_ids i may.0 may.1) in let small = (possible_lawful v p).1 in (omega arith, omega arith)
+born_in_range v p i Unborn born may = absurd born
+born_in_range v p i (Sliced wide parent offset) born may = absurd born
+born_in_range v p i (Thin target) born may = absurd born
+
+-- so are the two forms of a flattening: a Cons that was seen, and the Flat that is to take its place
+cons_in : (v : View) → StandsIn v → (i : ℕ) (wide : Bool) (left right : ℕ) → Has v.forms i (Cons wide left right) → (left < 2 ^ 29) × (right < 2 ^ 29)
+cons_in v (z, agents, W, vs, j, s, at, live) i wide left right h = let k = (s.knows j v at live).of_forms i (Cons wide left right) h in
+    let l : left < i = k.shows.3 in let r : right < i = k.shows.4 in let inside = k.born.0 in let small = s.lawful.1 in (omega arith, omega arith)
+
+pub cons_in_range : (v : View) → IsPossible v → (i : ℕ) (old : Form) → Has v.forms i old → IsCons old → IsInRange old
+cons_in_range v p i (Cons wide left right) h cons = ∥∥₁_elim p (Prim.hlevel props) (λ t. cons_in v t i wide left right h)
+cons_in_range v p i Unborn h cons = absurd cons
+cons_in_range v p i (Flat wide start fixed) h cons = absurd cons
+cons_in_range v p i (Sliced wide parent offset) h cons = absurd cons
+cons_in_range v p i (Thin target) h cons = absurd cons
+
+-- an id of which a form was seen lies in the heap
+form_in : (v : View) → StandsIn v → (i : ℕ) (f : Form) → Has v.forms i f → i < v.sizes.ids
+form_in v (z, agents, W, vs, j, s, at, live) i f h = subst (λ (y : HeapSize). i < y.ids) (sym (sizes_are z agents W vs s j v at live)) ((s.knows j v at live).of_forms i f h).born.0
+
+pub form_seen : (v : View) → IsPossible v → (i : ℕ) (f : Form) → Has v.forms i f → i < v.sizes.ids
+form_seen v p i f h = ∥∥₁_elim p (Prim.hlevel props) (λ t. form_in v t i f h)
+
+pub is_flattening : (v : View) (i : ℕ) (old new : Form) → MayFlatten v i old new → Has v.forms i old × IsCons old × IsInRange new × MayStand new
+is_flattening v i old (Flat wide start false) may = (may.0, may.1, may.2, tt)
+is_flattening v i old (Flat wide start true) may = absurd may
+is_flattening v i old Unborn may = absurd may
+is_flattening v i old (Cons a b c) may = absurd may
+is_flattening v i old (Sliced a b c) may = absurd may
+is_flattening v i old (Thin a) may = absurd may
 
 pub counter_small : (z : HeapSize) (k : Counter) → counter_at k < word_count z
 counter_small z Ids = omega arith
@@ -398,3 +485,13 @@ may_enter v k (Some i) e = with_units v k i e (get v.units i) refl
 
 pub may_enter_in : (v : View) (k : ℕ) → MayEnter v k (entry_in v k)
 may_enter_in v k = may_enter v k (get v.slots k) refl
+
+-- a form that is loaded for a settled string is no Cons
+form_after : (v : View) (i n : ℕ) (o : Option Form) (f : Form) → o ≡ Some f → Has (learned_all (record (with_form v i o) { form_loads = n })).forms i f
+form_after v i n None f e = absurd (cc)
+form_after v i n (Some g) f e = insert_same v.forms i g ∙ e
+
+pub settled_form : (v w : View) (i x : ℕ) (f : Form) → form_of x ≡ Some f → w ≡ learned_all (loaded_form v i x) → KeepsKnown v w → IsSettled v i → IsCons f → ⊥
+settled_form v w i x f spelt e k h cons = let t = k.settled i h in
+    let there : Has w.forms i f = subst (λ (u : View). Has u.forms i f) (sym e) (form_after v i (added_loads v.form_loads 1) (form_of x) f spelt) in
+    let same : Some t.0 ≡ Some f = sym t.1 ∙ there in let is : f ≡ t.0 = cc in t.2 (subst IsCons is cons)

@@ -1,14 +1,15 @@
--- What stays as it is over a step: the forms whose births are built, and what the agent knew.
-use Rattle.std.proofs.Common.{◌≡◌, ◌≢◌, ℕ, zero, suc, ◌+◌, ◌^◌, ◌<◌, ◌⊎◌, inl, inr, ⊎_elim, Bool, true, false, cond, List, [], ◌∷◌, length, get_or, set, sym, refl, ap, ◌∙◌, subst, arith, get_or-set_other, get_or-set_same, Option, Some, None}
+-- What stays as it is over a step: that each form may stand, and what the agent knew.
+use Rattle.std.proofs.Common.{◌≡◌, ◌≢◌, ℕ, zero, suc, ◌+◌, ◌^◌, ◌<◌, ◌⊎◌, inl, inr, ⊎_elim, Bool, true, false, cond, List, [], ◌∷◌, length, get_or, set, sym, refl, ap, ◌∙◌, subst, arith, get_or-set_other, get_or-set_same, eqb, eq-eqb, Option, Some, None}
 use Rattle.std.specs.Prelude.{replicate, unwrap_or}
+use Rattle.std.proofs.lemmas.List.{set-get_or}
 use mathlib.Core.Logic.{dite}
 use native.Mathlib.Decide.{ℕ_discrete}
-use Rattle.std.specs.FinMap.{FinMap, get, insert, contains_key, entries}
+use Rattle.std.specs.FinMap.{FinMap, get, insert, remove, contains_key, entries}
 use Rattle.std.specs.Ordering.{nat_cmp}
-use Rattle.js_header.specs.Form.{form_of, word_of}
+use Rattle.js_header.specs.Form.{IsInRange, form_of, word_of}
 use Rattle.js_header.specs.declared.form.Form.{Form}
 use Rattle.js_header.specs.declared.form.Form.TheVariants.{Unborn, Flat, Cons, Sliced, Thin}
-use Rattle.js_header.proofs.RoundTrip.{form_of-word_of}
+use Rattle.js_header.proofs.RoundTrip.{form_of-word_of, word_of-form_of}
 use Rattle.heap_rule.specs.declared.view.View.{View}
 use Rattle.heap_rule.specs.declared.size.HeapSize.{HeapSize}
 use Rattle.js_units.specs.Lanes.{words_over}
@@ -18,28 +19,36 @@ use Rattle.heap_rule.specs.Maps.{Has, HasKey, put_some, with_run_of}
 use Rattle.heap_rule.specs.Forms.{IsCons, IsLater}
 use Rattle.heap_rule.specs.Learning.{justified, learn_one, learn_into, learned_all, all_named}
 use Rattle.heap_rule.specs.Loads.{met_ids, with_form, added_loads, loaded_form, loaded_length, loaded_word}
-use Rattle.heap_rule.specs.Births.{born, units_for}
+use Rattle.heap_rule.specs.Births.{born, freeze, units_for}
+use Rattle.heap_rule.specs.HeaderMoves.{MayFlatten, flattened, seen_form}
+use Rattle.heap_rule.specs.Views.{IsSettled}
 use Rattle.heap_rule.specs.Slots.{with_slot, loaded_slot, took_slot}
-use Rattle.heap_rule.specs.Forms.{IsBuilt}
 use Rattle.heap_rule.specs.Sound.{At, IsSound}
 use Rattle.heap_rule.proofs.MapLemmas.{insert_same, insert_other, has_key, key_of}
 use Rattle.heap_rule.proofs.ListLemmas.{set_there}
 use Rattle.heap_rule.proofs.Seen.{slot_kept}
 use Rattle.heap_table.specs.Known.{KeepsKnown}
-use Rattle.heap_table.specs.Rule.{AreBuilt}
+use Rattle.heap_table.specs.Rule.{MayStand, AllMayStand}
+use Rattle.heap_table.proofs.Fitting.{false_true, not_before}
 
 -- another word than a form's changed
-pub built_else : (z : HeapSize) (W : List ℕ) (p n : ℕ) → ((i : ℕ) → i < z.ids → form_at z i ≡ p → ⊥) → AreBuilt z W → AreBuilt z (set W p n)
-built_else z W p n ne b i f born e = let same : form z (set W p n) i ≡ form z W i = get_or-set_other W p (form_at z i) n 0 (λ e'. ne i born.0 (omega arith)) in
+pub stand_else : (z : HeapSize) (W : List ℕ) (p n : ℕ) → ((i : ℕ) → i < z.ids → form_at z i ≡ p → ⊥) → AllMayStand z W → AllMayStand z (set W p n)
+stand_else z W p n ne b i f born e = let same : form z (set W p n) i ≡ form z W i = get_or-set_other W p (form_at z i) n 0 (λ e'. ne i born.0 (omega arith)) in
     b i f (born.0, λ e'. born.1 (same ∙ e')) (ap form_of (sym same) ∙ e)
 
--- a Flat was born
-pub built_born : (z : HeapSize) (W : List ℕ) (i : ℕ) (wide : Bool) (start : ℕ) (fixed : Bool) → start < 2 ^ 29 → length W ≡ word_count z → AreBuilt z W → AreBuilt z (set W (form_at z i) (word_of (Flat wide start fixed)))
-built_born z W i wide start fixed small long b k f born e = let g : Form = Flat wide start fixed in let W' : List ℕ = set W (form_at z i) (word_of g) in dite (ℕ_discrete k i)
+-- a form that may stand was put in
+pub stand_put : (z : HeapSize) (W : List ℕ) (i : ℕ) (g : Form) → IsInRange g → MayStand g → length W ≡ word_count z → AllMayStand z W → AllMayStand z (set W (form_at z i) (word_of g))
+stand_put z W i g small may long b k f born e = let W' : List ℕ = set W (form_at z i) (word_of g) in dite (ℕ_discrete k i)
     (λ (is : k ≡ i). let l = born.0 in let word : form z W' k ≡ word_of g = ap (form z W') is ∙ get_or-set_same W (form_at z i) (word_of g) 0 (omega arith) in
-    let same : Some g ≡ Some f = sym (form_of-word_of g small) ∙ (ap form_of (sym word) ∙ e) in let alike : g ≡ f = cc in subst IsBuilt alike tt)
+    let same : Some g ≡ Some f = sym (form_of-word_of g small) ∙ (ap form_of (sym word) ∙ e) in let alike : g ≡ f = cc in subst MayStand alike may)
     (λ ne. let same : form z W' k ≡ form z W k = get_or-set_other W (form_at z i) (form_at z k) (word_of g) 0 (λ e'. ne (omega arith)) in
     b k f (born.0, λ e'. born.1 (same ∙ e')) (ap form_of (sym same) ∙ e))
+
+-- a compare-exchange put it in, or left the word
+pub stand_exchanged : (z : HeapSize) (W : List ℕ) (i : ℕ) (g : Form) (b : Bool) → IsInRange g → MayStand g → length W ≡ word_count z → AllMayStand z W
+    → AllMayStand z (set W (form_at z i) (cond b (word_of g) (get_or W (form_at z i) 0)))
+stand_exchanged z W i g true small may long h = stand_put z W i g small may long h
+stand_exchanged z W i g false small may long h = subst (AllMayStand z) (sym (set-get_or W (form_at z i) 0)) h
 
 abbrev zeros_of : ℕ → List ℕ
 zeros_of n = replicate n 0
@@ -50,8 +59,8 @@ all_zero (suc n) zero = refl
 all_zero (suc n) (suc i) = all_zero n i
 
 -- nothing is born in a new heap
-pub built_zeros : (z : HeapSize) → AreBuilt z (zeros_of (word_count z))
-built_zeros z i f born e = absurd (born.1 (all_zero (word_count z) (form_at z i)))
+pub stand_zeros : (z : HeapSize) → AllMayStand z (zeros_of (word_count z))
+stand_zeros z i f born e = absurd (born.1 (all_zero (word_count z) (form_at z i)))
 
 module _ {X : Type 0} where
   -- an insertion takes no key away
@@ -86,37 +95,40 @@ keys_learned : (f : ℕ → Option (List ℕ)) (names : List ℕ) (m : FinMap na
 keys_learned f [] m q h = h
 keys_learned f (i ∷ names) m q h = keys_learned f names (learn_one m i (f i)) q (key_learned f m i (f i) q h)
 
--- a form that is built is no Cons
-not_cons : (f : Form) → IsBuilt f → IsCons f → ⊥
-not_cons (Flat wide start fixed) b c = c
-not_cons Unborn b c = b
-not_cons (Cons wide left right) b c = b
-not_cons (Sliced wide parent offset) b c = b
-not_cons (Thin target) b c = b
+-- no form is followed by a Cons
+pub no_cons_later : (f now : Form) → IsLater f now → IsCons now → ⊥
+no_cons_later f (Cons wide left right) l c = false_true (sym (not_before f wide left right) ∙ l)
+no_cons_later f Unborn l c = c
+no_cons_later f (Flat wide start fixed) l c = c
+no_cons_later f (Sliced wide parent offset) l c = c
+no_cons_later f (Thin target) l c = c
 
--- where a Flat was seen, no other form stands that is built
-flat_stands : (wide : Bool) (start : ℕ) (fixed : Bool) (now : Form) → IsBuilt now → IsLater (Flat wide start fixed) now → ⊥
+still_settled : (f now : Form) → (f ≡ now) ⊎ IsLater f now → (IsCons f → ⊥) → IsCons now → ⊥
+still_settled f now way n c = ⊎_elim (λ (e : f ≡ now). n (subst IsCons (sym e) c)) (λ (l : IsLater f now). no_cons_later f now l c) way
+
+-- where a Flat was seen, no other form may stand
+flat_stands : (wide : Bool) (start : ℕ) (fixed : Bool) (now : Form) → MayStand now → IsLater (Flat wide start fixed) now → ⊥
 flat_stands wide start false Unborn b l = b
 flat_stands wide start false (Flat w s true) b l = absurd (cc)
 flat_stands wide start false (Flat w s false) b l = absurd (cc)
-flat_stands wide start false (Cons w s p) b l = b
+flat_stands wide start false (Cons w s p) b l = absurd (cc)
 flat_stands wide start false (Sliced w s p) b l = b
 flat_stands wide start false (Thin t) b l = b
 flat_stands wide start true now b l = absurd (cc)
 
--- neither does a form that is built stand where a part or a Thin was seen
-part_later : (wide : Bool) (parent offset : ℕ) (now : Form) → IsBuilt now → IsLater (Sliced wide parent offset) now → ⊥
+-- and no form may stand where a part or a Thin was seen
+part_later : (wide : Bool) (parent offset : ℕ) (now : Form) → MayStand now → IsLater (Sliced wide parent offset) now → ⊥
 part_later wide parent offset (Flat w s f) b l = absurd (cc)
 part_later wide parent offset Unborn b l = b
-part_later wide parent offset (Cons w s f) b l = b
+part_later wide parent offset (Cons w s f) b l = absurd (cc)
 part_later wide parent offset (Sliced w s f) b l = b
 part_later wide parent offset (Thin t) b l = b
 
-part_stands : (wide : Bool) (parent offset : ℕ) (now : Form) → IsBuilt now → (Sliced wide parent offset ≡ now) ⊎ IsLater (Sliced wide parent offset) now → ⊥
-part_stands wide parent offset now b way = ⊎_elim (λ (e : Sliced wide parent offset ≡ now). subst IsBuilt (sym e) b) (λ l. part_later wide parent offset now b l) way
+part_stands : (wide : Bool) (parent offset : ℕ) (now : Form) → MayStand now → (Sliced wide parent offset ≡ now) ⊎ IsLater (Sliced wide parent offset) now → ⊥
+part_stands wide parent offset now b way = ⊎_elim (λ (e : Sliced wide parent offset ≡ now). subst MayStand (sym e) b) (λ l. part_later wide parent offset now b l) way
 
-thin_stands : (t : ℕ) (now : Form) → IsBuilt now → (Thin t ≡ now) ⊎ IsLater (Thin t) now → ⊥
-thin_stands t now b way = ⊎_elim (λ (e : Thin t ≡ now). subst IsBuilt (sym e) b) (λ (l : IsLater (Thin t) now). absurd (cc)) way
+thin_stands : (t : ℕ) (now : Form) → MayStand now → (Thin t ≡ now) ⊎ IsLater (Thin t) now → ⊥
+thin_stands t now b way = ⊎_elim (λ (e : Thin t ≡ now). subst MayStand (sym e) b) (λ (l : IsLater (Thin t) now). absurd (cc)) way
 
 module _ (z : HeapSize) (agents : ℕ) (W : List ℕ) (vs : List View) (s : IsSound z agents W vs) (j : ℕ) (v : View) (at : At vs j v) (live : v.live ≡ true) where
   -- a step keeps the units of born ids
@@ -135,35 +147,36 @@ module _ (z : HeapSize) (agents : ℕ) (W : List ℕ) (vs : List View) (s : IsSo
   with_learned m f names e q h = keys_learned f names m q (subst (λ (y : FinMap nat_cmp (List ℕ)). HasKey y q) (sym e) h)
 
   -- what was known stays known where a load of the word x, which spells the form f, learns
-  known_form_by : (i : ℕ) (o : Option Form) (f : Form) (n : ℕ) → o ≡ Some f → form_of (form z W i) ≡ Some f → IsBuilt f
+  known_form_by : (i : ℕ) (o : Option Form) (f : Form) (n : ℕ) → o ≡ Some f → form_of (form z W i) ≡ Some f → MayStand f
       → IsSound z agents W (set vs j (learned_all (record (with_form v i o) { form_loads = n }))) → KeepsKnown v (learned_all (record (with_form v i o) { form_loads = n }))
-  known_form_by i None f n spelt found built kept = absurd (cc)
-  known_form_by i (Some g) f n spelt found built kept = let w : View = record (with_form v i (Some g)) { form_loads = n } in let is : g ≡ f = cc in let built' : IsBuilt g = subst IsBuilt (sym is) built in record {
+  known_form_by i None f n spelt found may kept = absurd (cc)
+  known_form_by i (Some g) f n spelt found may kept = let w : View = record (with_form v i (Some g)) { form_loads = n } in let is : g ≡ f = cc in let may' : MayStand g = subst MayStand (sym is) may in record {
     units = units_stay (learned_all w) live kept (with_learned v.units (justified w) (all_named (entries w.forms)) refl);
     lengths = λ q m h. h;
     flats = λ q wide start fixed h. dite (ℕ_discrete q i)
         (λ (e : q ≡ i). let k = (s.knows j v at live).of_forms q (Flat wide start fixed) h in let now : k.now ≡ g = (let d : Some k.now ≡ Some f = sym k.decodes ∙ (ap (λ (y : ℕ). form_of (form z W y)) e ∙ found) in cc) in
-        let same : Flat wide start fixed ≡ g = ⊎_elim (λ (y : Flat wide start fixed ≡ k.now). y ∙ now) (λ (y : IsLater (Flat wide start fixed) k.now). absurd (flat_stands wide start fixed g built' (subst (IsLater (Flat wide start fixed)) now y))) k.later in
+        let same : Flat wide start fixed ≡ g = ⊎_elim (λ (y : Flat wide start fixed ≡ k.now). y ∙ now) (λ (y : IsLater (Flat wide start fixed) k.now). absurd (flat_stands wide start fixed g may' (subst (IsLater (Flat wide start fixed)) now y))) k.later in
         ap (get (insert v.forms i g)) e ∙ (insert_same v.forms i g ∙ ap Some (sym same)))
         (λ ne. insert_other v.forms i q g ne ∙ h);
     parts = λ q wide parent offset h. dite (ℕ_discrete q i)
         (λ (e : q ≡ i). let k = (s.knows j v at live).of_forms q (Sliced wide parent offset) h in let now : k.now ≡ g = (let d : Some k.now ≡ Some f = sym k.decodes ∙ (ap (λ (y : ℕ). form_of (form z W y)) e ∙ found) in cc) in
-        absurd (part_stands wide parent offset k.now (subst IsBuilt (sym now) built') k.later))
+        absurd (part_stands wide parent offset k.now (subst MayStand (sym now) may') k.later))
         (λ ne. insert_other v.forms i q g ne ∙ h);
     thins = λ q t h. dite (ℕ_discrete q i)
         (λ (e : q ≡ i). let k = (s.knows j v at live).of_forms q (Thin t) h in let now : k.now ≡ g = (let d : Some k.now ≡ Some f = sym k.decodes ∙ (ap (λ (y : ℕ). form_of (form z W y)) e ∙ found) in cc) in
-        absurd (thin_stands t k.now (subst IsBuilt (sym now) built') k.later))
+        absurd (thin_stands t k.now (subst MayStand (sym now) may') k.later))
         (λ ne. insert_other v.forms i q g ne ∙ h);
     settled = λ q h. dite (ℕ_discrete q i)
-        (λ (e : q ≡ i). (g, ap (get (insert v.forms i g)) e ∙ insert_same v.forms i g, not_cons g built'))
+        (λ (e : q ≡ i). let k = (s.knows j v at live).of_forms q h.0 h.1 in let now : k.now ≡ g = (let d : Some k.now ≡ Some f = sym k.decodes ∙ (ap (λ (y : ℕ). form_of (form z W y)) e ∙ found) in cc) in
+        (g, ap (get (insert v.forms i g)) e ∙ insert_same v.forms i g, λ c. still_settled h.0 k.now k.later h.2 (subst IsCons (sym now) c)))
         (λ ne. (h.0, insert_other v.forms i q g ne ∙ h.1, h.2));
     frozen = λ c x h. h;
     known = λ q h. ⊎_elim (λ (t : HasKey v.units q). inl (with_learned v.units (justified w) (all_named (entries w.forms)) refl q t)) (λ (t : HasKey v.met q). inr (met_stays v.met g q t)) h;
     slots = λ k q h. h;
   }
 
-  pub known_form : (i x : ℕ) (f : Form) → form_of x ≡ Some f → form_of (form z W i) ≡ Some f → IsBuilt f → IsSound z agents W (set vs j (learned_all (loaded_form v i x))) → KeepsKnown v (learned_all (loaded_form v i x))
-  known_form i x f spelt found built kept = known_form_by i (form_of x) f (added_loads v.form_loads 1) spelt found built kept
+  pub known_form : (i x : ℕ) (f : Form) → form_of x ≡ Some f → form_of (form z W i) ≡ Some f → MayStand f → IsSound z agents W (set vs j (learned_all (loaded_form v i x))) → KeepsKnown v (learned_all (loaded_form v i x))
+  known_form i x f spelt found may kept = known_form_by i (form_of x) f (added_loads v.form_loads 1) spelt found may kept
 
   pub known_length : (i x : ℕ) → length_word z W i ≡ x → IsSound z agents W (set vs j (learned_all (loaded_length v i x))) → KeepsKnown v (learned_all (loaded_length v i x))
   known_length i x is kept = let w : View = loaded_length v i x in record {
@@ -210,20 +223,32 @@ module _ (z : HeapSize) (agents : ℕ) (W : List ℕ) (vs : List View) (s : IsSo
   known_word c x is kept = known_word_by (contains_key v.own_words c) c x is kept
 
   -- an id that is born was no known one
-  pub known_birth : (i : ℕ) (wide : Bool) (start : ℕ) (fixed : Bool) → HasKey v.own_ids i → KeepsKnown v (born v i (Flat wide start fixed))
-  known_birth i wide start fixed own = let f : Form = Flat wide start fixed in let p = has_key v.own_ids i own in let k = s.knows j v at live in
+  known_born : (i n : ℕ) (f : Form) (w : View) → HasKey v.own_ids i → w.met ≡ v.met → w.slots ≡ v.slots → ((c x : ℕ) → Has v.frozen c x → Has w.frozen c x)
+      → KeepsKnown v (record w { own_ids = remove v.own_ids i; units = insert v.units i (units_for v n f); forms = insert v.forms i f; lengths = insert v.lengths i n })
+  known_born i n f w own met slots frozen = let p = has_key v.own_ids i own in let k = s.knows j v at live in
       let unborn : IsBorn z W i → ⊥ = (λ b. b.1 ((s.own_ids j v at live).each i p.0 p.1).1) in
       let other : (q : ℕ) → IsBorn z W q → q ≢ i = (λ q b e. unborn (subst (IsBorn z W) e b)) in record {
-        units = λ q us h. insert_other v.units i q (units_for v (unwrap_or (get v.own_ids i) 0) f) (other q (k.of_units q us h).0) ∙ h;
-        lengths = λ q n h. insert_other v.lengths i q (unwrap_or (get v.own_ids i) 0) (other q (k.of_lengths q n h).0) ∙ h;
+        units = λ q us h. insert_other v.units i q (units_for v n f) (other q (k.of_units q us h).0) ∙ h;
+        lengths = λ q m h. insert_other v.lengths i q n (other q (k.of_lengths q m h).0) ∙ h;
         flats = λ q b t x h. insert_other v.forms i q f (other q (k.of_forms q (Flat b t x) h).born) ∙ h;
         parts = λ q b p o h. insert_other v.forms i q f (other q (k.of_forms q (Sliced b p o) h).born) ∙ h;
         thins = λ q t h. insert_other v.forms i q f (other q (k.of_forms q (Thin t) h).born) ∙ h;
         settled = λ q h. (h.0, insert_other v.forms i q f (other q (k.of_forms q h.0 h.1).born) ∙ h.1, h.2);
-        frozen = λ c x h. run_stays v.own_words v.frozen start (words_over wide (unwrap_or (get v.own_ids i) 0)) c x ((k.of_frozen c x h).0.free j v at live) h;
-        known = λ q h. ⊎_elim (λ (t : HasKey v.units q). inl (key_stays v.units i q (units_for v (unwrap_or (get v.own_ids i) 0) f) t)) (λ (t : HasKey v.met q). inr t) h;
-        slots = λ k q h. h;
+        frozen = frozen;
+        known = λ q h. ⊎_elim (λ (t : HasKey v.units q). inl (key_stays v.units i q (units_for v n f) t)) (λ (t : HasKey v.met q). inr (subst (λ (m : FinMap nat_cmp (Unit {0})). HasKey m q) (sym met) t)) h;
+        slots = λ c q h. subst (λ (m : FinMap nat_cmp ℕ). Has m c q) (sym slots) h;
       }
+
+  -- words that become frozen were own ones, and no frozen ones
+  frozen_stay : (start n c x : ℕ) → Has v.frozen c x → Has (with_run_of v.own_words v.frozen start n) c x
+  frozen_stay start n c x h = run_stays v.own_words v.frozen start n c x (((s.knows j v at live).of_frozen c x h).0.free j v at live) h
+
+  pub known_birth : (i : ℕ) (f : Form) → HasKey v.own_ids i → KeepsKnown v (born v i f)
+  known_birth i (Flat wide start fixed) own = let n : ℕ = unwrap_or (get v.own_ids i) 0 in known_born i n (Flat wide start fixed) (freeze v start (words_over wide n)) own refl refl (frozen_stay start (words_over wide n))
+  known_birth i (Cons wide left right) own = known_born i (unwrap_or (get v.own_ids i) 0) (Cons wide left right) v own refl refl (λ c x h. h)
+  known_birth i (Sliced wide parent offset) own = known_born i (unwrap_or (get v.own_ids i) 0) (Sliced wide parent offset) v own refl refl (λ c x h. h)
+  known_birth i (Thin target) own = known_born i (unwrap_or (get v.own_ids i) 0) (Thin target) v own refl refl (λ c x h. h)
+  known_birth i Unborn own = known_born i (unwrap_or (get v.own_ids i) 0) Unborn v own refl refl (λ c x h. h)
 
   -- a step on a slot changes what the view has of slots and of met ids, and what it learns
   known_with : (W' : List ℕ) → KeepsUnits W' → (w : View) → w.live ≡ true → w.units ≡ v.units → w.lengths ≡ v.lengths → w.forms ≡ v.forms → w.frozen ≡ v.frozen → ((q : ℕ) → HasKey v.met q → HasKey w.met q)
@@ -248,3 +273,54 @@ module _ (z : HeapSize) (agents : ℕ) (W : List ℕ) (vs : List View) (s : IsSo
   known_took W' same k i inside zero e kept = known_with W' same (took_slot v k i zero) live refl refl refl refl (λ q h. h)
       (λ l q h. insert_other v.slots k l i (λ (t : l ≡ k). let o : slot z W k ≡ q + 1 = ap (slot z W) (sym t) ∙ ((s.knows j v at live).of_slots l q h).1 in omega arith) ∙ h) kept
   known_took W' same k i inside (suc x) e kept = known_with W' same (with_slot v k (suc x)) live refl refl refl refl (λ q h. key_stays v.met x q tt h) (slot_kept z agents W vs s j v at live k inside (suc x) e) kept
+
+  -- where a Cons was seen, whatever stands in its place
+  module _ (W' : List ℕ) (same : KeepsUnits W') (i : ℕ) (old : Form) (seen : Has v.forms i old) (cons : IsCons old) where
+    other_form : (g : Form) (q : ℕ) (f : Form) → (IsCons f → ⊥) → Has v.forms q f → Has (insert v.forms i g) q f
+    other_form g q f n h = dite (ℕ_discrete q i)
+        (λ (e : q ≡ i). let alike : Some f ≡ Some old = sym h ∙ (ap (get v.forms) e ∙ seen) in let is : old ≡ f = cc in absurd (n (subst IsCons is cons)))
+        (λ ne. insert_other v.forms i q g ne ∙ h)
+
+    known_moved : (g : Form) (w : View) → w.live ≡ true → w.units ≡ v.units → w.lengths ≡ v.lengths → w.forms ≡ insert v.forms i g → w.met ≡ v.met → w.slots ≡ v.slots → ((c x : ℕ) → Has v.frozen c x → Has w.frozen c x)
+        → IsSound z agents W' (set vs j (learned_all w)) → KeepsKnown v (learned_all w)
+    known_moved g w l units lengths forms met slots frozen kept = let keys = with_learned w.units (justified w) (all_named (entries w.forms)) units in
+        let stays : (q : ℕ) (f : Form) → (IsCons f → ⊥) → Has v.forms q f → Has w.forms q f = (λ q f n h. subst (λ (m : FinMap nat_cmp Form). Has m q f) (sym forms) (other_form g q f n h)) in record {
+          units = units_over W' same (learned_all w) l kept keys;
+          lengths = λ q n h. subst (λ (m : FinMap nat_cmp ℕ). Has m q n) (sym lengths) h;
+          flats = λ q wide start fixed h. stays q (Flat wide start fixed) (λ c. c) h;
+          parts = λ q wide parent offset h. stays q (Sliced wide parent offset) (λ c. c) h;
+          thins = λ q t h. stays q (Thin t) (λ c. c) h;
+          settled = λ q h. (h.0, stays q h.0 h.2 h.1, h.2);
+          frozen = frozen;
+          known = λ q h. ⊎_elim (λ (t : HasKey v.units q). inl (keys q t)) (λ (t : HasKey v.met q). inr (subst (λ (m : FinMap nat_cmp (Unit {0})). HasKey m q) (sym met) t)) h;
+          slots = λ k q h. subst (λ (m : FinMap nat_cmp ℕ). Has m k q) (sym slots) h;
+        }
+
+    -- the form that a lost compare-exchange found is a later one
+    lost_form : form z W i ≢ word_of old → (now : Form) → form_of (form z W i) ≡ Some now → IsCons now → ⊥
+    lost_form ne now e c = let k = (s.knows j v at live).of_forms i old seen in let d : Some k.now ≡ Some now = sym k.decodes ∙ e in let is : k.now ≡ now = cc in
+        ⊎_elim (λ (p : old ≡ k.now). ne (sym (ap word_of p ∙ word_of-form_of (form z W i) k.now k.decodes))) (λ (l : IsLater old k.now). no_cons_later old k.now l (subst IsCons (sym is) c)) k.later
+
+    lost_known : (o : Option Form) → o ≡ form_of (form z W i) → form z W i ≢ word_of old → IsSound z agents W' (set vs j (learned_all (seen_form v i o))) → KeepsKnown v (learned_all (seen_form v i o)) × IsSettled (learned_all (seen_form v i o)) i
+    lost_known None e ne kept = let k = (s.knows j v at live).of_forms i old seen in absurd (let d : None ≡ Some k.now = e ∙ k.decodes in cc)
+    lost_known (Some g) e ne kept = let w : View = seen_form v i (Some g) in
+        (known_moved g w live refl refl refl refl refl (λ c x h. h) kept, (g, insert_same v.forms i g, lost_form ne g (sym e)))
+
+    -- b says whether the Cons was found
+    known_flat : (wide : Bool) (start n : ℕ) (b : Bool) → (b ≡ false → form z W i ≢ word_of old) → let w : View = cond b (record (freeze v start n) { forms = insert v.forms i (Flat wide start false) }) (seen_form v i (form_of (form z W i))) in
+        IsSound z agents W' (set vs j (learned_all w)) → KeepsKnown v (learned_all w) × IsSettled (learned_all w) i
+    known_flat wide start n true ne kept = let f : Form = Flat wide start false in
+        (known_moved f (record (freeze v start n) { forms = insert v.forms i f }) live refl refl refl refl refl (frozen_stay start n) kept, (f, insert_same v.forms i f, λ c. c))
+    known_flat wide start n false ne kept = lost_known (form_of (form z W i)) refl (ne refl) kept
+
+  pub known_flattened : (W' : List ℕ) → KeepsUnits W' → (i : ℕ) (old new : Form) → MayFlatten v i old new → (x : ℕ) → form z W i ≡ x → IsSound z agents W' (set vs j (learned_all (flattened v i old new x)))
+      → KeepsKnown v (learned_all (flattened v i old new x)) × IsSettled (learned_all (flattened v i old new x)) i
+  known_flattened W' same i old (Flat wide start false) may x e kept = let n : ℕ = words_over wide (length (unwrap_or (get v.units i) [])) in
+      let P : ℕ → Type 0 = λ y. let w : View = cond (eqb y (word_of old)) (record (freeze v start n) { forms = insert v.forms i (Flat wide start false) }) (seen_form v i (form_of y)) in
+      IsSound z agents W' (set vs j (learned_all w)) → KeepsKnown v (learned_all w) × IsSettled (learned_all w) i in
+      subst P e (known_flat W' same i old may.0 may.1 wide start n (eqb (form z W i) (word_of old)) (λ miss hit. let yes : eqb (form z W i) (word_of old) ≡ true = eq-eqb (form z W i) (word_of old) hit in cc)) kept
+  known_flattened W' same i old (Flat wide start true) may x e kept = absurd may
+  known_flattened W' same i old Unborn may x e kept = absurd may
+  known_flattened W' same i old (Cons a b c) may x e kept = absurd may
+  known_flattened W' same i old (Sliced a b c) may x e kept = absurd may
+  known_flattened W' same i old (Thin a) may x e kept = absurd may

@@ -6,4 +6,5 @@ pub mod Plays
 pub mod Agents
 pub mod Full
 pub mod Slots
+pub mod Headers
 pub mod Moments

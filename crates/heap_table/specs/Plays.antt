@@ -9,16 +9,17 @@ use Rattle.heap_rule.specs.declared.size.Counter.{Counter}
 use Rattle.heap_rule.specs.declared.size.Counter.TheVariants.{Ids, Words}
 use Rattle.heap_rule.specs.Layout.{counter_at, end_of, content_at, form_at, length_at, slot_at, MAX, count_in}
 use Rattle.heap_rule.specs.Maps.{Has, HasKey}
-use Rattle.heap_rule.specs.Views.{IsKnown, shown}
+use Rattle.heap_rule.specs.Views.{IsKnown, IsSettled, shown}
 use Rattle.heap_rule.specs.Claims.{loaded_counter, claimed}
 use Rattle.heap_rule.specs.Births.{stored_word, stored_length, born}
 use Rattle.heap_rule.specs.Loads.{loaded_form, loaded_length, loaded_word}
 use Rattle.heap_rule.specs.Slots.{entry_in, loaded_slot, took_slot}
 use Rattle.heap_rule.specs.Learning.{learned_all}
 use Rattle.heap_rule.specs.Agents.{noted}
-use Rattle.heap_rule.specs.Forms.{IsBuilt}
+use Rattle.heap_rule.specs.HeaderMoves.{flattened}
 use Rattle.heap_rule.specs.Sound.{IsPossible}
 use Rattle.heap_table.specs.Known.{KeepsKnown}
+use Rattle.heap_table.specs.Rule.{MayStand}
 
 -- a seat: its view, and the slots that it holds, of which there are none
 abbrev pub Sat : Type 0
@@ -65,13 +66,17 @@ abbrev pub GaveBirth : Step (Unit {0}) → Sat → ℕ → Sat → Type 0
 GaveBirth st me x me' = Stays me me' × KeepsKnown me.0 me'.0 × ((i : ℕ) (f : Form) → st.word ≡ form_at me.0.sizes i → st.first ≡ word_of f → IsInRange f → me'.0 ≡ born me.0 i f)
 
 abbrev pub LoadedForm : Step (Unit {0}) → Sat → ℕ → Sat → Type 0
-LoadedForm st me x me' = Stays me me' × KeepsKnown me.0 me'.0 × ((f : Form) × (form_of x ≡ Some f) × IsBuilt f) × ((i : ℕ) → st.word ≡ form_at me.0.sizes i → me'.0 ≡ learned_all (loaded_form me.0 i x))
+LoadedForm st me x me' = Stays me me' × KeepsKnown me.0 me'.0 × ((f : Form) × (form_of x ≡ Some f) × MayStand f) × ((i : ℕ) → st.word ≡ form_at me.0.sizes i → me'.0 ≡ learned_all (loaded_form me.0 i x))
 
 abbrev pub LoadedLength : Step (Unit {0}) → Sat → ℕ → Sat → Type 0
 LoadedLength st me x me' = Stays me me' × KeepsKnown me.0 me'.0 × (x ≤ MAX) × ((i : ℕ) → st.word ≡ length_at me.0.sizes i → me'.0 ≡ learned_all (loaded_length me.0 i x))
 
 abbrev pub LoadedWord : Step (Unit {0}) → Sat → ℕ → Sat → Type 0
 LoadedWord st me x me' = Stays me me' × KeepsKnown me.0 me'.0 × ((c : ℕ) → st.word ≡ content_at me.0.sizes c → (me'.0 ≡ learned_all (loaded_word me.0 c x)) × (x ≡ shown me'.0 c))
+
+abbrev pub FlattenedForm : Step (Unit {0}) → Sat → ℕ → Sat → Type 0
+FlattenedForm st me x me' = Stays me me' × KeepsKnown me.0 me'.0 × ((i : ℕ) (old new : Form) → st.word ≡ form_at me.0.sizes i → st.first ≡ word_of old → st.second ≡ word_of new → IsInRange old → IsInRange new
+    → (me'.0 ≡ learned_all (flattened me.0 i old new x)) × IsSettled me'.0 i)
 
 -- a load of a slot, with the entry that the view has for the history
 abbrev pub SawSlot : (View → ℕ → Option (List ℕ)) → Step (Unit {0}) → Sat → ℕ → Sat → Type 0

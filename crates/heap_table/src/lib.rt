@@ -10,6 +10,7 @@
 
 mod agent;
 mod claims;
+mod headers;
 mod heap;
 mod laws;
 mod loads;

@@ -1,14 +1,15 @@
 // Loads of headers and content words. Each also learns every pair that the view's new data
 // justify, which takes nothing at run time.
 ghost use Rattle.std.specs.Prelude.{◌≡◌, ℕ, ◌+◌, ◌*◌, ◌≤◌, ◌<◌, ◌^◌, Some};
-ghost use Rattle.heap_rule.specs.Forms.{IsBuilt};
-ghost use Rattle.heap_rule.specs.Views.{IsKnown, shown};
+ghost use Rattle.heap_rule.specs.Forms.{IsCons};
+ghost use Rattle.heap_rule.specs.Views.{IsKnown, IsSettled, shown};
 ghost use Rattle.heap_rule.specs.Layout.{MAX};
 ghost use Rattle.heap_rule.specs.Loads.{MayLoadWord, loaded_form, loaded_length, loaded_word};
 ghost use Rattle.heap_rule.specs.Learning.{learned_all};
 ghost use Rattle.js_header.specs.Form.{form_of};
 ghost use Rattle.heap_table.specs.Agents.{Belongs, view_of};
 ghost use Rattle.heap_table.specs.Known.{KeepsKnown};
+ghost use Rattle.heap_table.specs.Rule.{MayStand};
 
 use crate::agent::Agent;
 use crate::heap::Heap;
@@ -23,7 +24,8 @@ impl Agent {
         ensures belongs { Belongs self.new heap.now }
         ensures known { KeepsKnown (view_of self.old) (view_of self.new) }
         ensures view { (word : ℕ) × (form_of word ≡ Some result) × (view_of self.new ≡ learned_all (loaded_form (view_of self.old) id word)) }
-        ensures built { IsBuilt result }
+        ensures stands { MayStand result }
+        ensures settled { IsSettled (view_of self.old) id → ¬ IsCons result }
     {
         let word = heap
             .table

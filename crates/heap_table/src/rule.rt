@@ -93,6 +93,15 @@ impl Play<(), View> for LoadsWord {
     ghost then = { LoadedWord };
 }
 
+/// A compare-exchange of a header from a Cons to a Flat.
+pub struct Flattens;
+
+impl Play<(), View> for Flattens {
+    ghost use Rattle.heap_table.specs.Plays.{FlattenedForm};
+
+    ghost then = { FlattenedForm };
+}
+
 /// A load of a slot.
 pub struct LoadsSlot;
 

@@ -25,6 +25,9 @@ returns-clause-load_length c i slots me me' x h = h.3 i refl
 pub returns-clause-load_word : goal.returns-clause-load_word
 returns-clause-load_word c p slots me me' x h = (h.2 p refl).0
 
+pub returns-clause-flatten : goal.returns-clause-flatten
+returns-clause-flatten c i old new range range' slots me me' x h = (h.2 i old new refl refl refl range range').0
+
 pub returns-clause-load_slot : goal.returns-clause-load_slot
 returns-clause-load_slot c k slots me me' x h = (h.2 k refl).0
 
