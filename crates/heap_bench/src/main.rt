@@ -3,8 +3,9 @@
 //!
 //! `make` makes flat strings of 64 units on a heap, `copy` lists of them; `read` reads the units
 //! of a flat string in turn, `index` those of a list; `heap` makes one heap of COUNT content
-//! words, `zeros` a list of as many zeros as it has words. Anything else ends with 3, and want of
-//! room or memory with 6.
+//! words, `zeros` a list of as many zeros as it has words; `behind` and `front` join a unit COUNT
+//! times to a string of 12, and settle the rope. Anything else ends with 3, and want of room or
+//! memory with 6.
 #![tactic(auto)]
 
 mod measures;
@@ -29,6 +30,8 @@ fn asked(rt: &HostRuntime) -> io::Result<Option<(Measure, u32)>> {
         "index" => Measure::Index,
         "heap" => Measure::Heap,
         "zeros" => Measure::Zeros,
+        "behind" => Measure::Behind,
+        "front" => Measure::Front,
         _ => return Ok(None),
     };
     Ok(

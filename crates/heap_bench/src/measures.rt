@@ -1,6 +1,6 @@
 // What is timed: making flat strings, and reading units.
-ghost use Rattle.std.specs.Prelude.{◌≡◌, ℕ, List, length};
-ghost use Rattle.heap_rule.specs.Maps.{Has};
+ghost use Rattle.std.specs.Prelude.{◌≡◌, ℕ, List, IfOk, length};
+ghost use Rattle.heap_rule.specs.Maps.{Has, HasKey};
 ghost use Rattle.heap_rule.specs.Views.{IsSettled};
 ghost use Rattle.heap_table.specs.Agents.{Belongs, view_of};
 
@@ -24,6 +24,10 @@ pub enum Measure {
     Heap,
     /// A list of as many zeros as that heap has words is made.
     Zeros,
+    /// A unit is joined behind a string of 12, and the rope is settled at the end.
+    Behind,
+    /// The same in front of it.
+    Front,
 }
 
 /// The heap has no room for so many strings, or there is no memory for it.
@@ -32,7 +36,8 @@ pub struct Refusal;
 // The units of each string: 64, so that one takes 8 content words.
 const UNITS: [u16; 64] = [97; 64];
 
-/// Does it, and answers how many were made, or the sum of the units that were read.
+/// Does it, and answers how many were made, the sum of the units that were read, or the length of
+/// the rope.
 pub fn run(alloc: Global, measure: Measure, count: u32) -> Result<u64, Refusal> {
     match measure {
         Measure::Make => on_heap(alloc, count.max(1), count, true),
@@ -41,6 +46,8 @@ pub fn run(alloc: Global, measure: Measure, count: u32) -> Result<u64, Refusal> 
         Measure::Index => read_list(alloc, count),
         Measure::Heap => make_heap(alloc, count),
         Measure::Zeros => make_zeros(alloc, count),
+        Measure::Behind => settle_rope(alloc, count, false),
+        Measure::Front => settle_rope(alloc, count, true),
     }
 }
 
@@ -156,4 +163,63 @@ fn read_units(text: &mut Text, s: JsStr, count: u32) -> u64
         sum = sum.wrapping_add(u64::from(unit));
     }
     sum
+}
+
+// A rope of so many joins, which is settled.
+fn settle_rope(alloc: Global, joins: u32, front: bool) -> Result<u64, Refusal> {
+    let (Some(ids), Some(units)) = (joins.checked_add(2), joins.checked_add(12)) else {
+        return Err(Refusal);
+    };
+    let size = HeapSize {
+        ids,
+        words: units / 8 + 4,
+        slots: 1,
+    };
+    let Ok((heap, agent)) = Heap::make(alloc, size, 1) else {
+        return Err(Refusal);
+    };
+    let mut text = Text::new(&heap, agent);
+    let s = make_rope(&mut text, joins, front)?;
+    match text.settle(s) {
+        Ok(()) => Ok(u64::from(text.len(s))),
+        Err(_) => Err(Refusal),
+    }
+}
+
+fn make_rope(text: &mut Text, joins: u32, front: bool) -> Result<JsStr, Refusal>
+    requires text { Belongs text.old.agent text.old.heap.now }
+    ensures text { Belongs text.new.agent text.new.heap.now }
+    ensures known { IfOk result (λ s. HasKey (view_of text.new.agent).units s.id) }
+{
+    let units = UNITS;
+    let Ok(unit) = text.make_flat(&units[..1]) else {
+        return Err(Refusal);
+    };
+    let Ok(mut s) = text.make_flat(&units[..12]) else {
+        return Err(Refusal);
+    };
+    for _join in 0..joins {
+        s = join_unit(text, s, unit, front)?;
+    }
+    Ok(s)
+}
+
+fn join_unit(text: &mut Text, s: JsStr, unit: JsStr, front: bool) -> Result<JsStr, Refusal>
+    requires text { Belongs text.old.agent text.old.heap.now }
+    requires known { HasKey (view_of text.old.agent).units s.id }
+    requires unit { HasKey (view_of text.old.agent).units unit.id }
+    ensures text { Belongs text.new.agent text.new.heap.now }
+    ensures unit { HasKey (view_of text.new.agent).units unit.id }
+    ensures known { IfOk result (λ t. HasKey (view_of text.new.agent).units t.id) }
+{
+    if front {
+        let Ok(t) = text.concat(unit, s) else {
+            return Err(Refusal);
+        };
+        return Ok(t);
+    }
+    let Ok(t) = text.concat(s, unit) else {
+        return Err(Refusal);
+    };
+    Ok(t)
 }

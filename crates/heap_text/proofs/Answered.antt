@@ -13,7 +13,7 @@ use Rattle.heap_rule.specs.Maps.{Has}
 use Rattle.heap_rule.specs.Views.{IsSettled}
 use Rattle.heap_text.specs.declared.faults.TextFull.{TextFull}
 use Rattle.heap_text.specs.declared.string.JsStr.{JsStr}
-use Rattle.heap_text.specs.Joins.{IsCopy, IsCut, IsJoined, IsRefused}
+use Rattle.heap_text.specs.Joins.{IsCopy, IsCut, IsJoined, IsRefused, IsRope, MIN_CONS}
 use Rattle.heap_text.specs.Texts.{is_wide}
 
 module _ (v w : View) (z : HeapSize) where
@@ -22,10 +22,15 @@ module _ (v w : View) (z : HeapSize) where
   joined_units a b t (x ∷ us) [] h k l = let e = h.right_empty (omega arith) refl in let is : t ≡ a = (let same : t ≡ e.0 = (let o = e.1 in cc) in same ∙ e.2.0) in
       subst (λ (y : JsStr). Has w.units y.id ((x ∷ us) ++ [])) (sym is) (subst (Has w.units a.id) (sym (append-nil (x ∷ us))) k)
   joined_units a b t (x ∷ us) (y ∷ vs) h k l = dite (dec_le (length (x ∷ us) + length (y ∷ vs)) MAX)
-      (λ m. ⊎_elim
+      (λ m. dite (dec_le MIN_CONS (length (x ∷ us) + length (y ∷ vs)))
+      (λ n. ⊎_elim
+      (λ (c : (s : JsStr) × (Ok t ≡ Ok s) × IsRope v w a b s ((x ∷ us) ++ y ∷ vs)). let same : t ≡ c.0 = (let o = c.1 in cc) in subst (λ (q : JsStr). Has w.units q.id ((x ∷ us) ++ y ∷ vs)) (sym same) c.2.0)
+      (λ c. let o = c.1 in absurd (cc))
+      (h.rope (omega arith) (omega arith) n m))
+      (λ n. ⊎_elim
       (λ (c : (s : JsStr) × (Ok t ≡ Ok s) × IsCopy v w s ((x ∷ us) ++ y ∷ vs)). let same : t ≡ c.0 = (let o = c.1 in cc) in subst (λ (q : JsStr). Has w.units q.id ((x ∷ us) ++ y ∷ vs)) (sym same) c.2.0)
       (λ c. let o = c.1 in absurd (cc))
-      (h.both (omega arith) (omega arith) m))
+      (h.short (omega arith) (omega arith) (omega arith))))
       (λ m. let o = (h.long (omega arith)).0 in absurd (cc))
 
   other_units : (s t : JsStr) (from to : ℕ) (us : List ℕ) (r : Result JsStr TextFull) → r ≡ Ok t → ((x : JsStr) × (r ≡ Ok x) × IsCopy v w x (part from (to - from) us)) ⊎ ((f : TextFull) × (r ≡ Err f) × IsRefused v w z (part from (to - from) us) f)

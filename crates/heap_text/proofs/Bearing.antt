@@ -66,4 +66,4 @@ pub born_form : (v : View) (i : ℕ) (wide : Bool) (start : ℕ) → Has (born v
 born_form v i wide start = insert_same v.forms i (Flat wide start false)
 
 pub continues_born : (v : View) (i : ℕ) (wide : Bool) (start : ℕ) → KeepsKnown v (born v i (Flat wide start false)) → Continues v (born v i (Flat wide start false))
-continues_born v i wide start k = record { known = k; sizes = refl; agents = refl; live = refl; share = refl; ids_used = omega arith; words_used = omega arith; ids_low = omega arith; words_low = omega arith; slots = refl; seen = refl; mine = refl }
+continues_born v i wide start k = record { known = k; sizes = refl; agents = refl; live = refl; share = refl; ids_used = omega arith; words_used = omega arith; ids_low = omega arith; words_low = omega arith; slots = refl; seen = refl; mine = refl; slot_loads = refl }

@@ -30,6 +30,7 @@ continues_trans u v w a b = let a0 = a.ids_used in let b0 = b.ids_used in let a1
   slots = b.slots ∙ a.slots;
   seen = b.seen ∙ a.seen;
   mine = b.mine ∙ a.mine;
+  slot_loads = b.slot_loads ∙ a.slot_loads;
 }
 
 pub continues_reads : (v w : View) → Reads v w → Continues v w
@@ -46,6 +47,7 @@ continues_reads v w r = record {
   slots = r.slots;
   seen = r.seen;
   mine = r.mine;
+  slot_loads = r.slot_loads;
 }
 
 -- one step that leaves what is known as it is
@@ -76,6 +78,7 @@ module _ (v : View) where
     slots = refl;
     seen = refl;
     mine = refl;
+    slot_loads = refl;
   }
 
   pub continues_ids : (w : View) (at want : ℕ) → w ≡ won_claim v Ids at want → v.low.ids ≤ w.low.ids → Continues v w
@@ -92,6 +95,7 @@ module _ (v : View) where
     slots = refl;
     seen = refl;
     mine = refl;
+    slot_loads = refl;
   }
 
   pub continues_full_words : (w : View) (at : ℕ) → w ≡ loaded_counter v Words at → v.low.words ≤ w.low.words → Continues v w
@@ -108,6 +112,7 @@ module _ (v : View) where
     slots = refl;
     seen = refl;
     mine = refl;
+    slot_loads = refl;
   }
 
   pub continues_full_ids : (w : View) (at : ℕ) → w ≡ loaded_counter v Ids at → v.low.ids ≤ w.low.ids → Continues v w
@@ -124,13 +129,14 @@ module _ (v : View) where
     slots = refl;
     seen = refl;
     mine = refl;
+    slot_loads = refl;
   }
 
   pub continues_stored : (c x : ℕ) → Continues v (stored_word v c x)
-  continues_stored c x = record { known = known_stored c x; sizes = refl; agents = refl; live = refl; share = refl; ids_used = omega arith; words_used = omega arith; ids_low = omega arith; words_low = omega arith; slots = refl; seen = refl; mine = refl }
+  continues_stored c x = record { known = known_stored c x; sizes = refl; agents = refl; live = refl; share = refl; ids_used = omega arith; words_used = omega arith; ids_low = omega arith; words_low = omega arith; slots = refl; seen = refl; mine = refl; slot_loads = refl }
 
   pub continues_length : (i n : ℕ) → Continues v (stored_length v i n)
-  continues_length i n = record { known = known_length i n; sizes = refl; agents = refl; live = refl; share = refl; ids_used = omega arith; words_used = omega arith; ids_low = omega arith; words_low = omega arith; slots = refl; seen = refl; mine = refl }
+  continues_length i n = record { known = known_length i n; sizes = refl; agents = refl; live = refl; share = refl; ids_used = omega arith; words_used = omega arith; ids_low = omega arith; words_low = omega arith; slots = refl; seen = refl; mine = refl; slot_loads = refl }
 
 module _ {X : Type 0} where
   pub run_kept : (m : FinMap nat_cmp X) (k n q : ℕ) (x : X) → HasKey m q → HasKey (with_run m k n x) q

@@ -7,3 +7,14 @@ pub mod Going
 pub mod Bearing
 pub mod Pieces
 pub mod Answered
+pub mod Changed
+pub mod Placing
+pub mod Progress
+pub mod Storing
+pub mod Sides
+pub mod Seeing
+pub mod Turning
+pub mod Linking
+pub mod Flattened
+pub mod Joined
+pub mod Settled

@@ -1,7 +1,8 @@
 -- What joining two strings and cutting one answer.
-use Rattle.std.specs.Prelude.{◌≡◌, ℕ, ◌+◌, ◌-◌, ◌<◌, ◌≤◌, ◌++◌, ◌⊎◌, false, List, length, Result, Ok, Err}
+use Rattle.std.specs.Prelude.{◌≡◌, ℕ, ◌+◌, ◌-◌, ◌<◌, ◌≤◌, ◌++◌, ◌||◌, ◌⊎◌, Bool, false, List, length, Result, Ok, Err}
 use Rattle.js_units.specs.Lanes.{words_over}
-use Rattle.js_header.specs.declared.form.Form.TheVariants.{Flat}
+use Rattle.js_header.specs.declared.form.Form.{Form}
+use Rattle.js_header.specs.declared.form.Form.TheVariants.{Flat, Cons}
 use Rattle.heap_rule.specs.declared.size.HeapSize.{HeapSize}
 use Rattle.heap_rule.specs.declared.view.View.{View}
 use Rattle.heap_rule.specs.Layout.{MAX}
@@ -10,6 +11,8 @@ use Rattle.heap_rule.specs.Maps.{Has}
 use Rattle.heap_text.specs.declared.faults.JoinFault.{JoinFault}
 use Rattle.heap_text.specs.declared.faults.JoinFault.TheVariants.{TooLong, Full}
 use Rattle.heap_text.specs.declared.faults.TextFull.{TextFull}
+use Rattle.heap_text.specs.declared.faults.TextFull.TheVariants.{Ids}
+use Rattle.heap_table.specs.declared.claims.CounterFull.{CounterFull}
 use Rattle.heap_text.specs.declared.string.JsStr.{JsStr}
 use Rattle.heap_text.specs.Texts.{IsSpared, Told, Uses, is_wide}
 
@@ -21,19 +24,53 @@ IsCopy v w s us = Has w.units s.id us × ((start : ℕ) × Has w.forms s.id (Fla
 abbrev pub IsRefused : View → View → HeapSize → List ℕ → TextFull → Type 0
 IsRefused v w z us f = Told w z (words_over (is_wide us) (length us)) f × IsSpared v w (words_over (is_wide us) (length us)) f
 
+-- the fewest units of a Cons
+abbrev pub MIN_CONS : ℕ
+MIN_CONS = 13
+
+abbrev pub wide_bit : Form → Bool
+wide_bit (Flat wide start fixed) = wide
+wide_bit (Cons wide left right) = wide
+wide_bit _ = false
+
+-- A new Cons of the strings a and b, with these units: one id and no content word. It is wide exactly where one of the forms that were loaded of
+-- its sides is; the view has these forms.
+abbrev pub IsRope : View → View → JsStr → JsStr → JsStr → List ℕ → Type 0
+IsRope v w a b s us = Has w.units s.id us
+    × ((f : Form) × (g : Form) × Has w.forms a.id f × Has w.forms b.id g × Has w.forms s.id (Cons (wide_bit f || wide_bit g) a.id b.id))
+    × Uses v w 1 0
+
+-- a call that was refused for want of an id, and used nothing
+abbrev pub IsNoId : View → View → HeapSize → TextFull → Type 0
+IsNoId v w z f = ((full : CounterFull) × (f ≡ Ids full)) × Told w z 0 f × IsSpared v w 0 f
+
+-- two strings that the view knows, neither of them empty, of n units together
+abbrev pub AreJoinable : View → JsStr → JsStr → ℕ → Type 0
+AreJoinable v a b n = (us : List ℕ) × (vs : List ℕ) × Has v.units a.id us × Has v.units b.id vs
+    × (1 ≤ length us) × (1 ≤ length vs) × (length us + length vs ≡ n)
+
+-- what joining answers where a copy of the units is made, and where a Cons is
+abbrev pub IsCopied : View → View → HeapSize → List ℕ → Result JsStr TextFull → Type 0
+IsCopied v w z us r = ((t : JsStr) × (r ≡ Ok t) × IsCopy v w t us) ⊎ ((f : TextFull) × (r ≡ Err f) × IsRefused v w z us f)
+
+abbrev pub IsLinked : View → View → HeapSize → JsStr → JsStr → List ℕ → Result JsStr TextFull → Type 0
+IsLinked v w z a b us r = ((t : JsStr) × (r ≡ Ok t) × IsRope v w a b t us) ⊎ ((f : TextFull) × (r ≡ Err f) × IsNoId v w z f)
+
 -- the string s itself, for which nothing was used
 abbrev pub IsItself : View → View → JsStr → JsStr → Type 0
 IsItself v w s t = (t ≡ s) × (w.used ≡ v.used)
 
 module _ (v w : View) (z : HeapSize) where
   -- Joining strings a with the units us and b with the units vs. An empty side gives the other side; a sum over the greatest length is
-  -- refused, and no other.
+  -- refused, and no other. Fewer than 13 units are copied, more become a Cons.
   pub record IsJoined (a b : JsStr) (us vs : List ℕ) (answer : Result JsStr JoinFault) : Type 0 where
     pub left_empty : length us ≡ 0 → (t : JsStr) × (answer ≡ Ok t) × IsItself v w b t
     pub right_empty : 0 < length us → length vs ≡ 0 → (t : JsStr) × (answer ≡ Ok t) × IsItself v w a t
     pub long : MAX < length us + length vs → (answer ≡ Err (TooLong (length us) (length vs))) × (w.used ≡ v.used)
-    pub both : 0 < length us → 0 < length vs → length us + length vs ≤ MAX
+    pub short : 0 < length us → 0 < length vs → length us + length vs < MIN_CONS
         → ((t : JsStr) × (answer ≡ Ok t) × IsCopy v w t (us ++ vs)) ⊎ ((f : TextFull) × (answer ≡ Err (Full f)) × IsRefused v w z (us ++ vs) f)
+    pub rope : 0 < length us → 0 < length vs → MIN_CONS ≤ length us + length vs → length us + length vs ≤ MAX
+        → ((t : JsStr) × (answer ≡ Ok t) × IsRope v w a b t (us ++ vs)) ⊎ ((f : TextFull) × (answer ≡ Err (Full f)) × IsNoId v w z f)
 
   -- cutting the part from unit `from` up to unit `to` out of the string s with the units us
   pub record IsCut (s : JsStr) (from to : ℕ) (us : List ℕ) (answer : Result JsStr TextFull) : Type 0 where

@@ -4,3 +4,5 @@ pub mod Sources
 pub mod Written
 pub mod Joins
 pub mod Turns
+pub mod Filling
+pub mod Settling

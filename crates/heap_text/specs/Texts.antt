@@ -23,8 +23,9 @@ pub record Reads (v w : View) : Type 0 where
   pub slots : w.slots ≡ v.slots
   pub seen : w.seen ≡ v.seen
   pub mine : w.mine ≡ v.mine
+  pub slot_loads : w.slot_loads ≡ v.slot_loads
 
--- any call: what is known stays known, counters and uses never fall, and slots and history stay
+-- any call: what is known stays known, counters and uses never fall, and slots, how often each was loaded, and history stay
 pub record Continues (v w : View) : Type 0 where
   pub known : KeepsKnown v w
   pub sizes : w.sizes ≡ v.sizes
@@ -38,6 +39,7 @@ pub record Continues (v w : View) : Type 0 where
   pub slots : w.slots ≡ v.slots
   pub seen : w.seen ≡ v.seen
   pub mine : w.mine ≡ v.mine
+  pub slot_loads : w.slot_loads ≡ v.slot_loads
 
 -- so many ids and content words were claimed in between
 abbrev pub Uses : View → View → ℕ → ℕ → Type 0

@@ -138,7 +138,7 @@ impl<'h> Text<'h> {
 }
 
 // One more than the greatest unit of a lane.
-fn lane_size(wide: bool) -> u64
+pub(crate) fn lane_size(wide: bool) -> u64
     ensures { result ≡ lane_base wide }
 {
     if wide { 65536 } else { 256 }

@@ -1,14 +1,15 @@
 // Reading a string: its length, its window, its units.
-ghost use Rattle.std.specs.Prelude.{◌≡◌, ℕ, List, ◌+◌, ◌*◌, ◌/◌, ◌%◌, ◌≤◌, ◌<◌, IsOk, slice_index, length};
+ghost use Rattle.std.specs.Prelude.{◌≡◌, ℕ, List, Bool, ◌+◌, ◌*◌, ◌/◌, ◌%◌, ◌≤◌, ◌<◌, ◌⊎◌, slice_index, length};
+ghost use Rattle.js_header.specs.declared.form.Form.TheVariants.{Flat};
 ghost use Rattle.js_units.specs.Lanes.{words_over};
 ghost use Rattle.heap_rule.specs.Contents.{lane_in};
 ghost use Rattle.heap_rule.specs.Maps.{Has, HasKey};
 ghost use Rattle.heap_rule.specs.Views.{IsSettled, shown};
 ghost use Rattle.heap_table.specs.Agents.{Belongs, view_of};
+ghost use Rattle.heap_text.specs.Filling.{KeepsForms};
 ghost use Rattle.heap_text.specs.Texts.{Reads};
 ghost use Rattle.heap_text.specs.Windows.{IsFrozenWindow, IsWindow};
 
-use crate::faults::TextFull;
 use crate::string::{JsStr, Window};
 use crate::text::Text;
 use js_header::Form;
@@ -27,40 +28,39 @@ impl<'h> Text<'h> {
         self.agent.load_length(self.heap, s.id)
     }
 
-    // A window on all units of a string.
-    pub(crate) fn window_on(&mut self, of: JsStr) -> Window
+    // A window on all units of a string whose header is a Flat.
+    pub(crate) fn flat_window(&mut self, of: JsStr, wide: bool, start: u32) -> Window
         requires text { Belongs self.old.agent self.old.heap.now }
         requires known { HasKey (view_of self.old.agent).units of.id }
+        requires flat { (fixed : Bool) × Has (view_of self.old.agent).forms of.id (Flat wide start fixed) }
         ensures text { Belongs self.new.agent self.new.heap.now }
         ensures heap { self.new.heap ≡ self.old.heap }
         ensures reads { Reads (view_of self.old.agent) (view_of self.new.agent) }
-        ensures settled { IsSettled (view_of self.new.agent) of.id }
+        ensures forms { KeepsForms (view_of self.old.agent) (view_of self.new.agent) }
         ensures shows { (us : List ℕ) → Has (view_of self.old.agent).units of.id us → IsWindow (view_of self.new.agent) result us × (result.len ≡ length us) }
     {
-        match self.agent.load_form(self.heap, of.id) {
-            Form::Flat { wide, start, .. } => Window {
-                wide,
-                start,
-                offset: 0,
-                len: self.agent.load_length(self.heap, of.id),
-            },
-            _ => unreachable!(),
+        Window {
+            wide,
+            start,
+            offset: 0,
+            len: self.agent.load_length(self.heap, of.id),
         }
     }
 
-    /// Sees to it that the string is settled: its header is no Cons from then on. Each string is
-    /// flat so far, so nothing has to be copied.
-    pub fn settle(&mut self, s: JsStr) -> Result<(), TextFull>
+    // A window on all units of a string that is settled, or too short for a Cons.
+    pub(crate) fn window_on(&mut self, of: JsStr) -> Window
         requires text { Belongs self.old.agent self.old.heap.now }
-        requires known { HasKey (view_of self.old.agent).units s.id }
+        requires known { HasKey (view_of self.old.agent).units of.id }
+        requires whole { IsSettled (view_of self.old.agent) of.id ⊎ ((us : List ℕ) × Has (view_of self.old.agent).units of.id us × (length us < 13)) }
         ensures text { Belongs self.new.agent self.new.heap.now }
         ensures heap { self.new.heap ≡ self.old.heap }
         ensures reads { Reads (view_of self.old.agent) (view_of self.new.agent) }
-        ensures ok { IsOk result }
-        ensures settled { IsSettled (view_of self.new.agent) s.id }
+        ensures shows { (us : List ℕ) → Has (view_of self.old.agent).units of.id us → IsWindow (view_of self.new.agent) result us × (result.len ≡ length us) }
     {
-        self.window_on(s);
-        Ok(())
+        match self.form_now(of.id) {
+            Form::Flat { wide, start, .. } => self.flat_window(of, wide, start),
+            _ => unreachable!(),
+        }
     }
 
     /// A window on the units of a settled string.

@@ -2,6 +2,7 @@
 ghost use Rattle.std.specs.Prelude.{◌≡◌, ℕ, List, ◌+◌, ◌-◌, ◌/◌, ◌%◌, ◌≤◌, ◌<◌, ◌↔◌, IsTrue, slice_index, length};
 ghost use Rattle.js_units.specs.Lanes.{lane_count, lane_of};
 ghost use Rattle.heap_table.specs.Agents.{Belongs, view_of};
+ghost use Rattle.heap_text.specs.Filling.{KeepsForms};
 ghost use Rattle.heap_text.specs.Texts.{Reads};
 ghost use Rattle.heap_text.specs.Sources.{Shows, listed};
 ghost use Rattle.heap_text.specs.Windows.{IsFrozenWindow, IsWindow};
@@ -77,6 +78,7 @@ impl<'h> Text<'h> {
         ensures text { Belongs self.new.agent self.new.heap.now }
         ensures heap { self.new.heap ≡ self.old.heap }
         ensures reads { Reads (view_of self.old.agent) (view_of self.new.agent) }
+        ensures forms { KeepsForms (view_of self.old.agent) (view_of self.new.agent) }
         ensures has { (result.from ≤ i) × (i < result.from + result.count) }
         ensures holds { (us : List ℕ) → IsWindow (view_of self.old.agent) w us → Holds us result }
     {
@@ -102,6 +104,7 @@ impl<'h> Text<'h> {
         ensures text { Belongs self.new.agent self.new.heap.now }
         ensures heap { self.new.heap ≡ self.old.heap }
         ensures reads { Reads (view_of self.old.agent) (view_of self.new.agent) }
+        ensures forms { KeepsForms (view_of self.old.agent) (view_of self.new.agent) }
         ensures shows { Shows (view_of self.new.agent) source.now }
         ensures listed { listed (view_of self.new.agent) source.now ≡ listed (view_of self.old.agent) source.now }
         ensures has { (result.from ≤ i) × (i < result.from + result.count) }
@@ -142,9 +145,11 @@ impl<'h> Text<'h> {
         ensures text { Belongs self.new.agent self.new.heap.now }
         ensures heap { self.new.heap ≡ self.old.heap }
         ensures reads { Reads (view_of self.old.agent) (view_of self.new.agent) }
+        ensures forms { KeepsForms (view_of self.old.agent) (view_of self.new.agent) }
         ensures shows { Shows (view_of self.new.agent) source.now }
         ensures listed { listed (view_of self.new.agent) source.now ≡ listed (view_of self.old.agent) source.now }
         ensures holds { Holds (listed (view_of self.old.agent) source.now) held.new }
+        ensures fits { result < 65536 }
         ensures unit { result ≡ slice_index (listed (view_of self.old.agent) source.now) i }
     {
         if held.has(i) {
@@ -179,7 +184,7 @@ impl<'h> Text<'h> {
 }
 
 // The number of the word that has a lane, and of the lane in it.
-fn word_and_lane(wide: bool, o: u32) -> (u32, u32)
+pub(crate) fn word_and_lane(wide: bool, o: u32) -> (u32, u32)
     ensures { (result.0 ≡ o / lane_count wide) × (result.1 ≡ o % lane_count wide) }
 {
     if wide { (o / 4, o % 4) } else { (o / 8, o % 8) }

@@ -3,4 +3,6 @@
 #![tactic(auto)]
 
 #[cfg(test)]
+mod ropes;
+#[cfg(test)]
 mod strings;

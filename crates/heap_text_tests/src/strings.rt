@@ -2,7 +2,7 @@
 ghost use Rattle.std.specs.Prelude.{◌≡◌, ℕ, List, ◌≤◌, ◌<◌, IfSome, length};
 ghost use Rattle.heap_rule.specs.Maps.{Has, HasKey};
 ghost use Rattle.heap_table.specs.Agents.{Belongs, share_of, view_of};
-ghost use Rattle.heap_text.specs.Texts.{Continues, Reads};
+ghost use Rattle.heap_text.specs.Texts.{Continues};
 ghost use Rattle.heap_text.specs.Turns.{GoesOn};
 
 use heap_rule::HeapSize;
@@ -12,12 +12,12 @@ use std::alloc::Global;
 use std::thread::{Threads, join_mut};
 
 // Whether the string has these units, read one by one.
-fn reads(text: &mut Text, s: JsStr, want: &[u16]) -> bool
+pub(crate) fn reads(text: &mut Text, s: JsStr, want: &[u16]) -> bool
     requires text { Belongs text.old.agent text.old.heap.now }
     requires known { HasKey (view_of text.old.agent).units s.id }
     ensures text { Belongs text.new.agent text.new.heap.now }
     ensures heap { text.new.heap ≡ text.old.heap }
-    ensures reads { Reads (view_of text.old.agent) (view_of text.new.agent) }
+    ensures continues { Continues (view_of text.old.agent) (view_of text.new.agent) }
 {
     let Ok(()) = text.settle(s) else {
         return false;
@@ -155,7 +155,7 @@ fn reads_both(text: &mut Text, both: (Option<JsStr>, Option<JsStr>), want: &[u16
     requires second { IfSome both.1 (λ t. HasKey (view_of text.old.agent).units t.id) }
     ensures text { Belongs text.new.agent text.new.heap.now }
     ensures heap { text.new.heap ≡ text.old.heap }
-    ensures reads { Reads (view_of text.old.agent) (view_of text.new.agent) }
+    ensures continues { Continues (view_of text.old.agent) (view_of text.new.agent) }
 {
     let (Some(a), Some(b)) = both else {
         return false;
@@ -313,10 +313,10 @@ fn refusals(rt: HostRuntime) {
         (1, 100, &narrow[..8], Call::Join, ids),
         (1, 100, &narrow[..8], Call::Cut, ids),
         (8, 1, &narrow[..8], Call::Flat, words(1, 1, 1)),
-        (8, 2, &narrow[..8], Call::Join, words(1, 2, 2)),
+        (8, 2, &narrow[..6], Call::Join, words(1, 2, 2)),
         (8, 2, &narrow[..16], Call::Cut, words(2, 1, 2)),
         (8, 5, &narrow[..17], Call::Flat, words(3, 3, 5)),
-        (8, 5, &wide[..], Call::Join, words(2, 4, 5)),
+        (8, 4, &wide[..6], Call::Join, words(2, 3, 4)),
     ] {
         let size = HeapSize {
             ids,

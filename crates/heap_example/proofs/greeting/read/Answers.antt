@@ -11,8 +11,8 @@ pub loop-i-init : goal.loop-i-init
 loop-i-init c = record {
   text = c.window-window.ensures.text;
   heap = c.window-window.ensures.heap ∙ c.settle.ensures.heap;
-  known = known_trans _ _ _ c.settle.ensures.reads.known c.window-window.ensures.reads.known;
-  shows = λ us h. (c.window-window.ensures.shows us (c.settle.ensures.reads.known.units c.args.s.id us h)).0;
+  known = known_trans _ _ _ c.settle.ensures.continues.known c.window-window.ensures.reads.known;
+  shows = λ us h. (c.window-window.ensures.shows us (c.settle.ensures.continues.known.units c.args.s.id us h)).0;
   copied = λ us h. c.new-units.ensures.items;
 }
 

@@ -1,19 +1,20 @@
 use Rattle.std.proofs.Common.{◌∙◌, arith}
 use Rattle.heap_rule.specs.declared.view.View.{View}
 use Rattle.heap_rule.proofs.MapLemmas.{has_key}
+use Rattle.heap_text.proofs.Going.{continues_reads, continues_trans}
 use Rattle.heap_text.proofs.Loaded.{known_trans, reads_trans}
 use Rattle.heap_text.proofs.Showing.{window_frozen, window_kept, window_length}
 use Rattle.heap_text_tests.proofs.strings.reads.Goals as goal
 
 pub loop-i-init : goal.loop-i-init
 loop-i-init c = let v : View = c.args.text.now.agent.seat.me.0 in let w1 : View = c.settle.new.self.agent.seat.me.0 in let w2 : View = c.len.new.self.agent.seat.me.0 in let w3 : View = c.window-window.new.self.agent.seat.me.0 in
-    let r = reads_trans v w2 w3 (reads_trans v w1 w2 c.settle.ensures.reads c.len.ensures.reads) c.window-window.ensures.reads in
-    let k2 = known_trans v w1 w2 c.settle.ensures.reads.known c.len.ensures.reads.known in let p = has_key v.units c.args.s.id c.requires.known in
-    let n = c.len.ensures.length p.0 (c.settle.ensures.reads.known.units c.args.s.id p.0 p.1) in let m = (c.window-window.ensures.shows p.0 (k2.units c.args.s.id p.0 p.1)).1 in let test = c.if-len-want.false in record {
+    let s = c.settle.ensures.continues in let r = reads_trans w1 w2 w3 c.len.ensures.reads c.window-window.ensures.reads in
+    let k2 = known_trans v w1 w2 s.known c.len.ensures.reads.known in let p = has_key v.units c.args.s.id c.requires.known in
+    let n = c.len.ensures.length p.0 (s.known.units c.args.s.id p.0 p.1) in let m = (c.window-window.ensures.shows p.0 (k2.units c.args.s.id p.0 p.1)).1 in let test = c.if-len-want.false in record {
       text = c.window-window.ensures.text;
       heap = c.window-window.ensures.heap ∙ (c.len.ensures.heap ∙ c.settle.ensures.heap);
-      reads = r;
-      settled = (known_trans w1 w2 w3 c.len.ensures.reads.known c.window-window.ensures.reads.known).settled c.args.s.id c.settle.ensures.settled;
+      continues = continues_trans v w1 w3 s (continues_reads w1 w3 r);
+      settled = r.known.settled c.args.s.id c.in-Ok.ensures.settled;
       shows = λ us h. (c.window-window.ensures.shows us (k2.units c.args.s.id us h)).0;
       count = omega arith;
     }
@@ -28,25 +29,25 @@ unit_at-requires-clause-settled c = c.unit_in.ensures.reads.known.settled c.args
 pub unit_at-requires-clause-within : goal.unit_at-requires-clause-within
 unit_at-requires-clause-within c = let v : View = c.args.text.now.agent.seat.me.0 in let p = has_key v.units c.args.s.id c.requires.known in
     let n = window_length c.loop-i.text.agent.seat.me.0 c.window-window.result p.0 (c.loop-i.invariant.shows p.0 p.1) in let l = c.loop-i-test.true in
-    (p.0, c.unit_in.ensures.reads.known.units c.args.s.id p.0 (c.loop-i.invariant.reads.known.units c.args.s.id p.0 p.1), omega arith)
+    (p.0, c.unit_in.ensures.reads.known.units c.args.s.id p.0 (c.loop-i.invariant.continues.known.units c.args.s.id p.0 p.1), omega arith)
 
 pub loop-i-preserved : goal.loop-i-preserved
 loop-i-preserved c = let v : View = c.args.text.now.agent.seat.me.0 in let u : View = c.loop-i.text.agent.seat.me.0 in let x : View = c.unit_in.new.self.agent.seat.me.0 in let y : View = c.unit_at.new.self.agent.seat.me.0 in
-    let i = c.loop-i.invariant in let k = known_trans u x y c.unit_in.ensures.reads.known c.unit_at.ensures.reads.known in record {
+    let i = c.loop-i.invariant in let r = reads_trans u x y c.unit_in.ensures.reads c.unit_at.ensures.reads in record {
       text = c.unit_at.ensures.text;
       heap = c.unit_at.ensures.heap ∙ (c.unit_in.ensures.heap ∙ i.heap);
-      reads = reads_trans v u y i.reads (reads_trans u x y c.unit_in.ensures.reads c.unit_at.ensures.reads);
-      settled = k.settled c.args.s.id i.settled;
-      shows = λ us h. window_kept u y c.window-window.result us k (i.shows us h);
+      continues = continues_trans v u y i.continues (continues_reads u y r);
+      settled = r.known.settled c.args.s.id i.settled;
+      shows = λ us h. window_kept u y c.window-window.result us r.known (i.shows us h);
       count = i.count;
     }
 
-pub returns-then-unit_in-want-clause-reads : goal.returns-then-unit_in-want-clause-reads
-returns-then-unit_in-want-clause-reads c = reads_trans c.args.text.now.agent.seat.me.0 c.loop-i.text.agent.seat.me.0 c.unit_in.new.self.agent.seat.me.0 c.loop-i.invariant.reads c.unit_in.ensures.reads
+pub returns-then-unit_in-want-clause-continues : goal.returns-then-unit_in-want-clause-continues
+returns-then-unit_in-want-clause-continues c = let u : View = c.loop-i.text.agent.seat.me.0 in let x : View = c.unit_in.new.self.agent.seat.me.0 in continues_trans c.args.text.now.agent.seat.me.0 u x c.loop-i.invariant.continues (continues_reads u x c.unit_in.ensures.reads)
 
-pub returns-then-unit_at-want-clause-reads : goal.returns-then-unit_at-want-clause-reads
-returns-then-unit_at-want-clause-reads c = reads_trans c.args.text.now.agent.seat.me.0 c.loop-i.text.agent.seat.me.0 c.unit_at.new.self.agent.seat.me.0 c.loop-i.invariant.reads
-    (reads_trans c.loop-i.text.agent.seat.me.0 c.unit_in.new.self.agent.seat.me.0 c.unit_at.new.self.agent.seat.me.0 c.unit_in.ensures.reads c.unit_at.ensures.reads)
+pub returns-then-unit_at-want-clause-continues : goal.returns-then-unit_at-want-clause-continues
+returns-then-unit_at-want-clause-continues c = let u : View = c.loop-i.text.agent.seat.me.0 in let x : View = c.unit_in.new.self.agent.seat.me.0 in let y : View = c.unit_at.new.self.agent.seat.me.0 in
+    continues_trans c.args.text.now.agent.seat.me.0 u y c.loop-i.invariant.continues (continues_reads u y (reads_trans u x y c.unit_in.ensures.reads c.unit_at.ensures.reads))
 
-pub returns-then-len-want-clause-reads : goal.returns-then-len-want-clause-reads
-returns-then-len-want-clause-reads c = reads_trans c.args.text.now.agent.seat.me.0 c.settle.new.self.agent.seat.me.0 c.len.new.self.agent.seat.me.0 c.settle.ensures.reads c.len.ensures.reads
+pub returns-then-len-want-clause-continues : goal.returns-then-len-want-clause-continues
+returns-then-len-want-clause-continues c = let w1 : View = c.settle.new.self.agent.seat.me.0 in let w2 : View = c.len.new.self.agent.seat.me.0 in continues_trans c.args.text.now.agent.seat.me.0 w1 w2 c.settle.ensures.continues (continues_reads w1 w2 c.len.ensures.reads)

@@ -21,5 +21,5 @@ pub reads_both-requires-clause-second : goal.reads_both-requires-clause-second
 reads_both-requires-clause-second g c = made_stays _ _ c.join.ensures.known_of_other c.twice_at_once-both.result.1 c.twice_at_once-both.ensures.known_right
 
 pub returns-clause-agents : goal.returns-clause-agents
-returns-clause-agents g c = let t = c.twice_at_once-both.ensures in c.reads_both.ensures.reads.agents
+returns-clause-agents g c = let t = c.twice_at_once-both.ensures in c.reads_both.ensures.continues.agents
     ∙ (ap (λ (x : View). x.agents) c.join.ensures.view ∙ joined_agents c.args.left.now.agent.seat.me.0 _ _ _ _ 1 c.split-agent.ensures.left (ap view_of c.new-right.ensures.agent ∙ c.split-agent.ensures.right) t.left.continues t.right.continues)

@@ -1,0 +1,40 @@
+-- What settling answers after a load.
+use Rattle.std.proofs.Common.{ℕ, Bool, List, length, sym, refl, subst, ◌∙◌}
+use Rattle.std.specs.Prelude.{Result, Ok, Err, IfOk, IfErr}
+use Rattle.std.specs.FinMap.{FinMap}
+use Rattle.std.specs.Ordering.{nat_cmp}
+use Rattle.js_units.specs.Lanes.{words_over}
+use Rattle.heap_rule.specs.declared.size.HeapSize.{HeapSize}
+use Rattle.heap_rule.specs.declared.view.View.{View}
+use Rattle.heap_rule.specs.Maps.{HasKey}
+use Rattle.heap_text.specs.declared.faults.TextFull.{TextFull}
+use Rattle.heap_text.specs.Settling.{IsFlattened, IsNoRoom}
+use Rattle.heap_text.specs.Texts.{Reads}
+use Rattle.heap_text.proofs.Pieces.{spared_after, uses_after}
+
+module _ {A E : Type 0} where
+  pub ok_then : (r : Result A E) (P Q : A → Type 0) → ((a : A) → P a → Q a) → IfOk r P → IfOk r Q
+  ok_then (Ok a) P Q f h = f a h
+  ok_then (Err e) P Q f h = tt
+
+  pub err_then : (r : Result A E) (P Q : E → Type 0) → ((e : E) → P e → Q e) → IfErr r P → IfErr r Q
+  err_then (Ok a) P Q f h = tt
+  err_then (Err e) P Q f h = f e h
+
+module _ (v u w : View) (read : Reads v u) where
+  pub flattened_after : (i : ℕ) (us : List ℕ) (wide : Bool) → IsFlattened u w i us wide → IsFlattened v w i us wide
+  flattened_after i us wide h = let n : ℕ = words_over wide (length us) in record {
+    narrow = h.narrow;
+    used = uses_after v u w 0 n n read.used refl h.used;
+    own_ids = h.own_ids ∙ read.own_ids;
+    own_words = λ c k. h.own_words c (subst (λ (m : FinMap nat_cmp ℕ). HasKey m c) (sym read.own_words) k);
+    words = h.words;
+  }
+
+  pub no_room_after : (z : HeapSize) (us : List ℕ) (f : TextFull) (wide : Bool) → IsNoRoom u w z us f wide → IsNoRoom v w z us f wide
+  no_room_after z us f wide h = let n : ℕ = words_over wide (length us) in record {
+    narrow = h.narrow;
+    words = h.words;
+    told = h.told;
+    spared = spared_after v u w n n f read refl h.spared;
+  }

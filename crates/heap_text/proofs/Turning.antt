@@ -1,0 +1,39 @@
+-- One turn of the loop that fills: what was loaded of a Cons leaves the units and the own words as they were.
+use Rattle.std.proofs.Common.{◌≡◌, ℕ, ◌+◌, ◌-◌, Bool, List, length, get_or, ap, sym, subst, ◌∙◌}
+use Rattle.heap_rule.specs.declared.view.View.{View}
+use Rattle.heap_rule.specs.Maps.{HasKey}
+use Rattle.heap_rule.proofs.MapLemmas.{key_of}
+use Rattle.heap_table.specs.Known.{KeepsKnown}
+use Rattle.heap_text.specs.Filling.{IsBoth, IsFilled, own_word, units_at}
+use Rattle.heap_text.specs.Texts.{Reads}
+use Rattle.heap_text.proofs.Progress.{IsFilling, filled_left, filled_right}
+use Rattle.heap_text.proofs.Sides.{units_are, units_there}
+
+-- units that are known stay
+pub units_kept : (v w : View) (i : ℕ) → KeepsKnown v w → HasKey v.units i → units_at w i ≡ units_at v i
+units_kept v w i k h = units_are w i (units_at v i) (k.units i (units_at v i) (units_there v i h))
+
+pub key_kept : (v w : View) (i : ℕ) → KeepsKnown v w → HasKey v.units i → HasKey w.units i
+key_kept v w i k h = key_of w.units i (units_at v i) (k.units i (units_at v i) (units_there v i h))
+
+-- u is the view before the turn, f has loaded the form, g the length of the left side, and h is that after the side was filled
+module _ (wide : Bool) (start : ℕ) (first : ℕ → ℕ) (at0 n0 : ℕ) (us0 : List ℕ) (at n : ℕ) (u f g h : View) (id left right m : ℕ) where
+  pub same_own : Reads u f → Reads f g → own_word g.own_words ≡ own_word u.own_words
+  same_own a b = ap own_word (b.own_words ∙ a.own_words)
+
+  pub both_here : Reads u f → HasKey u.units id → IsFilling wide start first (own_word u.own_words) at0 n0 us0 at n (units_at u id)
+      → IsBoth (units_at f id) (units_at g left) (units_at g right) m (length (units_at f id)) → IsBoth (units_at u id) (units_at g left) (units_at g right) m n
+  both_here a k i b = let same = units_kept u f id a.known k in
+      subst (λ (x : ℕ). IsBoth (units_at u id) (units_at g left) (units_at g right) m x) i.count (subst (λ (us : List ℕ). IsBoth us (units_at g left) (units_at g right) m (length us)) same b)
+
+  pub turn_left : Reads u f → Reads f g → HasKey g.units right → KeepsKnown g h → IsFilling wide start first (own_word u.own_words) at0 n0 us0 at n (units_at u id) → IsBoth (units_at u id) (units_at g left) (units_at g right) m n
+      → IsFilled wide start (own_word g.own_words) (own_word h.own_words) at m (λ k. get_or (units_at g left) k 0) → IsFilling wide start first (own_word h.own_words) at0 n0 us0 (at + m) (n - m) (units_at h right)
+  turn_left a b k c i both done = subst (λ (us : List ℕ). IsFilling wide start first (own_word h.own_words) at0 n0 us0 (at + m) (n - m) us) (sym (units_kept g h right c k))
+      (filled_left wide start first (own_word u.own_words) (own_word h.own_words) at0 n0 us0 at n (units_at u id) (units_at g left) (units_at g right) m i both
+      (subst (λ (w : ℕ → ℕ). IsFilled wide start w (own_word h.own_words) at m (λ k. get_or (units_at g left) k 0)) (same_own a b) done))
+
+  pub turn_right : Reads u f → Reads f g → HasKey g.units left → KeepsKnown g h → IsFilling wide start first (own_word u.own_words) at0 n0 us0 at n (units_at u id) → IsBoth (units_at u id) (units_at g left) (units_at g right) m n
+      → IsFilled wide start (own_word g.own_words) (own_word h.own_words) (at + m) (n - m) (λ k. get_or (units_at g right) k 0) → IsFilling wide start first (own_word h.own_words) at0 n0 us0 at m (units_at h left)
+  turn_right a b k c i both done = subst (λ (us : List ℕ). IsFilling wide start first (own_word h.own_words) at0 n0 us0 at m us) (sym (units_kept g h left c k))
+      (filled_right wide start first (own_word u.own_words) (own_word h.own_words) at0 n0 us0 at n (units_at u id) (units_at g left) (units_at g right) m i both
+      (subst (λ (w : ℕ → ℕ). IsFilled wide start w (own_word h.own_words) (at + m) (n - m) (λ k. get_or (units_at g right) k 0)) (same_own a b) done))

@@ -1,0 +1,19 @@
+use Rattle.std.proofs.Common.{◌≡◌, ◌+◌, get_or}
+use Rattle.heap_table.specs.Agents.{Belongs, view_of}
+use Rattle.heap_text.specs.Filling.{IsPlaced, KeepsForms}
+use Rattle.heap_text.specs.Sources.{Shows, listed}
+use Rattle.heap_text.specs.Texts.{Reads}
+use Rattle.heap_text.specs.Written.{Holds}
+use Rattle.heap_text.proofs.text.Text.change_word.Given as goal
+
+abbrev pub invariant-loop-k : goal.invariant-loop-k
+invariant-loop-k l = record {
+  text : Belongs l.self.agent l.self.heap.now;
+  heap : l.self.heap ≡ l.fn.self.heap;
+  reads : Reads (view_of l.fn.self.agent) (view_of l.self.agent);
+  forms : KeepsForms (view_of l.fn.self.agent) (view_of l.self.agent);
+  shows : Shows (view_of l.self.agent) l.source;
+  holds : Holds (listed (view_of l.fn.self.agent) l.source) l.held;
+  same : listed (view_of l.self.agent) l.source ≡ listed (view_of l.fn.self.agent) l.source;
+  placed : IsPlaced l.patch.wide l.word l.changed l.patch.low l.k (λ k. get_or (listed (view_of l.fn.self.agent) l.source) (l.patch.first + k) 0);
+}

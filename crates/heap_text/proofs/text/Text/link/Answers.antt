@@ -1,0 +1,104 @@
+use Rattle.std.proofs.Common.{◌≡◌, ◌+◌, ◌++◌, ◌∙◌, Bool, inl, inr, refl, ap, subst, sym, arith}
+use Rattle.js_header.specs.declared.form.Form.TheVariants.{Cons}
+use Rattle.heap_rule.specs.declared.size.Counter.TheVariants.{Ids}
+use Rattle.heap_rule.specs.declared.size.Counters.{Counters}
+use Rattle.heap_rule.specs.declared.size.HeapSize.{HeapSize}
+use Rattle.heap_rule.specs.declared.view.View.{View}
+use Rattle.heap_rule.specs.Births.{stored_length}
+use Rattle.heap_rule.specs.Claims.{won_claim}
+use Rattle.heap_rule.specs.Forms.{IsNarrow}
+use Rattle.heap_rule.specs.Maps.{Has, HasKey}
+use Rattle.heap_rule.proofs.MapLemmas.{insert_same, key_of}
+use Rattle.heap_table.specs.Agents.{size_of}
+use Rattle.heap_table.specs.Full.{IsFull}
+use Rattle.heap_table.specs.Known.{KeepsKnown}
+use Rattle.heap_text.specs.declared.faults.TextFull.TheVariants as fault
+use Rattle.heap_text.specs.Joins.{wide_bit}
+use Rattle.heap_text.specs.Texts.{Continues}
+use Rattle.heap_text.proofs.Going.{continues_full_ids, continues_ids, continues_length, continues_reads, continues_trans}
+use Rattle.heap_text.proofs.Linking.{born_cons, born_other, born_rope, continues_rope, narrow_both, narrow_form}
+use Rattle.heap_text.proofs.Pieces.{spared_ids}
+use Rattle.heap_text.proofs.text.Text.link.Goals as goal
+
+pub side_forms-front-requires-clause-known : goal.side_forms-front-requires-clause-known
+side_forms-front-requires-clause-known c = let v : View = c.args.self.now.agent.seat.me.0 in let k = c.requires.known in (key_of v.units c.args.a.id k.0 k.2, key_of v.units c.args.b.id k.1 k.3)
+
+pub returns-in-Err-clause-continues : goal.returns-in-Err-clause-continues
+returns-in-Err-clause-continues c = let v : View = c.args.self.now.agent.seat.me.0 in let u : View = c.side_forms-front.new.self.agent.seat.me.0 in let x : View = c.claim_id.new.self.seat.me.0 in
+    continues_trans v u x (continues_reads v u c.side_forms-front.ensures.reads) (continues_full_ids u x c.in-Err.full.at c.in-Err.ensures.refused.0 c.claim_id.ensures.low)
+
+pub returns-in-Err-clause-linked : goal.returns-in-Err-clause-linked
+returns-in-Err-clause-linked c us vs h k = let v : View = c.args.self.now.agent.seat.me.0 in let u : View = c.side_forms-front.new.self.agent.seat.me.0 in let x : View = c.claim_id.new.self.seat.me.0 in let f = c.in-Err.ensures.refused in let full = c.in-Err.full in
+    let same : size_of c.side_forms-front.new.self.heap.now ≡ size_of c.args.self.now.heap.now = ap (λ y. size_of y.now) c.side_forms-front.ensures.heap in inr (
+      fault.Ids full,
+      refl,
+      (
+        (full, refl),
+        (subst (λ (z : HeapSize). IsFull full 1 z.ids) same f.1, ap (λ (y : View). y.low.ids) f.0),
+        spared_ids v u u x 0 0 full.at full c.side_forms-front.ensures.reads f.0 refl (omega arith) refl (λ q w. w) (λ q l. absurd (omega arith)),
+      ),
+    )
+
+pub store_length-requires-clause-may : goal.store_length-requires-clause-may
+store_length-requires-clause-may c = let u : View = c.side_forms-front.new.self.agent.seat.me.0 in let id = c.in-Ok.id in
+    (subst (λ (y : View). HasKey y.own_ids id) (sym c.in-Ok.ensures.view) (key_of _ id 0 (insert_same u.own_ids id 0)), c.requires.long.1)
+
+pub birth-requires-clause-fits : goal.birth-requires-clause-fits
+birth-requires-clause-fits c = let v : View = c.args.self.now.agent.seat.me.0 in let u : View = c.side_forms-front.new.self.agent.seat.me.0 in let x : View = c.claim_id.new.self.seat.me.0 in let y : View = c.store_length.new.self.seat.me.0 in
+    let k = c.requires.known in let e = c.side_forms-front.ensures in let id = c.in-Ok.id in let n = c.args.n in let a = c.args.a.id in let b = c.args.b.id in
+    let is : y ≡ stored_length (won_claim u Ids id 1) id n = c.store_length.ensures.view ∙ ap (λ (w : View). stored_length w id n) c.in-Ok.ensures.view in
+    let left : Has u.units a k.0 = e.reads.known.units a k.0 k.2 in let right : Has u.units b k.1 = e.reads.known.units b k.1 k.3 in
+    let own : Has y.own_ids id n = subst (λ (w : View). Has w.own_ids id n) (sym c.store_length.ensures.view) (insert_same x.own_ids id n) in
+    let narrow : IsNarrow c.is_either_wide-wide.result (k.0 ++ k.1) = subst (λ (w : Bool). IsNarrow w (k.0 ++ k.1)) (sym c.is_either_wide-wide.ensures)
+    (narrow_both (wide_bit c.side_forms-front.result.0) (wide_bit c.side_forms-front.result.1) k.0 k.1
+    (narrow_form u e.text.5 a c.side_forms-front.result.0 k.0 e.stand.0 e.seen.0 left)
+    (narrow_form u e.text.5 b c.side_forms-front.result.1 k.1 e.stand.1 e.seen.1 right)) in (
+      n,
+      own,
+      (
+        c.in-Ok.ensures.above a (inl (key_of u.units a k.0 left)),
+        c.in-Ok.ensures.above b (inl (key_of u.units b k.1 right)),
+        c.requires.long.0,
+        (
+          k.0,
+          k.1,
+          subst (λ (w : View). Has w.units a k.0) (sym is) left,
+          subst (λ (w : View). Has w.units b k.1) (sym is) right,
+          k.4,
+          k.5,
+          k.6,
+          narrow,
+        ),
+      ),
+    )
+
+pub returns-clause-continues : goal.returns-clause-continues
+returns-clause-continues c = let v : View = c.args.self.now.agent.seat.me.0 in let u : View = c.side_forms-front.new.self.agent.seat.me.0 in let x : View = c.claim_id.new.self.seat.me.0 in let y : View = c.store_length.new.self.seat.me.0 in let z : View = c.birth.new.self.seat.me.0 in
+    let id = c.in-Ok.id in let n = c.args.n in let wide = c.is_either_wide-wide.result in let a = c.args.a.id in let b = c.args.b.id in
+    continues_trans v u z (continues_reads v u c.side_forms-front.ensures.reads)
+    (continues_trans u x z (continues_ids u x id 1 c.in-Ok.ensures.view c.claim_id.ensures.low)
+    (continues_trans x y z (subst (Continues x) (sym c.store_length.ensures.view) (continues_length x id n))
+    (subst (Continues y) (sym c.birth.ensures.view) (continues_rope y id wide a b (subst (KeepsKnown y) c.birth.ensures.view c.birth.ensures.known)))))
+
+pub returns-clause-linked : goal.returns-clause-linked
+returns-clause-linked c us vs h k = let v : View = c.args.self.now.agent.seat.me.0 in let u : View = c.side_forms-front.new.self.agent.seat.me.0 in let x : View = c.claim_id.new.self.seat.me.0 in let y : View = c.store_length.new.self.seat.me.0 in let z : View = c.birth.new.self.seat.me.0 in
+    let e = c.side_forms-front.ensures in let id = c.in-Ok.id in let n = c.args.n in let wide = c.is_either_wide-wide.result in let a = c.args.a.id in let b = c.args.b.id in let front = c.side_forms-front.result.0 in let back = c.side_forms-front.result.1 in
+    let is : y ≡ stored_length (won_claim u Ids id 1) id n = c.store_length.ensures.view ∙ ap (λ (w : View). stored_length w id n) c.in-Ok.ensures.view in
+    let bear = c.birth.ensures.view in
+    let left : Has u.units a us = e.reads.known.units a us h in let right : Has u.units b vs = e.reads.known.units b vs k in
+    let ids : z.used.ids ≡ v.used.ids + 1 = ap (λ (w : View). w.used.ids) bear ∙ (ap (λ (w : View). w.used.ids) is ∙ ap (λ (m : Counters). m.ids + 1) e.reads.used) in
+    let words : z.used.words ≡ v.used.words = ap (λ (w : View). w.used.words) bear ∙ (ap (λ (w : View). w.used.words) is ∙ ap (λ (m : Counters). m.words) e.reads.used) in inl (
+      record { id = id },
+      refl,
+      (
+        subst (λ (w : View). Has w.units id (us ++ vs)) (sym bear) (born_rope y id n wide a b us vs (subst (λ (w : View). Has w.units a us) (sym is) left) (subst (λ (w : View). Has w.units b vs) (sym is) right)),
+        (
+          front,
+          back,
+          subst (λ (w : View). Has w.forms a front) (sym bear) (born_other y id a wide a b front (c.in-Ok.ensures.above a (inl (key_of u.units a us left))) (subst (λ (w : View). Has w.forms a front) (sym is) e.seen.0)),
+          subst (λ (w : View). Has w.forms b back) (sym bear) (born_other y id b wide a b back (c.in-Ok.ensures.above b (inl (key_of u.units b vs right))) (subst (λ (w : View). Has w.forms b back) (sym is) e.seen.1)),
+          subst (λ (q : Bool). Has z.forms id (Cons q a b)) c.is_either_wide-wide.ensures (subst (λ (w : View). Has w.forms id (Cons wide a b)) (sym bear) (born_cons y id wide a b)),
+        ),
+        (ids, omega (arith, words)),
+      ),
+    )

@@ -1,0 +1,39 @@
+-- What settling a string answers.
+use Rattle.std.specs.Prelude.{◌≡◌, ℕ, ◌+◌, ◌<◌, ◌⊎◌, Bool, false, List, length}
+use Rattle.js_units.specs.Lanes.{words_over}
+use Rattle.js_header.specs.declared.form.Form.{Form}
+use Rattle.js_header.specs.declared.form.Form.TheVariants.{Cons, Flat}
+use Rattle.heap_rule.specs.declared.size.HeapSize.{HeapSize}
+use Rattle.heap_rule.specs.declared.view.View.{View}
+use Rattle.heap_rule.specs.Forms.{IsNarrow}
+use Rattle.heap_rule.specs.Maps.{Has, HasKey}
+use Rattle.heap_rule.specs.Views.{IsKnown}
+use Rattle.heap_table.specs.declared.claims.CounterFull.{CounterFull}
+use Rattle.heap_text.specs.declared.faults.TextFull.{TextFull}
+use Rattle.heap_text.specs.declared.faults.TextFull.TheVariants.{Words}
+use Rattle.heap_text.specs.Texts.{IsSpared, Reads, Told, Uses}
+
+-- the left side of a Cons is known
+abbrev pub KnowsSide : View → Form → Type 0
+KnowsSide v (Cons wide left right) = IsKnown v left
+KnowsSide v _ = Unit {0}
+
+-- A Cons with this wide bit became flat. The content words that were claimed are those of the Flat, which has the wide bit of the Cons; or they
+-- stay the agent's own, where another agent's Flat stands. What was own is so still.
+pub record IsFlattened (v w : View) (i : ℕ) (us : List ℕ) (wide : Bool) : Type 0 where
+  pub narrow : IsNarrow wide us
+  pub used : Uses v w 0 (words_over wide (length us))
+  pub own_ids : w.own_ids ≡ v.own_ids
+  pub own_words : (c : ℕ) → HasKey v.own_words c → HasKey w.own_words c
+  pub words : (start : ℕ) × (Has w.forms i (Flat wide start false) ⊎ ((q : ℕ) → q < words_over wide (length us) → HasKey w.own_words (start + q)))
+
+-- no Cons was loaded, and nothing used; or a Cons was, and became flat
+abbrev pub IsSettling : View → View → ℕ → List ℕ → Type 0
+IsSettling v w i us = Reads v w ⊎ ((wide : Bool) × IsFlattened v w i us wide)
+
+-- a Cons with this wide bit was to become flat, and the content words for it were refused
+pub record IsNoRoom (v w : View) (z : HeapSize) (us : List ℕ) (f : TextFull) (wide : Bool) : Type 0 where
+  pub narrow : IsNarrow wide us
+  pub words : (full : CounterFull) × (f ≡ Words full)
+  pub told : Told w z (words_over wide (length us)) f
+  pub spared : IsSpared v w (words_over wide (length us)) f
