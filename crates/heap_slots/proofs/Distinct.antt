@@ -5,7 +5,8 @@ use mathlib.Core.Logic.{dite}
 use native.Mathlib.Decide.{ℕ_discrete}
 use Rattle.std.proofs.lemmas.List.{length-map}
 use Rattle.std.proofs.lemmas.Map.Made.{length-from_keys, length-le_from_is_member, is_member-Decides, IsDistinct-from_AllPairs}
-use Rattle.std.proofs.lemmas.Bool.Decides.{same_from_decides}
+use Rattle.std.proofs.lemmas.Bool.Decides.{same_from_decides, Decides-eqb}
+use Rattle.std.proofs.lemmas.Map.Steps.{length-le_from_distinct_below}
 use Rattle.std.specs.Bool.{Decides}
 use Rattle.std.specs.List.{IsDistinct, AllPairs}
 use Rattle.std.proofs.lemmas.List.Kept.{AllPairs-cons}
@@ -77,6 +78,12 @@ module _ {X : Type 0} where
   values_apart f zero apart = λ i j d a b. absurd (omega arith)
   values_apart f (suc n) apart = apart_some (f n) (values_below f n) (λ x e c. let t = values_from f n x c in let l = t.1 in let is : n ≡ t.0 = apart n t.0 x (omega arith) (omega arith) e t.2 in omega arith)
       (values_apart f n (λ k l x a b e g. apart k l x (omega arith) (omega arith) e g))
+
+-- numbers below m, no two of them equal, stand at no more than m places
+pub used_below : (f : ℕ → Option ℕ) (n m : ℕ) → ((k l i : ℕ) → k < n → l < n → f k ≡ Some i → f l ≡ Some i → k ≡ l) → ((k i : ℕ) → k < n → f k ≡ Some i → i < m) → count_below (λ k. is_some (f k)) n ≤ m
+used_below f n m apart below = let vs : List ℕ = values_below f n in let e = length_values f n in
+    let w = length-le_from_distinct_below vs m (IsDistinct-from_AllPairs Decides-eqb vs (values_apart f n apart))
+    (λ q h. let t = values_from f n q ((is_member-Decides Decides-eqb vs q).0 h) in below t.0 q t.1 t.2) in omega arith
 
 -- the lists of a history
 called : (h : Calls) (u : List ℕ) → Contains (keys_of h) u → (i : ℕ) × Contains h (u, i)

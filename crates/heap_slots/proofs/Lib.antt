@@ -1,4 +1,5 @@
 pub mod Going
+pub mod Loading
 pub mod Learned
 pub mod Possibly
 pub mod Stretching

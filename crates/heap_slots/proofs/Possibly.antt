@@ -1,6 +1,6 @@
 -- What the rule says of one live view alone, beside what heap_rule has of it: a word that is known to be frozen is no own one, so it is as the
--- view has it; and the lanes of a Flat past its length are 0.
-use Rattle.std.proofs.Common.{◌≡◌, ℕ, ◌+◌, ◌*◌, ◌/◌, ◌<◌, ◌≤◌, inl, inr, Bool, true, false, sym, refl, ap, ◌∙◌, subst, arith, Option, Some, None}
+-- view has it; and the lanes of a Flat past its length are 0. And a slot whose string has the units isn't shut for them.
+use Rattle.std.proofs.Common.{◌≡◌, ℕ, ◌+◌, ◌*◌, ◌/◌, ◌<◌, ◌≤◌, inl, inr, Bool, true, false, List, sym, refl, ap, ◌∙◌, subst, arith, Option, Some, None}
 use Rattle.std.specs.Prelude.{unwrap_or}
 use Rattle.std.proofs.Math.Logic.{∥∥₁_elim}
 use Rattle.std.proofs.Props.{props}
@@ -8,14 +8,16 @@ use Rattle.std.specs.FinMap.{get}
 use Rattle.js_units.specs.Lanes.{lane_count, words_over}
 use Rattle.js_header.specs.declared.form.Form.TheVariants.{Flat}
 use Rattle.heap_rule.specs.declared.view.View.{View}
-use Rattle.heap_rule.specs.Layout.{content, length_word}
-use Rattle.heap_rule.specs.Contents.{lane_in}
+use Rattle.heap_rule.specs.Layout.{content}
+use Rattle.heap_rule.specs.Contents.{lane_in, units_of}
 use Rattle.heap_rule.specs.Maps.{Has, HasKey}
 use Rattle.heap_rule.specs.Views.{IsFrozen, shown}
+use Rattle.heap_rule.specs.Slots.{IsShutAt}
 use Rattle.heap_rule.specs.Sound.{IsPossible, StandsIn}
 use Rattle.heap_rule.proofs.Birth.{shown_by}
 use Rattle.heap_rule.proofs.Loads.{frozen_right}
 use Rattle.heap_rule.proofs.MapLemmas.{key_of}
+use Rattle.heap_rule.proofs.Slots.{differs_right}
 use Rattle.heap_rule.proofs.UnitLemmas.{lane_same}
 use Rattle.heap_slots.specs.Stretches.{AreFrozen}
 
@@ -48,3 +50,11 @@ zeros_in v (z, agents, W, vs, j, s, at, live) i wide start fixed n f l h o lo hi
 pub possible_zeros : (v : View) → IsPossible v → (i : ℕ) (wide : Bool) (start : ℕ) (fixed : Bool) (n : ℕ) → Has v.forms i (Flat wide start fixed) → Has v.lengths i n → AreFrozen v wide start n
     → (o : ℕ) → n ≤ o → o < words_over wide n * lane_count wide → lane_in (shown v) wide start o ≡ 0
 possible_zeros v p i wide start fixed n f l h o lo hi = ∥∥₁_elim p (Prim.hlevel props) (λ t. zeros_in v t i wide start fixed n f l h o lo hi)
+
+open_in : (v : View) → StandsIn v → (us : List ℕ) (k i : ℕ) → Has v.slots k i → Has v.units i us → IsShutAt v us k → ⊥
+open_in v (z, agents, W, vs, j, s, at, live) us k i h u t = let know = s.knows j v at live in let same : Some t.0 ≡ Some i = sym t.1 ∙ h in let is : t.0 ≡ i = cc in let q = know.of_slots k t.0 t.1 in
+    differs_right z agents W vs s v know us t.0 (s.slots k t.0 q.0 q.1).born t.2 (ap (units_of z W) is ∙ (know.of_units i us u).1)
+
+-- a slot with a string that is known to have the units isn't shut for them
+pub possible_open : (v : View) → IsPossible v → (us : List ℕ) (k i : ℕ) → Has v.slots k i → Has v.units i us → IsShutAt v us k → ⊥
+possible_open v p us k i h u t = ∥∥₁_elim p (Prim.hlevel props) (λ st. open_in v st us k i h u t)

@@ -1,26 +1,27 @@
 -- The units of a flat string, lane by lane.
-use Rattle.std.proofs.Common.{◌≡◌, ◌≢◌, ℕ, zero, suc, ◌+◌, ◌*◌, ◌/◌, ◌%◌, ◌^◌, ◌<◌, ◌≤◌, inl, inr, Bool, true, false, cond, List, [], ◌∷◌, drop, length, get_or, sym, refl, ap, ◌∙◌, subst, arith, drop-cons, Option, Some, None}
+use Rattle.std.proofs.Common.{◌≡◌, ℕ, suc, ◌+◌, ◌*◌, ◌/◌, ◌%◌, ◌^◌, ◌<◌, inl, inr, ⊎_elim, Bool, true, false, cond, List, [], ◌∷◌, drop, length, get_or, sym, refl, ap, ◌∙◌, subst, arith, drop-cons, Option, Some, None}
 use Rattle.std.proofs.lemmas.Grind.{same_number_lists}
 use Rattle.std.specs.FinMap.{contains_key, insert}
 use Rattle.js_units.specs.Lanes.{hash_after, hash_from, hash_of, lane_count, lane_of, words_over}
 use Rattle.js_header.specs.declared.form.Form.{Form}
 use Rattle.js_header.specs.Form.{form_of}
-use Rattle.js_header.specs.declared.form.Form.TheVariants.{Flat}
+use Rattle.js_header.specs.declared.form.Form.TheVariants.{Unborn, Flat, Cons, Sliced, Thin}
 use Rattle.heap_rule.specs.declared.view.View.{View}
 use Rattle.heap_rule.specs.Contents.{lane_in}
-use Rattle.heap_rule.specs.Layout.{MAX}
+use Rattle.heap_rule.specs.Forms.{IsCons}
 use Rattle.heap_rule.specs.Learning.{learned_all}
 use Rattle.heap_rule.specs.Loads.{added_loads, loaded_form, loaded_word, with_form}
 use Rattle.heap_rule.specs.Maps.{Has, HasKey}
 use Rattle.heap_rule.specs.Slots.{Differs}
 use Rattle.heap_rule.specs.Sound.{IsPossible}
-use Rattle.heap_rule.specs.Views.{IsFrozen, shown}
+use Rattle.heap_rule.specs.Views.{IsFrozen, IsSettled, shown}
 use Rattle.heap_rule.proofs.MapLemmas.{has_key, insert_same, key_of}
-use Rattle.heap_rule.proofs.Possible.{possible_frozen, possible_lane, possible_lawful, possible_length}
+use Rattle.heap_rule.proofs.Possible.{possible_frozen, possible_lane, possible_lawful, possible_length, possible_slot}
 use Rattle.heap_rule.proofs.UnitLemmas.{lane_same, lane_word}
 use Rattle.heap_table.specs.Known.{KeepsKnown}
+use Rattle.heap_table.specs.Rule.{MayStand}
 use Rattle.heap_slots.specs.declared.stretch.Stretch.{Stretch}
-use Rattle.heap_slots.specs.Stretches.{AreFrozen, HasLane, IsLearned, LiesIn}
+use Rattle.heap_slots.specs.Stretches.{AreFrozen, HasLane, IsFlatBy, IsLearned, LiesIn}
 use Rattle.heap_slots.proofs.Possibly.{possible_free, shown_frozen}
 
 -- what a stretch says is kept
@@ -47,6 +48,19 @@ form_by v i n (Some g) f e = insert_same v.forms i g ∙ e
 
 pub form_there : (v w : View) (i x : ℕ) (f : Form) → form_of x ≡ Some f → w ≡ learned_all (loaded_form v i x) → Has w.forms i f
 form_there v w i x f spelt e = subst (λ (u : View). Has u.forms i f) (sym e) (form_by v i (added_loads v.form_loads 1) (form_of x) f spelt)
+
+-- a string that is settled, or stands in a slot, is found to be no Cons
+pub not_cons : (v w : View) (i : ℕ) (f : Form) → IsPossible w → KeepsKnown v w → IsFlatBy v i → Has w.forms i f → (IsSettled v i → IsCons f → ⊥) → IsCons f → ⊥
+not_cons v w i f p k flat there settled cons = ⊎_elim (λ (t : IsSettled v i). settled t cons)
+    (λ (t : (l : ℕ) × Has v.slots l i). let q = possible_slot w p t.0 i f (k.slots t.0 i t.1) there in subst IsCons q.2 cons) flat
+
+-- a form that may stand and is no Cons is a Flat
+pub is_flat : (f : Form) → MayStand f → (IsCons f → ⊥) → ((wide : Bool) (start : ℕ) (fixed : Bool) → f ≡ Flat wide start fixed → ⊥) → ⊥
+is_flat (Flat wide start fixed) may n other = other wide start fixed refl
+is_flat (Cons wide left right) may n other = n tt
+is_flat Unborn may n other = may
+is_flat (Sliced wide parent offset) may n other = may
+is_flat (Thin target) may n other = may
 
 -- each lane lies in a word that is known to be frozen, and in the heap
 pub lane_frozen : (v : View) (s : Stretch) (i : ℕ) → LiesIn v s → i < s.len → IsFrozen v (s.start + i / lane_count s.wide)

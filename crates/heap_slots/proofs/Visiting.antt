@@ -1,6 +1,8 @@
 -- Visits of slots, and the walk over them.
-use Rattle.std.proofs.Common.{◌≡◌, ℕ, ◌+◌, ◌%◌, ◌<◌, ◌≤◌, inl, inr, ⊎_elim, Bool, true, List, [], ◌∷◌, ◌++◌, sym, refl, ap, ◌∙◌, subst, arith, Option, Some, None, Result, Ok, Err, IfSome, IsTrue}
+use Rattle.std.proofs.Common.{◌≡◌, ℕ, ◌+◌, ◌%◌, ◌<◌, ◌≤◌, inl, inr, ⊎_elim, Bool, true, List, [], ◌∷◌, ◌++◌, sym, refl, ap, ◌∙◌, subst, arith, Option, Some, None, Result, Ok, Err}
 use Rattle.std.specs.Prelude.{unwrap_or}
+use mathlib.Core.Logic.{dite}
+use native.Mathlib.Decide.{ℕ_discrete}
 use Rattle.std.specs.FinMap.{FinMap, get}
 use Rattle.std.specs.Ordering.{nat_cmp}
 use Rattle.js_units.specs.Lanes.{hash_of}
@@ -9,13 +11,12 @@ use Rattle.js_header.specs.declared.form.Form.TheVariants.{Flat}
 use Rattle.heap_rule.specs.declared.view.View.{View}
 use Rattle.heap_rule.specs.declared.size.HeapSize.{HeapSize}
 use Rattle.heap_rule.specs.Maps.{Has, HasKey}
-use Rattle.heap_rule.specs.Paths.{Calls, rank, place}
-use Rattle.heap_rule.specs.Slots.{Differs, IsShutAt, MayTakeSlot, entered, entry_in, units_by}
-use Rattle.heap_rule.specs.SlotTests.{shut}
+use Rattle.heap_rule.specs.Paths.{rank, place}
+use Rattle.heap_rule.specs.Slots.{IsShutAt, entered, entry_in, units_by}
 use Rattle.heap_rule.specs.Sound.{IsPossible}
-use Rattle.heap_rule.proofs.MapLemmas.{has_key}
-use Rattle.heap_rule.proofs.Paths.{place_inside, ranks_all, ranks_before, ranks_next, ranks_none}
-use Rattle.heap_rule.proofs.Possible.{possible_slot}
+use Rattle.heap_rule.proofs.MapLemmas.{has_key, key_of}
+use Rattle.heap_rule.proofs.Paths.{place_inside, rank_place, ranks_all, ranks_before, ranks_next, ranks_none}
+use Rattle.heap_rule.proofs.Possible.{possible_inside, possible_slot}
 use Rattle.heap_rule.proofs.SlotTests.{shut_exactly}
 use Rattle.heap_table.specs.Known.{KeepsKnown}
 use Rattle.heap_table.specs.declared.claims.CounterFull.{CounterFull}
@@ -26,10 +27,12 @@ use Rattle.heap_slots.specs.declared.probing.Visit.TheVariants.{Answer, Next}
 use Rattle.heap_slots.specs.declared.stretch.Stretch.{Stretch}
 use Rattle.heap_slots.specs.Answers.{HasLeft, Interns, IsFixed, IsRefused}
 use Rattle.heap_slots.specs.Goes.{Goes, Looks}
+use Rattle.heap_slots.specs.SlotLoads.{IsFirst}
 use Rattle.heap_slots.specs.Stretches.{AreFrozen, LiesIn}
 use Rattle.heap_slots.specs.Visits.{IsAnswer, IsBehind, IsMade, IsNext, IsNoId, Visited, Visits, ids_of}
 use Rattle.heap_slots.proofs.Going.{goes_self, goes_trans}
-use Rattle.heap_slots.proofs.Stretching.{frozen_kept, key_kept, lies_kept}
+use Rattle.heap_slots.proofs.Possibly.{possible_open}
+use Rattle.heap_slots.proofs.Stretching.{frozen_kept, lies_kept}
 
 -- what a view knows of the string in a slot stays known
 module _ (v w : View) (p : IsPossible v) (k : KeepsKnown v w) (us : List ℕ) where
@@ -108,6 +111,19 @@ module _ (a v : View) (s : Stretch) (us : List ℕ) (r : ℕ) (header : Option �
   pub next_inside : r < n → (h % n + r) % n < a.sizes.slots
   next_inside l = at_place (λ k. k < a.sizes.slots) (place_inside us a.sizes.slots r (subst (λ (m : ℕ). r < m) slots l))
 
+  pub next_rank : r < n → rank us a.sizes.slots ((h % n + r) % n) ≡ r
+  next_rank l = at_place (λ k. rank us a.sizes.slots k ≡ r) (rank_place us a.sizes.slots r (subst (λ (m : ℕ). r < m) slots l))
+
+  -- a string with the units was seen in the first slot, which so isn't passed
+  pub first_now : IsPossible v → IsFirst a us → r ≡ 0
+  first_now possible f = let here : Has v.slots (place us a.sizes.slots 0) f.0 = p.goes.known.slots _ f.0 f.1 in
+      let some : place us a.sizes.slots 0 < a.sizes.slots = subst (λ (z : HeapSize). place us a.sizes.slots 0 < z.slots) p.goes.sizes (possible_inside v possible _ f.0 here) in
+      let rank_is = rank_place us a.sizes.slots 0 (omega arith) in
+      dite (ℕ_discrete r 0) (λ e. e) (λ ne. absurd (possible_open v possible us _ f.0 here (p.goes.known.units f.0 us f.2) (p.passed (place us a.sizes.slots 0) some (omega arith))))
+
+  pub first_key : IsPossible v → IsFirst a us → HasKey v.slots ((h % n + r) % n)
+  first_key possible f = at_place (HasKey v.slots) (subst (λ (q : ℕ). HasKey v.slots (place us a.sizes.slots q)) (sym (first_now possible f)) (key_of v.slots _ f.0 (p.goes.known.slots _ f.0 f.1)))
+
   pub next_behind : r < n → IsBehind v us ((h % n + r) % n)
   next_behind l = at_place (IsBehind v us) (subst (λ (z : HeapSize). (j : ℕ) → j < z.slots → rank us z.slots j < rank us z.slots (place us a.sizes.slots r) → IsShutAt v us j) (sym p.goes.sizes)
       (ranks_before (IsShutAt v us) us a.sizes.slots r (subst (λ (m : ℕ). r < m) slots l) p.passed))
@@ -148,6 +164,10 @@ none_there m k x e again = none_by (get m k) (λ i h. let t = again i h in omega
 
 pub each_fixed : (v w : View) → KeepsKnown v w → (id i : ℕ) → HasKey v.units id → ((us : List ℕ) → Has v.units id us → IsFixed w us i) → (us : List ℕ) → Has w.units id us → IsMade w us (Some i)
 each_fixed v w k id i key h us u = let q = has_key v.units id key in let same : Some q.0 ≡ Some us = sym (k.units id q.0 q.1) ∙ u in let is : q.0 ≡ us = cc in subst (λ (xs : List ℕ). IsFixed w xs i) is (h q.0 q.1)
+
+-- what was seen of the first slot stays known
+pub first_kept : (v w : View) (us : List ℕ) → KeepsKnown v w → w.sizes ≡ v.sizes → IsFirst v us → IsFirst w us
+first_kept v w us k z f = (f.0, subst (λ (y : HeapSize). Has w.slots (place us y.slots 0) f.0) (sym z) (k.slots _ f.0 f.1), k.units f.0 us f.2)
 
 -- at most one id goes for a header
 pub ids_most : (header : Option ℕ) → ids_of header ≤ 1

@@ -1,10 +1,11 @@
 -- The words of a flat string, as the crate's own functions see them. No public contract cites these.
-use Rattle.std.specs.Prelude.{◌≡◌, ℕ, ◌+◌, ◌/◌, ◌<◌, Bool, List}
+use Rattle.std.specs.Prelude.{◌≡◌, ℕ, ◌+◌, ◌/◌, ◌<◌, ◌⊎◌, Bool, List}
 use Rattle.js_units.specs.Lanes.{lane_count, words_over}
 use Rattle.js_header.specs.declared.form.Form.TheVariants.{Flat}
 use Rattle.heap_rule.specs.declared.view.View.{View}
 use Rattle.heap_rule.specs.Contents.{lane_in}
 use Rattle.heap_rule.specs.Maps.{Has, HasKey}
+use Rattle.heap_rule.specs.Views.{IsSettled}
 use Rattle.heap_slots.specs.declared.stretch.Stretch.{Stretch}
 
 -- the view has the string as a Flat of these words and of this length
@@ -12,6 +13,10 @@ pub record LiesIn (v : View) (s : Stretch) : Type 0 where
   pub fixed : Bool
   pub form : Has v.forms s.id (Flat s.wide s.start fixed)
   pub long : Has v.lengths s.id s.len
+
+-- a string that is no Cons any more: it is settled, or stands in a slot
+abbrev pub IsFlatBy : View → ℕ → Type 0
+IsFlatBy v i = IsSettled v i ⊎ ((k : ℕ) × Has v.slots k i)
 
 -- the view has each word of n lanes from a content word on as frozen
 pub record AreFrozen (v : View) (wide : Bool) (start n : ℕ) : Type 0 where

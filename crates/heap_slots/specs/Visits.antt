@@ -1,5 +1,5 @@
 -- What a visit of a slot ends with, as the crate's own functions see it, and what a count of the slots has found. No public contract cites these.
-use Rattle.std.specs.Prelude.{◌≡◌, ℕ, ◌+◌, ◌<◌, ◌≤◌, Bool, List, [], ◌∷◌, Contains, Option, Some, None, Result, Ok, Err, IfSome}
+use Rattle.std.specs.Prelude.{◌≡◌, ◌≢◌, ℕ, ◌+◌, ◌<◌, ◌≤◌, List, [], ◌∷◌, Contains, Option, Some, None, Result, Ok, Err, IfSome}
 use Rattle.std.specs.FinMap.{get, contains_key}
 use Rattle.heap_rule.specs.declared.view.View.{View}
 use Rattle.heap_rule.specs.Maps.{Has}
@@ -12,6 +12,7 @@ use Rattle.heap_slots.specs.declared.probing.Visit.TheVariants.{Answer, Next}
 use Rattle.heap_slots.specs.Answers.{IsFixed}
 use Rattle.heap_slots.specs.Counting.{count_below}
 use Rattle.heap_slots.specs.Goes.{Goes, Looks}
+use Rattle.heap_slots.specs.SlotLoads.{counted_on, loads_at}
 
 -- each slot before k on the path of us is known to be used by a string that differs
 abbrev pub IsBehind : View → List ℕ → ℕ → Type 0
@@ -51,6 +52,23 @@ pub record IsNoId (v w : View) (k : ℕ) (header : Option ℕ) (f : CounterFull)
 abbrev pub Visited : View → View → List ℕ → ℕ → Option ℕ → Visit → Type 0
 Visited v w us k header (Answer i) = IsAnswer v w us k header i
 Visited v w us k header (Next made) = IsNext v w us k header made
+
+-- slot k was loaded at most so often between two views, and no other slot was; a count went on by these loads.
+pub record LoadsOne (v w : View) (k most before after : ℕ) : Type 0 where
+  pub times : ℕ
+  pub few : times ≤ most
+  pub here : loads_at w k ≡ counted_on (loads_at v k) times
+  pub others : (j : ℕ) → j ≢ k → loads_at w j ≡ loads_at v j
+  pub sum : after ≡ before + times
+
+-- how often the slot was loaded again, to enter the call
+abbrev pub entries : Visit → ℕ
+entries (Answer i) = 1
+entries (Next made) = 0
+
+abbrev pub entries_in : Result Visit CounterFull → ℕ
+entries_in (Ok visit) = entries visit
+entries_in (Err f) = 0
 
 abbrev pub Visits : View → View → List ℕ → ℕ → Option ℕ → Result Visit CounterFull → Type 0
 Visits v w us k header (Ok visit) = Visited v w us k header visit

@@ -20,6 +20,7 @@ pub(crate) fn make_header(agent: &mut Agent, heap: &Heap, s: Stretch) -> Result<
     ensures belongs { Belongs agent.new heap.now }
     ensures goes { Goes (view_of agent.old) (view_of agent.new) [] }
     ensures slots { (view_of agent.new).slots ≡ (view_of agent.old).slots }
+    ensures loads { (view_of agent.new).slot_loads ≡ (view_of agent.old).slot_loads }
     ensures ok { IfOk result (λ i. (us : List ℕ) → Has (view_of agent.old).units s.id us → IsFixed (view_of agent.new) us i) }
     ensures used { IfOk result (λ i. (view_of agent.new).used.ids ≡ (view_of agent.old).used.ids + 1) }
     ensures err { IfErr result (λ f. IsFull f 1 (view_of agent.new).sizes.ids × ((view_of agent.new).low.ids ≡ f.at) × ((view_of agent.new).used.ids ≡ (view_of agent.old).used.ids)) }

@@ -15,4 +15,4 @@ mod stretch;
 
 pub use counting::count_interned;
 pub use faults::TableFull;
-pub use probing::intern;
+pub use probing::{intern, intern_counted};

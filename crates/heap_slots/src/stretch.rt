@@ -10,7 +10,7 @@ ghost use Rattle.heap_rule.specs.Slots.{Differs};
 ghost use Rattle.heap_rule.specs.Views.{IsKnown};
 ghost use Rattle.heap_table.specs.Agents.{Belongs, view_of};
 ghost use Rattle.heap_slots.specs.Goes.{Looks};
-ghost use Rattle.heap_slots.specs.Stretches.{AreFrozen, HasLane, IsLearned, LiesIn};
+ghost use Rattle.heap_slots.specs.Stretches.{AreFrozen, HasLane, IsFlatBy, IsLearned, LiesIn};
 
 use heap_table::{Agent, Heap};
 use js_header::Form;
@@ -29,8 +29,10 @@ pub(crate) struct Stretch {
 pub(crate) fn stretch_of(agent: &mut Agent, heap: &Heap, id: u32) -> Stretch
     requires belongs { Belongs agent.old heap.now }
     requires known { IsKnown (view_of agent.old) id }
+    requires flat { IsFlatBy (view_of agent.old) id }
     ensures belongs { Belongs agent.new heap.now }
     ensures looks { Looks (view_of agent.old) (view_of agent.new) }
+    ensures loads { (view_of agent.new).slot_loads ≡ (view_of agent.old).slot_loads }
     ensures id { result.id ≡ id }
     ensures lies { LiesIn (view_of agent.new) result }
     ensures short { result.len ≤ MAX }
@@ -54,6 +56,7 @@ fn unit_in(agent: &mut Agent, heap: &Heap, s: Stretch, i: u32) -> u16
     requires within { i < s.len }
     ensures belongs { Belongs agent.new heap.now }
     ensures looks { Looks (view_of agent.old) (view_of agent.new) }
+    ensures loads { (view_of agent.new).slot_loads ≡ (view_of agent.old).slot_loads }
     ensures lane { HasLane (view_of agent.new) s.wide s.start i result }
     ensures unit { (us : List ℕ) → Has (view_of agent.old).units s.id us → result ≡ slice_index us i }
     ensures learned { IsLearned (view_of agent.new) }
@@ -70,6 +73,7 @@ pub(crate) fn hash_units(agent: &mut Agent, heap: &Heap, s: Stretch) -> u32
     requires known { HasKey (view_of agent.old).units s.id }
     ensures belongs { Belongs agent.new heap.now }
     ensures looks { Looks (view_of agent.old) (view_of agent.new) }
+    ensures loads { (view_of agent.new).slot_loads ≡ (view_of agent.old).slot_loads }
     ensures hash { (us : List ℕ) → Has (view_of agent.old).units s.id us → result ≡ hash_of us }
     ensures frozen { AreFrozen (view_of agent.new) s.wide s.start s.len }
 {
@@ -89,6 +93,7 @@ fn has_same_units(agent: &mut Agent, heap: &Heap, s: Stretch, t: Stretch) -> boo
     requires learned { IsLearned (view_of agent.old) }
     ensures belongs { Belongs agent.new heap.now }
     ensures looks { Looks (view_of agent.old) (view_of agent.new) }
+    ensures loads { (view_of agent.new).slot_loads ≡ (view_of agent.old).slot_loads }
     ensures same { (us : List ℕ) → Has (view_of agent.old).units s.id us → MatchBool result (Has (view_of agent.new).units t.id us) (Differs (view_of agent.new) us t.id) }
 {
     for i in 0..s.len {
@@ -101,15 +106,17 @@ fn has_same_units(agent: &mut Agent, heap: &Heap, s: Stretch, t: Stretch) -> boo
     true
 }
 
-// Whether a known string has the units of another. Either it is known to have them from then
+// Whether a string in a slot has the units of another. Either it is known to have them from then
 // on, or it is known to have others.
 pub(crate) fn is_same(agent: &mut Agent, heap: &Heap, s: Stretch, id: u32) -> bool
     requires belongs { Belongs agent.old heap.now }
     requires lies { LiesIn (view_of agent.old) s }
     requires known { HasKey (view_of agent.old).units s.id }
     requires other { IsKnown (view_of agent.old) id }
+    requires slot { (k : ℕ) × Has (view_of agent.old).slots k id }
     ensures belongs { Belongs agent.new heap.now }
     ensures looks { Looks (view_of agent.old) (view_of agent.new) }
+    ensures loads { (view_of agent.new).slot_loads ≡ (view_of agent.old).slot_loads }
     ensures same { (us : List ℕ) → Has (view_of agent.old).units s.id us → MatchBool result (Has (view_of agent.new).units id us) (Differs (view_of agent.new) us id) }
     ensures form { (wide : Bool) × (start : ℕ) × (fixed : Bool) × Has (view_of agent.new).forms id (Flat wide start fixed) }
 {

@@ -1,2 +1,3 @@
 pub mod Sharing
 pub mod Wide
+pub mod First

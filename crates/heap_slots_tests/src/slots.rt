@@ -1,6 +1,7 @@
 // Strings that are interned on small heaps, and on heaps that two threads share.
 ghost use Rattle.std.specs.Prelude.{◌≡◌, ℕ, ◌≤◌, IfSome, length};
 ghost use Rattle.heap_rule.specs.Maps.{HasKey};
+ghost use Rattle.heap_rule.specs.Views.{IsSettled};
 ghost use Rattle.heap_table.specs.Agents.{Belongs, share_of, view_of};
 ghost use Rattle.heap_slots_tests.specs.Turns.{GoesOn, Turns};
 
@@ -155,6 +156,7 @@ fn wide(agent: &mut Agent, heap: &Heap, word: u64) -> Option<u32>
     requires belongs { Belongs agent.old heap.now }
     ensures belongs { Belongs agent.new heap.now }
     ensures known { IfSome result (λ i. HasKey (view_of agent.new).units i) }
+    ensures settled { IfSome result (λ i. IsSettled (view_of agent.new) i) }
 {
     let Ok(start) = agent.claim_words(heap, 1) else {
         return None;

@@ -1,4 +1,4 @@
-use Rattle.std.proofs.Common.{◌≡◌, ◌+◌, ◌≤◌, ◌∙◌, ℕ, List, Some, ap, subst, sym, arith}
+use Rattle.std.proofs.Common.{ℕ, ap, subst, arith}
 use Rattle.js_header.specs.declared.form.Form.{Form}
 use Rattle.js_header.specs.declared.form.Form.TheVariants.{Flat}
 use Rattle.heap_rule.specs.declared.view.View.{View}
@@ -9,15 +9,16 @@ use Rattle.heap_rule.proofs.MapLemmas.{has_key, key_of}
 use Rattle.heap_rule.proofs.Possible.{possible_slot}
 use Rattle.heap_slots.specs.Answers.{IsFixed}
 use Rattle.heap_slots.proofs.Going.{goes_slot, goes_trans}
+use Rattle.heap_slots.proofs.Loading.{loads_from, loads_none, loads_once}
 use Rattle.heap_slots.proofs.Visiting.{each_made, entered_is, fixed_kept, ids_most}
 use Rattle.heap_slots.proofs.probing.visit_used.Goals as goal
 
 pub load_slot-requires-clause-enter : goal.load_slot-requires-clause-enter
-load_slot-requires-clause-enter c = let v : View = c.args.agent.now.seat.me.0 in let w : View = c.is_same.new.agent.seat.me.0 in let e = c.is_same.ensures in let u = has_key v.units c.args.s.id c.requires.known in
+load_slot-requires-clause-enter g c = let v : View = c.args.agent.now.seat.me.0 in let w : View = c.is_same.new.agent.seat.me.0 in let e = c.is_same.ensures in let u = has_key v.units c.args.s.id c.requires.known in
     let same = e.same u.0 u.1 in (c.args.t, e.looks.goes.known.slots c.args.k c.args.t c.requires.used.0, key_of w.units c.args.t u.0 (rw c.if-is_same.true at same))
 
 pub returns-then-is_same-clause-visited : goal.returns-then-is_same-clause-visited
-returns-then-is_same-clause-visited c us h = let v : View = c.args.agent.now.seat.me.0 in let w : View = c.is_same.new.agent.seat.me.0 in let x : View = c.load_slot.new.self.seat.me.0 in let e = c.is_same.ensures in let f = c.load_slot.ensures in
+returns-then-is_same-clause-visited g c us h = let v : View = c.args.agent.now.seat.me.0 in let w : View = c.is_same.new.agent.seat.me.0 in let x : View = c.load_slot.new.self.seat.me.0 in let e = c.is_same.ensures in let f = c.load_slot.ensures in
     let k = c.args.k in let t = c.args.t in let known = e.looks.goes.known in let there : Has w.slots k t = known.slots k t c.requires.used.0 in let same = e.same us h in let units : Has w.units t us = rw c.if-is_same.true at same in
     let go = goes_slot w x k _ (entry_in w k) _ (entered_is w k t us there units) f.known f.view in
     let form = e.form in let p = possible_slot w e.belongs.5 k t (Flat form.0 form.1 form.2) there form.3 in
@@ -29,9 +30,16 @@ returns-then-is_same-clause-visited c us h = let v : View = c.args.agent.now.sea
     }
 
 pub returns-clause-visited : goal.returns-clause-visited
-returns-clause-visited c us h = let v : View = c.args.agent.now.seat.me.0 in let w : View = c.is_same.new.agent.seat.me.0 in let e = c.is_same.ensures in let known = e.looks.goes.known in let same = e.same us h in record {
+returns-clause-visited g c us h = let v : View = c.args.agent.now.seat.me.0 in let w : View = c.is_same.new.agent.seat.me.0 in let e = c.is_same.ensures in let known = e.looks.goes.known in let same = e.same us h in record {
   goes = e.looks.goes;
   used = omega (arith, e.looks.used);
   shut = (c.args.t, known.slots c.args.k c.args.t c.requires.used.0, rw c.if-is_same.false at same);
   made_is = each_made v w c.requires.belongs.5 known c.args.s.id c.args.header c.requires.known c.requires.header us (known.units c.args.s.id us h);
 }
+
+pub returns-then-is_same-clause-loads : goal.returns-then-is_same-clause-loads
+returns-then-is_same-clause-loads g c = let v : View = c.args.agent.now.seat.me.0 in let w : View = c.is_same.new.agent.seat.me.0 in let x : View = c.load_slot.new.self.seat.me.0 in let k : ℕ = c.args.k in
+    loads_from v w x k 1 c.args.steps.now c.tick.new.self c.is_same.ensures.loads (loads_once w x k _ c.args.steps.now c.tick.new.self (entry_in w k) c.load_slot.ensures.view c.tick.ensures)
+
+pub returns-clause-loads : goal.returns-clause-loads
+returns-clause-loads g c = loads_none c.args.agent.now.seat.me.0 c.is_same.new.agent.seat.me.0 c.args.k 0 c.args.steps.now c.is_same.ensures.loads

@@ -1,4 +1,4 @@
-use Rattle.std.proofs.Common.{◌≡◌, ℕ, arith}
+use Rattle.std.proofs.Common.{◌≡◌, ◌∙◌, refl, arith}
 use Rattle.heap_rule.specs.declared.view.View.{View}
 use Rattle.heap_slots.proofs.Going.{looks_trans}
 use Rattle.heap_slots.proofs.Reading.{compared_other, compared_same, comparing_next, comparing_none}
@@ -6,7 +6,7 @@ use Rattle.heap_slots.proofs.Stretching.{lies_kept}
 use Rattle.heap_slots.proofs.stretch.has_same_units.Goals as goal
 
 pub loop-i-init : goal.loop-i-init
-loop-i-init c = (c.requires.belongs, comparing_none c.args.agent.now.seat.me.0 c.args.s c.args.t c.requires.lies.0 c.requires.lies.1 c.requires.learned)
+loop-i-init c = (c.requires.belongs, comparing_none c.args.agent.now.seat.me.0 c.args.s c.args.t c.requires.lies.0 c.requires.lies.1 c.requires.learned, refl)
 
 pub unit_in-other-requires-clause-lies : goal.unit_in-other-requires-clause-lies
 unit_in-other-requires-clause-lies c = lies_kept c.loop-i.agent.seat.me.0 c.unit_in-unit.new.agent.seat.me.0 c.unit_in-unit.ensures.looks.goes.known c.args.t c.loop-i.invariant.1.other
@@ -14,6 +14,9 @@ unit_in-other-requires-clause-lies c = lies_kept c.loop-i.agent.seat.me.0 c.unit
 pub returns-then-unit-other-clause-looks : goal.returns-then-unit-other-clause-looks
 returns-then-unit-other-clause-looks c = let a : View = c.args.agent.now.seat.me.0 in let v : View = c.loop-i.agent.seat.me.0 in let u : View = c.unit_in-unit.new.agent.seat.me.0 in let w : View = c.unit_in-other.new.agent.seat.me.0 in
     looks_trans a v w c.loop-i.invariant.1.looks (looks_trans v u w c.unit_in-unit.ensures.looks c.unit_in-other.ensures.looks)
+
+pub returns-then-unit-other-clause-loads : goal.returns-then-unit-other-clause-loads
+returns-then-unit-other-clause-loads c = c.unit_in-other.ensures.loads ∙ (c.unit_in-unit.ensures.loads ∙ c.loop-i.invariant.2)
 
 pub returns-then-unit-other-clause-same : goal.returns-then-unit-other-clause-same
 returns-then-unit-other-clause-same c us h = let a : View = c.args.agent.now.seat.me.0 in let v : View = c.loop-i.agent.seat.me.0 in let u : View = c.unit_in-unit.new.agent.seat.me.0 in let w : View = c.unit_in-other.new.agent.seat.me.0 in let i = c.loop-i.invariant in
@@ -25,6 +28,7 @@ loop-i-preserved c = let a : View = c.args.agent.now.seat.me.0 in let v : View =
   c.unit_in-other.ensures.belongs,
   comparing_next a v u w c.args.s c.args.t c.loop-i.i c.unit_in-unit.result c.unit_in-other.result i.1 c.unit_in-unit.ensures.looks c.unit_in-other.ensures.looks c.unit_in-other.ensures.learned
       c.unit_in-unit.ensures.unit c.unit_in-other.ensures.lane c.if-unit-other.false,
+  c.unit_in-other.ensures.loads ∙ (c.unit_in-unit.ensures.loads ∙ i.2),
 )
 
 pub returns-clause-same : goal.returns-clause-same

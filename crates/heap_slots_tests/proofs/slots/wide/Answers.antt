@@ -6,8 +6,9 @@ use Rattle.heap_rule.specs.declared.view.View.{View}
 use Rattle.heap_rule.specs.Births.{MayBear, stored_length, stored_word}
 use Rattle.heap_rule.specs.Claims.{won_claim}
 use Rattle.heap_rule.specs.Maps.{HasKey}
+use Rattle.heap_rule.specs.Views.{IsSettled}
 use Rattle.heap_rule.proofs.Possible.{possible_lawful}
-use Rattle.heap_slots_tests.proofs.Wide.{id_own, ready, wide_fits, wide_known, word_own}
+use Rattle.heap_slots_tests.proofs.Wide.{id_own, ready, wide_fits, wide_known, wide_settled, word_own}
 use Rattle.heap_slots_tests.proofs.slots.wide.Goals as goal
 
 pub store_word-requires-clause-own : goal.store_word-requires-clause-own
@@ -28,3 +29,7 @@ birth-requires-clause-fits c = let v : View = c.args.agent.now.seat.me.0 in let 
 pub returns-clause-known : goal.returns-clause-known
 returns-clause-known c = let id = c.in-Ok-claim_id.id in
     subst (λ (y : View). HasKey y.units id) (sym c.birth.ensures.view) (wide_known c.store_length.new.self.seat.me.0 id (Flat true c.in-Ok.start false))
+
+pub returns-clause-settled : goal.returns-clause-settled
+returns-clause-settled c = let id = c.in-Ok-claim_id.id in
+    subst (λ (y : View). IsSettled y id) (sym c.birth.ensures.view) (wide_settled c.store_length.new.self.seat.me.0 id c.in-Ok.start)
