@@ -5,8 +5,8 @@ use Rattle.js_store.proofs.Laws.{text_still}
 use Rattle.js_values.specs.declared.value.Value.{Value}
 use Rattle.js_values.specs.declared.value.Stop.{Stop}
 use Rattle.js_values.specs.Outcome.{Val, Converted}
-use Rattle.js_values.specs.Need.{reads}
-use Rattle.js_values.specs.Conversions.{to_string, text_units, string_units}
+use Rattle.js_values.specs.Need.{reads, joins}
+use Rattle.js_values.specs.Conversions.{to_string}
 use Rattle.js_calls.specs.Searching.{found, search_call}
 use Rattle.js_calls.specs.Building.{joined_text, one_joined, concat_call}
 use Rattle.js_values.specs.Seen.{seen, IsFine, all_seen, AllFine}
@@ -27,16 +27,13 @@ module _ {F R : Type 0} (name : R → ℕ) where
       (subst (λ (u : List ℕ). Does name b c r (found t (answer u (text b (name w))) q)) same z)
 
   -- one more argument of `concat`
-  pub join_does : (a b c : State F) (s w : R) (v : Value R) (r : Result R Stop) → Grows a b → IsKnown a (name s) → length (text b (name w)) ≤ text_units (seen a name v) + 40 → GivesText name a b (Ok w) (to_string a.limit (seen a name v)) → ((t : ℕ) → length (text b (name s)) + length (text b (name w)) ≤ t + 40 → GivesText name b c r (joined_text b.limit t (text b (name s)) (text b (name w)))) → GivesText name a c r (one_joined a.limit (text a (name s)) (seen a name v))
-  join_does a b c s w v r g k h d f =
-      let same : text b (name s) ≡ text a (name s) = text_still g (name s) k in
-      let t : ℕ = length (text a (name s)) + text_units (seen a name v) in
-      let z : GivesText name b c r (joined_text b.limit t (text b (name s)) (text b (name w))) = f t (rw same (omega (arith, h))) in
-      did_convert (reads (length (text a (name s)) + string_units (seen a name v))) a b c (λ o e. text o (name e)) (λ o e. IsKnown o (name e)) (λ o e. text o (name e)) (λ o e. IsKnown o (name e)) w r (to_string a.limit (seen a name v)) (λ x. joined_text a.limit t (text a (name s)) x) d
-      (subst (λ (p : ℕ × List ℕ). GivesText name b c r (joined_text p.0 t p.1 (text b (name w)))) (cc (g.limit, same)) z)
+  pub join_does : (a b c : State F) (s w : R) (v : Value R) (r : Result R Stop) → Grows a b → IsKnown a (name s) → GivesText name a b (Ok w) (to_string a.limit (seen a name v)) → GivesText name b c r (joined_text b.limit (text b (name s)) (text b (name w))) → GivesText name a c r (one_joined a.limit (text a (name s)) (seen a name v))
+  join_does a b c s w v r g k d f =
+      did_convert joins a b c (λ o e. text o (name e)) (λ o e. IsKnown o (name e)) (λ o e. text o (name e)) (λ o e. IsKnown o (name e)) w r (to_string a.limit (seen a name v)) (λ x. joined_text a.limit (text a (name s)) x) d
+      (subst (λ (p : ℕ × List ℕ). GivesText name b c r (joined_text p.0 p.1 (text b (name w)))) (cc (g.limit, text_still g (name s) k)) f)
 
   pub join_stops : (a b : State F) (s : R) (v : Value R) (n : Stop) → GivesText name a b (Err n) (to_string a.limit (seen a name v)) → GivesText name a b (Err n) (one_joined a.limit (text a (name s)) (seen a name v))
-  join_stops a b s v n d = did_fail (reads (length (text a (name s)) + string_units (seen a name v))) a b (λ o e. text o (name e)) (λ o e. IsKnown o (name e)) (λ o e. text o (name e)) (λ o e. IsKnown o (name e)) n (to_string a.limit (seen a name v)) (λ x. joined_text a.limit (length (text a (name s)) + text_units (seen a name v)) (text a (name s)) x) d
+  join_stops a b s v n d = did_fail joins a b (λ o e. text o (name e)) (λ o e. IsKnown o (name e)) (λ o e. text o (name e)) (λ o e. IsKnown o (name e)) n (to_string a.limit (seen a name v)) (λ x. joined_text a.limit (text a (name s)) x) d
 
   module _ (a b d : State F) (vs : List (Value R)) (i : ℕ) (v : Value R) (t : R) (g : Grows a b) (h : AllFine a name vs) (l : i < length vs) (p : v ≡ get_or vs i v) where
     same_value : seen b name v ≡ seen a name v

@@ -2,20 +2,20 @@
 use Rattle.std.specs.Prelude.{ℕ, ◌+◌, List, [], ◌∷◌, ◌++◌, length, nat_le, if◌then◌else◌}
 use Rattle.js_values.specs.declared.value.Kind.TheVariants.{RangeError}
 use Rattle.js_values.specs.Outcome.{Val, Out, gave, bind, converting, cost, throwing}
-use Rattle.js_values.specs.Need.{nothing, reads}
-use Rattle.js_values.specs.Conversions.{to_string, string_units, text_units}
+use Rattle.js_values.specs.Need.{nothing, joins}
+use Rattle.js_values.specs.Conversions.{to_string}
 use Rattle.js_values.specs.Limited.{bounded}
 
--- two strings joined, of operands with t units
-abbrev pub joined_text : ℕ → ℕ → List ℕ → List ℕ → Out (List ℕ)
-joined_text limit t u w =
+-- two strings joined, unless they are longer together than a string may be
+abbrev pub joined_text : ℕ → List ℕ → List ℕ → Out (List ℕ)
+joined_text limit u w =
     if nat_le (length u + length w) limit
-    then gave (u ++ w) (cost (reads (t + (length u + length w))))
-    else throwing (reads t) RangeError
+    then gave (u ++ w) (cost joins)
+    else throwing joins RangeError
 
 -- one more argument, as a string, behind what was joined so far
 abbrev pub one_joined : ℕ → List ℕ → Val → Out (List ℕ)
-one_joined limit u v = converting (reads (length u + string_units v)) (to_string limit v) (λ w. joined_text limit (length u + text_units v) u w)
+one_joined limit u v = converting joins (to_string limit v) (λ w. joined_text limit u w)
 
 -- "String.prototype.concat": each argument in turn
 abbrev pub concat_call : ℕ → List ℕ → List Val → Out Val

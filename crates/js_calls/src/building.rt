@@ -1,5 +1,5 @@
 // Methods that make longer strings.
-ghost use Rattle.std.specs.Prelude.{ℕ, ◌+◌, ◌≤◌, length, IfOk};
+ghost use Rattle.std.specs.Prelude.{ℕ, IfOk};
 ghost use Rattle.js_store.specs.State.{Grows, IsKnown, text};
 ghost use Rattle.js_values.specs.Limited.{within};
 ghost use Rattle.js_calls.specs.Building.{joined_text, one_joined, concat_call};
@@ -47,13 +47,13 @@ fn join_one<S: Strings>(
     append(store, s, w)
 }
 
-// Two strings joined, where the operands have t units and the two strings at most 40 more.
+// Two strings joined, unless they are longer together than a string may be.
 fn append<S: Strings>(store: &mut S, s: S::Ref, w: S::Ref) -> Result<S::Ref, Stop>
     requires left { IsKnown (S.state store.old) (S.number s) }
     requires right { IsKnown (S.state store.old) (S.number w) }
     ensures grows { Grows (S.state store.old) (S.state store.new) }
     ensures known { IfOk result (λ r. IsKnown (S.state store.new) (S.number r)) }
-    ensures did { (t : ℕ) → length (text (S.state store.old) (S.number s)) + length (text (S.state store.old) (S.number w)) ≤ t + 40 → GivesText S.number (S.state store.old) (S.state store.new) result (joined_text (S.state store.old).limit t (text (S.state store.old) (S.number s)) (text (S.state store.old) (S.number w))) }
+    ensures did { GivesText S.number (S.state store.old) (S.state store.new) result (joined_text (S.state store.old).limit (text (S.state store.old) (S.number s)) (text (S.state store.old) (S.number w))) }
 {
     Ok(js_methods::concat(store, s, w)?)
 }

@@ -1,9 +1,8 @@
 // Methods that repeat a string or a filler.
-ghost use Rattle.std.specs.Prelude.{◌≡◌, ◌∷◌, [], length, IfOk};
+ghost use Rattle.std.specs.Prelude.{◌≡◌, ◌+◌, ◌∷◌, [], length, IfOk};
 ghost use Rattle.js_store.specs.State.{Has, Grows, IsKnown, text};
 ghost use Rattle.js_store.specs.Faults.{Step, method_fault_of, NeverSlots};
 ghost use Rattle.js_store.specs.Answers.{ThrowsLong};
-ghost use Rattle.js_methods.specs.Repeating.{made};
 ghost use Rattle.js_methods.specs.Padding as methods;
 ghost use Rattle.js_values.specs.Conversions.{to_number};
 ghost use Rattle.js_values.specs.Arguments.{first_of, second_of};
@@ -116,7 +115,7 @@ fn pad_with_space<S: Strings>(
     requires { IsKnown (S.state store.old) (S.number s) }
     ensures grows { Grows (S.state store.old) (S.state store.new) }
     ensures fine { IfOk result (λ v. IsFine (S.state store.new) S.number v) }
-    ensures did { Does S.number (S.state store.old) (S.state store.new) result (within (S.state store.old).limit pad_ids (pad_words (length (text (S.state store.old) (S.number s))) 1) (padded_of pad (text (S.state store.old) (S.number s)) max (32 ∷ []))) }
+    ensures did { Does S.number (S.state store.old) (S.state store.new) result (within (S.state store.old).limit pad_ids (λ _. pad_words (length (text (S.state store.old) (S.number s)) + 1)) (padded_of pad (text (S.state store.old) (S.number s)) max (32 ∷ []))) }
 {
     let r = padded_with_space(store, pad, s, max)?;
     Ok(Value::Text(r))
@@ -132,7 +131,7 @@ fn padded_with_space<S: Strings>(
     ensures value { IfOk result (λ r. Has (S.state store.new) (S.number r) (padded_of pad (text (S.state store.old) (S.number s)) max (32 ∷ []))) }
     ensures throws { ThrowsLong result (S.state store.old).limit (length (padded_of pad (text (S.state store.old) (S.number s)) max (32 ∷ []))) }
     ensures step { Step (S.state store.old) (S.state store.new) (method_fault_of result) pad_ids
-        (pad_words (length (text (S.state store.old) (S.number s))) 1 (made (S.state store.old).limit (length (padded_of pad (text (S.state store.old) (S.number s)) max (32 ∷ []))))) }
+        (pad_words (length (text (S.state store.old) (S.number s)) + 1)) }
     ensures slots { NeverSlots (method_fault_of result) }
     ensures history { (S.state store.new).history ≡ (S.state store.old).history }
 {
@@ -151,7 +150,7 @@ fn pad_with<S: Strings>(
     requires filler_known { IsKnown (S.state store.old) (S.number w) }
     ensures grows { Grows (S.state store.old) (S.state store.new) }
     ensures fine { IfOk result (λ v. IsFine (S.state store.new) S.number v) }
-    ensures did { Does S.number (S.state store.old) (S.state store.new) result (within (S.state store.old).limit pad_ids (pad_words (length (text (S.state store.old) (S.number s))) (length (text (S.state store.old) (S.number w)))) (padded_of pad (text (S.state store.old) (S.number s)) max (text (S.state store.old) (S.number w)))) }
+    ensures did { Does S.number (S.state store.old) (S.state store.new) result (within (S.state store.old).limit pad_ids (λ _. pad_words (length (text (S.state store.old) (S.number s)) + length (text (S.state store.old) (S.number w)))) (padded_of pad (text (S.state store.old) (S.number s)) max (text (S.state store.old) (S.number w)))) }
 {
     let r = padded_with(store, pad, s, max, w)?;
     Ok(Value::Text(r))
@@ -169,8 +168,7 @@ fn padded_with<S: Strings>(
     ensures value { IfOk result (λ r. Has (S.state store.new) (S.number r) (padded_of pad (text (S.state store.old) (S.number s)) max (text (S.state store.old) (S.number w)))) }
     ensures throws { ThrowsLong result (S.state store.old).limit (length (padded_of pad (text (S.state store.old) (S.number s)) max (text (S.state store.old) (S.number w)))) }
     ensures step { Step (S.state store.old) (S.state store.new) (method_fault_of result) methods.pad_ids
-        (methods.pad_words (length (text (S.state store.old) (S.number s))) (length (text (S.state store.old) (S.number w)))
-        (made (S.state store.old).limit (length (padded_of pad (text (S.state store.old) (S.number s)) max (text (S.state store.old) (S.number w)))))) }
+        (methods.pad_words (length (text (S.state store.old) (S.number w)))) }
     ensures slots { NeverSlots (method_fault_of result) }
     ensures history { (S.state store.new).history ≡ (S.state store.old).history }
 {

@@ -1,12 +1,11 @@
 -- Copies of a list, by halves, and what doubling uses.
-use Rattle.std.proofs.Common.{◌≡◌, ℕ, zero, suc, ◌+◌, ◌-◌, ◌*◌, ◌<◌, ◌≤◌, List, ◌++◌, length, arith, refl, ap, sym, ◌∙◌, length-append, append-nil, ◌⊎◌, inl, inr}
+use Rattle.std.proofs.Common.{◌≡◌, ℕ, zero, suc, ◌+◌, ◌*◌, ◌<◌, ◌≤◌, List, ◌++◌, length, arith, refl, ap, sym, ◌∙◌, length-append, append-nil, ◌⊎◌, inl, inr}
 use Rattle.std.specs.Prelude.{◌/◌, ◌%◌, ◌^◌, Option, Some, None, Result, Ok, Err, IfOk}
 use Rattle.std.specs.List.{repeat}
 use Rattle.std.proofs.lemmas.List.{append_assoc}
 use Rattle.std.proofs.Math.Nat.{suc-mul, two-pow-succ}
 use Rattle.js_store.specs.State.{State, Has, IsKnown, text, Grows}
 use Rattle.js_store.specs.Faults.{Step}
-use Rattle.js_store.specs.Rows.{wide_words}
 use Rattle.js_store.specs.declared.faults.StoreFault.{StoreFault}
 use Rattle.js_store.proofs.Laws.{step_within, step_after, has_text, text_still}
 
@@ -63,10 +62,7 @@ module _ {F : Type 0} (a : State F) (s h n : ℕ) (half : Has a h (repeat (n / 2
   pub even_value : (b : State F) (r : ℕ) → n % 2 ≡ 0 → Has b r (text a h ++ text a h) → Has b r (repeat n (text a s))
   even_value b r p k = k ∙ ap Some (ap (λ (v : List ℕ). v ++ v) half_text ∙ even_copies n (text a s) p)
 
-  pub even_use : (b : State F) (f : Option StoreFault) → Step a b f 1 (wide_words (length (text a h) + length (text a h)) + 3) → Step a b f 2 (length (repeat n (text a s)) - length (repeat (n / 2) (text a s)) + 8)
-  even_use b f t = step_within t (omega arith) (omega (arith, half_length, fits_twice))
-
-  module _ (b : State F) (e : ℕ) (known : IsKnown a s) (odd : n % 2 ≡ 1) (double : Has b e (text a h ++ text a h)) (first : Step a b None 1 (wide_words (length (text a h) + length (text a h)) + 3)) where
+  module _ (b : State F) (e : ℕ) (known : IsKnown a s) (odd : n % 2 ≡ 1) (double : Has b e (text a h ++ text a h)) (first : Step a b None 1 3) where
     kept : text b s ≡ text a s
     kept = text_still first.grows s known
 
@@ -86,9 +82,6 @@ module _ {F : Type 0} (a : State F) (s h n : ℕ) (half : Has a h (repeat (n / 2
     pub odd_value : (c : State F) (r : ℕ) → Has c r (text b e ++ text b s) → Has c r (repeat n (text a s))
     odd_value c r k = k ∙ ap Some both
 
-    pub odd_use : (c : State F) (f : Option StoreFault) → Step b c f 1 (wide_words (length (text b e) + length (text b s)) + 3) → Step a c f 2 (length (repeat n (text a s)) - length (repeat (n / 2) (text a s)) + 8)
-    odd_use c f t = step_after first t (omega arith) (omega (arith, lengths, half_length, odd_lengths n (text a s) odd))
-
 pub half_lengths : (n : ℕ) (u : List ℕ) → length (repeat (n / 2) u) ≤ length (repeat n u)
 half_lengths n u = elim (parity_by (n % 2) (omega arith)) [ inl p ↦ omega (arith, even_lengths n u p) | inr p ↦ omega (arith, odd_lengths n u p) ]
 
@@ -100,15 +93,15 @@ halves n (suc j) h l =
     (j, refl, omega (arith, e))
 
 -- what doubling uses where the half was refused, and where it was made
-pub half_use : {F : Type 0} {a b : State F} {f : Option StoreFault} (n : ℕ) (u : List ℕ) → 2 ≤ n → ((k : ℕ) → n / 2 < 2 ^ (k + 1) → Step a b f (2 * k) (length (repeat (n / 2) u) + 8 * k)) → (k : ℕ) → n < 2 ^ (k + 1) → Step a b f (2 * k) (length (repeat n u) + 8 * k)
-half_use n u h s k l = let j = halves n k h l in step_within (s j.0 j.2) (omega (arith, j.1)) (omega (arith, j.1, half_lengths n u))
+pub half_use : {F : Type 0} {a b : State F} {f : Option StoreFault} (n : ℕ) → 2 ≤ n → ((k : ℕ) → n / 2 < 2 ^ (k + 1) → Step a b f (2 * k) (6 * k)) → (k : ℕ) → n < 2 ^ (k + 1) → Step a b f (2 * k) (6 * k)
+half_use n h s k l = let j = halves n k h l in step_within (s j.0 j.2) (omega (arith, j.1)) (omega (arith, j.1))
 
-pub whole_use : {F : Type 0} {a b c : State F} {f : Option StoreFault} (n : ℕ) (u : List ℕ) → 2 ≤ n → ((k : ℕ) → n / 2 < 2 ^ (k + 1) → Step a b None (2 * k) (length (repeat (n / 2) u) + 8 * k)) → Step b c f 2 (length (repeat n u) - length (repeat (n / 2) u) + 8) → (k : ℕ) → n < 2 ^ (k + 1) → Step a c f (2 * k) (length (repeat n u) + 8 * k)
-whole_use n u h s t k l = let j = halves n k h l in step_after (s j.0 j.2) t (omega (arith, j.1)) (omega (arith, j.1, half_lengths n u))
+pub whole_use : {F : Type 0} {a b c : State F} {f : Option StoreFault} (n : ℕ) → 2 ≤ n → ((k : ℕ) → n / 2 < 2 ^ (k + 1) → Step a b None (2 * k) (6 * k)) → Step b c f 2 6 → (k : ℕ) → n < 2 ^ (k + 1) → Step a c f (2 * k) (6 * k)
+whole_use n h s t k l = let j = halves n k h l in step_after (s j.0 j.2) t (omega (arith, j.1)) (omega (arith, j.1))
 
 -- the string is the same behind the half
 module _ {F : Type 0} (a b : State F) (s n : ℕ) (known : IsKnown a s) (grows : Grows a b) where
-  pub same_text : text b s ≡ text a s
+  same_text : text b s ≡ text a s
   same_text = text_still grows s known
 
   pub half_value : (h : ℕ) → Has b h (repeat (n / 2) (text a s)) → Has b h (repeat (n / 2) (text b s))
@@ -119,6 +112,3 @@ module _ {F : Type 0} (a b : State F) (s n : ℕ) (known : IsKnown a s) (grows :
 
   pub whole_value : (c : State F) (r : ℕ) → Has c r (repeat n (text b s)) → Has c r (repeat n (text a s))
   whole_value c r k = k ∙ ap (λ (u : List ℕ). Some (repeat n u)) same_text
-
-pub whole_step : {F : Type 0} (b c : State F) (f : Option StoreFault) (n : ℕ) (v u : List ℕ) → v ≡ u → Step b c f 2 (length (repeat n v) - length (repeat (n / 2) v) + 8) → Step b c f 2 (length (repeat n u) - length (repeat (n / 2) u) + 8)
-whole_step b c f n v u e s = step_within s (omega arith) (omega (arith, ap (λ (w : List ℕ). length (repeat n w)) e, ap (λ (w : List ℕ). length (repeat (n / 2) w)) e))

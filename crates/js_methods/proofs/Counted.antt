@@ -2,7 +2,6 @@
 use Rattle.std.proofs.Common.{◌≡◌, ℕ, zero, suc, ◌+◌, ◌*◌, ◌<◌, ◌≤◌, List, [], ◌∷◌, length, arith, refl, ap, sym, ◌∙◌}
 use Rattle.std.specs.Prelude.{◌^◌, Bool, true, false, Option, Some, None}
 use Rattle.std.specs.List.{repeat}
-use Rattle.std.proofs.lemmas.Bool.Decides.{nat_tests}
 use Rattle.std.proofs.Math.Nat.{mul-le-mul_left}
 use Rattle.js_number.specs.declared.Num.{Num}
 use Rattle.js_store.specs.State.{State, Has, IsKnown, text}
@@ -10,7 +9,7 @@ use Rattle.js_store.specs.Faults.{Step}
 use Rattle.js_store.specs.declared.faults.StoreFault.{StoreFault}
 use Rattle.js_store.specs.declared.faults.Cause.TheVariants.{TooLong as Length}
 use Rattle.js_store.proofs.Laws.{step_after, has_still, known_has, text_still}
-use Rattle.js_methods.specs.Repeating.{is_count, copies, repeat_of, made, IsCountFault, repeat_ids, repeat_words}
+use Rattle.js_methods.specs.Repeating.{is_count, copies, repeat_of, IsCountFault, repeat_ids, repeat_words}
 use Rattle.js_methods.proofs.Copies.{length-copies}
 
 none_repeated : (n : ℕ) (u : List ℕ) → length u ≡ 0 → u ≡ repeat n u
@@ -22,9 +21,6 @@ none_repeated (suc n) (x ∷ xs) h = absurd (omega arith)
 by_count : (b : Bool) (m n limit : ℕ) → b ≡ true → m ≡ n → limit < n → IsCountFault b (Length m) limit n
 by_count true m n limit h e l = (l, ap Length e)
 by_count false m n limit h e l = absurd (cc)
-
-pub made_all : (limit n : ℕ) → n ≤ limit → made limit n ≡ n
-made_all limit n h = grind (arith, nat_tests)
 
 module _ {F : Type 0} (a b : State F) (s n : ℕ) (count : Num) (known : IsKnown a s) (first : Step a b None 0 0) (counts : (is_count count ≡ true) × (n ≡ copies count)) where
   whole_length : length (repeat_of (text a s) count) ≡ n * length (text a s)
@@ -42,9 +38,7 @@ module _ {F : Type 0} (a b : State F) (s n : ℕ) (count : Num) (known : IsKnown
   pub itself : length (text a s) ≡ 0 → Has b s (repeat_of (text a s) count)
   itself h = has_still first.grows s (text a s) (known_has a s known) ∙ ap Some (none_repeated (copies count) (text a s) h)
 
-  pub copies_use : (c : State F) (f : Option StoreFault) (m : ℕ) → m ≡ length (text a s) * n → m ≤ b.limit → b.limit ≤ 536870888 → 1 ≤ length (text a s) → ((k : ℕ) → n < 2 ^ (k + 1) → Step b c f (2 * k) (length (repeat n (text b s)) + 8 * k)) → Step a c f repeat_ids (repeat_words (length (text a s)) (made a.limit (length (repeat_of (text a s) count))))
+  pub copies_use : (c : State F) (f : Option StoreFault) (m : ℕ) → m ≡ length (text a s) * n → m ≤ b.limit → b.limit ≤ 536870888 → 1 ≤ length (text a s) → ((k : ℕ) → n < 2 ^ (k + 1) → Step b c f (2 * k) (6 * k)) → Step a c f repeat_ids repeat_words
   copies_use c f m e l h some t =
       let few : n * 1 ≤ n * length (text a s) = mul-le-mul_left n some in
-      let all = made_all a.limit (length (repeat_of (text a s) count)) (short_enough m e l).1 in
-      let long : length (repeat n (text b s)) ≡ length (repeat_of (text a s) count) = omega (arith, whole_length, length-copies n (text b s), ap (λ (u : List ℕ). n * length u) (text_still first.grows s known)) in
-      step_after first (t 28 (omega (arith, few, e, l, h))) (omega arith) (omega (arith, all, long))
+      step_after first (t 28 (omega (arith, few, e, l, h))) (omega arith) (omega arith)

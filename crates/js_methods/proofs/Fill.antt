@@ -4,7 +4,7 @@ use Rattle.std.specs.Prelude.{◌/◌, ◌%◌, ◌^◌, Option, Some, None}
 use Rattle.std.specs.List.{repeat}
 use Rattle.std.proofs.lemmas.List.{take-append-le, length-take-le}
 use Rattle.std.proofs.Math.Seq.{take-append-add}
-use Rattle.std.proofs.Math.Nat.{div-add-mod, div-le_self, mul-le-mul_left, mod-le, mod-lt}
+use Rattle.std.proofs.Math.Nat.{div-add-mod, div-le_self, mul-le-mul_left, mod-lt}
 use Rattle.js_store.specs.State.{State, Has, IsKnown, text}
 use Rattle.js_store.specs.Faults.{Step}
 use Rattle.js_store.specs.Rows.{wide_words}
@@ -57,14 +57,14 @@ module _ {F : Type 0} (a b : State F) (s n size : ℕ) (known : IsKnown a s) (is
       let none : repeat (n / size) (text a s) ++ take (n % size) (text a s) ≡ repeat (n / size) (text a s) = ap (λ i. repeat (n / size) (text a s) ++ take i (text a s)) z ∙ append-nil (repeat (n / size) (text a s)) in
       k ∙ ap Some (ap (λ (v : List ℕ). repeat (n / size) v) kept ∙ sym (fill ∙ none))
 
-  pub repeats_use : (c : State F) (t : Option StoreFault) → n < 4294967296 → ((k : ℕ) → n / size < 2 ^ (k + 1) → Step b c t (2 * k) (length (repeat (n / size) (text b s)) + 8 * k)) → Step a c t 62 (n + 248)
-  repeats_use c t h step = step_after first (step 31 (omega (arith, h, div-le_self n size))) (omega arith) (omega (arith, repeats_length))
+  pub repeats_use : (c : State F) (t : Option StoreFault) → n < 4294967296 → ((k : ℕ) → n / size < 2 ^ (k + 1) → Step b c t (2 * k) (6 * k)) → Step a c t 62 186
+  repeats_use c t h step = step_after first (step 31 (omega (arith, h, div-le_self n size))) (omega arith) (omega arith)
 
-  pub repeats_within : (c : State F) (t : Option StoreFault) → Step a c t 62 (n + 248) → Step a c t 64 (n + 2 * wide_words n + wide_words (length (text a s)) + 256)
+  pub repeats_within : (c : State F) (t : Option StoreFault) → Step a c t 62 186 → Step a c t 64 (2 * wide_words (length (text a s)) + 256)
   repeats_within c t step = step_within step (omega arith) (omega arith)
 
   -- the front of the filler behind the copies
-  module _ (c : State F) (r : ℕ) (copies : Has c r (repeat (n / size) (text b s))) (second : Step a c None 62 (n + 248)) where
+  module _ (c : State F) (r : ℕ) (copies : Has c r (repeat (n / size) (text b s))) (second : Step a c None 62 186) where
     pub front_known : IsKnown c s
     front_known = known_still second.grows s known
 
@@ -74,16 +74,13 @@ module _ {F : Type 0} (a b : State F) (s n size : ℕ) (known : IsKnown a s) (is
     pub front_within : n % size ≤ length (text c s)
     front_within = omega (arith, remainder, is, ap (λ (v : List ℕ). length v) again)
 
-    front_short : n % size ≤ n
-    front_short = mod-le n size
+    pub front_use : (d : State F) (t : Option StoreFault) → Step c d t 1 (2 * wide_words (length (text c s)) + 3) → Step a d t 63 (2 * wide_words (length (text a s)) + 189)
+    front_use d t step = step_after second step (omega arith) (omega (arith, ap (λ (v : List ℕ). length v) again))
 
-    pub front_use : (d : State F) (t : Option StoreFault) → Step c d t 1 (wide_words (length (text c s)) + wide_words (n % size) + 3) → Step a d t 63 (n + wide_words (length (text a s)) + wide_words n + 251)
-    front_use d t step = step_after second step (omega arith) (omega (arith, ap (λ (v : List ℕ). length v) again, front_short))
-
-    pub front_within_use : (d : State F) (t : Option StoreFault) → Step a d t 63 (n + wide_words (length (text a s)) + wide_words n + 251) → Step a d t 64 (n + 2 * wide_words n + wide_words (length (text a s)) + 256)
+    pub front_within_use : (d : State F) (t : Option StoreFault) → Step a d t 63 (2 * wide_words (length (text a s)) + 189) → Step a d t 64 (2 * wide_words (length (text a s)) + 256)
     front_within_use d t step = step_within step (omega arith) (omega arith)
 
-    module _ (d : State F) (p : ℕ) (front : Has d p (take (n % size) (text c s))) (third : Step c d None 1 (wide_words (length (text c s)) + wide_words (n % size) + 3)) where
+    module _ (d : State F) (p : ℕ) (front : Has d p (take (n % size) (text c s))) (third : Step c d None 1 (2 * wide_words (length (text c s)) + 3)) where
       both : text d r ++ text d p ≡ filling (text a s) n
       both =
           ap (λ (v : List ℕ). v ++ text d p) (has_text d r (repeat (n / size) (text b s)) (has_still third.grows r (repeat (n / size) (text b s)) copies)) ∙
@@ -100,5 +97,5 @@ module _ {F : Type 0} (a b : State F) (s n size : ℕ) (known : IsKnown a s) (is
       pub last_value : (e : State F) (x : ℕ) → Has e x (text d r ++ text d p) → Has e x (filling (text a s) n)
       last_value e x k = k ∙ ap Some both
 
-      pub last_use : (e : State F) (t : Option StoreFault) → Step d e t 1 (wide_words (length (text d r) + length (text d p)) + 3) → Step a e t 64 (n + 2 * wide_words n + wide_words (length (text a s)) + 256)
-      last_use e t step = step_after (front_use d None third) step (omega arith) (omega (arith, whole))
+      pub last_use : (e : State F) (t : Option StoreFault) → Step d e t 1 3 → Step a e t 64 (2 * wide_words (length (text a s)) + 256)
+      last_use e t step = step_after (front_use d None third) step (omega arith) (omega arith)

@@ -1,5 +1,5 @@
 -- A pad from its filling: its length, what it gives and what it uses.
-use Rattle.std.proofs.Common.{◌≡◌, ℕ, ◌+◌, ◌-◌, ◌*◌, ◌≤◌, List, [], ◌∷◌, ◌++◌, length, arith, refl, ap, ◌∙◌, length-append}
+use Rattle.std.proofs.Common.{◌≡◌, ℕ, ◌+◌, ◌-◌, ◌*◌, ◌≤◌, List, [], ◌∷◌, ◌++◌, length, arith, refl, ap, ◌∙◌}
 use Rattle.std.specs.Prelude.{Option, Some, None}
 use Rattle.std.specs.List.{repeat}
 use Rattle.std.proofs.lemmas.List.{length-take}
@@ -8,10 +8,8 @@ use Rattle.js_store.specs.Faults.{Step}
 use Rattle.js_store.specs.Rows.{wide_words}
 use Rattle.js_store.specs.declared.faults.StoreFault.{StoreFault}
 use Rattle.js_store.proofs.Laws.{step_after, has_text, text_still, known_still}
-use Rattle.js_methods.specs.Repeating.{made}
 use Rattle.js_methods.specs.Padding.{filling, pad_start_of, pad_end_of, pad_ids, pad_words}
 use Rattle.js_methods.proofs.Copies.{length-copies}
-use Rattle.js_methods.proofs.Counted.{made_all}
 use Rattle.js_methods.proofs.Fill.{length-filling}
 
 -- an empty filler fills nothing
@@ -41,15 +39,12 @@ module _ {F : Type 0} (a b : State F) (s t most room : ℕ) (known : IsKnown a s
   same_filling : filling (text b t) room ≡ filling (text a t) (most - length (text a s))
   same_filling = ap (λ (v : List ℕ). filling v room) kept ∙ ap (filling (text a t)) (is ∙ length-filling (most - length (text a s)) (text a t) has_units)
 
-  module _ (d : State F) (x : ℕ) (fill : Has d x (filling (text b t) room)) (second : Step b d None 64 (room + 2 * wide_words room + wide_words (length (text b t)) + 256)) where
+  module _ (d : State F) (x : ℕ) (fill : Has d x (filling (text b t) room)) (second : Step b d None 64 (2 * wide_words (length (text b t)) + 256)) where
     filled : text d x ≡ filling (text a t) (most - length (text a s))
     filled = has_text d x (filling (text b t) room) fill ∙ same_filling
 
     same : text d s ≡ text a s
     same = text_still second.grows s (known_still first.grows s known) ∙ text_still first.grows s known
-
-    lengths : length (text d x) + length (text d s) ≡ room + length (text a s)
-    lengths = omega (arith, is, ap (λ (v : List ℕ). length v) filled, ap (λ (v : List ℕ). length v) same)
 
     pub start_value : (e : State F) (r : ℕ) → Has e r (text d x ++ text d s) → Has e r (pad_start_of (text a s) most (text a t))
     start_value e r k = k ∙ ap Some (ap (λ (v : List ℕ). v ++ text d s) filled ∙ ap (λ (v : List ℕ). filling (text a t) (most - length (text a s)) ++ v) same)
@@ -57,18 +52,7 @@ module _ {F : Type 0} (a b : State F) (s t most room : ℕ) (known : IsKnown a s
     pub end_value : (e : State F) (r : ℕ) → Has e r (text d s ++ text d x) → Has e r (pad_end_of (text a s) most (text a t))
     end_value e r k = k ∙ ap Some (ap (λ (v : List ℕ). text d s ++ v) filled ∙ ap (λ (v : List ℕ). v ++ filling (text a t) (most - length (text a s))) same)
 
-    use_within : (e : State F) (f : Option StoreFault) (m n : ℕ) → n ≡ room + length (text a s) → m ≡ n → m ≤ a.limit → Step d e f 1 (wide_words n + 3) → Step a e f pad_ids (pad_words (length (text a s)) (length (text a t)) (made a.limit m))
-    use_within e f m n k l h step =
-        let all = made_all a.limit m h in
-        let front : Step a d None 64 (room + 2 * wide_words room + wide_words (length (text a t)) + 256) = step_after first second (omega arith) (omega (arith, ap (λ (v : List ℕ). length v) kept)) in
-        step_after front step (omega arith) (omega (arith, all, k, l))
-
-    pub start_use : (e : State F) (f : Option StoreFault) → length (text a s) + length (filling (text a t) (most - length (text a s))) ≤ a.limit → Step d e f 1 (wide_words (length (text d x) + length (text d s)) + 3) → Step a e f pad_ids (pad_words (length (text a s)) (length (text a t)) (made a.limit (length (pad_start_of (text a s) most (text a t)))))
-    start_use e f h step =
-        let long = length-append (filling (text a t) (most - length (text a s))) (text a s) in
-        use_within e f (length (pad_start_of (text a s) most (text a t))) (length (text d x) + length (text d s)) lengths (omega (arith, long, is, lengths)) (omega (arith, long, h)) step
-
-    pub end_use : (e : State F) (f : Option StoreFault) → length (text a s) + length (filling (text a t) (most - length (text a s))) ≤ a.limit → Step d e f 1 (wide_words (length (text d s) + length (text d x)) + 3) → Step a e f pad_ids (pad_words (length (text a s)) (length (text a t)) (made a.limit (length (pad_end_of (text a s) most (text a t)))))
-    end_use e f h step =
-        let long = length-append (text a s) (filling (text a t) (most - length (text a s))) in
-        use_within e f (length (pad_end_of (text a s) most (text a t))) (length (text d s) + length (text d x)) (omega (arith, lengths)) (omega (arith, long, is, lengths)) (omega (arith, long, h)) step
+    pub pad_use : (e : State F) (f : Option StoreFault) → Step d e f 1 3 → Step a e f pad_ids (pad_words (length (text a t)))
+    pad_use e f step =
+        let front : Step a d None 64 (2 * wide_words (length (text a t)) + 256) = step_after first second (omega arith) (omega (arith, ap (λ (v : List ℕ). length v) kept)) in
+        step_after front step (omega arith) (omega arith)

@@ -13,9 +13,9 @@ pad_start_of u most filler = filling filler (most - length u) ++ u
 abbrev pub pad_end_of : List ℕ → ℕ → List ℕ → List ℕ
 pad_end_of u most filler = u ++ filling filler (most - length u)
 
--- what a pad uses at most, of a string of n units and a filler of m, where its result has r
+-- what a pad uses at most, where its filler has m units: it settles the filler alone
 abbrev pub pad_ids : ℕ
 pad_ids = 120
 
-abbrev pub pad_words : ℕ → ℕ → ℕ → ℕ
-pad_words n m r = 2 * (n + m + r) + 1000
+abbrev pub pad_words : ℕ → ℕ
+pad_words m = 2 * m + 1000

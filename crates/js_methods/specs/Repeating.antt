@@ -1,5 +1,5 @@
 -- What `repeat` gives, and what it uses of a store.
-use Rattle.std.specs.Prelude.{◌≡◌, ℕ, ◌+◌, ◌*◌, ◌<◌, ◌≤◌, Bool, true, false, nat_le, if◌then◌else◌, List, pos, negsuc, Result, Ok, Err}
+use Rattle.std.specs.Prelude.{◌≡◌, ℕ, ◌<◌, ◌≤◌, Bool, true, false, List, pos, negsuc, Result, Ok, Err}
 use Rattle.std.specs.List.{repeat}
 use Rattle.js_number.specs.declared.Num.{Num}
 use Rattle.js_number.specs.declared.Num.TheVariants.{Int, NaN, PosInf, NegInf}
@@ -38,13 +38,9 @@ abbrev pub ThrowsCount : {R : Type 0} → Result R MethodFault → Bool → ℕ 
 ThrowsCount (Ok r) counts limit n = (counts ≡ true) × (n ≤ limit)
 ThrowsCount (Err f) counts limit n = IsRepeatFault f counts limit n
 
--- the units of a result of n units, of which there are none where it is too long
-abbrev pub made : ℕ → ℕ → ℕ
-made limit n = if nat_le n limit then n else 0
-
--- what `repeat` uses at most, of a string of n units, where its result has r
+-- what `repeat` uses at most, whatever its string and its count are: it settles nothing
 abbrev pub repeat_ids : ℕ
 repeat_ids = 96
 
-abbrev pub repeat_words : ℕ → ℕ → ℕ
-repeat_words n r = 2 * (n + r) + 512
+abbrev pub repeat_words : ℕ
+repeat_words = 512

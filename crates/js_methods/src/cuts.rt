@@ -127,8 +127,7 @@ pub(crate) fn joined<S: Strings>(store: &mut S, a: S::Ref, b: S::Ref) -> Result<
     requires right { IsKnown (S.state store.old) (S.number b) }
     requires short { length (text (S.state store.old) (S.number a)) + length (text (S.state store.old) (S.number b)) ≤ (S.state store.old).limit }
     ensures value { IfOk result (λ r. Has (S.state store.new) (S.number r) (text (S.state store.old) (S.number a) ++ text (S.state store.old) (S.number b))) }
-    ensures step { Step (S.state store.old) (S.state store.new) (fault_of result)
-        1 (wide_words (length (text (S.state store.old) (S.number a)) + length (text (S.state store.old) (S.number b))) + 3) }
+    ensures step { Step (S.state store.old) (S.state store.new) (fault_of result) 1 3 }
     ensures slots { NeverSlots (fault_of result) }
     ensures history { (S.state store.new).history ≡ (S.state store.old).history }
 {

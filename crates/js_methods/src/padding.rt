@@ -4,7 +4,6 @@ ghost use Rattle.js_store.specs.State.{Has, IsKnown, text};
 ghost use Rattle.js_store.specs.Rows.{wide_words};
 ghost use Rattle.js_store.specs.Faults.{Step, fault_of, method_fault_of, NeverSlots};
 ghost use Rattle.js_store.specs.Answers.{ThrowsLong};
-ghost use Rattle.js_methods.specs.Repeating.{made};
 ghost use Rattle.js_methods.specs.Padding.{filling, pad_start_of, pad_end_of, pad_ids, pad_words};
 
 use crate::cuts::joined;
@@ -25,8 +24,7 @@ pub fn pad_end<S: Strings>(
     ensures value { IfOk result (λ r. Has (S.state store.new) (S.number r) (pad_end_of (text (S.state store.old) (S.number s)) max (text (S.state store.old) (S.number filler)))) }
     ensures throws { ThrowsLong result (S.state store.old).limit (length (pad_end_of (text (S.state store.old) (S.number s)) max (text (S.state store.old) (S.number filler)))) }
     ensures step { Step (S.state store.old) (S.state store.new) (method_fault_of result)
-        pad_ids (pad_words (length (text (S.state store.old) (S.number s))) (length (text (S.state store.old) (S.number filler)))
-        (made (S.state store.old).limit (length (pad_end_of (text (S.state store.old) (S.number s)) max (text (S.state store.old) (S.number filler)))))) }
+        pad_ids (pad_words (length (text (S.state store.old) (S.number filler)))) }
     ensures slots { NeverSlots (method_fault_of result) }
     ensures history { (S.state store.new).history ≡ (S.state store.old).history }
 {
@@ -52,8 +50,7 @@ pub fn pad_start<S: Strings>(
     ensures value { IfOk result (λ r. Has (S.state store.new) (S.number r) (pad_start_of (text (S.state store.old) (S.number s)) max (text (S.state store.old) (S.number filler)))) }
     ensures throws { ThrowsLong result (S.state store.old).limit (length (pad_start_of (text (S.state store.old) (S.number s)) max (text (S.state store.old) (S.number filler)))) }
     ensures step { Step (S.state store.old) (S.state store.new) (method_fault_of result)
-        pad_ids (pad_words (length (text (S.state store.old) (S.number s))) (length (text (S.state store.old) (S.number filler)))
-        (made (S.state store.old).limit (length (pad_start_of (text (S.state store.old) (S.number s)) max (text (S.state store.old) (S.number filler)))))) }
+        pad_ids (pad_words (length (text (S.state store.old) (S.number filler)))) }
     ensures slots { NeverSlots (method_fault_of result) }
     ensures history { (S.state store.new).history ≡ (S.state store.old).history }
 {
@@ -106,7 +103,7 @@ fn filled<S: Strings>(store: &mut S, filler: S::Ref, room: u32) -> Result<S::Ref
     requires short { room ≤ (S.state store.old).limit }
     ensures value { IfOk result (λ r. Has (S.state store.new) (S.number r) (filling (text (S.state store.old) (S.number filler)) room)) }
     ensures step { Step (S.state store.old) (S.state store.new) (fault_of result)
-        64 (room + 2 * wide_words room + wide_words (length (text (S.state store.old) (S.number filler))) + 256) }
+        64 (2 * wide_words (length (text (S.state store.old) (S.number filler))) + 256) }
     ensures slots { NeverSlots (fault_of result) }
     ensures history { (S.state store.new).history ≡ (S.state store.old).history }
 {
@@ -130,7 +127,7 @@ fn front<S: Strings>(store: &mut S, s: S::Ref, size: u32) -> Result<S::Ref, Stor
     requires within { size ≤ length (text (S.state store.old) (S.number s)) }
     ensures value { IfOk result (λ r. Has (S.state store.new) (S.number r) (take size (text (S.state store.old) (S.number s)))) }
     ensures step { Step (S.state store.old) (S.state store.new) (fault_of result)
-        1 (wide_words (length (text (S.state store.old) (S.number s))) + wide_words size + 3) }
+        1 (2 * wide_words (length (text (S.state store.old) (S.number s))) + 3) }
     ensures slots { NeverSlots (fault_of result) }
     ensures history { (S.state store.new).history ≡ (S.state store.old).history }
 {

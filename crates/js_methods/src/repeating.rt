@@ -3,7 +3,7 @@ ghost use Rattle.std.specs.Prelude.{◌≡◌, ℕ, ◌+◌, ◌-◌, ◌*◌, �
 ghost use Rattle.std.specs.List.{repeat as repeated};
 ghost use Rattle.js_store.specs.State.{Has, IsKnown, text};
 ghost use Rattle.js_store.specs.Faults.{Step, fault_of, method_fault_of, NeverSlots};
-ghost use Rattle.js_methods.specs.Repeating.{is_count, copies, repeat_of, made, ThrowsCount, repeat_ids, repeat_words};
+ghost use Rattle.js_methods.specs.Repeating.{is_count, copies, repeat_of, ThrowsCount, repeat_ids, repeat_words};
 
 use crate::cuts::joined;
 use js_number::Num;
@@ -16,8 +16,7 @@ pub fn repeat<S: Strings>(store: &mut S, s: S::Ref, count: Num) -> Result<S::Ref
     ensures value { IfOk result (λ r. Has (S.state store.new) (S.number r) (repeat_of (text (S.state store.old) (S.number s)) count)) }
     ensures throws { ThrowsCount result (is_count count) (S.state store.old).limit (length (repeat_of (text (S.state store.old) (S.number s)) count)) }
     ensures step { Step (S.state store.old) (S.state store.new) (method_fault_of result)
-        repeat_ids (repeat_words (length (text (S.state store.old) (S.number s)))
-        (made (S.state store.old).limit (length (repeat_of (text (S.state store.old) (S.number s)) count)))) }
+        repeat_ids repeat_words }
     ensures slots { NeverSlots (method_fault_of result) }
     ensures history { (S.state store.new).history ≡ (S.state store.old).history }
 {
@@ -60,7 +59,7 @@ pub(crate) fn doubled<S: Strings>(
     requires short { length (repeated count (text (S.state store.old) (S.number s))) ≤ (S.state store.old).limit }
     ensures value { IfOk result (λ r. Has (S.state store.new) (S.number r) (repeated count (text (S.state store.old) (S.number s)))) }
     ensures step { (k : ℕ) → count < 2 ^ (k + 1) → Step (S.state store.old) (S.state store.new) (fault_of result)
-        (2 * k) (length (repeated count (text (S.state store.old) (S.number s))) + 8 * k) }
+        (2 * k) (6 * k) }
     ensures slots { NeverSlots (fault_of result) }
     ensures history { (S.state store.new).history ≡ (S.state store.old).history }
 {
@@ -82,8 +81,7 @@ fn twice<S: Strings>(
     requires half { Has (S.state store.old) (S.number half) (repeated (count / 2) (text (S.state store.old) (S.number s))) }
     requires short { length (repeated count (text (S.state store.old) (S.number s))) ≤ (S.state store.old).limit }
     ensures value { IfOk result (λ r. Has (S.state store.new) (S.number r) (repeated count (text (S.state store.old) (S.number s)))) }
-    ensures step { Step (S.state store.old) (S.state store.new) (fault_of result)
-        2 (length (repeated count (text (S.state store.old) (S.number s))) - length (repeated (count / 2) (text (S.state store.old) (S.number s))) + 8) }
+    ensures step { Step (S.state store.old) (S.state store.new) (fault_of result) 2 6 }
     ensures slots { NeverSlots (fault_of result) }
     ensures history { (S.state store.new).history ≡ (S.state store.old).history }
 {

@@ -117,8 +117,11 @@ flat_words_most u = words_most (is_wide u) (length u)
 pub join_ids_most : (m n : ℕ) → join_ids m n ≤ 1
 join_ids_most m n = by_bool (is_part_empty m n) 0 1 1 (omega arith) (omega arith)
 
-pub join_words_most : (m n : ℕ) → join_words m n ≤ wide_words (m + n) + 3
-join_words_most m n = by_bool (is_part_empty m n) 0 (copy_words (m + n)) (wide_words (m + n) + 3) (omega arith) (copy_most (m + n))
+short_most : (n : ℕ) → (if nat_lt n 13 then 3 else 0) ≤ 3
+short_most n = by_bool (nat_lt n 13) 3 0 3 (omega arith) (omega arith)
+
+pub join_words_most : (m n : ℕ) → join_words m n ≤ 3
+join_words_most m n = by_bool (is_part_empty m n) 0 (if nat_lt (m + n) 13 then 3 else 0) 3 (omega arith) (short_most (m + n))
 
 pub cut_ids_most : (from to n : ℕ) → cut_ids from to n ≤ 1
 cut_ids_most from to n = by_bool (is_whole from to n) 0 1 1 (omega arith) (omega arith)
@@ -133,7 +136,7 @@ settle_words_most b n = by_bool b 0 (wide_words n) (wide_words n) (omega arith) 
 pub made_within : {F : Type 0} {a b : State F} {f : Option StoreFault} (u : List ℕ) → Step a b f 1 (flat_words u) → Step a b f 1 (wide_words (length u))
 made_within u s = step_within s (omega arith) (flat_words_most u)
 
-pub joined_within : {F : Type 0} {a b : State F} {f : Option StoreFault} (m n : ℕ) → Step a b f (join_ids m n) (join_words m n) → Step a b f 1 (wide_words (m + n) + 3)
+pub joined_within : {F : Type 0} {a b : State F} {f : Option StoreFault} (m n : ℕ) → Step a b f (join_ids m n) (join_words m n) → Step a b f 1 3
 joined_within m n s = step_within s (join_ids_most m n) (join_words_most m n)
 
 pub cut_within : {F : Type 0} {a b : State F} {f : Option StoreFault} (from to n : ℕ) → Step a b f (cut_ids from to n) (cut_words from to n) → Step a b f 1 (wide_words (to - from) + 3)

@@ -20,7 +20,8 @@ flat_words u = words_over (is_wide u) (length u)
 abbrev pub copy_words : ℕ → ℕ
 copy_words n = if nat_lt n 13 then 3 else wide_words n
 
--- a concatenation of m and n units: nothing where a side is empty, else a copy
+-- a concatenation of m and n units: nothing where a side is empty, else one id, with a copy where the result is under 13 units
+-- and no content word where it isn't
 abbrev pub is_part_empty : ℕ → ℕ → Bool
 is_part_empty m n = if nat_eq m 0 then true else nat_eq n 0
 
@@ -28,7 +29,7 @@ abbrev pub join_ids : ℕ → ℕ → ℕ
 join_ids m n = if is_part_empty m n then 0 else 1
 
 abbrev pub join_words : ℕ → ℕ → ℕ
-join_words m n = if is_part_empty m n then 0 else copy_words (m + n)
+join_words m n = if is_part_empty m n then 0 else if nat_lt (m + n) 13 then 3 else 0
 
 -- the part of n units between two places: nothing where it is the whole, else a copy
 abbrev pub is_whole : ℕ → ℕ → ℕ → Bool

@@ -6,7 +6,7 @@ use Rattle.js_store.proofs.Laws.{text_still, grows_trans}
 use Rattle.js_values.specs.declared.value.Value.{Value}
 use Rattle.js_values.specs.declared.value.Stop.{Stop}
 use Rattle.js_values.specs.Outcome.{Val, converting}
-use Rattle.js_values.specs.Need.{reads}
+use Rattle.js_values.specs.Need.{joins}
 use Rattle.js_values.specs.Conversions.{to_string, text_units}
 use Rattle.js_values.specs.Operators.{joined, joined_strings}
 use Rattle.js_texts.proofs.Lists.{every_at, drop_at, settle_still}
@@ -37,27 +37,22 @@ module _ {F R : Type 0} (name : R → ℕ) where
       omega (arith, settle_push c rs r, settle_still name b c rs g h, k', m')
 
   -- both sides as strings, and then their concatenation
-  pub texts_join : (a b c d : State F) (v w : Value R) (s t : R) (r : Result (Value R) Stop) → Grows a b → Grows b c → IsFine a name w → IsKnown b (name s) → length (text b (name s)) ≤ text_units (seen a name v) + 40 → length (text c (name t)) ≤ text_units (seen b name w) + 40 → GivesText name a b (Ok s) (to_string a.limit (seen a name v)) → GivesText name b c (Ok t) (to_string b.limit (seen b name w)) → ((u : ℕ) → length (text c (name s)) + length (text c (name t)) ≤ u + 80 → Does name c d r (joined c.limit u (text c (name s)) (text c (name t)))) → Does name a d r (joined_strings a.limit (seen a name v) (seen a name w))
-  texts_join a b c d v w s t r g h f k p q x y z =
-      let same : seen b name w ≡ seen a name w = seen_still a b name g w f in
+  pub texts_join : (a b c d : State F) (v w : Value R) (s t : R) (r : Result (Value R) Stop) → Grows a b → Grows b c → IsFine a name w → IsKnown b (name s) → GivesText name a b (Ok s) (to_string a.limit (seen a name v)) → GivesText name b c (Ok t) (to_string b.limit (seen b name w)) → Does name c d r (joined c.limit (text c (name s)) (text c (name t))) → Does name a d r (joined_strings a.limit (seen a name v) (seen a name w))
+  texts_join a b c d v w s t r g h f k x y z =
       let still : text c (name s) ≡ text b (name s) = text_still h (name s) k in
-      let q' : length (text c (name t)) ≤ text_units (seen a name w) + 40 = subst (λ (o : Val). length (text c (name t)) ≤ text_units o + 40) same q in
-      let p' : length (text c (name s)) ≤ text_units (seen a name v) + 40 = rw still p in
       let y' : GivesText name b c (Ok t) (to_string a.limit (seen a name w)) = text_meant a b c w (Ok t) g f y in
-      let u : ℕ = text_units (seen a name v) + text_units (seen a name w) in
-      let z' : Does name c d r (joined a.limit u (text b (name s)) (text c (name t))) = subst (λ (o : ℕ × List ℕ). Does name c d r (joined o.0 u o.1 (text c (name t)))) (cc ((grows_trans g h).limit, still)) (z u (omega (arith, p', q'))) in
-      did_convert (reads (text_units (seen a name v) + text_units (seen a name w))) a b d (λ o e. text o (name e)) (λ o e. IsKnown o (name e)) (λ o e. seen o name e) (λ o e. IsFine o name e) s r (to_string a.limit (seen a name v)) (λ l. converting (reads (text_units (seen a name v) + text_units (seen a name w))) (to_string a.limit (seen a name w)) (λ m. joined a.limit u l m)) x
-      (did_convert (reads (text_units (seen a name v) + text_units (seen a name w))) b c d (λ o e. text o (name e)) (λ o e. IsKnown o (name e)) (λ o e. seen o name e) (λ o e. IsFine o name e) t r (to_string a.limit (seen a name w)) (λ m. joined a.limit u (text b (name s)) m) y' z')
+      let z' : Does name c d r (joined a.limit (text b (name s)) (text c (name t))) = subst (λ (o : ℕ × List ℕ). Does name c d r (joined o.0 o.1 (text c (name t)))) (cc ((grows_trans g h).limit, still)) z in
+      did_convert joins a b d (λ o e. text o (name e)) (λ o e. IsKnown o (name e)) (λ o e. seen o name e) (λ o e. IsFine o name e) s r (to_string a.limit (seen a name v)) (λ l. converting joins (to_string a.limit (seen a name w)) (λ m. joined a.limit l m)) x
+      (did_convert joins b c d (λ o e. text o (name e)) (λ o e. IsKnown o (name e)) (λ o e. seen o name e) (λ o e. IsFine o name e) t r (to_string a.limit (seen a name w)) (λ m. joined a.limit (text b (name s)) m) y' z')
 
   pub first_stops : (a b : State F) (v w : Value R) (n : Stop) → GivesText name a b (Err n) (to_string a.limit (seen a name v)) → Does name a b (Err n) (joined_strings a.limit (seen a name v) (seen a name w))
-  first_stops a b v w n x = did_fail (reads (text_units (seen a name v) + text_units (seen a name w))) a b (λ o e. text o (name e)) (λ o e. IsKnown o (name e)) (λ o e. seen o name e) (λ o e. IsFine o name e) n (to_string a.limit (seen a name v)) (λ l. converting (reads (text_units (seen a name v) + text_units (seen a name w))) (to_string a.limit (seen a name w)) (λ m. joined a.limit (text_units (seen a name v) + text_units (seen a name w)) l m)) x
+  first_stops a b v w n x = did_fail joins a b (λ o e. text o (name e)) (λ o e. IsKnown o (name e)) (λ o e. seen o name e) (λ o e. IsFine o name e) n (to_string a.limit (seen a name v)) (λ l. converting joins (to_string a.limit (seen a name w)) (λ m. joined a.limit l m)) x
 
   pub second_stops : (a b c : State F) (v w : Value R) (s : R) (n : Stop) → Grows a b → IsFine a name w → GivesText name a b (Ok s) (to_string a.limit (seen a name v)) → GivesText name b c (Err n) (to_string b.limit (seen b name w)) → Does name a c (Err n) (joined_strings a.limit (seen a name v) (seen a name w))
   second_stops a b c v w s n g f x y =
-      let u : ℕ = text_units (seen a name v) + text_units (seen a name w) in
       let y' : GivesText name b c (Err n) (to_string a.limit (seen a name w)) = text_meant a b c w (Err n) g f y in
-      did_convert (reads (text_units (seen a name v) + text_units (seen a name w))) a b c (λ o e. text o (name e)) (λ o e. IsKnown o (name e)) (λ o e. seen o name e) (λ o e. IsFine o name e) s (Err n) (to_string a.limit (seen a name v)) (λ l. converting (reads (text_units (seen a name v) + text_units (seen a name w))) (to_string a.limit (seen a name w)) (λ m. joined a.limit u l m)) x
-      (did_fail (reads (text_units (seen a name v) + text_units (seen a name w))) b c (λ o e. text o (name e)) (λ o e. IsKnown o (name e)) (λ o e. seen o name e) (λ o e. IsFine o name e) n (to_string a.limit (seen a name w)) (λ m. joined a.limit u (text b (name s)) m) y')
+      did_convert joins a b c (λ o e. text o (name e)) (λ o e. IsKnown o (name e)) (λ o e. seen o name e) (λ o e. IsFine o name e) s (Err n) (to_string a.limit (seen a name v)) (λ l. converting joins (to_string a.limit (seen a name w)) (λ m. joined a.limit l m)) x
+      (did_fail joins b c (λ o e. text o (name e)) (λ o e. IsKnown o (name e)) (λ o e. seen o name e) (λ o e. IsFine o name e) n (to_string a.limit (seen a name w)) (λ m. joined a.limit (text b (name s)) m) y')
 
   -- what is meant of a value, in the state in which a list of values was begun
   pub text_as_first : (a b c : State F) (vs : List (Value R)) (i : ℕ) (v : Value R) (r : Result R Stop) → Grows a b → AllFine a name vs → i < length vs → v ≡ get_or vs i v → GivesText name b c r (to_string b.limit (seen b name v)) → GivesText name b c r (to_string a.limit (seen a name v))

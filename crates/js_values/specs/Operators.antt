@@ -4,8 +4,8 @@ use Rattle.js_number.specs.declared.Num.{Num}
 use Rattle.js_number.specs.Arith.{sum, difference, negative}
 use Rattle.js_values.specs.declared.value.Kind.TheVariants.{RangeError}
 use Rattle.js_values.specs.Outcome.{Val, undefined, null, bool, number, text, symbol, list, Converted, into, fails, threw, unsupported, Out, gave, free, bind, needing, throwing, refuses, converts, converting}
-use Rattle.js_values.specs.Need.{nothing, reads}
-use Rattle.js_values.specs.Conversions.{to_string, to_number, to_boolean, is_text, text_units, string_units}
+use Rattle.js_values.specs.Need.{nothing, joins}
+use Rattle.js_values.specs.Conversions.{to_string, to_number, to_boolean, is_text}
 
 -- a number of the profile, or none, which ends the script at the operator
 abbrev pub counted : ℕ → Option Num → Out Val
@@ -30,18 +30,17 @@ difference_in at v w = converts nothing (paired (to_number at v) (to_number at w
 abbrev pub negative_in : ℕ → Val → Out Val
 negative_in at v = converts nothing (to_number at v) (λ n. needing nothing (number (negative n)))
 
--- two strings joined, of operands with t units
-abbrev pub joined : ℕ → ℕ → List ℕ → List ℕ → Out Val
-joined limit t u w =
+-- two strings joined, unless they are longer together than a string may be
+abbrev pub joined : ℕ → List ℕ → List ℕ → Out Val
+joined limit u w =
     if nat_le (length u + length w) limit
-    then needing (reads (t + (length u + length w))) (text (u ++ w))
-    else throwing (reads t) RangeError
+    then needing joins (text (u ++ w))
+    else throwing joins RangeError
 
 -- two primitive values as strings, joined
 abbrev pub joined_strings : ℕ → Val → Val → Out Val
 joined_strings limit v w =
-    converting (reads (text_units v + text_units w)) (to_string limit v) (λ u.
-    converting (reads (text_units v + text_units w)) (to_string limit w) (λ x. joined limit (text_units v + text_units w) u x))
+    converting joins (to_string limit v) (λ u. converting joins (to_string limit w) (λ x. joined limit u x))
 
 -- the primitive value of a value: an array becomes its string (ECMA-262, "ToPrimitive")
 abbrev pub primitive : ℕ → Val → Out Val
@@ -64,8 +63,7 @@ plus_primitives at limit v w = added (is_text v || is_text w) at limit v w
 -- arrays become strings before anything else
 abbrev pub plus : ℕ → ℕ → Val → Val → Out Val
 plus at limit v w =
-    converting (reads (string_units v + string_units w)) (primitive limit v) (λ x.
-    converting (reads (text_units v + string_units w)) (primitive limit w) (λ y. plus_primitives at limit x y))
+    converting joins (primitive limit v) (λ x. converting joins (primitive limit w) (λ y. plus_primitives at limit x y))
 
 -- unary minus, or else `!`
 abbrev pub unary_out : Bool → ℕ → Val → Out Val

@@ -1,5 +1,5 @@
 // Operators on values (ECMA-262, "Additive Operators" and "Unary Operators").
-ghost use Rattle.std.specs.Prelude.{◌≡◌, ℕ, ◌+◌, ◌≤◌, ◌||◌, length, IfOk, IfSome};
+ghost use Rattle.std.specs.Prelude.{◌≡◌, ◌||◌, IfOk, IfSome};
 ghost use Rattle.js_number.specs.Places.{IsLawful};
 ghost use Rattle.js_store.specs.State.{Grows, IsKnown, text};
 ghost use Rattle.js_values.specs.Outcome;
@@ -210,13 +210,13 @@ fn join_strings<S: Strings>(
     join(store, a, b)
 }
 
-// Two strings joined, where the operands have t units and the two strings at most 80 more.
+// Two strings joined, unless they are longer together than a string may be.
 fn join<S: Strings>(store: &mut S, a: S::Ref, b: S::Ref) -> Result<Value<S::Ref>, Stop>
     requires left { IsKnown (S.state store.old) (S.number a) }
     requires right { IsKnown (S.state store.old) (S.number b) }
     ensures grows { Grows (S.state store.old) (S.state store.new) }
     ensures fine { IfOk result (λ v. IsFine (S.state store.new) S.number v) }
-    ensures did { (t : ℕ) → length (text (S.state store.old) (S.number a)) + length (text (S.state store.old) (S.number b)) ≤ t + 80 → Does S.number (S.state store.old) (S.state store.new) result (joined (S.state store.old).limit t (text (S.state store.old) (S.number a)) (text (S.state store.old) (S.number b))) }
+    ensures did { Does S.number (S.state store.old) (S.state store.new) result (joined (S.state store.old).limit (text (S.state store.old) (S.number a)) (text (S.state store.old) (S.number b))) }
 {
     match store.concat(a, b) {
         Ok(both) => Ok(Value::Text(both)),

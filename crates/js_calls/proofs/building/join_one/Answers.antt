@@ -12,4 +12,4 @@ pub returns-clause-did : goal.returns-clause-did
 returns-clause-did g c =
     let state = g.S.Strings.state in
     let e = c.in_ok-w.ensures in
-    join_does g.S.Strings.number (state c.args.store.now) (state c.to_text.new.store) (state c.append.new.store) c.args.s c.in_ok-w.w c.args.value.now c.append.result e.grows c.requires.known e.short e.did c.append.ensures.did
+    join_does g.S.Strings.number (state c.args.store.now) (state c.to_text.new.store) (state c.append.new.store) c.args.s c.in_ok-w.w c.args.value.now c.append.result e.grows c.requires.known e.did c.append.ensures.did

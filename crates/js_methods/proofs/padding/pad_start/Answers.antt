@@ -1,6 +1,6 @@
 use Rattle.std.proofs.Common.{◌≤◌, arith, rules}
 use Rattle.std.specs.Prelude.{Some, None}
-use Rattle.js_methods.proofs.Padded.{filler_units, start_value, start_use}
+use Rattle.js_methods.proofs.Padded.{filler_units, start_value, pad_use}
 use Rattle.js_methods.proofs.padding.pad_start.Goals as goal
 
 pub filled-requires-clause-units : goal.filled-requires-clause-units
@@ -11,7 +11,7 @@ filled-requires-clause-units g c =
 pub returns-in_err-joined-clause-step : goal.returns-in_err-joined-clause-step
 returns-in_err-joined-clause-step g c =
     let some : 1 ≤ c.in_ok-room.room = omega (arith, c.if-room-eq0.false) in
-    let step = start_use (g.S.Strings.state c.args.store.now) (g.S.Strings.state c.missing.new.store) (g.S.Strings.number c.args.s) (g.S.Strings.number c.args.filler) c.args.max c.in_ok-room.room c.requires.known c.requires.filler_known c.in_ok-room.ensures.step c.in_ok-room.ensures.value some (g.S.Strings.state c.filled.new.store) (g.S.Strings.number c.in_ok-fill.fill) c.in_ok-fill.ensures.value c.in_ok-fill.ensures.step (g.S.Strings.state c.joined.new.store) (Some c.in_err-joined.field-0.0) c.in_ok-room.ensures.throws c.in_err-joined.ensures.step in
+    let step = pad_use (g.S.Strings.state c.args.store.now) (g.S.Strings.state c.missing.new.store) (g.S.Strings.number c.args.s) (g.S.Strings.number c.args.filler) c.args.max c.in_ok-room.room c.requires.known c.requires.filler_known c.in_ok-room.ensures.step c.in_ok-room.ensures.value some (g.S.Strings.state c.filled.new.store) (g.S.Strings.number c.in_ok-fill.fill) c.in_ok-fill.ensures.value c.in_ok-fill.ensures.step (g.S.Strings.state c.joined.new.store) (Some c.in_err-joined.field-0.0) c.in_err-joined.ensures.step in
     search rules
 
 pub returns-clause-value : goal.returns-clause-value
@@ -22,4 +22,4 @@ returns-clause-value g c =
 pub returns-clause-step : goal.returns-clause-step
 returns-clause-step g c =
     let some : 1 ≤ c.in_ok-room.room = omega (arith, c.if-room-eq0.false) in
-    start_use (g.S.Strings.state c.args.store.now) (g.S.Strings.state c.missing.new.store) (g.S.Strings.number c.args.s) (g.S.Strings.number c.args.filler) c.args.max c.in_ok-room.room c.requires.known c.requires.filler_known c.in_ok-room.ensures.step c.in_ok-room.ensures.value some (g.S.Strings.state c.filled.new.store) (g.S.Strings.number c.in_ok-fill.fill) c.in_ok-fill.ensures.value c.in_ok-fill.ensures.step (g.S.Strings.state c.joined.new.store) None c.in_ok-room.ensures.throws c.in_ok-joined.ensures.step
+    pad_use (g.S.Strings.state c.args.store.now) (g.S.Strings.state c.missing.new.store) (g.S.Strings.number c.args.s) (g.S.Strings.number c.args.filler) c.args.max c.in_ok-room.room c.requires.known c.requires.filler_known c.in_ok-room.ensures.step c.in_ok-room.ensures.value some (g.S.Strings.state c.filled.new.store) (g.S.Strings.number c.in_ok-fill.fill) c.in_ok-fill.ensures.value c.in_ok-fill.ensures.step (g.S.Strings.state c.joined.new.store) None c.in_ok-joined.ensures.step

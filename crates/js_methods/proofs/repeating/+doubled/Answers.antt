@@ -1,7 +1,7 @@
 use Rattle.std.proofs.Common.{◌≤◌, arith, rules}
 use Rattle.js_store.specs.State.{text}
 use Rattle.js_store.proofs.Laws.{known_still}
-use Rattle.js_methods.proofs.Copies.{half_lengths, half_use, whole_use, same_text, half_value, whole_room, whole_value, whole_step, ok_map}
+use Rattle.js_methods.proofs.Copies.{half_lengths, half_use, whole_use, half_value, whole_room, whole_value, ok_map}
 use Rattle.js_methods.proofs.repeating.+doubled.Goals as goal
 
 pub doubled-requires : goal.doubled-requires
@@ -12,7 +12,7 @@ doubled-requires g t c =
 pub returns-in_err-half-clause-step : goal.returns-in_err-half-clause-step
 returns-in_err-half-clause-step g t c =
     let many : 2 ≤ c.args.count = omega (arith, c.requires.some, c.if-count-eq1.false) in
-    let step = half_use c.args.count (text (g.S.Strings.state c.args.store.now) (g.S.Strings.number c.args.s)) many c.in_err-half.ensures.step in
+    let step = half_use c.args.count many c.in_err-half.ensures.step in
     λ k l. let at = step k l in search rules
 
 pub twice-requires-clause-known : goal.twice-requires-clause-known
@@ -36,9 +36,5 @@ returns-clause-value g t c =
 
 pub returns-clause-step : goal.returns-clause-step
 returns-clause-step g t c =
-    let a = g.S.Strings.state c.args.store.now in
-    let u = text a (g.S.Strings.number c.args.s) in
-    let grows = (c.in_ok-half.ensures.step 31 (omega (arith, c.ranges.count.fits))).grows in
-    let same = same_text a (g.S.Strings.state c.doubled.new.store) (g.S.Strings.number c.args.s) c.args.count c.requires.known grows in
     let many : 2 ≤ c.args.count = omega (arith, c.requires.some, c.if-count-eq1.false) in
-    whole_use c.args.count u many c.in_ok-half.ensures.step (whole_step (g.S.Strings.state c.doubled.new.store) (g.S.Strings.state c.twice.new.store) _ c.args.count _ u same c.twice.ensures.step)
+    whole_use c.args.count many c.in_ok-half.ensures.step c.twice.ensures.step

@@ -17,4 +17,4 @@ returns-in_err-b-clause-did g c =
 pub returns-clause-did : goal.returns-clause-did
 returns-clause-did g c =
     let state = g.S.Strings.state in
-    texts_join g.S.Strings.number (state c.args.store.now) (state c.to_text.new.store) (state c.to_text-2.new.store) (state c.join.new.store) c.args.left.now c.args.right.now c.in_ok-a.a c.in_ok-b.b c.join.result c.in_ok-a.ensures.grows c.in_ok-b.ensures.grows c.requires.right c.in_ok-a.ensures.known c.in_ok-a.ensures.short c.in_ok-b.ensures.short c.in_ok-a.ensures.did c.in_ok-b.ensures.did c.join.ensures.did
+    texts_join g.S.Strings.number (state c.args.store.now) (state c.to_text.new.store) (state c.to_text-2.new.store) (state c.join.new.store) c.args.left.now c.args.right.now c.in_ok-a.a c.in_ok-b.b c.join.result c.in_ok-a.ensures.grows c.in_ok-b.ensures.grows c.requires.right c.in_ok-a.ensures.known c.in_ok-a.ensures.did c.in_ok-b.ensures.did c.join.ensures.did
