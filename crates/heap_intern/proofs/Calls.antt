@@ -1,12 +1,12 @@
 -- What each call on a text or on the string table is as a step of a store.
-use Rattle.std.proofs.Common.{◌≡◌, ℕ, zero, suc, ◌+◌, ◌-◌, ◌<◌, ◌≤◌, ◌⊎◌, ⊎_elim, inl, inr, Bool, List, [], ◌++◌, drop, length, length-drop, length-take-le, sym, refl, ap, subst, arith, Some, None, Ok, Err}
+use Rattle.std.proofs.Common.{◌≡◌, ℕ, zero, suc, ◌+◌, ◌-◌, ◌<◌, ◌≤◌, ◌⊎◌, ⊎_elim, inl, inr, Bool, true, false, List, [], ◌++◌, drop, length, length-drop, length-take-le, sym, refl, ap, subst, arith, Some, None, Ok, Err}
 use Rattle.std.proofs.lemmas.List.{length-append}
 use mathlib.Core.Logic.{dite}
-use native.Mathlib.Decide.{ℕ_discrete}
+use native.Mathlib.Decide.{ℕ_discrete, dec_le}
 use Rattle.js_units.specs.Lanes.{words_over}
 use Rattle.atomic_table.specs.Seated.{TableId}
 use Rattle.js_store.specs.Faults.{Honest, JoinFault as JoinTold, NeverSlots, SlotsShut, Step, concat_part}
-use Rattle.js_store.specs.Rows.{copy_words, cut_ids, cut_words, flat_words, join_ids, join_words}
+use Rattle.js_store.specs.Rows.{copy_words, cut_ids, cut_words, flat_words, join_ids, join_words, settle_words, wide_words}
 use Rattle.heap_rule.specs.declared.size.Counters.{Counters}
 use Rattle.heap_rule.specs.declared.size.HeapSize.{HeapSize}
 use Rattle.heap_rule.specs.declared.view.View.{View}
@@ -14,6 +14,9 @@ use Rattle.heap_rule.specs.Births.{part}
 use Rattle.heap_rule.specs.Layout.{MAX}
 use Rattle.heap_rule.specs.Paths.{Calls}
 use Rattle.heap_rule.specs.Sound.{IsPossible}
+use Rattle.heap_rule.specs.Views.{IsSettled}
+use Rattle.heap_table.specs.declared.claims.CounterFull.{CounterFull}
+use Rattle.std.specs.FinMap.{get}
 use Rattle.heap_slots.specs.declared.faults.TableFull.{TableFull}
 use Rattle.heap_slots.specs.declared.faults.TableFull.TheVariants as table
 use Rattle.heap_slots.specs.Answers.{HasLeft, IsRefused}
@@ -24,17 +27,22 @@ use Rattle.heap_text.specs.declared.faults.TextFull.{TextFull}
 use Rattle.heap_text.specs.declared.faults.TextFull.TheVariants as text
 use Rattle.heap_text.specs.declared.string.JsStr.{JsStr}
 use Rattle.heap_text.specs.Joins.{IsCut, IsJoined}
-use Rattle.heap_text.specs.Texts.{Continues, IsSpared, Told, Uses}
+use Rattle.heap_text.specs.Settling.{IsFlattened, IsNoRoom, IsSettling}
+use Rattle.heap_text.specs.Texts.{Continues, IsSpared, Reads, Told, Uses}
 use Rattle.heap_text.specs.Texts as texts
 use Rattle.heap_intern.specs.Faults.{fault_in_join, fault_in_table, fault_in_text}
-use Rattle.heap_intern.specs.Sessions.{state_by}
-use Rattle.heap_intern.proofs.Rows.{copy_bound, cut_ids_one, cut_words_copy, join_ids_one, join_words_copy, wide_same}
-use Rattle.heap_intern.proofs.States.{grows_continues, grows_goes}
+use Rattle.heap_intern.specs.Sessions.{is_settled, state_by}
+use Rattle.heap_intern.proofs.Rows.{copy_bound, cut_ids_one, cut_words_copy, few_words, join_ids_one, join_words_copy, wide_same, words_most}
+use Rattle.heap_intern.proofs.States.{grows_continues, grows_goes, step_most, step_reads, test_settled}
 
 -- a refusal of a text
 pub never_slots : (f : TextFull) → NeverSlots (Some (fault_in_text f))
 never_slots (text.Ids f) = tt
 never_slots (text.Words f) = tt
+
+pub shut_text : (w : View) (l : ℕ) (t : TableId) (f : TextFull) (us : List ℕ) → SlotsShut (state_by w l t) (Some (fault_in_text f)) us
+shut_text w l t (text.Ids f) us = tt
+shut_text w l t (text.Words f) us = tt
 
 honest_text : (w : View) (l : ℕ) (t : TableId) (words : ℕ) (f : TextFull) → Told w w.sizes words f → Honest (state_by w l t) (Some (fault_in_text f))
 honest_text w l t words (text.Ids f) h = let a = h.0.0 in let b = h.0.1 in let c = h.0.2 in (record { can_fill = refl; past_end = omega arith; end_is = b; at_is = sym h.1 }, a)
@@ -66,16 +74,25 @@ module _ (v w : View) (l : ℕ) (t : TableId) (a b : JsStr) (us vs : List ℕ) (
   abbrev n : ℕ
   n = length vs
 
-  copy_most : words_over (texts.is_wide (us ++ vs)) (length (us ++ vs)) ≤ copy_words (m + n)
-  copy_most = subst (λ (k : ℕ). words_over (texts.is_wide (us ++ vs)) k ≤ copy_words (m + n)) (sym (length-append us vs)) (copy_bound (texts.is_wide (us ++ vs)) (m + n))
+  abbrev copied_words : ℕ
+  copied_words = words_over (texts.is_wide (us ++ vs)) (length (us ++ vs))
+
+  copy_most : 0 < m → 0 < n → m + n < 13 → copied_words ≤ join_words m n
+  unfolding copied_words
+  copy_most a b l = subst (λ (k : ℕ). copied_words ≤ k) (sym (join_words_copy m n a b l)) (subst (λ (k : ℕ). words_over (texts.is_wide (us ++ vs)) k ≤ 3) (sym (length-append us vs)) (few_words (texts.is_wide (us ++ vs)) (m + n) l))
 
   ok_by : (s : JsStr) (i k : ℕ) → m ≡ i → n ≡ k → IsJoined v w w.sizes a b us vs (Ok s) → Step (state_by v l t) (state_by w l t) None (join_ids m n) (join_words m n)
   ok_by s zero k e f j = let q = j.left_empty e in nothing_used v w l t (join_ids m n) (join_words m n) p c q.2.1
   ok_by s (suc i) zero e f j = let q = j.right_empty (omega arith) f in nothing_used v w l t (join_ids m n) (join_words m n) p c q.2.1
-  ok_by s (suc i) (suc k) e f j = let x : 0 < m = omega arith in let y : 0 < n = omega arith in ⊎_elim
-      (λ q. step_used v w l t 1 (words_over (texts.is_wide (us ++ vs)) (length (us ++ vs))) (join_ids m n) (join_words m n) (let d = join_ids_one m n x y in omega arith) (let d = join_words_copy m n x y in let g = copy_most in omega arith) p c q.2.2)
+  ok_by s (suc i) (suc k) e f j = let x : 0 < m = omega arith in let y : 0 < n = omega arith in dite (dec_le 13 (m + n))
+      (λ long. ⊎_elim
+      (λ q. step_used v w l t 1 0 (join_ids m n) (join_words m n) (let d = join_ids_one m n x y in omega arith) (omega arith) p c q.2.2)
       (λ q. let bad : Ok s ≡ Err (join.Full q.0) = q.1 in absurd (cc))
-      (j.both x y most)
+      (j.rope x y long most))
+      (λ never. let short : m + n < 13 = omega arith in ⊎_elim
+      (λ q. step_used v w l t 1 copied_words (join_ids m n) (join_words m n) (let d = join_ids_one m n x y in omega arith) (copy_most x y short) p c q.2.2)
+      (λ q. let bad : Ok s ≡ Err (join.Full q.0) = q.1 in absurd (cc))
+      (j.short x y short))
 
   pub joined_ok : (s : JsStr) → IsJoined v w w.sizes a b us vs (Ok s) → Step (state_by v l t) (state_by w l t) None (join_ids m n) (join_words m n)
   joined_ok s j = ok_by s m n refl refl j
@@ -83,13 +100,19 @@ module _ (v w : View) (l : ℕ) (t : TableId) (a b : JsStr) (us vs : List ℕ) (
   err_by : (full : TextFull) (i k : ℕ) → m ≡ i → n ≡ k → IsJoined v w w.sizes a b us vs (Err (join.Full full)) → Step (state_by v l t) (state_by w l t) (Some (fault_in_text full)) (join_ids m n) (join_words m n)
   err_by full zero k e f j = let q = j.left_empty e in let bad : Err (join.Full full) ≡ Ok q.0 = q.1 in absurd (cc)
   err_by full (suc i) zero e f j = let q = j.right_empty (omega arith) f in let bad : Err (join.Full full) ≡ Ok q.0 = q.1 in absurd (cc)
-  err_by full (suc i) (suc k) e f j = let x : 0 < m = omega arith in let y : 0 < n = omega arith in ⊎_elim
+  err_by full (suc i) (suc k) e f j = let x : 0 < m = omega arith in let y : 0 < n = omega arith in dite (dec_le 13 (m + n))
+      (λ long. ⊎_elim
       (λ q. let bad : Err (join.Full full) ≡ Ok q.0 = q.1 in absurd (cc))
       (λ q. let same : Err (join.Full full) ≡ Err (join.Full q.0) = q.1 in let is : q.0 ≡ full = cc in
       subst (λ (one : ℕ). Step (state_by v l t) (state_by w l t) (Some (fault_in_text full)) one (join_words m n)) (sym (join_ids_one m n x y))
-      (step_refused v w l t (words_over (texts.is_wide (us ++ vs)) (length (us ++ vs))) (join_words m n) full (let d = join_words_copy m n x y in let g = copy_most in omega arith) p c
-      (subst (Told w w.sizes (words_over (texts.is_wide (us ++ vs)) (length (us ++ vs)))) is q.2.0) (subst (IsSpared v w (words_over (texts.is_wide (us ++ vs)) (length (us ++ vs)))) is q.2.1)))
-      (j.both x y most)
+      (step_refused v w l t 0 (join_words m n) full (omega arith) p c (subst (Told w w.sizes 0) is q.2.1) (subst (IsSpared v w 0) is q.2.2)))
+      (j.rope x y long most))
+      (λ never. let short : m + n < 13 = omega arith in ⊎_elim
+      (λ q. let bad : Err (join.Full full) ≡ Ok q.0 = q.1 in absurd (cc))
+      (λ q. let same : Err (join.Full full) ≡ Err (join.Full q.0) = q.1 in let is : q.0 ≡ full = cc in
+      subst (λ (one : ℕ). Step (state_by v l t) (state_by w l t) (Some (fault_in_text full)) one (join_words m n)) (sym (join_ids_one m n x y))
+      (step_refused v w l t copied_words (join_words m n) full (copy_most x y short) p c (subst (Told w w.sizes copied_words) is q.2.0) (subst (IsSpared v w copied_words) is q.2.1)))
+      (j.short x y short))
 
   pub joined_err : (full : TextFull) → IsJoined v w w.sizes a b us vs (Err (join.Full full)) → Step (state_by v l t) (state_by w l t) (Some (fault_in_text full)) (join_ids m n) (join_words m n)
   joined_err full j = err_by full m n refl refl j
@@ -101,7 +124,9 @@ module _ (v w : View) (l : ℕ) (t : TableId) (a b : JsStr) (us vs : List ℕ) (
       short_by : (i k : ℕ) → m ≡ i → n ≡ k → ⊥
       short_by zero k e f = let q = j.left_empty e in let bad : Err (join.TooLong x y) ≡ Ok q.0 = q.1 in cc
       short_by (suc i) zero e f = let q = j.right_empty (omega arith) f in let bad : Err (join.TooLong x y) ≡ Ok q.0 = q.1 in cc
-      short_by (suc i) (suc k) e f = ⊎_elim (λ q. let bad : Err (join.TooLong x y) ≡ Ok q.0 = q.1 in cc) (λ q. let bad : Err (join.TooLong x y) ≡ Err (join.Full q.0) = q.1 in cc) (j.both (omega arith) (omega arith) most)
+      short_by (suc i) (suc k) e f = dite (dec_le 13 (m + n))
+          (λ long. ⊎_elim (λ q. let bad : Err (join.TooLong x y) ≡ Ok q.0 = q.1 in cc) (λ q. let bad : Err (join.TooLong x y) ≡ Err (join.Full q.0) = q.1 in cc) (j.rope (omega arith) (omega arith) long most))
+          (λ never. ⊎_elim (λ q. let bad : Err (join.TooLong x y) ≡ Ok q.0 = q.1 in cc) (λ q. let bad : Err (join.TooLong x y) ≡ Err (join.Full q.0) = q.1 in cc) (j.short (omega arith) (omega arith) (omega arith)))
 
   -- any fault of it
   pub joined_step : (f : JoinFault) → IsJoined v w w.sizes a b us vs (Err f) → Step (state_by v l t) (state_by w l t) (concat_part (fault_in_join f)) (join_ids m n) (join_words m n)
@@ -112,6 +137,30 @@ module _ (v w : View) (l : ℕ) (t : TableId) (a b : JsStr) (us vs : List ℕ) (
   joined_told (join.TooLong x y) most' le j = absurd (joined_short x y j)
   joined_told (join.Full (text.Ids f)) most' le j = le
   joined_told (join.Full (text.Words f)) most' le j = le
+
+-- settling a string with the units us
+module _ (v w : View) (l : ℕ) (t : TableId) (i : ℕ) (us : List ℕ) (p : IsPossible v) (c : Continues v w) where
+  settled_by : (b : Bool) → (b ≡ true → Reads v w) → IsSettling v w i us → Step (state_by v l t) (state_by w l t) None 0 (settle_words b (length us))
+  settled_by true again h = step_reads v w l t p (again refl)
+  settled_by false again h = ⊎_elim
+      (λ (r : Reads v w). step_most v w l t 0 (wide_words (length us)) p r)
+      (λ (q : (wide : Bool) × IsFlattened v w i us wide). let words = words_most q.0 (length us) in step_used v w l t 0 (words_over q.0 (length us)) 0 (wide_words (length us)) (omega arith) words p c q.1.used) h
+
+  pub settled_step : (IsSettled v i → Reads v w) → IsSettling v w i us → Step (state_by v l t) (state_by w l t) None 0 (settle_words (is_settled (get v.forms i)) (length us))
+  settled_step again h = settled_by (is_settled (get v.forms i)) (λ e. again (test_settled v i e)) h
+
+  words_refused : (words most : ℕ) (full : CounterFull) → words ≤ most → Told w w.sizes words (text.Words full) → IsSpared v w words (text.Words full) → Step (state_by v l t) (state_by w l t) (Some (fault_in_text (text.Words full))) 0 most
+  words_refused words most full le h s = let b = s.used_ids in let d = s.used_words in record { grows = grows_continues v w l t p c; honest = honest_text w l t words (text.Words full) h; within_ids = omega arith; within_words = omega arith }
+
+  refused_by : (f : TextFull) (b : Bool) → (b ≡ true → ⊥) → (wide : Bool) × IsNoRoom v w w.sizes us f wide → Step (state_by v l t) (state_by w l t) (Some (fault_in_text f)) 0 (settle_words b (length us))
+  refused_by f true never h = absurd (never refl)
+  refused_by f false never h = let n : ℕ = words_over h.0 (length us) in let r = h.1 in let is = r.words.1 in
+      subst (λ (g : TextFull). Step (state_by v l t) (state_by w l t) (Some (fault_in_text g)) 0 (wide_words (length us))) (sym is)
+      (words_refused n (wide_words (length us)) r.words.0 (words_most h.0 (length us)) (subst (Told w w.sizes n) is r.told) (subst (IsSpared v w n) is r.spared))
+
+  -- refused for words, where it wasn't settled
+  pub settle_refused : (f : TextFull) → (IsSettled v i → ⊥) → (wide : Bool) × IsNoRoom v w w.sizes us f wide → Step (state_by v l t) (state_by w l t) (Some (fault_in_text f)) 0 (settle_words (is_settled (get v.forms i)) (length us))
+  settle_refused f never h = refused_by f (is_settled (get v.forms i)) (λ e. never (test_settled v i e)) h
 
 -- a part
 module _ (v w : View) (l : ℕ) (t : TableId) (s : JsStr) (us : List ℕ) (from to : ℕ) (p : IsPossible v) (c : Continues v w) (order : from ≤ to) (within : to ≤ length us) where

@@ -2,3 +2,6 @@ pub mod States
 pub mod Rows
 pub mod Calls
 pub mod Shares
+pub mod Lately
+pub mod Shifted
+pub mod Whole

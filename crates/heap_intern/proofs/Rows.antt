@@ -1,7 +1,7 @@
 -- What calls on texts use, against the rows of a store.
-use Rattle.std.proofs.Common.{◌≡◌, ℕ, ◌+◌, ◌-◌, ◌<◌, ◌≤◌, Bool, true, false, ◌||◌, List, [], ◌∷◌, refl, ap, ◌∙◌, arith, if◌then◌else◌, nat_eq, nat_lt, ltb-true, ne_eqb, eqb-true}
+use Rattle.std.proofs.Common.{◌≡◌, ℕ, ◌+◌, ◌-◌, ◌<◌, ◌≤◌, Bool, true, false, ◌||◌, List, [], ◌∷◌, refl, ap, ◌∙◌, arith, if◌then◌else◌, nat_eq, nat_lt, lt-ltb, ltb-true, ne_eqb, eqb-true}
 use Rattle.js_units.specs.Lanes.{words_over}
-use Rattle.js_store.specs.Rows.{copy_words, cut_ids, cut_words, flat_words, is_part_empty, is_whole, join_ids, join_words, wide_words}
+use Rattle.js_store.specs.Rows.{copy_words, cut_ids, cut_words, flat_words, intern_words, is_part_empty, is_whole, join_ids, join_words, settle_words, wide_words}
 use Rattle.js_store.specs.Rows as rows
 use Rattle.heap_text.specs.Texts as texts
 
@@ -13,11 +13,11 @@ pub wide_same : (us : List ℕ) → texts.is_wide us ≡ rows.is_wide us
 wide_same [] = refl
 wide_same (u ∷ us) = or_is (nat_lt 255 u) (texts.is_wide us) ∙ ap (λ (b : Bool). if nat_lt 255 u then true else b) (wide_same us)
 
-words_most : (b : Bool) (n : ℕ) → words_over b n ≤ wide_words n
+pub words_most : (b : Bool) (n : ℕ) → words_over b n ≤ wide_words n
 words_most true n = omega arith
 words_most false n = omega arith
 
-few_words : (b : Bool) (n : ℕ) → n < 13 → words_over b n ≤ 3
+pub few_words : (b : Bool) (n : ℕ) → n < 13 → words_over b n ≤ 3
 few_words true n l = omega arith
 few_words false n l = omega arith
 
@@ -35,8 +35,9 @@ full_by m n a b = ap (λ (x : Bool). if x then true else nat_eq n 0) (ne_eqb m 0
 pub join_ids_one : (m n : ℕ) → 0 < m → 0 < n → join_ids m n ≡ 1
 join_ids_one m n a b = ap (λ (x : Bool). if x then 0 else 1) (full_by m n a b)
 
-pub join_words_copy : (m n : ℕ) → 0 < m → 0 < n → join_words m n ≡ copy_words (m + n)
-join_words_copy m n a b = ap (λ (x : Bool). if x then 0 else copy_words (m + n)) (full_by m n a b)
+-- a short result is copied
+pub join_words_copy : (m n : ℕ) → 0 < m → 0 < n → m + n < 13 → join_words m n ≡ 3
+join_words_copy m n a b l = ap (λ (x : Bool). if x then 0 else if nat_lt (m + n) 13 then 3 else 0) (full_by m n a b) ∙ ap (λ (x : Bool). if x then 3 else 0) (lt-ltb (m + n) 13 l)
 
 -- a part that is not the whole
 part_on : (b : Bool) (from to n : ℕ) → (b ≡ true → from ≡ 0) → (from ≡ 0 → to ≡ n → ⊥) → (if b then nat_eq to n else false) ≡ false
@@ -51,3 +52,8 @@ cut_ids_one from to n never = ap (λ (x : Bool). if x then 0 else 1) (part_by fr
 
 pub cut_words_copy : (from to n : ℕ) → (from ≡ 0 → to ≡ n → ⊥) → cut_words from to n ≡ copy_words (to - from)
 cut_words_copy from to n never = ap (λ (x : Bool). if x then 0 else copy_words (to - from)) (part_by from to n never)
+
+-- settling is a part of interning
+pub settle_part : (b : Bool) (n : ℕ) → settle_words b n + 0 ≤ intern_words b n
+settle_part true n = omega arith
+settle_part false n = omega arith

@@ -1,4 +1,7 @@
 pub mod Sessions
+pub mod Counted
 pub mod Shares
+pub mod Whole
 pub mod Faults
 pub mod Sound
+pub mod Lately

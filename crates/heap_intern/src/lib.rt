@@ -6,9 +6,14 @@
 //! memory: no call takes any. No call takes a lock or waits.
 #![tactic(auto)]
 
+mod counted;
 mod faults;
+mod kept;
+mod laws;
 mod session;
 mod sharing;
 mod strings;
+mod words;
 
+pub use laws::whole_has_all;
 pub use session::Session;

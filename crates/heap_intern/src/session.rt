@@ -1,14 +1,23 @@
 // A heap with the agent by which one thread uses it as a store.
-ghost use Rattle.heap_table.specs.Agents.{Belongs};
+ghost use Rattle.heap_table.specs.Agents.{Belongs, view_of};
+ghost use Rattle.heap_intern.specs.Lately.{IsKept};
 
+use crate::kept::Kept;
 use heap_text::Text;
 use js_store::Limit;
 
 /// A heap, and an agent by which one thread makes, reads and interns strings there. It belongs to
 /// one thread at a time and can be moved to another.
+///
+/// It keeps the units of a word of each of the two strings that it read last, so that a run of reads
+/// costs few loads.
 #[derive(Drop)]
 pub struct Session<'h> {
     pub(crate) text: Text<'h>,
     pub(crate) limit: Limit,
+    pub(crate) last: Kept,
+    pub(crate) older: Kept,
     ghost belongs: { Belongs text.agent text.heap.now },
+    ghost last_kept: { IsKept (view_of text.agent) last },
+    ghost older_kept: { IsKept (view_of text.agent) older },
 }

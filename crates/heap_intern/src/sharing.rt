@@ -8,6 +8,7 @@ ghost use Rattle.heap_slots.specs.Counting.{different};
 ghost use Rattle.heap_intern.specs.Sessions.{state_by, state_in, table_of, view_in};
 ghost use Rattle.heap_intern.specs.Shares.{BelongsAs, IsJoined, IsWhole, MayJoin, left_by, right_by, total_by};
 
+use crate::kept::Kept;
 use crate::session::Session;
 use heap_slots::count_interned;
 use heap_table::{Agent, Heap};
@@ -24,6 +25,8 @@ impl<'h> Session<'h> {
         Session {
             text: Text::new(heap, agent),
             limit,
+            last: Kept::none(),
+            older: Kept::none(),
         }
     }
 
@@ -42,6 +45,8 @@ impl<'h> Session<'h> {
         Session {
             text: Text::new(heap, agent),
             limit: self.limit,
+            last: Kept::none(),
+            older: Kept::none(),
         }
     }
 
@@ -52,7 +57,7 @@ impl<'h> Session<'h> {
         ensures view { view_in self.new ≡ joined (view_in self.old) (view_in other.entry) }
         ensures joined { IsJoined (state_in self.old) (state_in other.entry) (state_in self.new) }
     {
-        let Session { text, limit: _ } = other;
+        let Session { text, .. } = other;
         let Text { heap: _, agent } = text;
         let heap = self.text.heap;
         self.text.agent.join(heap, agent);
@@ -87,7 +92,7 @@ impl<'h> Session<'h> {
         ensures view { view_of result ≡ view_in self.entry }
         ensures belongs { BelongsAs (state_in self.entry) result }
     {
-        let Session { text, limit: _ } = self;
+        let Session { text, .. } = self;
         let Text { heap: _, agent } = text;
         agent
     }

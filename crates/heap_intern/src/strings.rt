@@ -1,9 +1,10 @@
 // A session as a store of strings.
-use crate::faults::{join_fault, table_fault, text_fault};
+use crate::faults::{join_fault, text_fault};
 use crate::session::Session;
-use heap_slots::intern;
 use heap_text::JsStr;
 use js_store::{ConcatFault, StoreFault, Strings};
+use std::marker::Brand;
+use std::sync::ledger::Blank;
 
 impl<'h> Strings for Session<'h> {
     type Ref = JsStr;
@@ -38,7 +39,13 @@ impl<'h> Strings for Session<'h> {
     }
 
     fn unit_at(&mut self, s: JsStr, i: u32) -> u16 {
-        self.text.unit_at(s, i)
+        if let Some(unit) = self.last.get(s, i) {
+            return unit;
+        }
+        if let Some(unit) = self.older.get(s, i) {
+            return unit;
+        }
+        self.unit_by_loads(s, i)
     }
 
     fn concat(&mut self, a: JsStr, b: JsStr) -> Result<JsStr, ConcatFault> {
@@ -61,15 +68,7 @@ impl<'h> Strings for Session<'h> {
     }
 
     fn intern(&mut self, s: JsStr) -> Result<JsStr, StoreFault> {
-        match self.text.settle(s) {
-            Ok(()) => {}
-            Err(full) => return Err(text_fault(full)),
-        }
-        let heap = self.text.heap;
-        match intern(&mut self.text.agent, heap, s.id) {
-            Ok(id) => Ok(JsStr { id }),
-            Err(full) => Err(table_fault(full)),
-        }
+        self.intern_by::<Brand>(s, Blank::new(1))
     }
 
     fn same(&mut self, a: JsStr, b: JsStr) -> bool {

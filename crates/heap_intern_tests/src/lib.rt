@@ -3,4 +3,8 @@
 #![tactic(auto)]
 
 #[cfg(test)]
+mod counted;
+#[cfg(test)]
+mod reads;
+#[cfg(test)]
 mod sessions;

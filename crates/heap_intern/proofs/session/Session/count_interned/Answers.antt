@@ -1,8 +1,16 @@
 use Rattle.js_store.specs.Limits.{limit_units}
 use Rattle.heap_intern.specs.Sessions.{table_of}
 use Rattle.heap_intern.proofs.States.{step_looks}
+use Rattle.heap_rule.specs.declared.view.View.{View}
+use Rattle.heap_intern.proofs.Lately.{kept_by}
 use Rattle.heap_intern.proofs.session.Session.count_interned.Goals as goal
 
 pub returns-clause-step : goal.returns-clause-step
 returns-clause-step c = let s = c.args.self.now in
     step_looks s.text.agent.seat.me.0 c.count_interned.new.agent.seat.me.0 (limit_units s.limit) (table_of s.text.heap.now) s.belongs.5 c.count_interned.ensures.looks
+
+pub invariant_of-self-clause-last_kept : goal.invariant_of-self-clause-last_kept
+invariant_of-self-clause-last_kept c = let s = c.args.self.now in let v : View = s.text.agent.seat.me.0 in let w : View = c.count_interned.new.agent.seat.me.0 in kept_by v w (c.count_interned.ensures.looks.goes.known) s.last s.last_kept
+
+pub invariant_of-self-clause-older_kept : goal.invariant_of-self-clause-older_kept
+invariant_of-self-clause-older_kept c = let s = c.args.self.now in let v : View = s.text.agent.seat.me.0 in let w : View = c.count_interned.new.agent.seat.me.0 in kept_by v w (c.count_interned.ensures.looks.goes.known) s.older s.older_kept

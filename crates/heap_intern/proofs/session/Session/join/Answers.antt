@@ -5,6 +5,7 @@ use Rattle.heap_table.specs.Known.{KeepsKnown}
 use Rattle.heap_intern.specs.Sessions.{state_by, table_of}
 use Rattle.heap_intern.specs.Shares.{IsJoined}
 use Rattle.heap_intern.proofs.Shares.{belongs_here, sizes_are, state_joined}
+use Rattle.heap_intern.proofs.Lately.{kept_by}
 use Rattle.heap_intern.proofs.session.Session.join.Goals as goal
 
 pub join-requires-clause-belongs : goal.join-requires-clause-belongs
@@ -19,3 +20,9 @@ returns-clause-joined c = let s = c.args.self.now in let o = c.args.other in let
     let l = limit_units s.limit in let t = table_of s.text.heap.now in
     subst (λ (w : View). IsJoined (state_by v l t) (state_by b (limit_units o.limit) (table_of o.text.heap.now)) (state_by w l t)) (sym e.view)
     (state_joined v b l (limit_units o.limit) t (table_of o.text.heap.now) s.belongs.5 o.belongs.5 (subst (KeepsKnown v) e.view e.known) (subst (KeepsKnown b) e.view e.known_of_other) (sizes_are b.sizes v.sizes m.sizes))
+
+pub invariant_of-self-clause-last_kept : goal.invariant_of-self-clause-last_kept
+invariant_of-self-clause-last_kept c = let s = c.args.self.now in let v : View = s.text.agent.seat.me.0 in let w : View = c.join.new.self.seat.me.0 in kept_by v w (c.join.ensures.known) s.last s.last_kept
+
+pub invariant_of-self-clause-older_kept : goal.invariant_of-self-clause-older_kept
+invariant_of-self-clause-older_kept c = let s = c.args.self.now in let v : View = s.text.agent.seat.me.0 in let w : View = c.join.new.self.seat.me.0 in kept_by v w (c.join.ensures.known) s.older s.older_kept

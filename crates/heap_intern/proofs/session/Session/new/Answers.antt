@@ -2,9 +2,12 @@ use Rattle.std.proofs.Common.{subst, sym}
 use Rattle.heap_table.specs.declared.agent.Agent.{Agent}
 use Rattle.heap_table.specs.declared.heap.Heap.{Heap}
 use Rattle.heap_table.specs.Agents.{Belongs}
+use Rattle.heap_intern.proofs.Lately.{kept_none}
 use Rattle.heap_intern.proofs.session.Session.new.Goals as goal
 
 pub invariant_of-result : goal.invariant_of-result
 invariant_of-result c = record {
   belongs = subst (λ (a : Agent). Belongs a c.new.result.heap.now) (sym c.new.ensures.agent) (subst (λ (h : Heap). Belongs c.args.agent h) (sym c.new.ensures.heap) c.requires.belongs);
+  last_kept = kept_none c.new.result.agent.seat.me.0 c.none.result c.none.ensures;
+  older_kept = kept_none c.new.result.agent.seat.me.0 c.none-2.result c.none-2.ensures;
 }

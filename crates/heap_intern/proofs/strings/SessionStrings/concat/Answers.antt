@@ -19,6 +19,8 @@ use Rattle.heap_intern.specs.Sessions.{state_by, table_of}
 use Rattle.heap_intern.specs.Sound.{limit_high}
 use Rattle.heap_intern.proofs.Calls.{joined_ok, joined_step, joined_told}
 use Rattle.heap_intern.proofs.States.{step_at, step_reads, text_is}
+use Rattle.heap_text.proofs.Loaded.{known_trans}
+use Rattle.heap_intern.proofs.Lately.{kept_by}
 use Rattle.heap_intern.proofs.strings.SessionStrings.concat.Goals as goal
 
 pub overflow_add-left : goal.overflow_add-left
@@ -76,3 +78,17 @@ returns-in-Err-clause-step c = let s = c.args.self.now in let v : View = s.text.
     (subst (λ (ys : List ℕ). Step (state_by v l t) (state_by w l (table_of c.concat.new.self.heap.now)) f (join_ids (length p.0) (length ys)) (join_words (length p.0) (length ys))) (sym (text_is v.units c.args.b.id q.0 q.1))
     (step_at v w l t (table_of c.concat.new.self.heap.now) f (join_ids (length p.0) (length q.0)) (join_words (length p.0) (length q.0)) (ap (λ x. table_of x.now) heap)
     (step_after (step_reads v w2 l t s.belongs.5 r) (joined_step w2 w l t c.args.a c.args.b p.0 q.0 c.len-right.ensures.text.5 e.continues most c.in-Err.fault j) (omega arith) (omega arith)))))
+
+pub invariant_of-self-clause-last_kept : goal.invariant_of-self-clause-last_kept
+invariant_of-self-clause-last_kept c = let s = c.args.self.now in let v : View = s.text.agent.seat.me.0 in let w1 : View = c.len-left.new.self.agent.seat.me.0 in let w2 : View = c.len-right.new.self.agent.seat.me.0 in kept_by v w2 (known_trans v w1 w2 c.len-left.ensures.reads.known c.len-right.ensures.reads.known) s.last s.last_kept
+
+pub invariant_of-self-2-clause-last_kept : goal.invariant_of-self-2-clause-last_kept
+invariant_of-self-2-clause-last_kept c = let s = c.args.self.now in let v : View = s.text.agent.seat.me.0 in let w1 : View = c.len-left.new.self.agent.seat.me.0 in let w2 : View = c.len-right.new.self.agent.seat.me.0 in let w3 : View = c.concat.new.self.agent.seat.me.0 in
+    kept_by v w3 (known_trans v w2 w3 (known_trans v w1 w2 c.len-left.ensures.reads.known c.len-right.ensures.reads.known) c.concat.ensures.continues.known) s.last s.last_kept
+
+pub invariant_of-self-clause-older_kept : goal.invariant_of-self-clause-older_kept
+invariant_of-self-clause-older_kept c = let s = c.args.self.now in let v : View = s.text.agent.seat.me.0 in let w1 : View = c.len-left.new.self.agent.seat.me.0 in let w2 : View = c.len-right.new.self.agent.seat.me.0 in kept_by v w2 (known_trans v w1 w2 c.len-left.ensures.reads.known c.len-right.ensures.reads.known) s.older s.older_kept
+
+pub invariant_of-self-2-clause-older_kept : goal.invariant_of-self-2-clause-older_kept
+invariant_of-self-2-clause-older_kept c = let s = c.args.self.now in let v : View = s.text.agent.seat.me.0 in let w1 : View = c.len-left.new.self.agent.seat.me.0 in let w2 : View = c.len-right.new.self.agent.seat.me.0 in let w3 : View = c.concat.new.self.agent.seat.me.0 in
+    kept_by v w3 (known_trans v w2 w3 (known_trans v w1 w2 c.len-left.ensures.reads.known c.len-right.ensures.reads.known) c.concat.ensures.continues.known) s.older s.older_kept

@@ -11,6 +11,7 @@ use Rattle.heap_intern.specs.Faults.{fault_in_text}
 use Rattle.heap_intern.specs.Sound.{limit_high}
 use Rattle.heap_intern.proofs.Calls.{flat_is, never_slots, step_refused, step_used, told_here}
 use Rattle.heap_intern.proofs.States.{history_continues, settled_test, step_at}
+use Rattle.heap_intern.proofs.Lately.{kept_by}
 use Rattle.heap_intern.proofs.strings.SessionStrings.from_units.Goals as goal
 
 pub make_flat-requires-clause-short : goal.make_flat-requires-clause-short
@@ -39,3 +40,9 @@ returns-in-Err-clause-no_slots c = rw c.text_fault.ensures (never_slots c.in-Err
 
 pub returns-in-Err-clause-history : goal.returns-in-Err-clause-history
 returns-in-Err-clause-history c = history_continues c.args.self.now.text.agent.seat.me.0 c.make_flat.new.self.agent.seat.me.0 c.make_flat.ensures.continues
+
+pub invariant_of-self-clause-last_kept : goal.invariant_of-self-clause-last_kept
+invariant_of-self-clause-last_kept c = let s = c.args.self.now in let v : View = s.text.agent.seat.me.0 in let w : View = c.make_flat.new.self.agent.seat.me.0 in kept_by v w (c.make_flat.ensures.continues.known) s.last s.last_kept
+
+pub invariant_of-self-clause-older_kept : goal.invariant_of-self-clause-older_kept
+invariant_of-self-clause-older_kept c = let s = c.args.self.now in let v : View = s.text.agent.seat.me.0 in let w : View = c.make_flat.new.self.agent.seat.me.0 in kept_by v w (c.make_flat.ensures.continues.known) s.older s.older_kept

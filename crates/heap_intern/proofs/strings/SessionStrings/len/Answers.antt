@@ -5,6 +5,7 @@ use Rattle.heap_rule.proofs.MapLemmas.{has_key}
 use Rattle.heap_rule.proofs.Possible.{possible_short}
 use Rattle.heap_intern.specs.Sessions.{table_of}
 use Rattle.heap_intern.proofs.States.{history_reads, step_at, step_reads, text_is}
+use Rattle.heap_intern.proofs.Lately.{kept_by}
 use Rattle.heap_intern.proofs.strings.SessionStrings.len.Goals as goal
 
 pub returns-clause-value : goal.returns-clause-value
@@ -19,3 +20,9 @@ returns-clause-step c = let s = c.args.self.now in let v : View = s.text.agent.s
 
 pub returns-clause-history : goal.returns-clause-history
 returns-clause-history c = history_reads c.args.self.now.text.agent.seat.me.0 c.len.new.self.agent.seat.me.0 c.len.ensures.reads
+
+pub invariant_of-self-clause-last_kept : goal.invariant_of-self-clause-last_kept
+invariant_of-self-clause-last_kept c = let s = c.args.self.now in let v : View = s.text.agent.seat.me.0 in let w : View = c.len.new.self.agent.seat.me.0 in kept_by v w (c.len.ensures.reads.known) s.last s.last_kept
+
+pub invariant_of-self-clause-older_kept : goal.invariant_of-self-clause-older_kept
+invariant_of-self-clause-older_kept c = let s = c.args.self.now in let v : View = s.text.agent.seat.me.0 in let w : View = c.len.new.self.agent.seat.me.0 in kept_by v w (c.len.ensures.reads.known) s.older s.older_kept

@@ -1,26 +1,53 @@
-use Rattle.std.proofs.Common.{None, ap}
+use Rattle.std.proofs.Common.{◌≡◌, ◌∙◌, ℕ, List, Bool, None, Some, Ok, Err, length, ap, subst, sym}
+use Rattle.std.specs.Prelude.{unwrap_or}
+use Rattle.std.specs.FinMap.{get}
+use Rattle.heap_rule.specs.declared.size.HeapSize.{HeapSize}
 use Rattle.heap_rule.specs.declared.view.View.{View}
+use Rattle.heap_rule.specs.Maps.{Has}
+use Rattle.heap_rule.specs.Views.{IsSettled}
+use Rattle.heap_rule.proofs.MapLemmas.{has_key}
+use Rattle.heap_table.specs.Agents.{size_of}
+use Rattle.heap_text.specs.Settling.{IsNoRoom}
+use Rattle.js_store.specs.Faults.{Step}
 use Rattle.js_store.specs.Limits.{limit_units}
-use Rattle.heap_intern.specs.Sessions.{table_of}
-use Rattle.heap_intern.proofs.States.{history_reads, settled_test, step_at, step_most}
+use Rattle.js_store.specs.Rows.{settle_words}
+use Rattle.heap_intern.specs.Faults.{fault_in_text}
+use Rattle.heap_intern.specs.Sessions.{is_settled, state_by, table_of}
+use Rattle.heap_intern.proofs.Calls.{never_slots, settle_refused, settled_step}
+use Rattle.heap_intern.proofs.Lately.{kept_by}
+use Rattle.heap_intern.proofs.States.{history_continues, settled_test, step_at, text_is}
 use Rattle.heap_intern.proofs.strings.SessionStrings.settle.Goals as goal
 
 pub returns-in-Ok-clause-ok : goal.returns-in-Ok-clause-ok
-returns-in-Ok-clause-ok c = settled_test c.settle.new.self.agent.seat.me.0 c.args.s.id c.settle.ensures.settled
+returns-in-Ok-clause-ok c = settled_test c.settle.new.self.agent.seat.me.0 c.args.s.id c.in-Ok.ensures.settled
 
 pub returns-in-Ok-clause-step : goal.returns-in-Ok-clause-step
-returns-in-Ok-clause-step c = let s = c.args.self.now in let v : View = s.text.agent.seat.me.0 in let w : View = c.settle.new.self.agent.seat.me.0 in
-    step_at v w (limit_units s.limit) (table_of s.text.heap.now) (table_of c.settle.new.self.heap.now) None 0 _ (ap (λ x. table_of x.now) c.settle.ensures.heap) (step_most v w (limit_units s.limit) (table_of s.text.heap.now) 0 _ s.belongs.5 c.settle.ensures.reads)
+returns-in-Ok-clause-step c = let s = c.args.self.now in let v : View = s.text.agent.seat.me.0 in let w : View = c.settle.new.self.agent.seat.me.0 in let i = c.args.s.id in let l = limit_units s.limit in let t = table_of s.text.heap.now in
+    let p = has_key v.units i c.requires in let e = c.settle.ensures in
+    subst (λ (us : List ℕ). Step (state_by v l t) (state_by w l (table_of c.settle.new.self.heap.now)) None 0 (settle_words (is_settled (get v.forms i)) (length us))) (sym (text_is v.units i p.0 p.1))
+    (step_at v w l t (table_of c.settle.new.self.heap.now) None 0 (settle_words (is_settled (get v.forms i)) (length p.0)) (ap (λ x. table_of x.now) e.heap)
+    (settled_step v w l t i p.0 s.belongs.5 e.continues (λ h. (e.again h).1) (c.in-Ok.ensures.used p.0 p.1)))
 
 pub returns-in-Ok-clause-history : goal.returns-in-Ok-clause-history
-returns-in-Ok-clause-history c = history_reads c.args.self.now.text.agent.seat.me.0 c.settle.new.self.agent.seat.me.0 c.settle.ensures.reads
+returns-in-Ok-clause-history c = history_continues c.args.self.now.text.agent.seat.me.0 c.settle.new.self.agent.seat.me.0 c.settle.ensures.continues
 
--- a string is flat so far, so settling it isn't refused
 pub returns-in-Err-clause-step : goal.returns-in-Err-clause-step
-returns-in-Err-clause-step c = let bad = c.in-Err.ensures.ok in absurd (cc)
+returns-in-Err-clause-step c = let s = c.args.self.now in let v : View = s.text.agent.seat.me.0 in let w : View = c.settle.new.self.agent.seat.me.0 in let i = c.args.s.id in let l = limit_units s.limit in let t = table_of s.text.heap.now in
+    let p = has_key v.units i c.requires in let e = c.settle.ensures in let f = c.in-Err.full in
+    let sizes : w.sizes ≡ size_of s.text.heap.now = e.text.1 ∙ ap (λ x. size_of x.now) e.heap in
+    let room : (wide : Bool) × IsNoRoom v w w.sizes p.0 f wide = subst (λ (z : HeapSize). (wide : Bool) × IsNoRoom v w z p.0 f wide) (sym sizes) (c.in-Err.ensures.refused p.0 p.1) in
+    rw c.text_fault.ensures (subst (λ (us : List ℕ). Step (state_by v l t) (state_by w l (table_of c.settle.new.self.heap.now)) (Some (fault_in_text f)) 0 (settle_words (is_settled (get v.forms i)) (length us))) (sym (text_is v.units i p.0 p.1))
+    (step_at v w l t (table_of c.settle.new.self.heap.now) (Some (fault_in_text f)) 0 (settle_words (is_settled (get v.forms i)) (length p.0)) (ap (λ x. table_of x.now) e.heap)
+    (settle_refused v w l t i p.0 s.belongs.5 e.continues f (λ h. let bad = (c.in-Err.ensures.again h).0 in absurd (cc)) room)))
 
 pub returns-in-Err-clause-no_slots : goal.returns-in-Err-clause-no_slots
-returns-in-Err-clause-no_slots c = let bad = c.in-Err.ensures.ok in absurd (cc)
+returns-in-Err-clause-no_slots c = rw c.text_fault.ensures (never_slots c.in-Err.full)
 
 pub returns-in-Err-clause-history : goal.returns-in-Err-clause-history
-returns-in-Err-clause-history c = history_reads c.args.self.now.text.agent.seat.me.0 c.settle.new.self.agent.seat.me.0 c.settle.ensures.reads
+returns-in-Err-clause-history c = history_continues c.args.self.now.text.agent.seat.me.0 c.settle.new.self.agent.seat.me.0 c.settle.ensures.continues
+
+pub invariant_of-self-clause-last_kept : goal.invariant_of-self-clause-last_kept
+invariant_of-self-clause-last_kept c = let s = c.args.self.now in let v : View = s.text.agent.seat.me.0 in let w : View = c.settle.new.self.agent.seat.me.0 in kept_by v w (c.settle.ensures.continues.known) s.last s.last_kept
+
+pub invariant_of-self-clause-older_kept : goal.invariant_of-self-clause-older_kept
+invariant_of-self-clause-older_kept c = let s = c.args.self.now in let v : View = s.text.agent.seat.me.0 in let w : View = c.settle.new.self.agent.seat.me.0 in kept_by v w (c.settle.ensures.continues.known) s.older s.older_kept

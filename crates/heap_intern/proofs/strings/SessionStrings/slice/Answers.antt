@@ -13,6 +13,7 @@ use Rattle.heap_intern.specs.Faults.{fault_in_text}
 use Rattle.heap_intern.specs.Sessions.{state_by}
 use Rattle.heap_intern.proofs.Calls.{cut_err, cut_ok}
 use Rattle.heap_intern.proofs.States.{settled_test, step_at, test_settled, text_is}
+use Rattle.heap_intern.proofs.Lately.{kept_by}
 use Rattle.heap_intern.proofs.strings.SessionStrings.slice.Goals as goal
 
 pub slice-requires-clause-settled : goal.slice-requires-clause-settled
@@ -43,3 +44,9 @@ returns-in-Err-clause-step c = let s = c.args.self.now in let v : View = s.text.
     rw c.text_fault.ensures (subst (λ (xs : List ℕ). Step (state_by v l t) (state_by w l (table_of c.slice.new.self.heap.now)) (Some (fault_in_text c.in-Err.full)) (cut_ids c.args.from c.args.to (length xs)) (cut_words c.args.from c.args.to (length xs))) (sym (text_is v.units c.args.s.id u.0 u.1))
     (step_at v w l t (table_of c.slice.new.self.heap.now) (Some (fault_in_text c.in-Err.full)) (cut_ids c.args.from c.args.to (length u.0)) (cut_words c.args.from c.args.to (length u.0)) (ap (λ x. table_of x.now) e.heap)
     (cut_err v w l t c.args.s u.0 c.args.from c.args.to s.belongs.5 e.continues c.requires.order within c.in-Err.full cut)))
+
+pub invariant_of-self-clause-last_kept : goal.invariant_of-self-clause-last_kept
+invariant_of-self-clause-last_kept c = let s = c.args.self.now in let v : View = s.text.agent.seat.me.0 in let w : View = c.slice.new.self.agent.seat.me.0 in kept_by v w (c.slice.ensures.continues.known) s.last s.last_kept
+
+pub invariant_of-self-clause-older_kept : goal.invariant_of-self-clause-older_kept
+invariant_of-self-clause-older_kept c = let s = c.args.self.now in let v : View = s.text.agent.seat.me.0 in let w : View = c.slice.new.self.agent.seat.me.0 in kept_by v w (c.slice.ensures.continues.known) s.older s.older_kept

@@ -1,0 +1,99 @@
+use Rattle.std.proofs.Common.{◌≡◌, ◌∙◌, ℕ, Bool, List, true, [], ◌∷◌, None, Some, Ok, Err, length, ap, subst, sym, arith}
+use Rattle.std.specs.Prelude.{unwrap_or}
+use Rattle.std.specs.FinMap.{get}
+use Rattle.js_header.specs.declared.form.Form.TheVariants.{Flat}
+use Rattle.js_store.specs.Faults.{Step}
+use Rattle.js_store.specs.Limits.{limit_units}
+use Rattle.js_store.specs.Rows.{intern_words, settle_words}
+use Rattle.js_store.proofs.Laws.{step_after, step_within}
+use Rattle.heap_rule.specs.declared.size.HeapSize.{HeapSize}
+use Rattle.heap_rule.specs.declared.view.View.{View}
+use Rattle.heap_rule.specs.Maps.{Has}
+use Rattle.heap_rule.proofs.MapLemmas.{has_key}
+use Rattle.heap_table.specs.Agents.{size_of}
+use Rattle.heap_text.specs.Settling.{IsNoRoom}
+use Rattle.heap_slots.proofs.Loading.{slots_few, slots_from, slots_most, slots_none}
+use Rattle.heap_intern.specs.Faults.{fault_in_table, fault_in_text}
+use Rattle.heap_intern.specs.Sessions.{is_settled, state_by, table_of}
+use Rattle.heap_intern.proofs.Calls.{interned_err, interned_ok, settle_refused, settled_step, shut_text}
+use Rattle.heap_intern.proofs.Rows.{settle_part}
+use Rattle.heap_text.proofs.Loaded.{known_trans}
+use Rattle.heap_intern.proofs.Lately.{interns_known, kept_by}
+use Rattle.heap_intern.proofs.States.{history_continues, settled_test, step_at, text_is}
+use Rattle.heap_intern.proofs.session.Session.intern_counted.Goals as goal
+
+pub returns-in-Ok-intern_counted-clause-ok : goal.returns-in-Ok-intern_counted-clause-ok
+returns-in-Ok-intern_counted-clause-ok g c = let v : View = c.args.self.now.text.agent.seat.me.0 in let w : View = c.intern_counted.new.agent.seat.me.0 in let u = has_key v.units c.args.s.id c.requires in let e = c.settle.ensures in
+    let i = c.in-Ok-intern_counted.ensures.interns u.0 (e.continues.known.units c.args.s.id u.0 u.1) in let id = c.in-Ok-intern_counted.id in (
+      subst (Has w.units id) (sym (text_is v.units c.args.s.id u.0 u.1)) i.2.1,
+      settled_test w id (Flat i.2.0.0 i.2.0.1 true, i.2.0.2, λ x. x),
+      settled_test w c.args.s.id (i.0.known.settled c.args.s.id c.in-Ok.ensures.settled),
+    )
+
+pub returns-in-Ok-intern_counted-clause-step : goal.returns-in-Ok-intern_counted-clause-step
+returns-in-Ok-intern_counted-clause-step g c = let s = c.args.self.now in let v : View = s.text.agent.seat.me.0 in let x : View = c.settle.new.self.agent.seat.me.0 in let w : View = c.intern_counted.new.agent.seat.me.0 in
+    let u = has_key v.units c.args.s.id c.requires in let e = c.settle.ensures in let l = limit_units s.limit in let t = table_of s.text.heap.now in
+    let i = c.in-Ok-intern_counted.ensures.interns u.0 (e.continues.known.units c.args.s.id u.0 u.1) in
+    step_at v w l t (table_of c.settle.new.self.heap.now) None 1 (intern_words (is_settled (get v.forms c.args.s.id)) (length (unwrap_or (get v.units c.args.s.id) []))) (ap (λ y. table_of y.now) e.heap)
+    (step_after (subst (λ (us : List ℕ). Step (state_by v l t) (state_by x l t) None 0 (settle_words (is_settled (get v.forms c.args.s.id)) (length us))) (sym (text_is v.units c.args.s.id u.0 u.1)) (settled_step v x l t c.args.s.id u.0 s.belongs.5 e.continues (λ h. (e.again h).1) (c.in-Ok.ensures.used u.0 u.1))) (interned_ok x w l t ((u.0, c.in-Ok-intern_counted.id) ∷ []) 0 e.text.5 i.0 i.1) (omega arith) (settle_part (is_settled (get v.forms c.args.s.id)) (length (unwrap_or (get v.units c.args.s.id) []))))
+
+pub returns-in-Err-intern_counted-clause-step : goal.returns-in-Err-intern_counted-clause-step
+returns-in-Err-intern_counted-clause-step g c = let s = c.args.self.now in let v : View = s.text.agent.seat.me.0 in let x : View = c.settle.new.self.agent.seat.me.0 in let w : View = c.intern_counted.new.agent.seat.me.0 in
+    let u = has_key v.units c.args.s.id c.requires in let e = c.settle.ensures in let l = limit_units s.limit in let t = table_of s.text.heap.now in let f = c.in-Err-intern_counted.full in
+    let i = c.in-Err-intern_counted.ensures.interns u.0 (e.continues.known.units c.args.s.id u.0 u.1) in
+    rw c.table_fault.ensures (step_at v w l t (table_of c.settle.new.self.heap.now) (Some (fault_in_table f)) 1 (intern_words (is_settled (get v.forms c.args.s.id)) (length (unwrap_or (get v.units c.args.s.id) []))) (ap (λ y. table_of y.now) e.heap)
+    (step_after (subst (λ (us : List ℕ). Step (state_by v l t) (state_by x l t) None 0 (settle_words (is_settled (get v.forms c.args.s.id)) (length us))) (sym (text_is v.units c.args.s.id u.0 u.1)) (settled_step v x l t c.args.s.id u.0 s.belongs.5 e.continues (λ h. (e.again h).1) (c.in-Ok.ensures.used u.0 u.1))) (interned_err x w u.0 l t f 0 e.text.5 i.0 i.1) (omega arith) (settle_part (is_settled (get v.forms c.args.s.id)) (length (unwrap_or (get v.units c.args.s.id) [])))))
+
+-- the string wasn't settled, and there is no room to settle it
+pub returns-in-Err-clause-step : goal.returns-in-Err-clause-step
+returns-in-Err-clause-step g c = let s = c.args.self.now in let v : View = s.text.agent.seat.me.0 in let w : View = c.settle.new.self.agent.seat.me.0 in let i = c.args.s.id in let l = limit_units s.limit in let t = table_of s.text.heap.now in
+    let p = has_key v.units i c.requires in let e = c.settle.ensures in let f = c.in-Err.full in
+    let sizes : w.sizes ≡ size_of s.text.heap.now = e.text.1 ∙ ap (λ x. size_of x.now) e.heap in
+    let room : (wide : Bool) × IsNoRoom v w w.sizes p.0 f wide = subst (λ (z : HeapSize). (wide : Bool) × IsNoRoom v w z p.0 f wide) (sym sizes) (c.in-Err.ensures.refused p.0 p.1) in
+    let part = settle_part (is_settled (get v.forms i)) (length p.0) in
+    rw c.text_fault.ensures (subst (λ (us : List ℕ). Step (state_by v l t) (state_by w l (table_of c.settle.new.self.heap.now)) (Some (fault_in_text f)) 1 (intern_words (is_settled (get v.forms i)) (length us))) (sym (text_is v.units i p.0 p.1))
+    (step_at v w l t (table_of c.settle.new.self.heap.now) (Some (fault_in_text f)) 1 (intern_words (is_settled (get v.forms i)) (length p.0)) (ap (λ x. table_of x.now) e.heap)
+    (step_within (settle_refused v w l t i p.0 s.belongs.5 e.continues f (λ h. let bad = (c.in-Err.ensures.again h).0 in absurd (cc)) room) (omega arith) (omega arith))))
+
+pub returns-in-Err-clause-kept : goal.returns-in-Err-clause-kept
+returns-in-Err-clause-kept g c = history_continues c.args.self.now.text.agent.seat.me.0 c.settle.new.self.agent.seat.me.0 c.settle.ensures.continues
+
+pub returns-in-Err-clause-shut : goal.returns-in-Err-clause-shut
+returns-in-Err-clause-shut g c = let s = c.args.self.now in rw c.text_fault.ensures (shut_text c.settle.new.self.agent.seat.me.0 (limit_units s.limit) (table_of c.settle.new.self.heap.now) c.in-Err.full _)
+
+pub returns-in-Ok-intern_counted-clause-loads : goal.returns-in-Ok-intern_counted-clause-loads
+returns-in-Ok-intern_counted-clause-loads g c = let e = c.settle.ensures.continues in
+    slots_from c.args.self.now.text.agent.seat.me.0 c.settle.new.self.agent.seat.me.0 c.intern_counted.new.agent.seat.me.0 (Some c.in-Ok-intern_counted.id) c.args.steps.now c.intern_counted.new.steps e.slot_loads e.sizes c.in-Ok-intern_counted.ensures.loads
+
+pub returns-in-Ok-intern_counted-clause-few : goal.returns-in-Ok-intern_counted-clause-few
+returns-in-Ok-intern_counted-clause-few g c = slots_few c.args.self.now.text.agent.seat.me.0 c.intern_counted.new.agent.seat.me.0 (Some c.in-Ok-intern_counted.id) c.args.steps.now c.intern_counted.new.steps (returns-in-Ok-intern_counted-clause-loads g c)
+
+pub returns-in-Ok-intern_counted-clause-most : goal.returns-in-Ok-intern_counted-clause-most
+returns-in-Ok-intern_counted-clause-most g c = slots_most c.args.self.now.text.agent.seat.me.0 c.intern_counted.new.agent.seat.me.0 (Some c.in-Ok-intern_counted.id) c.args.steps.now c.intern_counted.new.steps (returns-in-Ok-intern_counted-clause-loads g c)
+
+pub returns-in-Err-intern_counted-clause-loads : goal.returns-in-Err-intern_counted-clause-loads
+returns-in-Err-intern_counted-clause-loads g c = let e = c.settle.ensures.continues in
+    slots_from c.args.self.now.text.agent.seat.me.0 c.settle.new.self.agent.seat.me.0 c.intern_counted.new.agent.seat.me.0 None c.args.steps.now c.intern_counted.new.steps e.slot_loads e.sizes c.in-Err-intern_counted.ensures.loads
+
+pub returns-in-Err-intern_counted-clause-few : goal.returns-in-Err-intern_counted-clause-few
+returns-in-Err-intern_counted-clause-few g c = slots_few c.args.self.now.text.agent.seat.me.0 c.intern_counted.new.agent.seat.me.0 None c.args.steps.now c.intern_counted.new.steps (returns-in-Err-intern_counted-clause-loads g c)
+
+pub returns-in-Err-intern_counted-clause-most : goal.returns-in-Err-intern_counted-clause-most
+returns-in-Err-intern_counted-clause-most g c = slots_most c.args.self.now.text.agent.seat.me.0 c.intern_counted.new.agent.seat.me.0 None c.args.steps.now c.intern_counted.new.steps (returns-in-Err-intern_counted-clause-loads g c)
+
+-- a string that is not settled is looked for nowhere
+pub returns-in-Err-clause-loads : goal.returns-in-Err-clause-loads
+returns-in-Err-clause-loads g c = slots_none c.args.self.now.text.agent.seat.me.0 c.settle.new.self.agent.seat.me.0 None c.args.steps.now c.settle.ensures.continues.slot_loads
+
+pub returns-in-Err-clause-few : goal.returns-in-Err-clause-few
+returns-in-Err-clause-few g c = slots_few c.args.self.now.text.agent.seat.me.0 c.settle.new.self.agent.seat.me.0 None c.args.steps.now c.args.steps.now (returns-in-Err-clause-loads g c)
+
+pub invariant_of-self-2-clause-last_kept : goal.invariant_of-self-2-clause-last_kept
+invariant_of-self-2-clause-last_kept g c = let s = c.args.self.now in let v : View = s.text.agent.seat.me.0 in let x : View = c.settle.new.self.agent.seat.me.0 in let w : View = c.intern_counted.new.agent.seat.me.0 in
+    let e = c.settle.ensures in let u = has_key v.units c.args.s.id c.requires in
+    kept_by v w (known_trans v x w e.continues.known (interns_known x w u.0 c.intern_counted.result (c.intern_counted.ensures.interns u.0 (e.continues.known.units c.args.s.id u.0 u.1)))) s.last s.last_kept
+
+pub invariant_of-self-2-clause-older_kept : goal.invariant_of-self-2-clause-older_kept
+invariant_of-self-2-clause-older_kept g c = let s = c.args.self.now in let v : View = s.text.agent.seat.me.0 in let x : View = c.settle.new.self.agent.seat.me.0 in let w : View = c.intern_counted.new.agent.seat.me.0 in
+    let e = c.settle.ensures in let u = has_key v.units c.args.s.id c.requires in
+    kept_by v w (known_trans v x w e.continues.known (interns_known x w u.0 c.intern_counted.result (c.intern_counted.ensures.interns u.0 (e.continues.known.units c.args.s.id u.0 u.1)))) s.older s.older_kept

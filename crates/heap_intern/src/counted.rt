@@ -1,0 +1,69 @@
+// Interning, with a count of the loads of slots.
+ghost use Rattle.std.specs.Prelude.{◌≡◌, ℕ, [], ◌∷◌, ◌++◌, ◌+◌, ◌*◌, ◌≤◌, ◌<◌, length, IfOk, OnErr};
+ghost use Rattle.js_store.specs.Faults.{SlotsShut, Step, fault_of};
+ghost use Rattle.js_store.specs.Rows.{intern_words};
+ghost use Rattle.js_store.specs.State.{Has, IsKnown, IsSettled, text};
+ghost use Rattle.heap_slots.specs.SlotLoads.{LoadsSlots, loads_at};
+ghost use Rattle.heap_intern.specs.Counted.{answered};
+ghost use Rattle.heap_intern.specs.Sessions.{state_in, view_in};
+
+use crate::faults::{table_fault, text_fault};
+use crate::session::Session;
+use heap_slots::intern_counted;
+use heap_steps::Steps;
+use heap_text::JsStr;
+use js_store::StoreFault;
+use std::sync::ledger::{Blank, Ledger};
+
+impl<'h> Session<'h> {
+    /// As `intern` of a store, and counts each load of a slot of the string table. No slot is
+    /// loaded twice but the one that answers: once more after its units were compared, which
+    /// enters the call in the history.
+    pub fn intern_counted<L: Ledger>(
+        &mut self,
+        s: JsStr,
+        steps: &mut Steps<L>,
+    ) -> Result<JsStr, StoreFault>
+        requires { IsKnown (state_in self.old) s.id }
+        ensures ok { IfOk result (λ r. Has (state_in self.new) r.id (text (state_in self.old) s.id) × IsSettled (state_in self.new) r.id × IsSettled (state_in self.new) s.id) }
+        ensures step { Step (state_in self.old) (state_in self.new) (fault_of result) 1
+            (intern_words ((state_in self.old).settled s.id) (length (text (state_in self.old) s.id))) }
+        ensures grown { IfOk result (λ r. (state_in self.new).history ≡ (state_in self.old).history ++ (text (state_in self.old) s.id, r.id) ∷ []) }
+        ensures kept { OnErr result ((state_in self.new).history ≡ (state_in self.old).history) }
+        ensures shut { SlotsShut (state_in self.new) (fault_of result) (text (state_in self.old) s.id) }
+        ensures loads { LoadsSlots (view_in self.old) (view_in self.new) (answered result) steps.old steps.new }
+        ensures few { (k : ℕ) → loads_at (view_in self.new) k ≤ loads_at (view_in self.old) k + 2 }
+        ensures most { steps.new ≤ steps.old + 2 * (state_in self.old).sizes.slots }
+    {
+        match self.text.settle(s) {
+            Ok(()) => {}
+            Err(full) => return Err(text_fault(full)),
+        }
+        let heap = self.text.heap;
+        match intern_counted(&mut self.text.agent, heap, s.id, steps) {
+            Ok(id) => Ok(JsStr { id }),
+            Err(full) => Err(table_fault(full)),
+        }
+    }
+
+    // The ledger of a caller that counts nothing.
+    pub(crate) fn intern_by<L: Ledger>(
+        &mut self,
+        s: JsStr,
+        blank: Blank,
+    ) -> Result<JsStr, StoreFault>
+        requires name { blank.name ≡ L.name }
+        requires parts { blank.parts ≡ L.parts }
+        requires some { 0 < blank.parts }
+        requires known { IsKnown (state_in self.old) s.id }
+        ensures ok { IfOk result (λ r. Has (state_in self.new) r.id (text (state_in self.old) s.id) × IsSettled (state_in self.new) r.id × IsSettled (state_in self.new) s.id) }
+        ensures step { Step (state_in self.old) (state_in self.new) (fault_of result) 1
+            (intern_words ((state_in self.old).settled s.id) (length (text (state_in self.old) s.id))) }
+        ensures grown { IfOk result (λ r. (state_in self.new).history ≡ (state_in self.old).history ++ (text (state_in self.old) s.id, r.id) ∷ []) }
+        ensures kept { OnErr result ((state_in self.new).history ≡ (state_in self.old).history) }
+        ensures shut { SlotsShut (state_in self.new) (fault_of result) (text (state_in self.old) s.id) }
+    {
+        let mut steps = Steps::<L>::start(blank);
+        self.intern_counted(s, &mut steps)
+    }
+}
