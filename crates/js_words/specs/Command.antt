@@ -1,0 +1,47 @@
+-- The command: its options with their defaults, and the words that name files.
+use Rattle.std.specs.Prelude.{List, [], ◌∷◌, Bool, Some, codes, fold, pos}
+use Rattle.clap.specs.declared.builder.action.ArgAction.TheVariants.{Append, SetTrue}
+use Rattle.clap.specs.declared.builder.value_parser.ValueParser.TheVariants as parser
+use Rattle.clap.specs.Walk.{is_empty}
+use Rattle.clap.specs.Words.{App, Rule, Text, fault_of, new_app, new_rule, with_rule}
+
+-- `--NAME VALUE` or `--NAME=VALUE`
+abbrev pub option_rule : Text → Rule
+option_rule name = record (new_rule name) { long = Some name }
+
+-- the same, where the value is a number of 32 bits
+abbrev pub number_rule : Text → Rule
+number_rule name = record (option_rule name) { parser = Some (parser.Signed (pos 0) (pos 4294967295)) }
+
+-- the same, with the value that it has where the words give none
+abbrev pub defaulted_rule : Text → Text → Rule
+defaulted_rule name value = record (number_rule name) { defaults = value ∷ [] }
+
+-- `--NAME`
+abbrev pub flag_rule : Text → Rule
+flag_rule name = record (option_rule name) { action = Some SetTrue }
+
+-- words that name files, each of them a use of the argument
+abbrev pub file_rule : Rule
+file_rule = record (new_rule (codes "FILE")) { action = Some Append }
+
+abbrev pub rules : List Rule
+rules =
+    option_rule (codes "prelude")
+    ∷ defaulted_rule (codes "jobs") (codes "4")
+    ∷ defaulted_rule (codes "ids") (codes "262144")
+    ∷ defaulted_rule (codes "heap-words") (codes "4194304")
+    ∷ defaulted_rule (codes "slots") (codes "65536")
+    ∷ flag_rule (codes "summary")
+    ∷ number_rule (codes "generate")
+    ∷ defaulted_rule (codes "limit") (codes "64")
+    ∷ file_rule
+    ∷ []
+
+-- the command: these arguments, and what a command of clap has by itself, `-h`, `--help` and `--`
+abbrev pub command : App
+command = fold with_rule (new_app (codes "jsstr")) rules
+
+-- the command gives matches for the words, of which the first is the program's name: it refuses none, and none asks for help
+abbrev pub gives_matches : List Text → Bool
+gives_matches words = is_empty (fault_of command words)

@@ -1,0 +1,15 @@
+//! The words of the command line: which of them are lawful, and what they ask for.
+//!
+//! [`read_words`] answers a [`Plan`]. It opens no file and prints nothing.
+#![tactic(auto)]
+
+mod command;
+mod options;
+mod plan;
+mod words;
+
+pub use plan::{Plan, Sizes, Source, WordsFault};
+pub use words::read_words;
+
+#[cfg(test)]
+mod tests;
