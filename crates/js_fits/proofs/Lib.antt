@@ -1,0 +1,4 @@
+pub mod Counts
+pub mod Files
+pub mod First
+pub mod Tells

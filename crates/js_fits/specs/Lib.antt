@@ -1,0 +1,4 @@
+pub mod Fits
+pub mod Files
+pub mod Tells
+pub mod Laws
