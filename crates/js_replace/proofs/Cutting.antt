@@ -1,10 +1,10 @@
 -- The parts of a string, one after another.
 use Rattle.std.proofs.Common.{arith, ◌≡◌, ℕ, zero, suc, ◌+◌, ◌-◌, ◌<◌, ◌≤◌, min, max, List, [], ◌∷◌, ◌++◌, length, length-append, refl, ap, sym, ◌∙◌, subst, take, drop, get_or, append_assoc, append-nil, cond, Bool, true, false, inl, inr}
-use Rattle.std.specs.Prelude.{Option, Some, None, slice_range}
+use Rattle.std.specs.Prelude.{Option, Some, None, slice_range, nat_lt, if◌then◌else◌}
 use Rattle.std.proofs.lemmas.List.{get_or_default, map-append, length-map, length-take, length-drop, take_all}
 use Rattle.std.proofs.lemmas.Bool.Decides.{leb_tells}
 use Rattle.js_store.specs.State.{State, Grows, Has, IsKnown, text}
-use Rattle.js_store.specs.Rows.{copy_words, cut_words, is_whole}
+use Rattle.js_store.specs.Rows.{copy_words, cut_words, is_whole, wide_words}
 use Rattle.js_store.specs.Faults.{Step}
 use Rattle.js_store.specs.declared.faults.StoreFault.{StoreFault}
 use Rattle.js_store.proofs.Laws.{step_after, has_text, has_known}
@@ -22,8 +22,12 @@ by_bool : (b : Bool) (m n k : ℕ) → m ≤ k → n ≤ k → cond b m n ≤ k
 by_bool true m n k p q = p
 by_bool false m n k p q = q
 
+short_copy : (b : Bool) (m : ℕ) → cond b 3 0 ≤ cond b 3 m
+short_copy true m = omega arith
+short_copy false m = omega arith
+
 pub cut_copy : (from to n : ℕ) → cut_words from to n ≤ copy_words (to - from)
-cut_copy from to n = by_bool (is_whole from to n) 0 (copy_words (to - from)) (copy_words (to - from)) (omega arith) (omega arith)
+cut_copy from to n = by_bool (is_whole from to n) 0 (if nat_lt (to - from) 13 then 3 else 0) (copy_words (to - from)) (omega arith) (short_copy (nat_lt (to - from) 13) (wide_words (to - from)))
 
 module _ {F R : Type 0} (name : R → ℕ) where
   pub texts_push : (a b : State F) (rs qs : List R) (r : R) (u : List ℕ) → Grows a b → AllKnown a name rs → Has b (name r) u → qs ≡ rs ++ r ∷ [] → texts b name qs ≡ texts a name rs ++ u ∷ []
