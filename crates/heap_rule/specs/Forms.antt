@@ -21,11 +21,6 @@ abbrev pub IsSolidForm : Option Form → Type 0
 IsSolidForm None = ⊥
 IsSolidForm (Some f) = IsSolid f
 
--- the forms whose births are built: a Flat alone, until there are ropes
-abbrev pub IsBuilt : Form → Type 0
-IsBuilt (Flat wide start fixed) = Unit {0}
-IsBuilt _ = ⊥
-
 abbrev pub is_thin : Form → Bool
 is_thin (Thin target) = true
 is_thin _ = false

@@ -6,13 +6,13 @@ use Rattle.std.specs.Ordering.{nat_cmp}
 use Rattle.std.specs.FinMap.{FinMap}
 use Rattle.js_header.specs.Form.{form_of}
 use Rattle.js_header.specs.declared.form.Form.{Form}
-use Rattle.js_header.specs.declared.form.Form.TheVariants.{Flat, Sliced, Thin}
+use Rattle.js_header.specs.declared.form.Form.TheVariants.{Flat, Thin}
 use Rattle.heap_rule.specs.declared.view.View.{View}
 use Rattle.heap_rule.specs.declared.size.HeapSize.{HeapSize}
 use Rattle.heap_rule.specs.Layout.{content, form, length_word, slot, IsBorn}
 use Rattle.heap_rule.specs.Contents.{units_of}
 use Rattle.heap_rule.specs.Maps.{Has, HasKey, upper_one}
-use Rattle.heap_rule.specs.Forms.{IsLater, later_form}
+use Rattle.heap_rule.specs.Forms.{later_form}
 use Rattle.heap_rule.specs.Agents.{joined, spent}
 use Rattle.std.proofs.Math.Logic.{∥∥₁_elim}
 use Rattle.std.proofs.Props.{props}
@@ -20,11 +20,12 @@ use Rattle.heap_rule.specs.Sound.{At, IsSound, IsPossible, StandsIn, Knows, Know
 use Rattle.heap_rule.proofs.MapLemmas.{has_key, key_of}
 use Rattle.heap_rule.proofs.ListLemmas.{set_else, set_there}
 use Rattle.heap_rule.proofs.Joining.{keeps_joined, laid_keeps, laid_takes}
-use Rattle.heap_table.specs.Rule.{MayStand, AllMayStand}
+use Rattle.heap_table.specs.Rule.{AreSeenAlike}
 use Rattle.heap_table.specs.Known.{KeepsKnown, HasAll}
 use Rattle.heap_table.specs.Taken.{same_number, fits_form, has_all, agree, taken}
-use Rattle.heap_table.proofs.Fitting.{fits_same, same_met, same_number_decides, fits_true, fits_met, fits_self, fits_early, fits_flat, fits_settled, fits_later}
-use Rattle.heap_table.proofs.LaterForms.{IsSeen, laid_stays, laid_comes}
+use Rattle.heap_table.proofs.Fitting.{fits_same, same_met, same_number_decides, fits_true, fits_met, fits_flat, fits_thin, fits_settled, fits_later}
+use Rattle.heap_table.proofs.Alike.{now_born}
+use Rattle.heap_table.proofs.LaterForms.{IsSeen, lower_fits, upper_fits}
 
 -- what the one view has of each key, the other has
 record HasKeys (v w : View) : Type 0 where
@@ -66,17 +67,10 @@ one_value : {X : Type 0} (P : ℕ → X → Type 0) → ((q : ℕ) (x y : X) →
     → ((q : ℕ) → HasKey m q → HasKey n q) → (q : ℕ) (x : X) → Has m q x → Has n q x
 one_value P one m n f g keys q x h = let p = has_key n q (keys q (key_of m q x h)) in p.1 ∙ ap Some (sym (one q x p.0 (f q x h) (g q p.0 p.1)))
 
-module _ (z : HeapSize) (W : List ℕ) (stand : AllMayStand z W) where
+module _ (z : HeapSize) (W : List ℕ) where
   -- a form that was seen is the one that stands, or an earlier one
   seen_form : (vs : List View) (q : ℕ) (x now : Form) → KnowsForm z W vs q x → form_of (form z W q) ≡ Some now → IsSeen now x
   seen_form vs q x now k e = let some_same : Some k.now ≡ Some now = sym k.decodes ∙ e in let same : k.now ≡ now = cc in subst (λ (g : Form). IsSeen g x) same k.later
-
-  -- a form that was seen is met by the joined view's, which has the form that stands where it was seen
-  form_met : (vs : List View) (q : ℕ) (x : Form) → KnowsForm z W vs q x → (n : FinMap nat_cmp Form) → HasKey n q → ((now : Form) → form_of (form z W q) ≡ Some now → x ≡ now → Has n q now) → (y : Form) × Has n q y × (fits_form x y ≡ true)
-  form_met vs q x k n key stands = let b : MayStand k.now = stand q k.now k.born k.decodes in ⊎_elim
-      (λ (e : x ≡ k.now). (k.now, stands k.now k.decodes e, subst (λ (f : Form). fits_form f k.now ≡ true) (sym e) (fits_self k.now b)))
-      (λ (l : IsLater x k.now). let p = has_key n q key in (p.0, p.1, fits_early x k.now p.0 b l))
-      k.later
 
   -- two views that are right of the same words
   module _ (vs vs' : List View) (u w : View) (ku : Knows z W vs u) (kw : Knows z W vs' w) (iu : OwnsIds z W u.own_ids) (iw : OwnsIds z W w.own_ids) (ou : OwnsWords z W u.own_words) (ow : OwnsWords z W w.own_words) (keys : HasKeys u w) where
@@ -90,7 +84,7 @@ module _ (z : HeapSize) (W : List ℕ) (stand : AllMayStand z W) where
         (and_from _ _ (fits_same same_number u.own_ids w.own_ids same_number_decides (one_value (λ i n. length_word z W i ≡ n) (λ q x y p r. sym p ∙ r) u.own_ids w.own_ids (λ q x h. (iu.each q x h).2) (λ q x h. (iw.each q x h).2) keys.own_ids))
         (fits_same same_number u.own_words w.own_words same_number_decides (one_value (λ c x. content z W c ≡ x) (λ q x y p r. sym p ∙ r) u.own_words w.own_words (λ q x h. (ou.each q x h).1) (λ q x h. (ow.each q x h).1) keys.own_words)))))))
 
-module _ (z : HeapSize) (agents : ℕ) (W : List ℕ) (vs : List View) (s : IsSound z agents W vs) (stand : AllMayStand z W) (j o : ℕ) (v b : View) (ne : j ≢ o) (at : At vs j v) (live : v.live ≡ true) (at_other : At vs o b) (live_other : b.live ≡ true) where
+module _ (z : HeapSize) (agents : ℕ) (W : List ℕ) (vs : List View) (s : IsSound z agents W vs) (alike : AreSeenAlike vs) (j o : ℕ) (v b : View) (ne : j ≢ o) (at : At vs j v) (live : v.live ≡ true) (at_other : At vs o b) (live_other : b.live ≡ true) where
   abbrev w : View
   w = joined v b
 
@@ -104,15 +98,14 @@ module _ (z : HeapSize) (agents : ℕ) (W : List ℕ) (vs : List View) (s : IsSo
   here = set_else (set vs j w) o j spent ne ∙ set_there vs j w v at
 
   own_stays : has_all v w ≡ true
-  own_stays = test_passes z W stand vs vs' v w (s.knows j v at live) (kept.knows j w here live) (s.own_ids j v at live) (kept.own_ids j w here live) (s.own_words j v at live) (kept.own_words j w here live) (keys_stay v b)
-      (λ q x h. let k = (s.knows j v at live).of_forms q x h in form_met z W stand vs q x k w.forms (laid_keeps later_form v.forms b.forms q (key_of v.forms q x h))
-      (λ now e is. laid_stays b.forms q now (λ y g. seen_form z W stand vs q y now ((s.knows o b at_other live_other).of_forms q y g) e) v.forms (h ∙ ap Some is)))
+  own_stays = test_passes z W vs vs' v w (s.knows j v at live) (kept.knows j w here live) (s.own_ids j v at live) (kept.own_ids j w here live) (s.own_words j v at live) (kept.own_words j w here live) (keys_stay v b)
+      (λ q x h. let k = (s.knows j v at live).of_forms q x h in lower_fits v.forms b.forms q k.now (now_born z agents W vs s q k.now k.born k.decodes) x h k.later
+      (λ g c. seen_form z W vs q g k.now ((s.knows o b at_other live_other).of_forms q g c) k.decodes))
 
   other_comes : has_all b w ≡ true
-  other_comes = test_passes z W stand vs vs' b w (s.knows o b at_other live_other) (kept.knows j w here live) (s.own_ids o b at_other live_other) (kept.own_ids j w here live) (s.own_words o b at_other live_other) (kept.own_words j w here live) (keys_come v b)
-      (λ q x h. let k = (s.knows o b at_other live_other).of_forms q x h in form_met z W stand vs q x k w.forms (laid_takes later_form v.forms b.forms q (key_of b.forms q x h))
-      (λ now e is. laid_comes b.forms q now (λ y g. seen_form z W stand vs q y now ((s.knows o b at_other live_other).of_forms q y g) e) v.forms (h ∙ ap Some is)
-      (λ y g. seen_form z W stand vs q y now ((s.knows j v at live).of_forms q y g) e)))
+  other_comes = test_passes z W vs vs' b w (s.knows o b at_other live_other) (kept.knows j w here live) (s.own_ids o b at_other live_other) (kept.own_ids j w here live) (s.own_words o b at_other live_other) (kept.own_words j w here live) (keys_come v b)
+      (λ q x h. let k = (s.knows o b at_other live_other).of_forms q x h in upper_fits v.forms b.forms q k.now (now_born z agents W vs s q k.now k.born k.decodes) x h k.later
+      (λ f c. (seen_form z W vs q f k.now ((s.knows j v at live).of_forms q f c) k.decodes, alike j v at live o b at_other live_other q f x c h)))
 
   pub both_agree : agree v b ≡ true
   both_agree = and_from _ _ own_stays other_comes
@@ -137,9 +130,8 @@ module _ (v w : View) (keys : HasKeys v w) (test : has_all v w ≡ true) where
   known_by = let a = and_parts _ _ test in let b = and_parts _ _ a.1 in let c = and_parts _ _ b.1 in let d = and_parts _ _ c.1 in record {
     units = same_met bytes_eq v.units w.units bytes_decides a.0;
     lengths = same_met same_number v.lengths w.lengths same_number_decides b.0;
-    flats = λ q wide start fixed h. let t = fits_met fits_form v.forms w.forms c.0 q (Flat wide start fixed) h in t.1 ∙ ap Some (fits_flat wide start fixed t.0 t.2);
-    parts = λ q wide parent offset h. let t = fits_met fits_form v.forms w.forms c.0 q (Sliced wide parent offset) h in let e : false ≡ true = t.2 in absurd (cc);
-    thins = λ q target h. let t = fits_met fits_form v.forms w.forms c.0 q (Thin target) h in let e : false ≡ true = t.2 in absurd (cc);
+    flats = λ q wide start h. let t = fits_met fits_form v.forms w.forms c.0 q (Flat wide start true) h in t.1 ∙ ap Some (fits_flat wide start t.0 t.2);
+    thins = λ q target h. let t = fits_met fits_form v.forms w.forms c.0 q (Thin target) h in t.1 ∙ ap Some (fits_thin target t.0 t.2);
     settled = λ q h. let t = fits_met fits_form v.forms w.forms c.0 q h.0 h.1 in (t.0, t.1, fits_settled h.0 t.0 t.2 h.2);
     frozen = same_met same_number v.frozen w.frozen same_number_decides d.0;
     known = λ q h. ⊎_elim (λ (t : HasKey v.units q). inl (keys.units q t)) (λ (t : HasKey v.met q). inr (keys.met q t)) h;

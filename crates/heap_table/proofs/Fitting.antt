@@ -1,5 +1,5 @@
 -- The test whether one map has what another has, and what it says of two forms.
-use Rattle.std.proofs.Common.{◌≡◌, ℕ, Bool, true, false, ◌||◌, List, [], ◌∷◌, refl, sym, ap, ◌∙◌, subst, ne_eqb, Option, Some, None, Decides}
+use Rattle.std.proofs.Common.{◌≡◌, ℕ, Bool, true, false, ◌||◌, not, List, [], ◌∷◌, refl, sym, ap, ◌∙◌, subst, ne_eqb, Option, Some, None, Decides}
 use Rattle.std.proofs.lemmas.Bool.{and_parts, and_from}
 use mathlib.Core.Logic.{dite}
 use native.Mathlib.Decide.{ℕ_discrete}
@@ -10,10 +10,9 @@ use Rattle.std.specs.FinMap.{FinMap, get, keys, contains_key-keys}
 use Rattle.js_header.specs.declared.form.Form.{Form}
 use Rattle.js_header.specs.declared.form.Form.TheVariants.{Unborn, Flat, Cons, Sliced, Thin}
 use Rattle.heap_rule.specs.Maps.{Has}
-use Rattle.heap_rule.specs.Forms.{IsCons, IsLater, is_later}
+use Rattle.heap_rule.specs.Forms.{IsCons, is_later}
 use Rattle.heap_rule.proofs.MapLemmas.{key_of}
-use Rattle.heap_table.specs.Rule.{MayStand}
-use Rattle.heap_table.specs.Taken.{fits_there, fits_all, same_number, fits_form}
+use Rattle.heap_table.specs.Taken.{fits_there, fits_all, same_number, is_cons, fits_form}
 
 pub false_true : false ≡ true → ⊥
 false_true e = cc
@@ -61,44 +60,47 @@ module _ {X : Type 0} (fits : X → X → Bool) (m n : FinMap nat_cmp X) where
 pub same_number_decides : (m n : ℕ) → Decides (same_number m n) (m ≡ n)
 same_number_decides m n = unsigned_Decides m n
 
-pub fits_self : (f : Form) → MayStand f → fits_form f f ≡ true
-fits_self (Flat wide start fixed) b = and_from _ _ ((booleans_Decides wide wide).1 refl) (and_from _ _ ((unsigned_Decides start start).1 refl) ((booleans_Decides fixed fixed).1 refl))
-fits_self Unborn b = absurd b
+pub cons_not : (g : Form) → is_cons g ≡ false → IsCons g → ⊥
+cons_not (Cons wide left right) e c = false_true (sym e)
+cons_not Unborn e c = c
+cons_not (Flat wide start fixed) e c = c
+cons_not (Sliced wide parent offset) e c = c
+cons_not (Thin target) e c = c
+
+not_true : (b : Bool) → not b ≡ true → b ≡ false
+not_true false e = refl
+not_true true e = absurd (false_true e)
+
+pub fits_self : (f : Form) → (f ≡ Unborn → ⊥) → fits_form f f ≡ true
+fits_self (Flat wide start true) b = and_from _ _ ((booleans_Decides wide wide).1 refl) (and_from _ _ ((unsigned_Decides start start).1 refl) refl)
+fits_self (Flat wide start false) b = refl
+fits_self Unborn b = absurd (b refl)
 fits_self (Cons wide left right) b = refl
-fits_self (Sliced wide parent offset) b = absurd b
-fits_self (Thin target) b = absurd b
+fits_self (Sliced wide parent offset) b = refl
+fits_self (Thin target) b = (unsigned_Decides target target).1 refl
 
--- any form fits where one was seen that another has followed
-pub fits_early : (f now g : Form) → MayStand now → IsLater f now → fits_form f g ≡ true
-fits_early (Cons wide left right) now g b l = refl
-fits_early Unborn now g b l = absurd (false_true l)
-fits_early (Thin target) now g b l = absurd (false_true l)
-fits_early (Flat wide start true) now g b l = absurd (false_true l)
-fits_early (Flat wide start false) (Flat w s f) g b l = absurd (false_true l)
-fits_early (Flat wide start false) Unborn g b l = absurd b
-fits_early (Flat wide start false) (Cons w s f) g b l = absurd (false_true l)
-fits_early (Flat wide start false) (Sliced w s f) g b l = absurd b
-fits_early (Flat wide start false) (Thin t) g b l = absurd b
-fits_early (Sliced wide start p) (Flat w s f) g b l = absurd (false_true l)
-fits_early (Sliced wide start p) Unborn g b l = absurd b
-fits_early (Sliced wide start p) (Cons w s f) g b l = absurd (false_true l)
-fits_early (Sliced wide start p) (Sliced w s f) g b l = absurd b
-fits_early (Sliced wide start p) (Thin t) g b l = absurd b
+pub fits_flat : (wide : Bool) (start : ℕ) (g : Form) → fits_form (Flat wide start true) g ≡ true → g ≡ Flat wide start true
+fits_flat wide start (Flat w s f) h = let a = and_parts _ _ h in let b = and_parts _ _ a.1 in
+    λ i. Flat (sym ((booleans_Decides wide w).0 a.0) i) (sym ((unsigned_Decides start s).0 b.0) i) (b.1 i)
+fits_flat wide start Unborn h = absurd (false_true h)
+fits_flat wide start (Cons w s f) h = absurd (false_true h)
+fits_flat wide start (Sliced w s f) h = absurd (false_true h)
+fits_flat wide start (Thin t) h = absurd (false_true h)
 
-pub fits_flat : (wide : Bool) (start : ℕ) (fixed : Bool) (g : Form) → fits_form (Flat wide start fixed) g ≡ true → g ≡ Flat wide start fixed
-fits_flat wide start fixed (Flat w s f) h = let a = and_parts _ _ h in let b = and_parts _ _ a.1 in
-    λ i. Flat (sym ((booleans_Decides wide w).0 a.0) i) (sym ((unsigned_Decides start s).0 b.0) i) (sym ((booleans_Decides fixed f).0 b.1) i)
-fits_flat wide start fixed Unborn h = absurd (false_true h)
-fits_flat wide start fixed (Cons w s f) h = absurd (false_true h)
-fits_flat wide start fixed (Sliced w s f) h = absurd (false_true h)
-fits_flat wide start fixed (Thin t) h = absurd (false_true h)
+pub fits_thin : (t : ℕ) (g : Form) → fits_form (Thin t) g ≡ true → g ≡ Thin t
+fits_thin t (Thin u) h = ap Thin (sym ((unsigned_Decides t u).0 h))
+fits_thin t Unborn h = absurd (false_true h)
+fits_thin t (Flat w s f) h = absurd (false_true h)
+fits_thin t (Cons w s f) h = absurd (false_true h)
+fits_thin t (Sliced w s f) h = absurd (false_true h)
 
 pub fits_settled : (f g : Form) → fits_form f g ≡ true → (IsCons f → ⊥) → IsCons g → ⊥
-fits_settled (Flat wide start fixed) g h n c = subst IsCons (fits_flat wide start fixed g h) c
+fits_settled (Flat wide start true) g h n c = subst IsCons (fits_flat wide start g h) c
+fits_settled (Flat wide start false) g h n c = cons_not g (not_true (is_cons g) h) c
 fits_settled (Cons wide left right) g h n c = n tt
 fits_settled Unborn g h n c = absurd (false_true h)
-fits_settled (Sliced wide parent offset) g h n c = absurd (false_true h)
-fits_settled (Thin target) g h n c = absurd (false_true h)
+fits_settled (Sliced wide parent offset) g h n c = cons_not g (not_true (is_cons g) h) c
+fits_settled (Thin target) g h n c = subst IsCons (fits_thin target g h) c
 
 pub not_self : (f : Form) → is_later f f ≡ false
 not_self Unborn = refl
@@ -116,9 +118,27 @@ not_before (Cons wide left right) w l r = refl
 not_before (Sliced wide parent offset) w l r = refl
 not_before (Thin target) w l r = refl
 
+-- only a Cons is earlier than a Flat that is not fixed, and none than a Sliced
+not_earlier : (g : Form) (wide : Bool) (start : ℕ) → is_cons g ≡ false → is_later g (Flat wide start false) ≡ false
+not_earlier (Cons w s p) wide start e = absurd (false_true (sym e))
+not_earlier Unborn wide start e = refl
+not_earlier (Flat w s true) wide start e = refl
+not_earlier (Flat w s false) wide start e = refl
+not_earlier (Sliced w s p) wide start e = refl
+not_earlier (Thin t) wide start e = refl
+
+not_sliced : (g : Form) (wide : Bool) (parent offset : ℕ) → is_later g (Sliced wide parent offset) ≡ false
+not_sliced (Cons w s p) wide parent offset = refl
+not_sliced Unborn wide parent offset = refl
+not_sliced (Flat w s true) wide parent offset = refl
+not_sliced (Flat w s false) wide parent offset = refl
+not_sliced (Sliced w s p) wide parent offset = refl
+not_sliced (Thin t) wide parent offset = refl
+
 pub fits_later : (f g : Form) → fits_form f g ≡ true → is_later g f ≡ false
-fits_later (Flat wide start fixed) g h = ap (λ (x : Form). is_later x (Flat wide start fixed)) (fits_flat wide start fixed g h) ∙ not_self (Flat wide start fixed)
+fits_later (Flat wide start true) g h = ap (λ (x : Form). is_later x (Flat wide start true)) (fits_flat wide start g h) ∙ not_self (Flat wide start true)
+fits_later (Flat wide start false) g h = not_earlier g wide start (not_true (is_cons g) h)
 fits_later (Cons wide left right) g h = not_before g wide left right
 fits_later Unborn g h = absurd (false_true h)
-fits_later (Sliced wide parent offset) g h = absurd (false_true h)
-fits_later (Thin target) g h = absurd (false_true h)
+fits_later (Sliced wide parent offset) g h = not_sliced g wide parent offset
+fits_later (Thin target) g h = ap (λ (x : Form). is_later x (Thin target)) (fits_thin target g h) ∙ not_self (Thin target)

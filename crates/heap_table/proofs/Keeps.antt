@@ -1,5 +1,5 @@
 -- Each step of the table keeps the rule.
-use Rattle.std.proofs.Common.{◌≡◌, ◌≢◌, ℕ, zero, suc, [], ◌∷◌, ◌+◌, ◌^◌, ◌<◌, ◌≤◌, ⊎_elim, eqb, List, length, get_or, set, sym, refl, ap, ◌∙◌, subst, arith, eq-eqb, ne_eqb, cond, Bool, true, false, Option, Some, None}
+use Rattle.std.proofs.Common.{◌≡◌, ◌≢◌, ℕ, zero, suc, [], ◌∷◌, ◌+◌, ◌^◌, ◌<◌, ◌≤◌, ⊎_elim, ◌⊎◌, eqb, List, length, get_or, set, sym, refl, ap, ◌∙◌, subst, arith, eq-eqb, ne_eqb, cond, Bool, true, false, Option, Some, None}
 use Rattle.std.specs.Prelude.{unwrap_or, is_some}
 use Rattle.std.proofs.lemmas.List.{set-get_or}
 use mathlib.Core.Option.{none, some, some-injective}
@@ -10,7 +10,7 @@ use Rattle.atomic_table.specs.Table.{State, step, keeps, Allows, Joins, Splits}
 use Rattle.heap_rule.specs.declared.view.View.{View}
 use Rattle.heap_rule.specs.declared.size.Counter.{Counter}
 use Rattle.heap_rule.specs.declared.size.Counter.TheVariants.{Ids, Words}
-use Rattle.heap_rule.specs.Layout.{IsLawful, counter_at, end_of, content_at, form_at, length_at, slot_at, word_count, MAX}
+use Rattle.heap_rule.specs.Layout.{IsLawful, counter_at, end_of, content_at, form_at, length_at, slot_at, word_count, IsBorn, MAX}
 use Rattle.heap_rule.specs.declared.size.HeapSize.{HeapSize}
 use Rattle.heap_rule.specs.Agents.{joined, spent, noted, left_after_split, right_after_split}
 use Rattle.heap_rule.specs.Loads.{with_form, added_loads, loaded_form, loaded_length, loaded_word, MayLoadWord}
@@ -18,9 +18,9 @@ use Rattle.heap_rule.specs.Slots.{MayEnter, units_by, entry_in, loaded_slot, May
 use Rattle.heap_rule.specs.Learning.{learned_all, all_named}
 use Rattle.heap_rule.specs.Claims.{loaded_counter, claimed, won_claim, MayClaim}
 use Rattle.heap_rule.specs.Births.{stored_word, MayStoreLength, stored_length, Fits, MayBear, freeze_form, born, born_with}
-use Rattle.heap_rule.specs.HeaderMoves.{MayFlatten, flattened, seen_form}
-use Rattle.heap_rule.specs.Forms.{IsCons}
-use Rattle.heap_rule.specs.Kinds.{Keeps, flatten}
+use Rattle.heap_rule.specs.HeaderMoves.{MayFlatten, MayThin, flattened, seen_form, thinned}
+use Rattle.heap_rule.specs.Forms.{IsCons, IsLater, IsSliced, IsSolidForm}
+use Rattle.heap_rule.specs.Kinds.{Keeps, flatten, thin}
 use Rattle.std.proofs.Math.Logic.{∥∥₁_elim}
 use Rattle.std.proofs.Props.{props}
 use Rattle.heap_rule.specs.Sound.{IsSound, IsPossible, StandsIn}
@@ -39,15 +39,17 @@ use Rattle.heap_rule.proofs.Seen.{keeps_loaded_slot}
 use Rattle.heap_rule.proofs.KindsKept.{birth_by, kinds_keep, take_by}
 use Rattle.heap_rule.proofs.Whole.{share_within, whole_counter, whole_slot}
 use Rattle.heap_rule.proofs.Joining.{keeps_joined}
+use Rattle.heap_rule.proofs.Parts.{shown_part_right}
 use Rattle.heap_rule.proofs.Possible.{possible_frozen, possible_lawful}
 use Rattle.heap_rule.proofs.ListLemmas.{set_else, set_there}
 use Rattle.heap_rule.proofs.MapLemmas.{insert_same, has_key, key_of}
 use Rattle.heap_table.specs.declared.rule.HeapKey.{HeapKey}
-use Rattle.heap_table.specs.Rule.{MayBeBorn, MayStand, AllMayStand, KeepsHeap}
+use Rattle.heap_table.specs.Rule.{AreSeenAlike, KeepsHeap}
 use Rattle.heap_table.specs.Taken.{taken}
 use Rattle.heap_table.proofs.Agreeing.{both_agree, taken_is}
-use Rattle.heap_table.proofs.Stay.{stand_else, stand_put, stand_exchanged, known_form, known_length, known_word, known_birth, known_flattened, known_slot, known_took}
-use Rattle.heap_table.specs.Plays.{Looked, Noted, Sat, FoundCounter, LoadedCounter, Claimed, StoredWord, StoredLength, GaveBirth, FlattenedForm, LoadedForm, LoadedLength, LoadedWord, SawSlot, TookSlot, FoundSlot, Stays}
+use Rattle.heap_table.proofs.Alike.{IsAlike, alike_flattened, alike_joined, alike_now, alike_put, alike_same, alike_split, alike_thinned, alike_unborn, now_born}
+use Rattle.heap_table.proofs.Stay.{known_form, known_length, known_word, known_birth, known_flattened, known_thinned, known_slot, known_took}
+use Rattle.heap_table.specs.Plays.{Looked, Noted, Sat, FoundCounter, LoadedCounter, Claimed, StoredWord, StoredLength, GaveBirth, FlattenedForm, ThinnedForm, LoadedForm, LoadedLength, LoadedWord, SawSlot, TookSlot, FoundForm, FoundSlot, Stays}
 use Rattle.heap_table.specs.Agents.{Belongs}
 use Rattle.heap_table.specs.Known.{KeepsKnown}
 use Rattle.heap_table.specs.declared.agent.Agent.{Agent}
@@ -88,21 +90,25 @@ one_want a m n e = omega arith
 abbrev pub IsSameAgent : View → View → Type 0
 IsSameAgent v w = (w.sizes ≡ v.sizes) × (w.live ≡ v.live) × (w.share ≡ v.share)
 
-claimed_by : (v : View) (k : Counter) (a n x : ℕ) (b : Bool) → IsSameAgent v (cond b (won_claim v k a n) (loaded_counter v k x))
-claimed_by v Ids a n x true = (refl, refl, refl)
-claimed_by v Words a n x true = (refl, refl, refl)
-claimed_by v k a n x false = (refl, refl, refl)
+-- and it has seen the same forms
+abbrev pub IsSameSeer : View → View → Type 0
+IsSameSeer v w = (w.sizes ≡ v.sizes) × (w.live ≡ v.live) × (w.share ≡ v.share) × (w.forms ≡ v.forms)
 
-pub claimed_same : (v : View) (k : Counter) (a n x : ℕ) → IsSameAgent v (claimed v k a n x)
+claimed_by : (v : View) (k : Counter) (a n x : ℕ) (b : Bool) → IsSameSeer v (cond b (won_claim v k a n) (loaded_counter v k x))
+claimed_by v Ids a n x true = (refl, refl, refl, refl)
+claimed_by v Words a n x true = (refl, refl, refl, refl)
+claimed_by v k a n x false = (refl, refl, refl, refl)
+
+pub claimed_same : (v : View) (k : Counter) (a n x : ℕ) → IsSameSeer v (claimed v k a n x)
 claimed_same v k a n x = claimed_by v k a n x (eqb x a)
 
-slot_same : (v : View) (k : ℕ) (entry : Option (List ℕ)) (x : ℕ) → IsSameAgent v (loaded_slot v k entry x)
-slot_same v k entry zero = (refl, refl, refl)
-slot_same v k entry (suc i) = (refl, refl, refl)
+slot_same : (v : View) (k : ℕ) (entry : Option (List ℕ)) (x : ℕ) → IsSameSeer v (loaded_slot v k entry x)
+slot_same v k entry zero = (refl, refl, refl, refl)
+slot_same v k entry (suc i) = (refl, refl, refl, refl)
 
-took_same : (v : View) (k i x : ℕ) → IsSameAgent v (took_slot v k i x)
-took_same v k i zero = (refl, refl, refl)
-took_same v k i (suc j) = (refl, refl, refl)
+took_same : (v : View) (k i x : ℕ) → IsSameSeer v (took_slot v k i x)
+took_same v k i zero = (refl, refl, refl, refl)
+took_same v k i (suc j) = (refl, refl, refl, refl)
 
 cond_either : (b : Bool) (m n : ℕ) → cond b m n ≡ either b m n
 cond_either true m n = refl
@@ -137,13 +143,17 @@ frozen_same v n (Thin target) = (refl, refl, refl)
 flattened_same : (v : View) (i : ℕ) (old new : Form) (x : ℕ) → IsSameAgent v (flattened v i old new x)
 flattened_same v i old new x = flat_same v (record (freeze_form v (length (unwrap_or (get v.units i) [])) new) { forms = insert v.forms i new }) i (form_of x) (eqb x (word_of old)) (frozen_same v (length (unwrap_or (get v.units i) [])) new)
 
--- what may be born may stand
-born_stands : (f : Form) → MayBeBorn f → MayStand f
-born_stands (Flat wide start fixed) b = tt
-born_stands (Cons wide left right) b = tt
-born_stands Unborn b = b
-born_stands (Sliced wide parent offset) b = b
-born_stands (Thin target) b = b
+thinned_same : (v : View) (i t : ℕ) (old : Form) (x : ℕ) → IsSameAgent v (thinned v i old t x)
+thinned_same v i t old x = seen_same v i (cond (eqb x (word_of old)) (Some (Thin t)) (form_of x))
+
+-- a Flat is of one line with all
+flat_alike : (vs : List View) (v : View) (i : ℕ) (old new : Form) → MayFlatten v i old new → IsAlike vs i new
+flat_alike vs v i old (Flat wide start false) may = λ k u a l g c. tt
+flat_alike vs v i old (Flat wide start true) may = absurd may
+flat_alike vs v i old Unborn may = absurd may
+flat_alike vs v i old (Cons a b c) may = absurd may
+flat_alike vs v i old (Sliced a b c) may = absurd may
+flat_alike vs v i old (Thin a) may = absurd may
 
 module _ (key : HeapKey) (slots id : ℕ) (me : Sat) (live : me.0.live ≡ true) where
   found : (k : Counter) (s : State (Unit {0}) View) → IsSound key.size key.agents s.words s.views → get_elem? s.views id ≡ some me.0 → FoundCounter me.0 k (get_or s.words (counter_at k) 0)
@@ -161,7 +171,7 @@ module _ (key : HeapKey) (slots id : ℕ) (me : Sat) (live : me.0.live ≡ true)
   after_possible s at W w l h = ∣ (key.size, key.agents, W, set s.views id w, id, h, set_there s.views id w me.0 at, l) ∣₁
 
   abbrev Holds : List ℕ → List View → Type 0
-  Holds W vs = IsSound key.size key.agents W vs × AllMayStand key.size W
+  Holds W vs = IsSound key.size key.agents W vs × AreSeenAlike vs
 
   -- a load of the word p that leaves the view w
   pub a_load : (p : ℕ) (s : State (Unit {0}) View) (w : View) → Holds s.words (set s.views id w) → Holds (set s.words p (get_or s.words p 0)) (set s.views id w)
@@ -174,7 +184,7 @@ module _ (key : HeapKey) (slots id : ℕ) (me : Sat) (live : me.0.live ≡ true)
         w,
         keeps,
         tt,
-        subst (λ (y : HeapSize). Holds (set s.words (content_at y c) n) (set s.views id w)) (sym same) (kept, stand_else z s.words (content_at z c) n (λ i l e. omega arith) b),
+        subst (λ (y : HeapSize). Holds (set s.words (content_at y c) n) (set s.views id w)) (sym same) (kept, alike_same s.views b id me.0 at live w refl),
         (record { slots = refl; sizes = refl; live = refl; share = refl; possible = after_possible s at (set s.words (content_at key.size c) n) w live kept }, λ d e. let is : c ≡ d = one_content me.0.sizes c d e in ap (λ (y : ℕ). stored_word me.0 y n) is),
       )
 
@@ -185,16 +195,24 @@ module _ (key : HeapKey) (slots id : ℕ) (me : Sat) (live : me.0.live ≡ true)
       (keeps_loaded_form key.size key.agents s.words s.views h id me.0 at live i known (all_named (entries (loaded_form me.0 i (get_or s.words (form_at key.size i) 0)).forms))) in
       let spelt = form_found key.size key.agents s.words s.views h id me.0 at live i known in
       let found : form_of x ≡ Some spelt.0 = ap (λ (y : HeapSize). form_of (get_or s.words (form_at y i) 0)) same ∙ spelt.1 in
-      let may : MayStand spelt.0 = b i spelt.0 (known_born key.size key.agents s.words s.views h id me.0 at live i known) spelt.1 in (
+      let born = known_born key.size key.agents s.words s.views h id me.0 at live i known in let some_form = now_born key.size key.agents s.words s.views h i spelt.0 born spelt.1 in
+      let alike = alike_put s.views b id me.0 at live w i spelt.0 (ap (λ (o : Option Form). (with_form me.0 i o).forms) found) (alike_now key.size key.agents s.words s.views h i spelt.0 spelt.1) in (
         w,
         keeps,
         tt,
-        a_load (form_at z i) s w (kept, b),
+        a_load (form_at z i) s w (kept, alike),
         (
           let t = form_same me.0 i (form_of x) in record { slots = refl; sizes = t.0; live = t.1; share = t.2; possible = after_possible s at s.words w (t.1 ∙ live) kept },
-          known_form key.size key.agents s.words s.views h id me.0 at live i x spelt.0 found spelt.1 may kept,
-          (spelt.0, found, may),
-          λ d e. let is : i ≡ d = one_form z i d e in ap (λ (y : ℕ). learned_all (loaded_form me.0 y x)) is,
+          known_form key.size key.agents s.words s.views h id me.0 at live i x spelt.0 found spelt.1 kept,
+          (spelt.0, found, some_form),
+          λ d e. let is : i ≡ d = one_form z i d e in subst (λ (y : ℕ). (w ≡ learned_all (loaded_form me.0 y x)) × FoundForm me.0 y x) is (
+            refl,
+            record {
+              later = λ f now t e'. let k = (h.knows id me.0 at live).of_forms i f t in let d : Some k.now ≡ Some now = sym k.decodes ∙ (ap (λ (y : HeapSize). form_of (get_or s.words (form_at y i) 0)) (sym same) ∙ e') in let same' : k.now ≡ now = cc in
+                  subst (λ (y : Form). (f ≡ y) ⊎ IsLater f y) same' k.later;
+              solid = λ j wide offset t. subst (λ (y : HeapSize). IsSolidForm (form_of (get_or s.words (form_at y i) 0))) (sym same) ((h.knows id me.0 at live).of_forms j (Sliced wide i offset) t).shows.1;
+            },
+          ),
         ),
       )
 
@@ -203,13 +221,9 @@ module _ (key : HeapKey) (slots id : ℕ) (me : Sat) (live : me.0.live ≡ true)
     w,
     keeps,
     tt,
-    a_load (counter_at k) s w (keeps_loaded_counter key.size key.agents s.words s.views h id me.0 at live k x refl, b),
+    a_load (counter_at k) s w (keeps_loaded_counter key.size key.agents s.words s.views h id me.0 at live k x refl, alike_same s.views b id me.0 at live w refl),
     (record { slots = refl; sizes = refl; live = refl; share = refl; possible = after_possible s at s.words w live (keeps_loaded_counter key.size key.agents s.words s.views h id me.0 at live k x refl) }, λ l e. subst (λ (q : Counter). (w ≡ loaded_counter me.0 q x) × FoundCounter me.0 q x) (one_place k l e) (refl, found k s h at)),
   )
-
-  counter_stand : (k : Counter) (W : List ℕ) (n : ℕ) → AllMayStand key.size W → AllMayStand key.size (set W (counter_at k) n)
-  counter_stand Ids W n b = stand_else key.size W 0 n (λ i l e. omega arith) b
-  counter_stand Words W n b = stand_else key.size W 1 n (λ i l e. omega arith) b
 
   -- a claim, whether it is won or lost
   claim_keeps : (k : Counter) (a want : ℕ) → MayClaim me.0 k a want → (s : State (Unit {0}) View) → IsSound key.size key.agents s.words s.views → get_elem? s.views id ≡ some me.0 → (x : ℕ) → x ≡ get_or s.words (counter_at k) 0 → Dec (x ≡ a)
@@ -224,7 +238,7 @@ module _ (key : HeapKey) (slots id : ℕ) (me : Sat) (live : me.0.live ≡ true)
     w,
     keeps,
     tt,
-    (claim_keeps k a want may s h at x refl (ℕ_discrete x a), counter_stand k s.words (either (eqb x a) (a + want) x) b),
+    (claim_keeps k a want may s h at x refl (ℕ_discrete x a), alike_same s.views b id me.0 at live w (claimed_same me.0 k a want x).3),
     (let t = claimed_same me.0 k a want x in record { slots = refl; sizes = t.0; live = t.1; share = t.2; possible = after_possible s at (set s.words (counter_at k) (either (eqb x a) (a + want) x)) w (t.1 ∙ live) (claim_keeps k a want may s h at x refl (ℕ_discrete x a)) }, λ l m e f. subst (λ (q : Counter × ℕ). (w ≡ claimed me.0 q.0 a q.1 x) × FoundCounter me.0 q.0 x) (λ i. (one_place k l e i, one_want a want m f i)) (refl, found k s h at)),
   )
 
@@ -235,14 +249,14 @@ module _ (key : HeapKey) (slots id : ℕ) (me : Sat) (live : me.0.live ≡ true)
         w,
         keeps,
         tt,
-        subst (λ (y : HeapSize). Holds (set s.words (length_at y i) n) (set s.views id w)) (sym same) (kept, stand_else z s.words (length_at z i) n (λ k l e. omega arith) b),
+        subst (λ (y : HeapSize). Holds (set s.words (length_at y i) n) (set s.views id w)) (sym same) (kept, alike_same s.views b id me.0 at live w refl),
         (record { slots = refl; sizes = refl; live = refl; share = refl; possible = after_possible s at (set s.words (length_at key.size i) n) w live kept }, λ d e. let is : i ≡ d = one_length me.0.sizes i d e in ap (λ (y : ℕ). stored_length me.0 y n) is),
       )
 
   -- a birth
-  bears_form : (i n : ℕ) (f : Form) → IsInRange f → MayStand f → Has me.0.own_ids i n → Fits me.0 i n f
+  bears_form : (i n : ℕ) (f : Form) → IsInRange f → Has me.0.own_ids i n → Fits me.0 i n f
       → Allows (KeepsHeap key) slots id me (form_at me.0.sizes i) (λ _. word_of f) (λ _. GaveBirth (step slots (form_at me.0.sizes i) (word_of f) 0 none) me (word_of f))
-  bears_form i n f range may own fits s (h, b) _ at _ = let w : View = born me.0 i f in let z : HeapSize = key.size in let t = born_same me.0 i f in
+  bears_form i n f range own fits s (h, b) _ at _ = let w : View = born me.0 i f in let z : HeapSize = key.size in let t = born_same me.0 i f in
       let same : me.0.sizes ≡ z = sizes_are key.size key.agents s.words s.views h id me.0 at live in
       let as_born : born_with me.0 i n f ≡ w = ap (λ (o : Option ℕ). born_with me.0 i (unwrap_or o 0) f) (sym own) in
       let kept : IsSound key.size key.agents (set s.words (form_at z i) (word_of f)) (set s.views id w) =
@@ -250,7 +264,7 @@ module _ (key : HeapKey) (slots id : ℕ) (me : Sat) (live : me.0.live ≡ true)
         w,
         keeps,
         tt,
-        subst (λ (y : HeapSize). Holds (set s.words (form_at y i) (word_of f)) (set s.views id w)) (sym same) (kept, stand_put z s.words i f range may h.counted.long b),
+        subst (λ (y : HeapSize). Holds (set s.words (form_at y i) (word_of f)) (set s.views id w)) (sym same) (kept, alike_put s.views b id me.0 at live w i f refl (alike_unborn key.size key.agents s.words s.views h i f ((h.own_ids id me.0 at live).each i n own).1)),
         (
           record { slots = refl; sizes = t.0; live = t.1; share = t.2; possible = after_possible s at (set s.words (form_at z i) (word_of f)) w (t.1 ∙ live) kept },
           known_birth z key.agents s.words s.views h id me.0 at live i f (key_of me.0.own_ids i n own),
@@ -258,8 +272,8 @@ module _ (key : HeapKey) (slots id : ℕ) (me : Sat) (live : me.0.live ≡ true)
         ),
       )
 
-  pub bears : (i : ℕ) (f : Form) → MayBeBorn f → IsInRange f → MayBear me.0 i f → Allows (KeepsHeap key) slots id me (form_at me.0.sizes i) (λ _. word_of f) (λ _. GaveBirth (step slots (form_at me.0.sizes i) (word_of f) 0 none) me (word_of f))
-  bears i f born range (n, own, fits) = bears_form i n f range (born_stands f born) own fits
+  pub bears : (i : ℕ) (f : Form) → IsInRange f → MayBear me.0 i f → Allows (KeepsHeap key) slots id me (form_at me.0.sizes i) (λ _. word_of f) (λ _. GaveBirth (step slots (form_at me.0.sizes i) (word_of f) 0 none) me (word_of f))
+  bears i f range (n, own, fits) = bears_form i n f range own fits
 
   -- what is learned comes on top of a step that changed no word
   then_learned : (s : State (Unit {0}) View) → get_elem? s.views id ≡ some me.0 → (w : View) → w.live ≡ true → IsSound key.size key.agents s.words (set s.views id w) → IsSound key.size key.agents s.words (set s.views id (learned_all w))
@@ -275,8 +289,8 @@ module _ (key : HeapKey) (slots id : ℕ) (me : Sat) (live : me.0.live ≡ true)
         w,
         keeps,
         tt,
-        a_load (length_at z i) s w (kept, b),
-        (record { slots = refl; sizes = refl; live = refl; share = refl; possible = after_possible s at s.words w live kept }, known_length key.size key.agents s.words s.views h id me.0 at live i x (ap (λ (y : HeapSize). get_or s.words (length_at y i) 0) (sym same)) kept, short, λ d e. let is : i ≡ d = one_length z i d e in ap (λ (y : ℕ). learned_all (loaded_length me.0 y x)) is),
+        a_load (length_at z i) s w (kept, alike_same s.views b id me.0 at live w refl),
+        (record { slots = refl; sizes = refl; live = refl; share = refl; possible = after_possible s at s.words w live kept }, known_length key.size key.agents s.words s.views h id me.0 at live i x (ap (λ (y : HeapSize). get_or s.words (length_at y i) 0) (sym same)) kept, short, refl, λ d e. let is : i ≡ d = one_length z i d e in ap (λ (y : ℕ). learned_all (loaded_length me.0 y x)) is),
       )
 
   -- what the view has for the word afterwards is what was found
@@ -285,9 +299,9 @@ module _ (key : HeapKey) (slots id : ℕ) (me : Sat) (live : me.0.live ≡ true)
   word_shown c x None e found = sym (ap (λ (o : Option ℕ). shown (cond (is_some o) me.0 (record me.0 { frozen = insert me.0.frozen c x })) c) e
       ∙ (ap (λ (o : Option ℕ). unwrap_or o (unwrap_or (get (insert me.0.frozen c x) c) 0)) e ∙ ap (λ (o : Option ℕ). unwrap_or o 0) (insert_same me.0.frozen c x)))
 
-  word_same : (c x : ℕ) (b : Bool) → IsSameAgent me.0 (cond b me.0 (record me.0 { frozen = insert me.0.frozen c x }))
-  word_same c x true = (refl, refl, refl)
-  word_same c x false = (refl, refl, refl)
+  word_same : (c x : ℕ) (b : Bool) → IsSameSeer me.0 (cond b me.0 (record me.0 { frozen = insert me.0.frozen c x }))
+  word_same c x true = (refl, refl, refl, refl)
+  word_same c x false = (refl, refl, refl, refl)
 
   pub loads_word : (c : ℕ) → MayLoadWord me.0 c → Allows (KeepsHeap key) slots id me (content_at me.0.sizes c) (λ n. n) (LoadedWord (step slots (content_at me.0.sizes c) 0 0 none) me)
   loads_word c may s (h, b) _ at _ = let z : HeapSize = me.0.sizes in let x : ℕ = get_or s.words (content_at z c) 0 in let v : View = loaded_word me.0 c x in let w : View = learned_all v in
@@ -298,10 +312,11 @@ module _ (key : HeapKey) (slots id : ℕ) (me : Sat) (live : me.0.live ≡ true)
         w,
         keeps,
         tt,
-        a_load (content_at z c) s w (kept, b),
+        a_load (content_at z c) s w (kept, alike_same s.views b id me.0 at live w t.3),
         (
           record { slots = refl; sizes = t.0; live = t.1; share = t.2; possible = after_possible s at s.words w (t.1 ∙ live) kept },
           known_word key.size key.agents s.words s.views h id me.0 at live c x (ap (λ (y : HeapSize). get_or s.words (content_at y c) 0) (sym same)) kept,
+          t.3,
           λ d e. let is : c ≡ d = one_content z c d e in subst (λ (y : ℕ). (w ≡ learned_all (loaded_word me.0 y x)) × (x ≡ shown w y)) is (refl, word_shown c x (get me.0.own_words c) refl found),
         ),
       )
@@ -323,10 +338,11 @@ module _ (key : HeapKey) (slots id : ℕ) (me : Sat) (live : me.0.live ≡ true)
         w,
         keeps,
         tt,
-        a_load (slot_at z k) s w (kept, b),
+        a_load (slot_at z k) s w (kept, alike_same s.views b id me.0 at live w t.3),
         (
           record { slots = refl; sizes = t.0; live = t.1; share = t.2; possible = after_possible s at s.words w (t.1 ∙ live) kept },
           known_slot z key.agents s.words s.views h id me.0 at live k within (entry me.0 k) x refl kept,
+          t.3,
           λ d e. let is : k ≡ d = one_slot z k d e in subst (λ (y : ℕ). (w ≡ learned_all (loaded_slot me.0 y (entry me.0 y) x)) × FoundSlot me.0 y x) is (refl, slot_found s h at k within),
         ),
       )
@@ -339,19 +355,20 @@ module _ (key : HeapKey) (slots id : ℕ) (me : Sat) (live : me.0.live ≡ true)
         w,
         keeps,
         tt,
-        (all.0, stand_else z s.words (slot_at z k) n (λ q l e. omega arith) b),
+        (all.0, alike_same s.views b id me.0 at live w t.3),
         (
           record { slots = refl; sizes = t.0; live = t.1; share = t.2; possible = after_possible s at (set s.words (slot_at z k) n) w (t.1 ∙ live) all.0 },
           known_took z key.agents s.words s.views h id me.0 at live (set s.words (slot_at z k) n) (λ q c. (all.1 q c).1) k i within x refl all.0,
+          t.3,
           λ d m e f. let is : k ≡ d = one_slot z k d e in let alike : i ≡ m = omega arith in
               subst (λ (y : ℕ × ℕ). (w ≡ learned_all (took_slot me.0 y.0 y.1 x)) × FoundSlot me.0 y.0 x) (λ c. (is c, alike c)) (refl, slot_found s h at k within),
         ),
       )
 
   -- a flattening, whether it is won or lost
-  pub flattens : (i : ℕ) (old new : Form) → IsInRange old → IsInRange new → MayStand new → MayFlatten me.0 i old new
+  pub flattens : (i : ℕ) (old new : Form) → IsInRange old → IsInRange new → MayFlatten me.0 i old new
       → Allows (KeepsHeap key) slots id me (form_at me.0.sizes i) (λ n. either (eqb n (word_of old)) (word_of new) n) (FlattenedForm (step slots (form_at me.0.sizes i) (word_of old) (word_of new) none) me)
-  flattens i old new old_range range stands may s (h, b) _ at _ = let z : HeapSize = me.0.sizes in let X : HeapSize → ℕ = λ y. get_or s.words (form_at y i) 0 in let x : ℕ = X z in
+  flattens i old new old_range range may s (h, b) _ at _ = let z : HeapSize = me.0.sizes in let X : HeapSize → ℕ = λ y. get_or s.words (form_at y i) 0 in let x : ℕ = X z in
       let v : View = flattened me.0 i old new x in let w : View = learned_all v in let t = flattened_same me.0 i old new x in
       let N : HeapSize → ℕ = λ y. either (eqb (X y) (word_of old)) (word_of new) (X y) in let W' : List ℕ = set s.words (form_at z i) (N z) in
       let same : z ≡ key.size = sizes_are key.size key.agents s.words s.views h id me.0 at live in
@@ -359,19 +376,41 @@ module _ (key : HeapKey) (slots id : ℕ) (me : Sat) (live : me.0.live ≡ true)
       subst (λ (y : HeapSize). Keeps key.size key.agents s.words (set s.words (form_at y i) (N y)) (set s.views id (learned_all (flattened me.0 i old new (X y))))) (sym same)
       (subst (λ (y : ℕ). Keeps key.size key.agents s.words (set s.words (form_at key.size i) y) (set s.views id (learned_all (flattened me.0 i old new (X key.size))))) (cond_either (eqb (X key.size) (word_of old)) (word_of new) (X key.size))
       (kinds_keep key.size key.agents s.words s.views id me.0 (flatten i old new) (all_named (entries (flattened me.0 i old new (X key.size)).forms)) h at live may)) in
-      let stand : AllMayStand key.size W' = subst (λ (y : HeapSize). AllMayStand key.size (set s.words (form_at y i) (N y))) (sym same)
-      (subst (λ (y : ℕ). AllMayStand key.size (set s.words (form_at key.size i) y)) (cond_either (eqb (X key.size) (word_of old)) (word_of new) (X key.size))
-      (stand_exchanged key.size s.words i new (eqb (X key.size) (word_of old)) range stands h.counted.long b)) in
       let k = known_flattened key.size key.agents s.words s.views h id me.0 at live W' (λ q c. (all.1 q c).1) i old new may x (ap X (sym same)) all.0 in (
         w,
         keeps,
         tt,
-        (all.0, stand),
+        (all.0, alike_flattened key.size key.agents s.words s.views h b id me.0 at live i old new (flat_alike s.views me.0 i old new may) x (ap X (sym same))),
         (
           record { slots = refl; sizes = t.0; live = t.1; share = t.2; possible = after_possible s at W' w (t.1 ∙ live) all.0 },
           k.0,
           λ d e g p q r a c. let is : i ≡ d = one_form z i d p in let olds : old ≡ e = one_spelling old e old_range a q in let news : new ≡ g = one_spelling new g range c r in
               subst (λ (y : ℕ × Form × Form). (w ≡ learned_all (flattened me.0 y.0 y.1 y.2 x)) × IsSettled w y.0) (λ m. (is m, olds m, news m)) (refl, k.1),
+        ),
+      )
+
+  -- a thinning, whether it is won or lost
+  pub thins : (i t : ℕ) (old : Form) → IsInRange old → t < 2 ^ 29 → MayThin me.0 i old t
+      → Allows (KeepsHeap key) slots id me (form_at me.0.sizes i) (λ n. either (eqb n (word_of old)) (word_of (Thin t)) n) (ThinnedForm (step slots (form_at me.0.sizes i) (word_of old) (word_of (Thin t)) none) me)
+  thins i t old old_range small may s (h, b) _ at _ = let z : HeapSize = me.0.sizes in let X : HeapSize → ℕ = λ y. get_or s.words (form_at y i) 0 in let x : ℕ = X z in
+      let v : View = thinned me.0 i old t x in let w : View = learned_all v in let same_agent = thinned_same me.0 i t old x in
+      let N : HeapSize → ℕ = λ y. either (eqb (X y) (word_of old)) (word_of (Thin t)) (X y) in let W' : List ℕ = set s.words (form_at z i) (N z) in
+      let same : z ≡ key.size = sizes_are key.size key.agents s.words s.views h id me.0 at live in
+      let all : Keeps key.size key.agents s.words W' (set s.views id w) =
+      subst (λ (y : HeapSize). Keeps key.size key.agents s.words (set s.words (form_at y i) (N y)) (set s.views id (learned_all (thinned me.0 i old t (X y))))) (sym same)
+      (subst (λ (y : ℕ). Keeps key.size key.agents s.words (set s.words (form_at key.size i) y) (set s.views id (learned_all (thinned me.0 i old t (X key.size))))) (cond_either (eqb (X key.size) (word_of old)) (word_of (Thin t)) (X key.size))
+      (kinds_keep key.size key.agents s.words s.views id me.0 (thin i old t) (all_named (entries (thinned me.0 i old t (X key.size)).forms)) h at live may)) in
+      let k = known_thinned key.size key.agents s.words s.views h id me.0 at live W' (λ q c. (all.1 q c).1) i t old may x (ap X (sym same)) all.0 in (
+        w,
+        keeps,
+        tt,
+        (all.0, alike_thinned key.size key.agents s.words s.views h b id me.0 at live i t old x (ap X (sym same))),
+        (
+          record { slots = refl; sizes = same_agent.0; live = same_agent.1; share = same_agent.2; possible = after_possible s at W' w (same_agent.1 ∙ live) all.0 },
+          k.0,
+          λ d u e p q r a l. let is : i ≡ d = one_form z i d p in let olds : old ≡ e = one_spelling old e old_range a q in
+              let news : t ≡ u = (let g : Thin t ≡ Thin u = one_spelling (Thin t) (Thin u) small l r in cc) in
+              subst (λ (y : ℕ × ℕ × Form). (w ≡ learned_all (thinned me.0 y.0 y.2 y.1 x)) × Has w.forms y.0 (Thin y.1)) (λ m. (is m, news m, olds m)) (refl, k.1),
         ),
       )
 
@@ -385,7 +424,7 @@ module _ (key : HeapKey) (slots id : ℕ) (me : Sat) (live : me.0.live ≡ true)
     w,
     keeps,
     tt,
-    subst (λ (y : ℕ). Holds (set s.words 0 y) (set s.views id w)) (sym (same_anyway x give (ℕ_discrete x give))) (a_load 0 s w (kept, b)),
+    subst (λ (y : ℕ). Holds (set s.words 0 y) (set s.views id w)) (sym (same_anyway x give (ℕ_discrete x give))) (a_load 0 s w (kept, alike_same s.views b id me.0 at live w refl)),
     (record { slots = refl; sizes = refl; live = refl; share = refl; possible = after_possible s at s.words w live kept }, refl),
   )
 
@@ -396,19 +435,19 @@ module _ (key : HeapKey) (slots id : ℕ) (me : Sat) (live : me.0.live ≡ true)
         me.0,
         keeps,
         tt,
-        a_load 0 s me.0 (kept, b),
+        a_load 0 s me.0 (kept, alike_same s.views b id me.0 at live me.0 refl),
         (record { slots = refl; sizes = refl; live = refl; share = refl; possible = after_possible s at s.words me.0 live kept }, refl, omega arith),
       )
 
 pub joins : (key : HeapKey) (id other : ℕ) (v b : View) → v.live ≡ true → b.live ≡ true → Joins (KeepsHeap key) id v other b (taken v b) spent
-joins key id other v b live live' s (h, built) at ne at' = let apart : id ≢ other = (λ e. ne (sym e)) in let at_other : get_elem? s.views other ≡ some b = sym (set_else s.views id other (taken v b) ne) ∙ at' in
-    let same : taken v b ≡ joined v b = taken_is v b (both_agree key.size key.agents s.words s.views h built id other v b apart at live at_other live') in (
+joins key id other v b live live' s (h, alike) at ne at' = let apart : id ≢ other = (λ e. ne (sym e)) in let at_other : get_elem? s.views other ≡ some b = sym (set_else s.views id other (taken v b) ne) ∙ at' in
+    let same : taken v b ≡ joined v b = taken_is v b (both_agree key.size key.agents s.words s.views h alike id other v b apart at live at_other live') in (
       subst (λ (w : View). IsSound key.size key.agents s.words (set (set s.views id w) other spent)) (sym same) (keeps_joined key.size key.agents s.words s.views h id other v b apart at live at_other live'),
-      built,
+      subst (λ (w : View). AreSeenAlike (set (set s.views id w) other spent)) (sym same) (alike_joined s.views alike id v at live other b at_other live'),
     )
 
 pub splits : (key : HeapKey) (id : ℕ) (v : View) → v.live ≡ true → 1 ≤ v.giving → v.giving < v.share → Splits (KeepsHeap key) id v (left_after_split v v.giving) (right_after_split v v.giving)
-splits key id v live some_give less s (h, b) at = (keeps_split key.size key.agents s.words s.views h id v at live v.giving some_give less, b)
+splits key id v live some_give less s (h, b) at = (keeps_split key.size key.agents s.words s.views h id v at live v.giving some_give less, alike_split s.views b id v at live (left_after_split v v.giving) (right_after_split v v.giving) refl refl)
 
 pub end_small : (z : HeapSize) (k : Counter) → IsLawful z → end_of z k < 2 ^ 29
 end_small z Ids h = h.1
@@ -419,13 +458,27 @@ pub word_within : (v : View) → IsPossible v → (c : ℕ) → MayLoadWord v c 
 word_within v p c may = ⊎_elim (λ (h : HasKey v.own_words c). (possible_within v p).words c h) (λ h. possible_frozen v p c h) may
 
 -- a form that may be born is spelt by a word
-pub born_in_range : (v : View) → IsPossible v → (i : ℕ) (f : Form) → MayBeBorn f → MayBear v i f → IsInRange f
-born_in_range v p i (Flat wide start fixed) born may = may.2.0
-born_in_range v p i (Cons wide left right) born may = let l : left < i = may.2.0 in let r : right < i = may.2.1 in
+sliced_in : (v : View) → StandsIn v → (i n : ℕ) (wide : Bool) (parent offset : ℕ) → Has v.own_ids i n → Fits v i n (Sliced wide parent offset) → (parent < 2 ^ 29) × (offset < 2 ^ 29)
+sliced_in v (z, agents, W, vs, j, s, at, live) i n wide parent offset own fits = let know = s.knows j v at live in
+    let born : IsBorn z W parent = ⊎_elim (λ (t : (f : Form) × Has v.forms parent f × (IsCons f → ⊥) × (IsSliced f → ⊥)). (know.of_forms parent t.0 t.1).born)
+    (λ (t : (l : ℕ) × (x : Bool) × (o : ℕ) × Has v.forms l (Sliced x parent o)). (know.of_forms t.0 (Sliced t.1 parent t.2) t.3).shows.0) fits.2 in
+    let room = (shown_part_right z W vs s.standing v know parent offset n fits.3.0 fits.3.1).1 in
+    let st = s.standing parent born in let long = st.length_is in let short = st.short in let inside = born.0 in let small = s.lawful.1 in (omega arith, omega arith)
+
+pub born_in_range : (v : View) → IsPossible v → (i : ℕ) (f : Form) → MayBear v i f → IsInRange f
+born_in_range v p i (Flat wide start fixed) may = may.2.0
+born_in_range v p i (Cons wide left right) may = let l : left < i = may.2.0 in let r : right < i = may.2.1 in
     let in_heap = (possible_within v p).ids i (key_of v.own_ids i may.0 may.1) in let small = (possible_lawful v p).1 in (omega arith, omega arith)
-born_in_range v p i Unborn born may = absurd born
-born_in_range v p i (Sliced wide parent offset) born may = absurd born
-born_in_range v p i (Thin target) born may = absurd born
+born_in_range v p i (Sliced wide parent offset) may = ∥∥₁_elim p (Prim.hlevel props) (λ t. sliced_in v t i may.0 wide parent offset may.1 may.2)
+born_in_range v p i Unborn may = absurd may.2
+born_in_range v p i (Thin target) may = absurd may.2
+
+-- the string in a slot has an id of the heap
+slot_in : (v : View) → StandsIn v → (k t : ℕ) → Has v.slots k t → t < 2 ^ 29
+slot_in v (z, agents, W, vs, j, s, at, live) k t h = let p = (s.knows j v at live).of_slots k t h in let inside = (s.slots k t p.0 p.1).born.0 in let small = s.lawful.1 in omega arith
+
+pub slot_in_range : (v : View) → IsPossible v → (k t : ℕ) → Has v.slots k t → t < 2 ^ 29
+slot_in_range v p k t h = ∥∥₁_elim p (Prim.hlevel props) (λ q. slot_in v q k t h)
 
 -- so are the two forms of a flattening: a Cons that was seen, and the Flat that is to take its place
 cons_in : (v : View) → StandsIn v → (i : ℕ) (wide : Bool) (left right : ℕ) → Has v.forms i (Cons wide left right) → (left < 2 ^ 29) × (right < 2 ^ 29)
@@ -446,8 +499,8 @@ form_in v (z, agents, W, vs, j, s, at, live) i f h = subst (λ (y : HeapSize). i
 pub form_seen : (v : View) → IsPossible v → (i : ℕ) (f : Form) → Has v.forms i f → i < v.sizes.ids
 form_seen v p i f h = ∥∥₁_elim p (Prim.hlevel props) (λ t. form_in v t i f h)
 
-pub is_flattening : (v : View) (i : ℕ) (old new : Form) → MayFlatten v i old new → Has v.forms i old × IsCons old × IsInRange new × MayStand new
-is_flattening v i old (Flat wide start false) may = (may.0, may.1, may.2, tt)
+pub is_flattening : (v : View) (i : ℕ) (old new : Form) → MayFlatten v i old new → Has v.forms i old × IsCons old × IsInRange new
+is_flattening v i old (Flat wide start false) may = (may.0, may.1, may.2)
 is_flattening v i old (Flat wide start true) may = absurd may
 is_flattening v i old Unborn may = absurd may
 is_flattening v i old (Cons a b c) may = absurd may

@@ -1,5 +1,6 @@
-pub mod Stay
 pub mod Fitting
 pub mod LaterForms
+pub mod Alike
+pub mod Stay
 pub mod Agreeing
 pub mod Keeps

@@ -1,8 +1,8 @@
--- What an agent knows stays known: which strings, their units and lengths, forms that are no Cons, which strings are settled, frozen words, and which
+-- What an agent knows stays known: which strings, their units and lengths, forms that never change, which strings are settled, frozen words, and which
 -- ids are in slots; and all else that a view has.
-use Rattle.std.specs.Prelude.{◌≡◌, ℕ, Bool, false, List}
+use Rattle.std.specs.Prelude.{◌≡◌, ℕ, Bool, true, false, List}
 use Rattle.js_header.specs.declared.form.Form.{Form}
-use Rattle.js_header.specs.declared.form.Form.TheVariants.{Flat, Sliced, Thin}
+use Rattle.js_header.specs.declared.form.Form.TheVariants.{Flat, Thin}
 use Rattle.heap_rule.specs.declared.view.View.{View}
 use Rattle.heap_rule.specs.Maps.{Has, HasKey}
 use Rattle.heap_rule.specs.Forms.{is_later}
@@ -11,8 +11,7 @@ use Rattle.heap_rule.specs.Views.{IsKnown, IsSettled}
 pub record KeepsKnown (v w : View) : Type 0 where
   pub units : (i : ℕ) (us : List ℕ) → Has v.units i us → Has w.units i us
   pub lengths : (i n : ℕ) → Has v.lengths i n → Has w.lengths i n
-  pub flats : (i : ℕ) (wide : Bool) (start : ℕ) (fixed : Bool) → Has v.forms i (Flat wide start fixed) → Has w.forms i (Flat wide start fixed)
-  pub parts : (i : ℕ) (wide : Bool) (parent offset : ℕ) → Has v.forms i (Sliced wide parent offset) → Has w.forms i (Sliced wide parent offset)
+  pub flats : (i : ℕ) (wide : Bool) (start : ℕ) → Has v.forms i (Flat wide start true) → Has w.forms i (Flat wide start true)
   pub thins : (i t : ℕ) → Has v.forms i (Thin t) → Has w.forms i (Thin t)
   pub settled : (i : ℕ) → IsSettled v i → IsSettled w i
   pub frozen : (c x : ℕ) → Has v.frozen c x → Has w.frozen c x

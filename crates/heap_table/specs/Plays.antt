@@ -1,14 +1,16 @@
 -- What each step of the table tells its caller. A step is given as the number of its word and two operands; so each says what it did for every
 -- counter, id or place that spells that number, and a caller puts in its own.
-use Rattle.std.specs.Prelude.{Some, None, Option, ◌≡◌, ℕ, ◌+◌, ◌<◌, ◌≤◌, List, Contains}
+use Rattle.std.specs.Prelude.{Some, None, Option, Bool, ◌≡◌, ℕ, ◌+◌, ◌^◌, ◌<◌, ◌≤◌, ◌⊎◌, List, Contains}
 use Rattle.atomic_table.specs.Table.{Step, Me}
 use Rattle.js_header.specs.Form.{IsInRange, form_of, word_of}
 use Rattle.js_header.specs.declared.form.Form.{Form}
+use Rattle.js_header.specs.declared.form.Form.TheVariants.{Unborn, Sliced, Thin}
 use Rattle.heap_rule.specs.declared.view.View.{View}
 use Rattle.heap_rule.specs.declared.size.Counter.{Counter}
 use Rattle.heap_rule.specs.declared.size.Counter.TheVariants.{Ids, Words}
 use Rattle.heap_rule.specs.Layout.{counter_at, end_of, content_at, form_at, length_at, slot_at, MAX, count_in}
 use Rattle.heap_rule.specs.Maps.{Has, HasKey}
+use Rattle.heap_rule.specs.Forms.{IsLater, IsSolidForm}
 use Rattle.heap_rule.specs.Views.{IsKnown, IsSettled, shown}
 use Rattle.heap_rule.specs.Claims.{loaded_counter, claimed}
 use Rattle.heap_rule.specs.Births.{stored_word, stored_length, born}
@@ -16,10 +18,9 @@ use Rattle.heap_rule.specs.Loads.{loaded_form, loaded_length, loaded_word}
 use Rattle.heap_rule.specs.Slots.{entry_in, loaded_slot, took_slot}
 use Rattle.heap_rule.specs.Learning.{learned_all}
 use Rattle.heap_rule.specs.Agents.{noted}
-use Rattle.heap_rule.specs.HeaderMoves.{flattened}
+use Rattle.heap_rule.specs.HeaderMoves.{flattened, thinned}
 use Rattle.heap_rule.specs.Sound.{IsPossible}
 use Rattle.heap_table.specs.Known.{KeepsKnown}
-use Rattle.heap_table.specs.Rule.{MayStand}
 
 -- a seat: its view, and the slots that it holds, of which there are none
 abbrev pub Sat : Type 0
@@ -41,6 +42,12 @@ pub record FoundSlot (v : View) (k x : ℕ) : Type 0 where
   pub within : (i : ℕ) → x ≡ i + 1 → i < v.sizes.ids
   pub again : (i : ℕ) → Has v.slots k i → x ≡ i + 1
   pub whole : v.share ≡ v.agents → (i : ℕ) → x ≡ i + 1 → (u : List ℕ) × Contains v.mine (u, i)
+
+-- What the rule says of the word of a header that is found: its form is the one that the view has, or a later one; and a Sliced that the view has
+-- is cut from a Flat or a Thin.
+pub record FoundForm (v : View) (i x : ℕ) : Type 0 where
+  pub later : (f now : Form) → Has v.forms i f → form_of x ≡ Some now → (f ≡ now) ⊎ IsLater f now
+  pub solid : (j : ℕ) (wide : Bool) (offset : ℕ) → Has v.forms j (Sliced wide i offset) → IsSolidForm (form_of x)
 
 -- what each step of one agent leaves as it is, and that the new view stands in a sound state
 pub record Stays (me me' : Sat) : Type 0 where
@@ -66,21 +73,25 @@ abbrev pub GaveBirth : Step (Unit {0}) → Sat → ℕ → Sat → Type 0
 GaveBirth st me x me' = Stays me me' × KeepsKnown me.0 me'.0 × ((i : ℕ) (f : Form) → st.word ≡ form_at me.0.sizes i → st.first ≡ word_of f → IsInRange f → me'.0 ≡ born me.0 i f)
 
 abbrev pub LoadedForm : Step (Unit {0}) → Sat → ℕ → Sat → Type 0
-LoadedForm st me x me' = Stays me me' × KeepsKnown me.0 me'.0 × ((f : Form) × (form_of x ≡ Some f) × MayStand f) × ((i : ℕ) → st.word ≡ form_at me.0.sizes i → me'.0 ≡ learned_all (loaded_form me.0 i x))
+LoadedForm st me x me' = Stays me me' × KeepsKnown me.0 me'.0 × ((f : Form) × (form_of x ≡ Some f) × (f ≡ Unborn → ⊥)) × ((i : ℕ) → st.word ≡ form_at me.0.sizes i → (me'.0 ≡ learned_all (loaded_form me.0 i x)) × FoundForm me.0 i x)
 
 abbrev pub LoadedLength : Step (Unit {0}) → Sat → ℕ → Sat → Type 0
-LoadedLength st me x me' = Stays me me' × KeepsKnown me.0 me'.0 × (x ≤ MAX) × ((i : ℕ) → st.word ≡ length_at me.0.sizes i → me'.0 ≡ learned_all (loaded_length me.0 i x))
+LoadedLength st me x me' = Stays me me' × KeepsKnown me.0 me'.0 × (x ≤ MAX) × (me'.0.forms ≡ me.0.forms) × ((i : ℕ) → st.word ≡ length_at me.0.sizes i → me'.0 ≡ learned_all (loaded_length me.0 i x))
 
 abbrev pub LoadedWord : Step (Unit {0}) → Sat → ℕ → Sat → Type 0
-LoadedWord st me x me' = Stays me me' × KeepsKnown me.0 me'.0 × ((c : ℕ) → st.word ≡ content_at me.0.sizes c → (me'.0 ≡ learned_all (loaded_word me.0 c x)) × (x ≡ shown me'.0 c))
+LoadedWord st me x me' = Stays me me' × KeepsKnown me.0 me'.0 × (me'.0.forms ≡ me.0.forms) × ((c : ℕ) → st.word ≡ content_at me.0.sizes c → (me'.0 ≡ learned_all (loaded_word me.0 c x)) × (x ≡ shown me'.0 c))
 
 abbrev pub FlattenedForm : Step (Unit {0}) → Sat → ℕ → Sat → Type 0
 FlattenedForm st me x me' = Stays me me' × KeepsKnown me.0 me'.0 × ((i : ℕ) (old new : Form) → st.word ≡ form_at me.0.sizes i → st.first ≡ word_of old → st.second ≡ word_of new → IsInRange old → IsInRange new
     → (me'.0 ≡ learned_all (flattened me.0 i old new x)) × IsSettled me'.0 i)
 
+abbrev pub ThinnedForm : Step (Unit {0}) → Sat → ℕ → Sat → Type 0
+ThinnedForm st me x me' = Stays me me' × KeepsKnown me.0 me'.0 × ((i t : ℕ) (old : Form) → st.word ≡ form_at me.0.sizes i → st.first ≡ word_of old → st.second ≡ word_of (Thin t) → IsInRange old → t < 2 ^ 29
+    → (me'.0 ≡ learned_all (thinned me.0 i old t x)) × Has me'.0.forms i (Thin t))
+
 -- a load of a slot, with the entry that the view has for the history
 abbrev pub SawSlot : (View → ℕ → Option (List ℕ)) → Step (Unit {0}) → Sat → ℕ → Sat → Type 0
-SawSlot entry st me x me' = Stays me me' × KeepsKnown me.0 me'.0 × ((k : ℕ) → st.word ≡ slot_at me.0.sizes k → (me'.0 ≡ learned_all (loaded_slot me.0 k (entry me.0 k) x)) × FoundSlot me.0 k x)
+SawSlot entry st me x me' = Stays me me' × KeepsKnown me.0 me'.0 × (me'.0.forms ≡ me.0.forms) × ((k : ℕ) → st.word ≡ slot_at me.0.sizes k → (me'.0 ≡ learned_all (loaded_slot me.0 k (entry me.0 k) x)) × FoundSlot me.0 k x)
 
 abbrev pub LoadedSlot : Step (Unit {0}) → Sat → ℕ → Sat → Type 0
 LoadedSlot = SawSlot (λ v k. None)
@@ -89,7 +100,7 @@ abbrev pub EnteredSlot : Step (Unit {0}) → Sat → ℕ → Sat → Type 0
 EnteredSlot = SawSlot entry_in
 
 abbrev pub TookSlot : Step (Unit {0}) → Sat → ℕ → Sat → Type 0
-TookSlot st me x me' = Stays me me' × KeepsKnown me.0 me'.0 × ((k i : ℕ) → st.word ≡ slot_at me.0.sizes k → st.second ≡ i + 1 → (me'.0 ≡ learned_all (took_slot me.0 k i x)) × FoundSlot me.0 k x)
+TookSlot st me x me' = Stays me me' × KeepsKnown me.0 me'.0 × (me'.0.forms ≡ me.0.forms) × ((k i : ℕ) → st.word ≡ slot_at me.0.sizes k → st.second ≡ i + 1 → (me'.0 ≡ learned_all (took_slot me.0 k i x)) × FoundSlot me.0 k x)
 
 abbrev pub Noted : Step (Unit {0}) → Sat → ℕ → Sat → Type 0
 Noted st me x me' = Stays me me' × (me'.0 ≡ noted me.0 st.first)

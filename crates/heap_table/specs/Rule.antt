@@ -1,29 +1,22 @@
--- The rule of the table: the rule that every step of the machine keeps, and each born id has a form that may stand.
-use Rattle.std.specs.Prelude.{◌≡◌, ℕ, List, Some}
+-- The rule of the table: the rule that every step of the machine keeps, and what the agents have seen of a string is of one line.
+use Rattle.std.specs.Prelude.{ℕ, List}
 use Rattle.atomic_table.specs.Table.{State}
-use Rattle.js_header.specs.Form.{form_of}
 use Rattle.js_header.specs.declared.form.Form.{Form}
-use Rattle.js_header.specs.declared.form.Form.TheVariants.{Flat, Cons}
-use Rattle.heap_rule.specs.declared.size.HeapSize.{HeapSize}
+use Rattle.js_header.specs.declared.form.Form.TheVariants.{Cons, Sliced}
 use Rattle.heap_rule.specs.declared.view.View.{View}
-use Rattle.heap_rule.specs.Layout.{form, IsBorn}
-use Rattle.heap_rule.specs.Sound.{IsSound}
+use Rattle.heap_rule.specs.Maps.{Has}
+use Rattle.heap_rule.specs.Sound.{EachLive, IsSound}
 use Rattle.heap_table.specs.declared.rule.HeapKey.{HeapKey}
 
--- the forms with which a string may be born
-abbrev pub MayBeBorn : Form → Type 0
-MayBeBorn (Flat wide start fixed) = Unit {0}
-MayBeBorn (Cons wide left right) = Unit {0}
-MayBeBorn _ = ⊥
+-- Two forms that one string may have had: not a Cons the one and a Sliced the other, since neither ever becomes the other.
+abbrev pub AreOfOneLine : Form → Form → Type 0
+AreOfOneLine (Cons wide left right) (Sliced w parent offset) = ⊥
+AreOfOneLine (Sliced wide parent offset) (Cons w left right) = ⊥
+AreOfOneLine _ _ = Unit {0}
 
--- the forms that a born string may have, by its birth or by a compare-exchange of its header
-abbrev pub MayStand : Form → Type 0
-MayStand (Flat wide start fixed) = Unit {0}
-MayStand (Cons wide left right) = Unit {0}
-MayStand _ = ⊥
-
-abbrev pub AllMayStand : HeapSize → List ℕ → Type 0
-AllMayStand z W = (i : ℕ) (f : Form) → IsBorn z W i → form_of (form z W i) ≡ Some f → MayStand f
+-- so of any two live views, whatever they have of one string
+abbrev pub AreSeenAlike : List View → Type 0
+AreSeenAlike vs = EachLive vs (λ _ v. EachLive vs (λ _ w. (i : ℕ) (f g : Form) → Has v.forms i f → Has w.forms i g → AreOfOneLine f g))
 
 abbrev pub KeepsHeap : HeapKey → State (Unit {0}) View → Type 0
-KeepsHeap k s = IsSound k.size k.agents s.words s.views × AllMayStand k.size s.words
+KeepsHeap k s = IsSound k.size k.agents s.words s.views × AreSeenAlike s.views

@@ -1,12 +1,12 @@
 -- The view that the table gives to an agent that takes over another's. It is the joined view where that has all that both have, by a test; else
 -- its share is 0, which no sound state allows. So whoever learns that it stands in a sound state learns that the two agree. No contract cites it.
-use Rattle.std.specs.Prelude.{ℕ, ◌+◌, Bool, true, false, ◌&&◌, ◌==◌, if◌then◌else◌, Option, Some, None, bytes_eq}
+use Rattle.std.specs.Prelude.{ℕ, ◌+◌, Bool, true, false, ◌&&◌, ◌==◌, not, if◌then◌else◌, Option, Some, None, bytes_eq}
 use Rattle.std.specs.Bool.{beq}
 use Rattle.std.specs.List.{list_all}
 use Rattle.std.specs.Ordering.{nat_cmp}
 use Rattle.std.specs.FinMap.{FinMap, get, keys}
 use Rattle.js_header.specs.declared.form.Form.{Form}
-use Rattle.js_header.specs.declared.form.Form.TheVariants.{Flat, Cons}
+use Rattle.js_header.specs.declared.form.Form.TheVariants.{Flat, Cons, Sliced, Thin}
 use Rattle.heap_rule.specs.declared.view.View.{View}
 use Rattle.heap_rule.specs.Agents.{joined}
 
@@ -24,10 +24,18 @@ module _ {X : Type 0} (fits : X → X → Bool) where
 abbrev pub same_number : ℕ → ℕ → Bool
 same_number m n = m == n
 
--- the second form may stand where the first was seen: the same Flat, or any form after a Cons
+abbrev pub is_cons : Form → Bool
+is_cons (Cons wide left right) = true
+is_cons _ = false
+
+-- The second form may come where the first was seen: any form after a Cons; any but a Cons after a Sliced, and after a Flat that is not fixed; the
+-- same form after the others.
 abbrev pub fits_form : Form → Form → Bool
-fits_form (Flat wide start fixed) (Flat w s f) = beq wide w && ((start == s) && beq fixed f)
 fits_form (Cons wide left right) g = true
+fits_form (Flat wide start false) g = not (is_cons g)
+fits_form (Sliced wide parent offset) g = not (is_cons g)
+fits_form (Flat wide start true) (Flat w s f) = beq wide w && ((start == s) && f)
+fits_form (Thin t) (Thin u) = t == u
 fits_form _ _ = false
 
 -- the view w has what v has

@@ -1,6 +1,9 @@
 // Compare-exchanges that move a header to a later form.
 ghost use Rattle.std.specs.Prelude.{◌≡◌, ℕ, ◌+◌, ◌*◌, ◌≤◌, ◌<◌, ◌^◌};
-ghost use Rattle.heap_rule.specs.HeaderMoves.{MayFlatten, flattened};
+ghost use Rattle.js_header.specs.Form.{IsInRange};
+ghost use Rattle.heap_rule.specs.HeaderMoves.{MayFlatten, MayThin, flattened, thinned};
+ghost use Rattle.js_header.specs.declared.form.Form.TheVariants.{Thin};
+ghost use Rattle.heap_rule.specs.Maps.{Has};
 ghost use Rattle.heap_rule.specs.Learning.{learned_all};
 ghost use Rattle.heap_rule.specs.Views.{IsSettled};
 ghost use Rattle.heap_table.specs.Agents.{Belongs, view_of};
@@ -9,7 +12,7 @@ ghost use Rattle.heap_table.specs.Known.{KeepsKnown};
 
 use crate::agent::Agent;
 use crate::heap::Heap;
-use crate::rule::Flattens;
+use crate::rule::{Flattens, Thins};
 use crate::stores::Step;
 use js_header::{Form, encode};
 
@@ -46,5 +49,44 @@ impl Agent {
             return Step::Won;
         }
         Step::Lost { word }
+    }
+
+    // One compare-exchange of a header to a Thin. It is won where it answers the word of the old
+    // form.
+    fn try_thin(&mut self, heap: &Heap, id: u32, old: Form, target: u32) -> u64
+        requires belongs { Belongs self.old heap.now }
+        requires may { MayThin (view_of self.old) id old target }
+        requires range { IsInRange old }
+        ensures belongs { Belongs self.new heap.now }
+        ensures known { KeepsKnown (view_of self.old) (view_of self.new) }
+        ensures view { view_of self.new ≡ learned_all (thinned (view_of self.old) id old target result) }
+        ensures forwards { Has (view_of self.new).forms id (Thin target) }
+    {
+        let place = heap.size.form_place(id);
+        heap.table.shared.compare_exchange::<Thins>(
+            &mut self.seat,
+            place,
+            encode(old),
+            encode(Form::Thin { target }),
+        )
+    }
+
+    /// Forwards a string to the interned string with its units. Where it is lost, another agent
+    /// forwarded it before, and to the same string.
+    pub fn thin_step(&mut self, heap: &Heap, id: u32, old: Form, target: u32) -> Step
+        requires belongs { Belongs self.old heap.now }
+        requires may { MayThin (view_of self.old) id old target }
+        requires range { IsInRange old }
+        ensures belongs { Belongs self.new heap.now }
+        ensures known { KeepsKnown (view_of self.old) (view_of self.new) }
+        ensures step { IsMoved old result }
+        ensures view { view_of self.new ≡ learned_all (thinned (view_of self.old) id old target (header_found old result)) }
+        ensures forwards { Has (view_of self.new).forms id (Thin target) }
+    {
+        let found = self.try_thin(heap, id, old, target);
+        if found == encode(old) {
+            return Step::Won;
+        }
+        Step::Lost { word: found }
     }
 }

@@ -1,15 +1,15 @@
 // The laws of the running heap.
-ghost use Rattle.std.specs.Prelude.{ℕ, None};
+ghost use Rattle.std.specs.Prelude.{ℕ, ◌<◌, ◌^◌, None};
 ghost use Rattle.heap_rule.specs.Slots.{entry_in};
 ghost use Rattle.js_header.specs.Form.{IsInRange};
 ghost use Rattle.js_header.specs.declared.form.Form.{Form};
 ghost use Rattle.heap_rule.specs.declared.size.Counter.{Counter};
-ghost use Rattle.heap_rule.specs.Kinds.{load_counter, claim, store_word, store_length, birth, flatten, load_form, load_length, load_slot, load_word, take_slot};
+ghost use Rattle.heap_rule.specs.Kinds.{load_counter, claim, store_word, store_length, birth, flatten, load_form, load_length, load_slot, load_word, take_slot, thin};
 ghost use Rattle.heap_table.specs.Moments.{IsSoundTable, IsLegalTable, IsOfKind, IsOfKindBy};
 
 use crate::rule::{
     Claims, EntersSlot, Flattens, GivesBirth, HeapKey, HeapRule, LoadsCounter, LoadsForm,
-    LoadsLength, LoadsSlot, LoadsWord, StoresLength, StoresWord, TakesSlot,
+    LoadsLength, LoadsSlot, LoadsWord, StoresLength, StoresWord, TakesSlot, Thins,
 };
 use atomic_table::{Play, TableRule};
 use heap_rule::View;
@@ -34,6 +34,7 @@ pub fn every_play()
     ensures load_length { (i : ℕ) → IsOfKind ⟦<LoadsLength as Play<(), View>>⟧.then (load_length i) }
     ensures load_word { (c : ℕ) → IsOfKind ⟦<LoadsWord as Play<(), View>>⟧.then (load_word c) }
     ensures flatten { (i : ℕ) (old new : Form) → IsInRange old → IsInRange new → IsOfKind ⟦<Flattens as Play<(), View>>⟧.then (flatten i old new) }
+    ensures thin { (i t : ℕ) (old : Form) → IsInRange old → t < 2 ^ 29 → IsOfKind ⟦<Thins as Play<(), View>>⟧.then (thin i old t) }
     ensures load_slot { (k : ℕ) → IsOfKind ⟦<LoadsSlot as Play<(), View>>⟧.then (load_slot k None) }
     ensures enter_slot { (k : ℕ) → IsOfKindBy ⟦<EntersSlot as Play<(), View>>⟧.then (λ v. load_slot k (entry_in v k)) }
     ensures take_slot { (k i : ℕ) → IsOfKind ⟦<TakesSlot as Play<(), View>>⟧.then (take_slot k i) }

@@ -1,15 +1,17 @@
 // Loads of headers and content words. Each also learns every pair that the view's new data
 // justify, which takes nothing at run time.
-ghost use Rattle.std.specs.Prelude.{◌≡◌, ℕ, ◌+◌, ◌*◌, ◌≤◌, ◌<◌, ◌^◌, Some};
-ghost use Rattle.heap_rule.specs.Forms.{IsCons};
+ghost use Rattle.std.specs.Prelude.{◌≡◌, ◌≢◌, ℕ, Bool, ◌⊎◌, ◌+◌, ◌*◌, ◌≤◌, ◌<◌, ◌^◌, Some};
+ghost use Rattle.heap_rule.specs.Forms.{IsCons, IsLater, IsSolid};
+ghost use Rattle.heap_rule.specs.Maps.{Has};
 ghost use Rattle.heap_rule.specs.Views.{IsKnown, IsSettled, shown};
 ghost use Rattle.heap_rule.specs.Layout.{MAX};
 ghost use Rattle.heap_rule.specs.Loads.{MayLoadWord, loaded_form, loaded_length, loaded_word};
 ghost use Rattle.heap_rule.specs.Learning.{learned_all};
-ghost use Rattle.js_header.specs.Form.{form_of};
+ghost use Rattle.js_header.specs.Form.{IsInRange, form_of};
+ghost use Rattle.js_header.specs.declared.form.Form.TheVariants.{Unborn, Sliced};
+ghost use Rattle.js_header.specs.declared.form.Form as form;
 ghost use Rattle.heap_table.specs.Agents.{Belongs, view_of};
 ghost use Rattle.heap_table.specs.Known.{KeepsKnown};
-ghost use Rattle.heap_table.specs.Rule.{MayStand};
 
 use crate::agent::Agent;
 use crate::heap::Heap;
@@ -17,15 +19,19 @@ use crate::rule::{LoadsForm, LoadsLength, LoadsWord};
 use js_header::{Form, decode};
 
 impl Agent {
-    /// The form of a known id, as it is at this moment.
+    /// The form of a known id, as it is at this moment: the one that was seen, or a later one. What
+    /// a Sliced was cut from is a Flat or a Thin.
     pub fn load_form(&mut self, heap: &Heap, id: u32) -> Form
         requires belongs { Belongs self.old heap.now }
         requires known { IsKnown (view_of self.old) id }
         ensures belongs { Belongs self.new heap.now }
         ensures known { KeepsKnown (view_of self.old) (view_of self.new) }
         ensures view { (word : ℕ) × (form_of word ≡ Some result) × (view_of self.new ≡ learned_all (loaded_form (view_of self.old) id word)) }
-        ensures stands { MayStand result }
+        ensures born { result ≢ Unborn }
+        ensures range { IsInRange result }
         ensures settled { IsSettled (view_of self.old) id → ¬ IsCons result }
+        ensures later { (f : form.Form) → Has (view_of self.old).forms id f → (f ≡ result) ⊎ IsLater f result }
+        ensures solid { (j : ℕ) (wide : Bool) (offset : ℕ) → Has (view_of self.old).forms j (Sliced wide id offset) → IsSolid result }
     {
         let word = heap
             .table
@@ -44,6 +50,7 @@ impl Agent {
         ensures belongs { Belongs self.new heap.now }
         ensures known { KeepsKnown (view_of self.old) (view_of self.new) }
         ensures view { view_of self.new ≡ learned_all (loaded_length (view_of self.old) id result) }
+        ensures forms { (view_of self.new).forms ≡ (view_of self.old).forms }
         ensures short { result ≤ MAX }
     {
         heap.table
@@ -58,6 +65,7 @@ impl Agent {
         ensures belongs { Belongs self.new heap.now }
         ensures known { KeepsKnown (view_of self.old) (view_of self.new) }
         ensures view { view_of self.new ≡ learned_all (loaded_word (view_of self.old) at result) }
+        ensures forms { (view_of self.new).forms ≡ (view_of self.old).forms }
         ensures shown { result ≡ shown (view_of self.new) at }
     {
         heap.table

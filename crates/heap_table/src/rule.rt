@@ -102,6 +102,15 @@ impl Play<(), View> for Flattens {
     ghost then = { FlattenedForm };
 }
 
+/// A compare-exchange of a header to a Thin.
+pub struct Thins;
+
+impl Play<(), View> for Thins {
+    ghost use Rattle.heap_table.specs.Plays.{ThinnedForm};
+
+    ghost then = { ThinnedForm };
+}
+
 /// A load of a slot.
 pub struct LoadsSlot;
 

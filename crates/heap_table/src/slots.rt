@@ -20,6 +20,7 @@ impl Agent {
         requires enter { MayEnterIf enter (view_of self.old) slot }
         ensures belongs { Belongs self.new heap.now }
         ensures known { KeepsKnown (view_of self.old) (view_of self.new) }
+        ensures forms { (view_of self.new).forms ≡ (view_of self.old).forms }
         ensures view { view_of self.new ≡ learned_all (loaded_slot (view_of self.old) slot (entry_if enter (view_of self.old) slot) result) }
         ensures found { FoundSlot (view_of self.old) slot result }
     {
@@ -38,6 +39,7 @@ impl Agent {
         requires enter { MayEnterIf enter (view_of self.old) slot }
         ensures belongs { Belongs self.new heap.now }
         ensures known { KeepsKnown (view_of self.old) (view_of self.new) }
+        ensures forms { (view_of self.new).forms ≡ (view_of self.old).forms }
         ensures view { view_of self.new ≡ learned_all (loaded_slot (view_of self.old) slot (entry_if enter (view_of self.old) slot) (slot_word result)) }
         ensures found { FoundSlot (view_of self.old) slot (slot_word result) }
     {
@@ -54,6 +56,7 @@ impl Agent {
         requires may { MayTakeSlot (view_of self.old) slot id }
         ensures belongs { Belongs self.new heap.now }
         ensures known { KeepsKnown (view_of self.old) (view_of self.new) }
+        ensures forms { (view_of self.new).forms ≡ (view_of self.old).forms }
         ensures view { view_of self.new ≡ learned_all (took_slot (view_of self.old) slot id result) }
         ensures found { FoundSlot (view_of self.old) slot result }
     {
@@ -72,6 +75,7 @@ impl Agent {
         requires may { MayTakeSlot (view_of self.old) slot id }
         ensures belongs { Belongs self.new heap.now }
         ensures known { KeepsKnown (view_of self.old) (view_of self.new) }
+        ensures forms { (view_of self.new).forms ≡ (view_of self.old).forms }
         ensures taken { IsTaken result }
         ensures view { view_of self.new ≡ learned_all (took_slot (view_of self.old) slot id (word_found result)) }
         ensures found { FoundSlot (view_of self.old) slot (word_found result) }

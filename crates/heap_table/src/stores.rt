@@ -4,7 +4,6 @@ ghost use Rattle.heap_rule.specs.Maps.{HasKey};
 ghost use Rattle.heap_rule.specs.Births.{MayBear, MayStoreLength, born, stored_length, stored_word};
 ghost use Rattle.heap_table.specs.Agents.{Belongs, view_of};
 ghost use Rattle.heap_table.specs.Known.{KeepsKnown};
-ghost use Rattle.heap_table.specs.Rule.{MayBeBorn};
 
 use crate::agent::Agent;
 use crate::heap::Heap;
@@ -49,7 +48,6 @@ impl Agent {
     /// id is known from then on, and its content words are frozen.
     pub fn birth(&mut self, heap: &Heap, id: u32, form: Form)
         requires belongs { Belongs self.old heap.now }
-        requires may { MayBeBorn form }
         requires fits { MayBear (view_of self.old) id form }
         ensures belongs { Belongs self.new heap.now }
         ensures known { KeepsKnown (view_of self.old) (view_of self.new) }

@@ -1,5 +1,5 @@
 -- What is needed for strings of eight units, ropes of two of them, and their flattening.
-use Rattle.std.proofs.Common.{◌≡◌, ℕ, suc, ◌+◌, ◌^◌, ◌<◌, ◌≤◌, inl, Bool, false, cond, [], ◌++◌, length, sym, refl, ap, ◌∙◌, subst, arith, ne_eqb, Option, Some, None}
+use Rattle.std.proofs.Common.{◌≡◌, ℕ, suc, ◌+◌, ◌^◌, ◌<◌, ◌≤◌, inl, Bool, true, false, cond, List, [], ◌++◌, length, sym, refl, ap, ◌∙◌, subst, arith, ne_eqb, Option, Some, None}
 use Rattle.std.specs.Prelude.{unwrap_or}
 use Rattle.std.proofs.lemmas.List.Elements.{All-append}
 use mathlib.Core.Logic.{dite}
@@ -15,9 +15,11 @@ use Rattle.heap_rule.specs.Births.{MayBear, born, freeze_form, stored_length, st
 use Rattle.heap_rule.specs.Claims.{won_claim}
 use Rattle.heap_rule.specs.Contents.{span}
 use Rattle.heap_rule.specs.Forms.{IsCons, IsNarrow}
-use Rattle.heap_rule.specs.HeaderMoves.{MayFlatten, flattened, seen_form}
+use Rattle.heap_rule.specs.HeaderMoves.{MayFlatten, MayThin, flattened, seen_form}
 use Rattle.heap_rule.specs.Learning.{learned_all}
 use Rattle.heap_rule.specs.Maps.{Has, HasKey}
+use Rattle.heap_rule.specs.Paths.{rank}
+use Rattle.heap_rule.specs.Slots.{MayTakeSlot}
 use Rattle.heap_rule.specs.Views.{shown}
 use Rattle.heap_rule.proofs.Birth.{narrow_span}
 use Rattle.heap_rule.proofs.MapLemmas.{insert_other, insert_same, key_of}
@@ -44,18 +46,21 @@ module _ (v : View) (start word id : ℕ) where
   word_there : Has y.own_words start word
   word_there = insert_same (insert v.own_words start 0) start word
 
-  pub eight_fits : start < 2 ^ 29 → MayBear (ready v start word id) id (Flat false start false)
-  eight_fits l = (
+  pub eight_fits : (fixed : Bool) → start < 2 ^ 29 → MayBear (ready v start word id) id (Flat false start fixed)
+  eight_fits fixed l = (
     8,
     insert_same (insert v.own_ids id 0) id 8,
     (l, (λ c a b. inl (let e : start ≡ c = omega arith in subst (λ (x : ℕ). HasKey y.own_words x) e (key_of y.own_words start word word_there))), (λ o a b. absurd (omega arith)), (λ e. absurd (omega arith))),
   )
 
-  pub eight_units : Has (born (ready v start word id) id (Flat false start false)).units id (bytes_of word)
-  eight_units = let f : Form = Flat false start false in let n : unwrap_or (get y.own_ids id) 0 ≡ 8 = ap (λ (o : Option ℕ). unwrap_or o 0) (insert_same (insert v.own_ids id 0) id 8) in
+  pub eight_units : (fixed : Bool) → Has (born (ready v start word id) id (Flat false start fixed)).units id (bytes_of word)
+  eight_units fixed = let f : Form = Flat false start fixed in let n : unwrap_or (get y.own_ids id) 0 ≡ 8 = ap (λ (o : Option ℕ). unwrap_or o 0) (insert_same (insert v.own_ids id 0) id 8) in
       let here : shown y start ≡ word = ap (λ (o : Option ℕ). unwrap_or o (unwrap_or (get v.frozen start) 0)) word_there in
       insert_same v.units id (units_for y (unwrap_or (get y.own_ids id) 0) f)
       ∙ ap Some (ap (λ (m : ℕ). span (shown y) false start 0 m) n ∙ (low_span (shown y) start 0 8 (omega arith) ∙ ap bytes_of here))
+
+  pub eight_form : (fixed : Bool) → Has (born (ready v start word id) id (Flat false start fixed)).forms id (Flat false start fixed)
+  eight_form fixed = insert_same v.forms id (Flat false start fixed)
 
 -- an id was claimed, and its length stored
 abbrev pub joint : View → ℕ → View
@@ -87,16 +92,16 @@ second_claimed v start a = let m : FinMap nat_cmp ℕ = insert v.own_words start
     key_of (insert (insert m (suc start) 0) start a) (start + 1) 0 (insert_other (insert m (suc start) 0) start (start + 1) a (λ e. omega arith) ∙ there)
 
 module _ (v : View) (start a b : ℕ) where
-  first_there : Has (laid v start a b).own_words start a
+  pub first_there : Has (laid v start a b).own_words start a
   first_there = let m : FinMap nat_cmp ℕ = (won_claim v Words start 2).own_words in insert_other (insert m start a) (start + 1) start b (λ e. omega arith) ∙ insert_same m start a
 
-  second_there : Has (laid v start a b).own_words (start + 1) b
+  pub second_there : Has (laid v start a b).own_words (start + 1) b
   second_there = insert_same (insert (won_claim v Words start 2).own_words start a) (start + 1) b
 
   pub first_own : HasKey (laid v start a b).own_words start
   first_own = key_of (laid v start a b).own_words start a first_there
 
-  own : (c : ℕ) → start ≤ c → c < start + 2 → HasKey (laid v start a b).own_words c
+  pub own : (c : ℕ) → start ≤ c → c < start + 2 → HasKey (laid v start a b).own_words c
   own c lo hi = dite (ℕ_discrete c start)
       (λ e. subst (λ (x : ℕ). HasKey (laid v start a b).own_words x) (sym e) first_own)
       (λ ne. let e : start + 1 ≡ c = omega arith in subst (λ (x : ℕ). HasKey (laid v start a b).own_words x) e (key_of (laid v start a b).own_words (start + 1) b second_there))
@@ -125,3 +130,14 @@ lost_own v w i old new Won m l e = absurd l
 lost_own v w i old new (Lost x) m l e = ap (λ (y : View). y.own_words) e
     ∙ (ap (λ (t : Bool). (cond t (record (freeze_form v (length (unwrap_or (get v.units i) [])) new) { forms = insert v.forms i new }) (seen_form v i (form_of x))).own_words) (ne_eqb x (word_of old) m)
     ∙ seen_own v i (form_of x))
+
+-- a table with one slot has no slot before it
+pub may_take : (v : View) (id start : ℕ) (us : List ℕ) → v.sizes.slots ≡ 1 → Has v.forms id (Flat false start true) → Has v.units id us → MayTakeSlot v 0 id
+may_take v id start us one form units = let n : ℕ = v.sizes.slots in (
+  omega arith,
+  (false, start, form),
+  (us, units, (λ j l r. let first : j ≡ 0 = omega arith in let less : rank us n 0 < rank us n 0 = subst (λ (q : ℕ). rank us n q < rank us n 0) first r in absurd (omega arith))),
+)
+
+pub may_thin : (v : View) (id start t : ℕ) (us : List ℕ) → Has v.forms id (Flat false start false) → Has v.units id us → Has v.units t us → (k : ℕ) → Has v.slots k t → MayThin v id (Flat false start false) t
+may_thin v id start t us form units target k there = (form, tt, (k, there), (us, units, target))

@@ -3,4 +3,6 @@
 #![tactic(auto)]
 
 #[cfg(test)]
+mod forwards;
+#[cfg(test)]
 mod ropes;

@@ -1,10 +1,10 @@
 -- The units of what joining and cutting answer.
-use Rattle.std.proofs.Common.{◌≡◌, ℕ, ◌+◌, ◌-◌, ◌≤◌, ⊎_elim, ◌⊎◌, inl, inr, false, List, [], ◌∷◌, ◌++◌, append-nil, length, sym, refl, ap, ◌∙◌, subst, arith}
+use Rattle.std.proofs.Common.{◌≡◌, ℕ, ◌+◌, ◌-◌, ◌<◌, ◌≤◌, ⊎_elim, ◌⊎◌, inl, inr, false, List, [], ◌∷◌, ◌++◌, append-nil, length, sym, refl, ap, ◌∙◌, subst, arith}
 use Rattle.std.specs.Prelude.{Result, Ok, Err, IfOk}
 use Rattle.std.proofs.lemmas.List.{take_all}
 use mathlib.Core.Logic.{dite}
 use native.Mathlib.Decide.{ℕ_discrete, dec_le}
-use Rattle.js_header.specs.declared.form.Form.TheVariants.{Flat}
+use Rattle.js_header.specs.declared.form.Form.TheVariants.{Flat, Sliced}
 use Rattle.heap_rule.specs.declared.size.HeapSize.{HeapSize}
 use Rattle.heap_rule.specs.declared.view.View.{View}
 use Rattle.heap_rule.specs.Births.{part}
@@ -13,7 +13,7 @@ use Rattle.heap_rule.specs.Maps.{Has}
 use Rattle.heap_rule.specs.Views.{IsSettled}
 use Rattle.heap_text.specs.declared.faults.TextFull.{TextFull}
 use Rattle.heap_text.specs.declared.string.JsStr.{JsStr}
-use Rattle.heap_text.specs.Joins.{IsCopy, IsCut, IsJoined, IsRefused, IsRope, MIN_CONS}
+use Rattle.heap_text.specs.Joins.{IsCopied, IsCopy, IsCut, IsJoined, IsNoId, IsPart, IsPartCut, IsRefused, IsRope, MIN_CONS, offset_of, parent_of}
 use Rattle.heap_text.specs.Texts.{is_wide}
 
 module _ (v w : View) (z : HeapSize) where
@@ -33,12 +33,22 @@ module _ (v w : View) (z : HeapSize) where
       (h.short (omega arith) (omega arith) (omega arith))))
       (λ m. let o = (h.long (omega arith)).0 in absurd (cc))
 
-  other_units : (s t : JsStr) (from to : ℕ) (us : List ℕ) (r : Result JsStr TextFull) → r ≡ Ok t → ((x : JsStr) × (r ≡ Ok x) × IsCopy v w x (part from (to - from) us)) ⊎ ((f : TextFull) × (r ≡ Err f) × IsRefused v w z (part from (to - from) us) f)
-      → Has w.units t.id (part from (to - from) us) × IsSettled w t.id
-  other_units s t from to us r is h = ⊎_elim
-      (λ (c : (x : JsStr) × (r ≡ Ok x) × IsCopy v w x (part from (to - from) us)). let same : t ≡ c.0 = (let o : Ok t ≡ Ok c.0 = sym is ∙ c.1 in cc) in
-      subst (λ (y : JsStr). Has w.units y.id (part from (to - from) us) × IsSettled w y.id) (sym same) (c.2.0, (Flat (is_wide (part from (to - from) us)) c.2.1.0 false, c.2.1.1, λ x. x)))
-      (λ (c : (f : TextFull) × (r ≡ Err f) × IsRefused v w z (part from (to - from) us) f). let o : Ok t ≡ Err c.0 = sym is ∙ c.1 in absurd (cc)) h
+  copied_units : (t : JsStr) (us : List ℕ) (r : Result JsStr TextFull) → r ≡ Ok t → IsCopied v w z us r → Has w.units t.id us × IsSettled w t.id
+  copied_units t us r is h = ⊎_elim
+      (λ (c : (x : JsStr) × (r ≡ Ok x) × IsCopy v w x us). let same : t ≡ c.0 = (let o : Ok t ≡ Ok c.0 = sym is ∙ c.1 in cc) in
+      subst (λ (y : JsStr). Has w.units y.id us × IsSettled w y.id) (sym same) (c.2.0, (Flat (is_wide us) c.2.1.0 false, c.2.1.1, λ x. x)))
+      (λ (c : (f : TextFull) × (r ≡ Err f) × IsRefused v w z us f). let o : Ok t ≡ Err c.0 = sym is ∙ c.1 in absurd (cc)) h
+
+  part_units : (s t : JsStr) (from : ℕ) (us : List ℕ) (r : Result JsStr TextFull) → r ≡ Ok t → IsPartCut v w z s from us r → Has w.units t.id us × IsSettled w t.id
+  part_units s t from us r is h = ⊎_elim
+      (λ (c : (x : JsStr) × (r ≡ Ok x) × IsPart v w s from x us). let same : t ≡ c.0 = (let o : Ok t ≡ Ok c.0 = sym is ∙ c.1 in cc) in let q = c.2.1 in
+      subst (λ (y : JsStr). Has w.units y.id us × IsSettled w y.id) (sym same) (c.2.0, (Sliced q.1 (parent_of s.id q.0) (offset_of q.0 + from), q.4, λ x. x)))
+      (λ (c : (f : TextFull) × (r ≡ Err f) × IsNoId v w z f). let o : Ok t ≡ Err c.0 = sym is ∙ c.1 in absurd (cc)) h
+
+  other_units : (s t : JsStr) (from to : ℕ) (us : List ℕ) → IsCut v w z s from to us (Ok t) → (0 < from) ⊎ (to < length us) → Has w.units t.id (part from (to - from) us) × IsSettled w t.id
+  other_units s t from to us h other = dite (dec_le MIN_CONS (to - from))
+      (λ l. part_units s t from (part from (to - from) us) (Ok t) refl (h.long other l))
+      (λ l. copied_units t (part from (to - from) us) (Ok t) refl (h.short other (omega arith)))
 
   pub cut_units : (s t : JsStr) (from to : ℕ) (us : List ℕ) → IsCut v w z s from to us (Ok t) → Has w.units s.id us → IsSettled w s.id → from ≤ to → to ≤ length us → Has w.units t.id (part from (to - from) us) × IsSettled w t.id
   cut_units s t from to us h k settled l m = dite (ℕ_discrete from 0)
@@ -46,8 +56,8 @@ module _ (v w : View) (z : HeapSize) where
       (λ f. let g = h.whole e f in let is : t ≡ s = (let same : t ≡ g.0 = (let o = g.1 in cc) in same ∙ g.2.0) in
       let all : part from (to - from) us ≡ us = (let n : length us ≤ to - from = omega arith in ap (λ (o : ℕ). part o (to - from) us) e ∙ take_all (to - from) us n) in
       subst (λ (y : JsStr). Has w.units y.id (part from (to - from) us) × IsSettled w y.id) (sym is) (subst (Has w.units s.id) (sym all) k, settled))
-      (λ ne. other_units s t from to us (Ok t) refl (h.other (inr (omega arith)))))
-      (λ ne. other_units s t from to us (Ok t) refl (h.other (inl (omega arith))))
+      (λ ne. other_units s t from to us h (inr (omega arith))))
+      (λ ne. other_units s t from to us h (inl (omega arith)))
 
   pub cut_all : (s : JsStr) (from to : ℕ) (r : Result JsStr TextFull) → ((us : List ℕ) → Has v.units s.id us → IsCut v w z s from to us r × Has w.units s.id us × (from ≤ to) × (to ≤ length us)) → IsSettled w s.id
       → IfOk r (λ t. (us : List ℕ) → Has v.units s.id us → Has w.units t.id (part from (to - from) us))

@@ -53,16 +53,16 @@ continues_reads v w r = record {
 -- one step that leaves what is known as it is
 module _ (v : View) where
   pub known_words : (at want : ℕ) → KeepsKnown v (won_claim v Words at want)
-  known_words at want = record { units = λ i us h. h; lengths = λ i n h. h; flats = λ i wide start fixed h. h; parts = λ i wide parent offset h. h; thins = λ i t h. h; settled = λ i h. h; frozen = λ c x h. h; known = λ i h. h; slots = λ k i h. h }
+  known_words at want = record { units = λ i us h. h; lengths = λ i n h. h; flats = λ i wide start h. h; thins = λ i t h. h; settled = λ i h. h; frozen = λ c x h. h; known = λ i h. h; slots = λ k i h. h }
 
   pub known_ids : (at want : ℕ) → KeepsKnown v (won_claim v Ids at want)
-  known_ids at want = record { units = λ i us h. h; lengths = λ i n h. h; flats = λ i wide start fixed h. h; parts = λ i wide parent offset h. h; thins = λ i t h. h; settled = λ i h. h; frozen = λ c x h. h; known = λ i h. h; slots = λ k i h. h }
+  known_ids at want = record { units = λ i us h. h; lengths = λ i n h. h; flats = λ i wide start h. h; thins = λ i t h. h; settled = λ i h. h; frozen = λ c x h. h; known = λ i h. h; slots = λ k i h. h }
 
   pub known_stored : (c x : ℕ) → KeepsKnown v (stored_word v c x)
-  known_stored c x = record { units = λ i us h. h; lengths = λ i n h. h; flats = λ i wide start fixed h. h; parts = λ i wide parent offset h. h; thins = λ i t h. h; settled = λ i h. h; frozen = λ c x h. h; known = λ i h. h; slots = λ k i h. h }
+  known_stored c x = record { units = λ i us h. h; lengths = λ i n h. h; flats = λ i wide start h. h; thins = λ i t h. h; settled = λ i h. h; frozen = λ c x h. h; known = λ i h. h; slots = λ k i h. h }
 
   pub known_length : (i n : ℕ) → KeepsKnown v (stored_length v i n)
-  known_length i n = record { units = λ i us h. h; lengths = λ i n h. h; flats = λ i wide start fixed h. h; parts = λ i wide parent offset h. h; thins = λ i t h. h; settled = λ i h. h; frozen = λ c x h. h; known = λ i h. h; slots = λ k i h. h }
+  known_length i n = record { units = λ i us h. h; lengths = λ i n h. h; flats = λ i wide start h. h; thins = λ i t h. h; settled = λ i h. h; frozen = λ c x h. h; known = λ i h. h; slots = λ k i h. h }
 
   pub continues_words : (w : View) (at want : ℕ) → w ≡ won_claim v Words at want → v.low.words ≤ w.low.words → Continues v w
   continues_words w at want e l = let l' : v.low.words ≤ at + want = subst (λ (x : View). v.low.words ≤ x.low.words) e l in subst (Continues v) (sym e) record {
@@ -100,7 +100,7 @@ module _ (v : View) where
 
   pub continues_full_words : (w : View) (at : ℕ) → w ≡ loaded_counter v Words at → v.low.words ≤ w.low.words → Continues v w
   continues_full_words w at e l = let l' : v.low.words ≤ at = subst (λ (x : View). v.low.words ≤ x.low.words) e l in subst (Continues v) (sym e) record {
-    known = record { units = λ i us h. h; lengths = λ i n h. h; flats = λ i wide start fixed h. h; parts = λ i wide parent offset h. h; thins = λ i t h. h; settled = λ i h. h; frozen = λ c x h. h; known = λ i h. h; slots = λ k i h. h };
+    known = record { units = λ i us h. h; lengths = λ i n h. h; flats = λ i wide start h. h; thins = λ i t h. h; settled = λ i h. h; frozen = λ c x h. h; known = λ i h. h; slots = λ k i h. h };
     sizes = refl;
     agents = refl;
     live = refl;
@@ -117,7 +117,7 @@ module _ (v : View) where
 
   pub continues_full_ids : (w : View) (at : ℕ) → w ≡ loaded_counter v Ids at → v.low.ids ≤ w.low.ids → Continues v w
   continues_full_ids w at e l = let l' : v.low.ids ≤ at = subst (λ (x : View). v.low.ids ≤ x.low.ids) e l in subst (Continues v) (sym e) record {
-    known = record { units = λ i us h. h; lengths = λ i n h. h; flats = λ i wide start fixed h. h; parts = λ i wide parent offset h. h; thins = λ i t h. h; settled = λ i h. h; frozen = λ c x h. h; known = λ i h. h; slots = λ k i h. h };
+    known = record { units = λ i us h. h; lengths = λ i n h. h; flats = λ i wide start h. h; thins = λ i t h. h; settled = λ i h. h; frozen = λ c x h. h; known = λ i h. h; slots = λ k i h. h };
     sizes = refl;
     agents = refl;
     live = refl;

@@ -12,9 +12,12 @@ pub mod Placing
 pub mod Progress
 pub mod Storing
 pub mod Sides
+pub mod Leading
+pub mod Solids
 pub mod Seeing
 pub mod Turning
 pub mod Linking
+pub mod Cutting
 pub mod Flattened
 pub mod Joined
 pub mod Settled

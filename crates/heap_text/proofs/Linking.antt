@@ -1,5 +1,5 @@
 -- A new Cons: it fits, and has the units of both sides joined.
-use Rattle.std.proofs.Common.{◌≡◌, ℕ, ◌<◌, ◌||◌, ◌⊎◌, inl, inr, ⊎_elim, Bool, true, false, List, [], ◌++◌, length, refl, ap, subst, ◌∙◌, arith, Some}
+use Rattle.std.proofs.Common.{◌≡◌, ◌≢◌, ℕ, ◌<◌, ◌||◌, ◌⊎◌, inl, inr, ⊎_elim, Bool, true, false, List, [], ◌++◌, length, refl, ap, sym, subst, ◌∙◌, arith, Some}
 use Rattle.std.specs.Prelude.{unwrap_or, Result, Ok, Err}
 use Rattle.std.proofs.lemmas.List.Elements.{All-append}
 use Rattle.std.proofs.Math.Logic.{∥∥₁_elim}
@@ -16,13 +16,14 @@ use Rattle.heap_rule.specs.Maps.{Has}
 use Rattle.heap_rule.specs.Sound.{IsPossible, StandsIn}
 use Rattle.heap_rule.proofs.MapLemmas.{insert_other, insert_same}
 use Rattle.heap_table.specs.Known.{KeepsKnown}
-use Rattle.heap_table.specs.Rule.{MayStand}
 use Rattle.heap_text.specs.declared.faults.JoinFault.{JoinFault}
 use Rattle.heap_text.specs.declared.faults.JoinFault.TheVariants.{Full}
 use Rattle.heap_text.specs.declared.faults.TextFull.{TextFull}
 use Rattle.heap_text.specs.declared.string.JsStr.{JsStr}
-use Rattle.heap_text.specs.Joins.{IsCopied, IsCopy, IsLinked, IsNoId, IsRefused, IsRope, wide_bit}
+use Rattle.heap_text.specs.Joins.{IsCopied, IsCopy, IsLinked, IsNoId, IsRefused, IsRope, IsWideIn, wide_bit}
+use Rattle.heap_text.specs.Settling.{KnowsSide}
 use Rattle.heap_text.specs.Texts.{Continues, Reads, is_wide}
+use Rattle.heap_text.proofs.Leading.{narrow_sliced, narrow_thin}
 use Rattle.heap_text.proofs.Pieces.{spared_after, uses_after}
 
 flat_in : (v : View) → StandsIn v → (i : ℕ) (wide : Bool) (start : ℕ) (fixed : Bool) (us : List ℕ) → Has v.forms i (Flat wide start fixed) → Has v.units i us → IsNarrow wide us
@@ -40,13 +41,37 @@ pub narrow_cons : (v : View) → IsPossible v → (i : ℕ) (wide : Bool) (l r :
 narrow_cons v p i true l r us f u = tt
 narrow_cons v p i false l r us f u = ∥∥₁_elim p (Prim.hlevel props) (λ t. cons_in v t i false l r us f u)
 
--- and so of each form that stands
-pub narrow_form : (v : View) → IsPossible v → (i : ℕ) (f : Form) (us : List ℕ) → MayStand f → Has v.forms i f → Has v.units i us → IsNarrow (wide_bit f) us
-narrow_form v p i Unborn us may h u = absurd may
-narrow_form v p i (Flat wide start fixed) us may h u = narrow_flat v p i wide start fixed us h u
-narrow_form v p i (Cons wide l r) us may h u = narrow_cons v p i wide l r us h u
-narrow_form v p i (Sliced wide parent offset) us may h u = absurd may
-narrow_form v p i (Thin target) us may h u = absurd may
+-- and so of each form that was seen; of a Thin its target tells
+pub narrow_side : (v : View) → IsPossible v → (i : ℕ) (f : Form) (b : Bool) (us : List ℕ) → f ≢ Unborn → Has v.forms i f → Has v.units i us → IsWideIn v f b → IsNarrow b us
+narrow_side v p i Unborn b us real h u w = absurd (real refl)
+narrow_side v p i (Flat wide start fixed) b us real h u w = subst (λ (c : Bool). IsNarrow c us) (sym w) (narrow_flat v p i wide start fixed us h u)
+narrow_side v p i (Cons wide l r) b us real h u w = subst (λ (c : Bool). IsNarrow c us) (sym w) (narrow_cons v p i wide l r us h u)
+narrow_side v p i (Sliced wide parent offset) b us real h u w = subst (λ (c : Bool). IsNarrow c us) (sym w) (narrow_sliced v p i wide parent offset us h u)
+narrow_side v p i (Thin target) b us real h u w = narrow_thin v p i target b w.0 us h u w.1
+
+-- a form that is no Thin tells by itself
+pub own_wide : (v : View) (f : Form) (b : Bool) → b ≡ wide_bit f → ((target : ℕ) → f ≡ Thin target → ⊥) → IsWideIn v f b
+own_wide v Unborn b e other = e
+own_wide v (Flat wide start fixed) b e other = e
+own_wide v (Cons wide l r) b e other = e
+own_wide v (Sliced wide parent offset) b e other = e
+own_wide v (Thin target) b e other = absurd (other target refl)
+
+-- a fixed Flat stays, so the target of a Thin tells the same afterwards
+pub wide_kept : (v w : View) → KeepsKnown v w → (f : Form) (b : Bool) → IsWideIn v f b → IsWideIn w f b
+wide_kept v w k Unborn b h = h
+wide_kept v w k (Flat wide start fixed) b h = h
+wide_kept v w k (Cons wide l r) b h = h
+wide_kept v w k (Sliced wide parent offset) b h = h
+wide_kept v w k (Thin target) b h = (h.0, k.flats target b h.0 h.1)
+
+-- what is known stays known
+pub side_kept : (v w : View) → KeepsKnown v w → (f : Form) → KnowsSide v f → KnowsSide w f
+side_kept v w k Unborn h = tt
+side_kept v w k (Flat wide start fixed) h = tt
+side_kept v w k (Cons wide left right) h = k.known left h
+side_kept v w k (Sliced wide parent offset) h = k.known parent h
+side_kept v w k (Thin target) h = k.known target h
 
 pub narrow_both : (b c : Bool) (us vs : List ℕ) → IsNarrow b us → IsNarrow c vs → IsNarrow (b || c) (us ++ vs)
 narrow_both true c us vs h k = tt

@@ -18,8 +18,7 @@ pub known_trans : (u v w : View) → KeepsKnown u v → KeepsKnown v w → Keeps
 known_trans u v w a b = record {
   units = λ i us h. b.units i us (a.units i us h);
   lengths = λ i n h. b.lengths i n (a.lengths i n h);
-  flats = λ i wide start fixed h. b.flats i wide start fixed (a.flats i wide start fixed h);
-  parts = λ i wide parent offset h. b.parts i wide parent offset (a.parts i wide parent offset h);
+  flats = λ i wide start h. b.flats i wide start (a.flats i wide start h);
   thins = λ i t h. b.thins i t (a.thins i t h);
   settled = λ i h. b.settled i (a.settled i h);
   frozen = λ c x h. b.frozen c x (a.frozen c x h);
@@ -28,7 +27,7 @@ known_trans u v w a b = record {
 }
 
 pub known_refl : (v : View) → KeepsKnown v v
-known_refl v = record { units = λ i us h. h; lengths = λ i n h. h; flats = λ i wide start fixed h. h; parts = λ i wide parent offset h. h; thins = λ i t h. h; settled = λ i h. h; frozen = λ c x h. h; known = λ i h. h; slots = λ k i h. h }
+known_refl v = record { units = λ i us h. h; lengths = λ i n h. h; flats = λ i wide start h. h; thins = λ i t h. h; settled = λ i h. h; frozen = λ c x h. h; known = λ i h. h; slots = λ k i h. h }
 
 module _ {X : Type 0} where
   -- a key stays while another is put in

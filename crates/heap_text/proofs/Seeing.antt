@@ -23,10 +23,10 @@ side_of : (v : View) (i n : ℕ) (f : Form) → KnowsSide (learned_all (record (
 side_of v i n Unborn = tt
 side_of v i n (Flat wide start fixed) = tt
 side_of v i n (Cons wide left right) = inr (key_more (insert v.met left tt) right left tt (key_of (insert v.met left tt) left tt (insert_same v.met left tt)))
-side_of v i n (Sliced wide parent offset) = tt
-side_of v i n (Thin target) = tt
+side_of v i n (Sliced wide parent offset) = inr (key_of (insert v.met parent tt) parent tt (insert_same v.met parent tt))
+side_of v i n (Thin target) = inr (key_of (insert v.met target tt) target tt (insert_same v.met target tt))
 
--- the left side of a Cons is known
+-- the string that a form names first is known
 pub side_met : (v w : View) (i x : ℕ) (f : Form) → form_of x ≡ Some f → w ≡ learned_all (loaded_form v i x) → KnowsSide w f
 side_met v w i x f spelt e = subst (λ (u : View). KnowsSide u f) (sym e) (subst (λ (o : Option Form). KnowsSide (learned_all (record (with_form v i o) { form_loads = added_loads v.form_loads 1 })) f) (sym spelt) (side_of v i (added_loads v.form_loads 1) f))
 

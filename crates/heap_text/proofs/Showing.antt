@@ -1,6 +1,8 @@
 -- What a window shows.
 use Rattle.std.proofs.Common.{◌≡◌, ℕ, ◌+◌, ◌/◌, ◌%◌, ◌^◌, ◌<◌, ◌≤◌, ◌⊎◌, inl, inr, ⊎_elim, Bool, true, false, List, length, drop, get_or, sym, refl, ap, ◌∙◌, subst, arith, Option, Some, None}
 use Rattle.std.proofs.lemmas.List.{get_or-drop, get_or-take, length-drop, length-take-le}
+use Rattle.std.specs.FinMap.{FinMap}
+use Rattle.std.specs.Ordering.{nat_cmp}
 use Rattle.js_units.specs.Lanes.{lane_count, lane_of, words_over}
 use Rattle.heap_rule.specs.declared.view.View.{View}
 use Rattle.heap_rule.specs.Contents.{lane_in}
@@ -12,12 +14,13 @@ use Rattle.heap_rule.specs.Births.{part}
 use Rattle.heap_rule.proofs.MapLemmas.{insert_same}
 use Rattle.js_header.specs.Form.{form_of}
 use Rattle.js_header.specs.declared.form.Form.{Form}
-use Rattle.js_header.specs.declared.form.Form.TheVariants.{Sliced, Thin}
+use Rattle.js_header.specs.declared.form.Form.TheVariants.{Flat, Sliced, Thin}
 use Rattle.heap_rule.specs.Sound.{IsPossible}
 use Rattle.heap_rule.proofs.Possible.{possible_frozen, possible_unit, possible_lawful}
 use Rattle.heap_table.specs.Known.{KeepsKnown}
 use Rattle.heap_text.specs.declared.string.Window.{Window}
-use Rattle.heap_text.specs.Windows.{IsFrozenWindow, IsWindow}
+use Rattle.heap_text.specs.Texts.{HoldsForms}
+use Rattle.heap_text.specs.Windows.{IsFrozenWindow, IsWindow, StandsFor}
 
 more_words : (wide : Bool) (n m : ℕ) → n ≤ m → words_over wide n ≤ words_over wide m
 more_words true n m l = omega arith
@@ -32,38 +35,43 @@ pub window_frozen : (v : View) (w : Window) (us : List ℕ) → IsWindow v w us 
 window_frozen v w us k c lo hi = let p = k.place in let l = k.within in let m = more_words w.wide (w.offset + w.len) (k.before + length k.whole) (omega arith) in
     inr (k.id, w.wide, w.start, k.fixed, k.before + length k.whole, k.form, k.length_known, lanes_from w.wide w.start w.offset c lo, omega arith)
 
--- what leads stays, and what has a length
-forwards_kept : (v u : View) → KeepsKnown v u → (p i : ℕ) → (p ≡ i) ⊎ Has v.forms p (Thin i) → (p ≡ i) ⊎ Has u.forms p (Thin i)
-forwards_kept v u k p i way = ⊎_elim (λ (e : p ≡ i). inl e) (λ (h : Has v.forms p (Thin i)). inr (k.thins p i h)) way
+-- what leads stays with the forms, and what has a length
+module _ (v u : View) (holds : HoldsForms v u) where
+  pub stands_for_kept : (p i : ℕ) → StandsFor v p i → StandsFor u p i
+  stands_for_kept p i way = ⊎_elim (λ (e : p ≡ i). inl e) (λ (h : Has v.forms p (Thin i)). inr (holds p (Thin i) h)) way
 
-leads_kept : (v u : View) → KeepsKnown v u → (s i o : ℕ) → LeadsTo v s i o → LeadsTo u s i o
-leads_kept v u k s i o way = ⊎_elim
-    (λ (t : ((s ≡ i) ⊎ Has v.forms s (Thin i)) × (o ≡ 0)). inl (forwards_kept v u k s i t.0, t.1))
-    (λ (t : (wide : Bool) × (parent : ℕ) × Has v.forms s (Sliced wide parent o) × ((parent ≡ i) ⊎ Has v.forms parent (Thin i))). inr (t.0, t.1, k.parts s t.0 t.1 o t.2, forwards_kept v u k t.1 i t.3))
-    way
+  leads_kept : (s i o : ℕ) → LeadsTo v s i o → LeadsTo u s i o
+  leads_kept s i o way = ⊎_elim
+      (λ (t : StandsFor v s i × (o ≡ 0)). inl (stands_for_kept s i t.0, t.1))
+      (λ (t : (wide : Bool) × (parent : ℕ) × Has v.forms s (Sliced wide parent o) × StandsFor v parent i). inr (t.0, t.1, holds s (Sliced t.0 t.1 o) t.2, stands_for_kept t.1 i t.3))
+      way
 
-length_kept : (v u : View) → KeepsKnown v u → (i n : ℕ) → HasLength v i n → HasLength u i n
-length_kept v u k i n way = ⊎_elim
-    (λ (h : Has v.lengths i n). inl (k.lengths i n h))
-    (λ t. inr (t.0, t.1, t.2, t.3, t.4, k.parts t.0 t.1 t.2 t.3 t.5, k.lengths t.0 t.4 t.6, t.7, forwards_kept v u k t.2 i t.8))
-    way
+  length_kept : KeepsKnown v u → (i n : ℕ) → HasLength v i n → HasLength u i n
+  length_kept k i n way = ⊎_elim
+      (λ (h : Has v.lengths i n). inl (k.lengths i n h))
+      (λ t. inr (t.0, t.1, t.2, t.3, t.4, holds t.0 (Sliced t.1 t.2 t.3) t.5, k.lengths t.0 t.4 t.6, t.7, stands_for_kept t.2 i t.8))
+      way
 
-pub window_kept : (v u : View) (w : Window) (us : List ℕ) → KeepsKnown v u → IsWindow v w us → IsWindow u w us
-window_kept v u w us k h = record {
-  of = h.of;
-  whole = h.whole;
-  known = k.units h.of h.whole h.known;
-  id = h.id;
-  before = h.before;
-  leads = leads_kept v u k h.of h.id h.before h.leads;
-  fixed = h.fixed;
-  form = k.flats h.id w.wide w.start h.fixed h.form;
-  length_known = length_kept v u k h.id (h.before + length h.whole) h.length_known;
-  from = h.from;
-  place = h.place;
-  within = h.within;
-  shows = h.shows;
-}
+  pub window_kept : (w : Window) (us : List ℕ) → KeepsKnown v u → IsWindow v w us → IsWindow u w us
+  window_kept w us k h = record {
+    of = h.of;
+    whole = h.whole;
+    known = k.units h.of h.whole h.known;
+    id = h.id;
+    before = h.before;
+    leads = leads_kept h.of h.id h.before h.leads;
+    fixed = h.fixed;
+    form = holds h.id (Flat w.wide w.start h.fixed) h.form;
+    length_known = length_kept k h.id (h.before + length h.whole) h.length_known;
+    from = h.from;
+    place = h.place;
+    within = h.within;
+    shows = h.shows;
+  }
+
+-- forms that are the same are held
+pub forms_held : (v u : View) → u.forms ≡ v.forms → HoldsForms v u
+forms_held v u e i f h = subst (λ (m : FinMap nat_cmp Form). Has m i f) (sym e) h
 
 pub window_length : (v : View) (w : Window) (us : List ℕ) → IsWindow v w us → length us ≡ w.len
 window_length v w us h = let l = h.within in let d = length-drop h.from h.whole in ap length h.shows ∙ length-take-le w.len (drop h.from h.whole) (omega arith)

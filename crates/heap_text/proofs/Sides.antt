@@ -11,14 +11,13 @@ use Rattle.std.specs.Ordering.{nat_cmp, eq_by_cmp}
 use Rattle.std.specs.Cmp.{unsigned_tied}
 use Rattle.std.specs.FinMap.{FinMap, contains_key-keys, entries, find, get, get-entries, insert, keys}
 use Rattle.js_header.specs.declared.form.Form.{Form}
-use Rattle.js_header.specs.declared.form.Form.TheVariants.{Unborn, Flat, Cons, Sliced, Thin}
+use Rattle.js_header.specs.declared.form.Form.TheVariants.{Cons}
 use Rattle.heap_rule.specs.declared.view.View.{View}
 use Rattle.heap_rule.specs.Layout.{length_word}
 use Rattle.heap_rule.specs.Learning.{all_named, by_cons, by_flat, by_thin, justified, learn_into, learn_one, learned_all, named_by, split_by}
 use Rattle.heap_rule.specs.Maps.{Has, HasKey, first_in, first_some}
 use Rattle.heap_rule.specs.Sound.{IsPossible, StandsIn}
 use Rattle.heap_rule.proofs.MapLemmas.{has_key, insert_same, key_of}
-use Rattle.heap_table.specs.Rule.{MayStand}
 use Rattle.heap_table.proofs.Fitting.{or_rest}
 use Rattle.heap_text.specs.Filling.{IsBoth, units_at}
 use Rattle.heap_text.proofs.Loaded.{key_more}
@@ -57,12 +56,12 @@ learned_in f (n ∷ names) m i us e h = ⊎_elim
     h
 
 module _ {X : Type 0} where
-  first_two : (a b : Option X) → (a ≡ None → (y : X) × (b ≡ Some y)) → (y : X) × (first_some a b ≡ Some y)
+  pub first_two : (a b : Option X) → (a ≡ None → (y : X) × (b ≡ Some y)) → (y : X) × (first_some a b ≡ Some y)
   first_two (Some y) b h = (y, refl)
   first_two None b h = h refl
 
   -- where one of the keys gives a value, the first that does gives one
-  first_at : (f : ℕ → Option X) (j : ℕ) (ks : List ℕ) (x : X) → list_any (eq_by_cmp nat_cmp j) ks ≡ true → f j ≡ Some x → (y : X) × (first_in f ks ≡ Some y)
+  pub first_at : (f : ℕ → Option X) (j : ℕ) (ks : List ℕ) (x : X) → list_any (eq_by_cmp nat_cmp j) ks ≡ true → f j ≡ Some x → (y : X) × (first_in f ks ≡ Some y)
   first_at f j [] x h e = absurd (cc)
   first_at f j (k ∷ ks) x h e = first_two (f k) (first_in f ks) (λ none. dite (ℕ_discrete j k)
       (λ is. let bad : Some x ≡ None = sym e ∙ (ap f is ∙ none) in absurd (cc))
@@ -93,14 +92,6 @@ module _ (v : View) (i : ℕ) (wide : Bool) (l r : ℕ) (us : List ℕ) (m : ℕ
   sides_known = let names = named_sides (entries v.forms) i wide l r (sym (get-entries v.forms i) ∙ f) in
       let a = told l left_told.0 left_told.1 in let b = told r right_told.0 right_told.1 in
       (learned_in (justified v) (all_named (entries v.forms)) v.units l a.0 a.1 names.0, learned_in (justified v) (all_named (entries v.forms)) v.units r b.0 b.1 names.1)
-
--- of the forms that stand, one that is no Flat is a Cons
-pub is_cons : (f : Form) → MayStand f → ((wide : Bool) (start : ℕ) (fixed : Bool) → f ≡ Flat wide start fixed → ⊥) → (wide : Bool) × (l : ℕ) × (r : ℕ) × (f ≡ Cons wide l r)
-is_cons Unborn may never = absurd may
-is_cons (Flat wide start fixed) may never = absurd (never wide start fixed refl)
-is_cons (Cons wide l r) may never = (wide, l, r, refl)
-is_cons (Sliced wide parent offset) may never = absurd may
-is_cons (Thin target) may never = absurd may
 
 -- what the rule says of a Cons that was seen
 below_in : (v : View) → StandsIn v → (i : ℕ) (wide : Bool) (l r : ℕ) → Has v.forms i (Cons wide l r) → (l < i) × (r < i)

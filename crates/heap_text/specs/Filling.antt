@@ -3,9 +3,10 @@ use Rattle.std.specs.Prelude.{◌≡◌, ℕ, ◌+◌, ◌-◌, ◌<◌, ◌≤�
 use Rattle.std.specs.FinMap.{FinMap, get}
 use Rattle.std.specs.Ordering.{nat_cmp}
 use Rattle.js_units.specs.Lanes.{lane_count, lane_of}
+use Rattle.js_header.specs.declared.form.Form.TheVariants.{Cons}
 use Rattle.heap_rule.specs.declared.view.View.{View}
 use Rattle.heap_rule.specs.Contents.{lane_in}
-use Rattle.heap_rule.specs.Maps.{HasKey}
+use Rattle.heap_rule.specs.Maps.{Has, HasKey}
 use Rattle.heap_table.specs.Known.{KeepsKnown}
 
 -- a content word as the agent stored it; 0 where it is not its own
@@ -31,6 +32,10 @@ pub record IsPlaced (wide : Bool) (before after : ℕ) (low count : ℕ) (unit :
 -- a call that loads no form: the forms that the view has stay, and the count of their loads
 abbrev pub KeepsForms : View → View → Type 0
 KeepsForms v w = (w.forms ≡ v.forms) × (w.form_loads ≡ v.form_loads)
+
+-- a call that loads forms of strings up to id and of such to which others forward: what was seen as a Cons above id is so still
+abbrev pub HoldsAbove : View → View → ℕ → Type 0
+HoldsAbove v w id = (i : ℕ) (wide : Bool) (left right : ℕ) → id < i → Has v.forms i (Cons wide left right) → Has w.forms i (Cons wide left right)
 
 -- the units us are ls, which are m, and then rs, which are the rest of n, and neither is empty
 pub record IsBoth (us ls rs : List ℕ) (m n : ℕ) : Type 0 where

@@ -1,8 +1,8 @@
 -- What joining two strings and cutting one answer.
-use Rattle.std.specs.Prelude.{◌≡◌, ℕ, ◌+◌, ◌-◌, ◌<◌, ◌≤◌, ◌++◌, ◌||◌, ◌⊎◌, Bool, false, List, length, Result, Ok, Err}
+use Rattle.std.specs.Prelude.{◌≡◌, ℕ, ◌+◌, ◌-◌, ◌<◌, ◌≤◌, ◌++◌, ◌||◌, ◌⊎◌, Bool, false, true, List, length, Result, Ok, Err}
 use Rattle.js_units.specs.Lanes.{words_over}
 use Rattle.js_header.specs.declared.form.Form.{Form}
-use Rattle.js_header.specs.declared.form.Form.TheVariants.{Flat, Cons}
+use Rattle.js_header.specs.declared.form.Form.TheVariants.{Flat, Cons, Sliced, Thin}
 use Rattle.heap_rule.specs.declared.size.HeapSize.{HeapSize}
 use Rattle.heap_rule.specs.declared.view.View.{View}
 use Rattle.heap_rule.specs.Layout.{MAX}
@@ -24,20 +24,43 @@ IsCopy v w s us = Has w.units s.id us × ((start : ℕ) × Has w.forms s.id (Fla
 abbrev pub IsRefused : View → View → HeapSize → List ℕ → TextFull → Type 0
 IsRefused v w z us f = Told w z (words_over (is_wide us) (length us)) f × IsSpared v w (words_over (is_wide us) (length us)) f
 
--- the fewest units of a Cons
+-- the fewest units of a Cons, and of a Sliced
 abbrev pub MIN_CONS : ℕ
 MIN_CONS = 13
 
 abbrev pub wide_bit : Form → Bool
 wide_bit (Flat wide start fixed) = wide
 wide_bit (Cons wide left right) = wide
+wide_bit (Sliced wide parent offset) = wide
 wide_bit _ = false
+
+-- a form that was loaded is wide as b says; for a Thin the form of its target counts
+abbrev pub IsWideIn : View → Form → Bool → Type 0
+IsWideIn v (Thin target) b = (start : ℕ) × Has v.forms target (Flat b start true)
+IsWideIn v f b = b ≡ wide_bit f
 
 -- A new Cons of the strings a and b, with these units: one id and no content word. It is wide exactly where one of the forms that were loaded of
 -- its sides is; the view has these forms.
 abbrev pub IsRope : View → View → JsStr → JsStr → JsStr → List ℕ → Type 0
 IsRope v w a b s us = Has w.units s.id us
-    × ((f : Form) × (g : Form) × Has w.forms a.id f × Has w.forms b.id g × Has w.forms s.id (Cons (wide_bit f || wide_bit g) a.id b.id))
+    × ((f : Form) × (g : Form) × (left : Bool) × (right : Bool) × Has w.forms a.id f × Has w.forms b.id g × IsWideIn w f left × IsWideIn w g right
+    × Has w.forms s.id (Cons (left || right) a.id b.id))
+    × Uses v w 1 0
+
+-- the string from which a Sliced is cut, by the form of the string s that is cut: the parent of a Sliced, else s; and where the units of s begin there
+abbrev pub parent_of : ℕ → Form → ℕ
+parent_of s (Sliced wide parent offset) = parent
+parent_of s _ = s
+
+abbrev pub offset_of : Form → ℕ
+offset_of (Sliced wide parent offset) = offset
+offset_of _ = 0
+
+-- A new Sliced t of the units of the string s from `from` on: one id and no content word. Its parent is no Sliced: s itself, or the parent of s. It is
+-- wide exactly where the form that was loaded of s is; the view has that form.
+abbrev pub IsPart : View → View → JsStr → ℕ → JsStr → List ℕ → Type 0
+IsPart v w s from t us = Has w.units t.id us
+    × ((f : Form) × (wide : Bool) × Has w.forms s.id f × IsWideIn w f wide × Has w.forms t.id (Sliced wide (parent_of s.id f) (offset_of f + from)))
     × Uses v w 1 0
 
 -- a call that was refused for want of an id, and used nothing
@@ -56,6 +79,9 @@ IsCopied v w z us r = ((t : JsStr) × (r ≡ Ok t) × IsCopy v w t us) ⊎ ((f :
 abbrev pub IsLinked : View → View → HeapSize → JsStr → JsStr → List ℕ → Result JsStr TextFull → Type 0
 IsLinked v w z a b us r = ((t : JsStr) × (r ≡ Ok t) × IsRope v w a b t us) ⊎ ((f : TextFull) × (r ≡ Err f) × IsNoId v w z f)
 
+abbrev pub IsPartCut : View → View → HeapSize → JsStr → ℕ → List ℕ → Result JsStr TextFull → Type 0
+IsPartCut v w z s from us r = ((t : JsStr) × (r ≡ Ok t) × IsPart v w s from t us) ⊎ ((f : TextFull) × (r ≡ Err f) × IsNoId v w z f)
+
 -- the string s itself, for which nothing was used
 abbrev pub IsItself : View → View → JsStr → JsStr → Type 0
 IsItself v w s t = (t ≡ s) × (w.used ≡ v.used)
@@ -72,8 +98,9 @@ module _ (v w : View) (z : HeapSize) where
     pub rope : 0 < length us → 0 < length vs → MIN_CONS ≤ length us + length vs → length us + length vs ≤ MAX
         → ((t : JsStr) × (answer ≡ Ok t) × IsRope v w a b t (us ++ vs)) ⊎ ((f : TextFull) × (answer ≡ Err (Full f)) × IsNoId v w z f)
 
-  -- cutting the part from unit `from` up to unit `to` out of the string s with the units us
+  -- Cutting the part from unit `from` up to unit `to` out of the string s with the units us. The whole is s itself. Fewer than 13 units are copied,
+  -- more become a Sliced.
   pub record IsCut (s : JsStr) (from to : ℕ) (us : List ℕ) (answer : Result JsStr TextFull) : Type 0 where
     pub whole : from ≡ 0 → to ≡ length us → (t : JsStr) × (answer ≡ Ok t) × IsItself v w s t
-    pub other : (0 < from) ⊎ (to < length us)
-        → ((t : JsStr) × (answer ≡ Ok t) × IsCopy v w t (part from (to - from) us)) ⊎ ((f : TextFull) × (answer ≡ Err f) × IsRefused v w z (part from (to - from) us) f)
+    pub short : (0 < from) ⊎ (to < length us) → to - from < MIN_CONS → IsCopied v w z (part from (to - from) us) answer
+    pub long : (0 < from) ⊎ (to < length us) → MIN_CONS ≤ to - from → IsPartCut v w z s from (part from (to - from) us) answer

@@ -1,9 +1,10 @@
 -- What a call on a text leaves: what is known, what is used, and what a refusal tells.
 use Rattle.std.specs.Prelude.{◌≡◌, ℕ, ◌+◌, ◌<◌, ◌≤◌, Bool, List, nat_lt}
 use Rattle.std.specs.List.{list_any}
+use Rattle.js_header.specs.declared.form.Form.{Form}
 use Rattle.heap_rule.specs.declared.view.View.{View}
 use Rattle.heap_rule.specs.declared.size.HeapSize.{HeapSize}
-use Rattle.heap_rule.specs.Maps.{HasKey}
+use Rattle.heap_rule.specs.Maps.{Has, HasKey}
 use Rattle.heap_table.specs.Full.{IsFull}
 use Rattle.heap_table.specs.Known.{KeepsKnown}
 use Rattle.heap_text.specs.declared.faults.TextFull.{TextFull}
@@ -24,6 +25,10 @@ pub record Reads (v w : View) : Type 0 where
   pub seen : w.seen ≡ v.seen
   pub mine : w.mine ≡ v.mine
   pub slot_loads : w.slot_loads ≡ v.slot_loads
+
+-- a call after which each form that was seen is still the one that the view has
+abbrev pub HoldsForms : View → View → Type 0
+HoldsForms v w = (i : ℕ) (f : Form) → Has v.forms i f → Has w.forms i f
 
 -- any call: what is known stays known, counters and uses never fall, and slots, how often each was loaded, and history stay
 pub record Continues (v w : View) : Type 0 where

@@ -1,19 +1,21 @@
 // The units of a string that may be a rope, written into own content words.
-ghost use Rattle.std.specs.Prelude.{◌≡◌, ℕ, List, Bool, ◌+◌, ◌-◌, ◌*◌, ◌/◌, ◌<◌, ◌≤◌, false, slice_index, length};
-ghost use Rattle.std.specs.FinMap.{get};
+ghost use Rattle.std.specs.Prelude.{◌≡◌, ◌≢◌, ℕ, List, Bool, ◌+◌, ◌-◌, ◌*◌, ◌/◌, ◌<◌, ◌≤◌, false, slice_index, length};
 ghost use Rattle.js_units.specs.Lanes.{lane_count};
-ghost use Rattle.js_header.specs.declared.form.Form.TheVariants.{Cons, Flat};
+ghost use Rattle.js_header.specs.declared.form.Form.TheVariants.{Cons, Unborn};
+ghost use Rattle.heap_rule.specs.Forms.{IsCons};
 ghost use Rattle.heap_rule.specs.Layout.{MAX};
 ghost use Rattle.heap_rule.specs.Loads.{added_loads};
 ghost use Rattle.heap_rule.specs.Maps.{Has, HasKey};
 ghost use Rattle.heap_rule.specs.Views.{IsKnown};
 ghost use Rattle.heap_table.specs.Agents.{Belongs, view_of};
-ghost use Rattle.heap_text.specs.Filling.{IsBoth, IsFilled, KeepsForms, Writes, own_word, units_at};
+ghost use Rattle.heap_text.specs.Filling.{HoldsAbove, IsBoth, IsFilled, KeepsForms, Writes, own_word, units_at};
+ghost use Rattle.heap_text.specs.Settling.{KnowsSide, target_loads};
 ghost use Rattle.heap_text.specs.Texts.{Reads};
+ghost use Rattle.heap_text.specs.Windows.{IsWindow};
 
 use crate::lanes::Run;
 use crate::source::{Piece, Source};
-use crate::string::JsStr;
+use crate::string::{JsStr, Window};
 use crate::text::Text;
 use heap_steps::Steps;
 use js_header::Form;
@@ -38,23 +40,50 @@ impl<'h> Text<'h> {
         self.agent.load_length(self.heap, left)
     }
 
-    // Lanes `at` on of a run of own words become the `n` units of a Flat.
-    fn fill_flat(&mut self, id: u32, flat: Run, at: u32, n: u32, to: Run)
+    // A window on all units of a leaf, a string that was seen with another form than Cons. Each
+    // load of a form is one step.
+    fn leaf_window<L: Ledger>(&mut self, of: JsStr, form: Form, steps: &mut Steps<L>) -> Window
         requires text { Belongs self.old.agent self.old.heap.now }
-        requires flat { (fixed : Bool) × Has (view_of self.old.agent).forms id (Flat flat.wide flat.start fixed) }
-        requires known { HasKey (view_of self.old.agent).units id }
-        requires count { length (units_at (view_of self.old.agent) id) ≡ n }
+        requires known { HasKey (view_of self.old.agent).units of.id }
+        requires seen { Has (view_of self.old.agent).forms of.id form }
+        requires born { form ≢ Unborn }
+        requires leaf { ¬ IsCons form }
+        requires side { KnowsSide (view_of self.old.agent) form }
+        ensures text { Belongs self.new.agent self.new.heap.now }
+        ensures heap { self.new.heap ≡ self.old.heap }
+        ensures reads { Reads (view_of self.old.agent) (view_of self.new.agent) }
+        ensures above { HoldsAbove (view_of self.old.agent) (view_of self.new.agent) of.id }
+        ensures shows { (us : List ℕ) → Has (view_of self.old.agent).units of.id us → IsWindow (view_of self.new.agent) result us × (result.len ≡ length us) }
+        ensures loads { (l j : ℕ) → (view_of self.old.agent).form_loads ≡ added_loads l j → (view_of self.new.agent).form_loads ≡ added_loads l (j + (steps.new - steps.old)) }
+        ensures more { steps.old ≤ steps.new }
+        ensures steps { steps.new ≤ steps.old + 2 }
+    {
+        if let Form::Sliced { parent, offset, .. } = form {
+            let under = self.form_now(parent);
+            steps.tick();
+            count_target(under, steps);
+            return self.part_window(of, parent, offset, under);
+        }
+        count_target(form, steps);
+        self.solid_window(of, form)
+    }
+
+    // Lanes `at` on of a run of own words become the `n` units of a string, which a window shows.
+    fn fill_leaf(&mut self, of: JsStr, window: Window, at: u32, n: u32, to: Run)
+        requires text { Belongs self.old.agent self.old.heap.now }
+        requires known { HasKey (view_of self.old.agent).units of.id }
+        requires shows { IsWindow (view_of self.old.agent) window (units_at (view_of self.old.agent) of.id) }
+        requires whole { window.len ≡ n }
+        requires count { length (units_at (view_of self.old.agent) of.id) ≡ n }
         requires short { at + n ≤ MAX }
         requires own { (o : ℕ) → at ≤ o → o < at + n → HasKey (view_of self.old.agent).own_words (to.start + o / lane_count to.wide) }
-        requires fits { to.wide ≡ false → (k : ℕ) → k < n → slice_index (units_at (view_of self.old.agent) id) k < 256 }
+        requires fits { to.wide ≡ false → (k : ℕ) → k < n → slice_index (units_at (view_of self.old.agent) of.id) k < 256 }
         ensures text { Belongs self.new.agent self.new.heap.now }
         ensures heap { self.new.heap ≡ self.old.heap }
         ensures writes { Writes (view_of self.old.agent) (view_of self.new.agent) }
         ensures forms { KeepsForms (view_of self.old.agent) (view_of self.new.agent) }
-        ensures filled { IsFilled to.wide to.start (own_word (view_of self.old.agent).own_words) (own_word (view_of self.new.agent).own_words) at n (slice_index (units_at (view_of self.old.agent) id)) }
+        ensures filled { IsFilled to.wide to.start (own_word (view_of self.old.agent).own_words) (own_word (view_of self.new.agent).own_words) at n (slice_index (units_at (view_of self.old.agent) of.id)) }
     {
-        let of = JsStr { id };
-        let window = self.flat_window(of, flat.wide, flat.start);
         let source = Source::Piece(Piece {
             of,
             from: 0,
@@ -63,8 +92,8 @@ impl<'h> Text<'h> {
         self.copy_lanes(&source, n, to, at);
     }
 
-    // The same of any string. It goes into the shorter side of a Cons and loops on the longer
-    // one; each load of a form is one step.
+    // Lanes `at` on of a run of own words become the `n` units of any string. It goes into the shorter side of a Cons and loops on the longer
+    // one; each load of a form is one step. A leaf costs three at most.
     pub(crate) fn fill<L: Ledger>(
         &mut self,
         mut id: u32,
@@ -83,7 +112,7 @@ impl<'h> Text<'h> {
         ensures text { Belongs self.new.agent self.new.heap.now }
         ensures heap { self.new.heap ≡ self.old.heap }
         ensures writes { Writes (view_of self.old.agent) (view_of self.new.agent) }
-        ensures above { (i : ℕ) → id < i → get (view_of self.new.agent).forms i ≡ get (view_of self.old.agent).forms i }
+        ensures above { HoldsAbove (view_of self.old.agent) (view_of self.new.agent) id }
         ensures filled { IsFilled to.wide to.start (own_word (view_of self.old.agent).own_words) (own_word (view_of self.new.agent).own_words) at n (slice_index (units_at (view_of self.old.agent) id)) }
         ensures loads { (view_of self.new.agent).form_loads ≡ added_loads (view_of self.old.agent).form_loads (steps.new - steps.old) }
         ensures more { steps.old ≤ steps.new }
@@ -93,10 +122,6 @@ impl<'h> Text<'h> {
             let form = self.form_now(id);
             steps.tick();
             match form {
-                Form::Flat { start, wide, .. } => {
-                    self.fill_flat(id, Run { start, wide }, at, n, to);
-                    return;
-                }
                 Form::Cons { left, right, .. } => {
                     let m = self.left_length(id, left, right);
                     if m <= n - m {
@@ -110,8 +135,22 @@ impl<'h> Text<'h> {
                         n = m;
                     }
                 }
-                _ => unreachable!(),
+                _ => {
+                    let of = JsStr { id };
+                    let window = self.leaf_window(of, form, steps);
+                    self.fill_leaf(of, window, at, n, to);
+                    return;
+                }
             }
         }
+    }
+}
+
+// One step where the form is a Thin, for the load of its target's form.
+fn count_target<L: Ledger>(form: Form, steps: &mut Steps<L>)
+    ensures { steps.new ≡ steps.old + target_loads form }
+{
+    if let Form::Thin { .. } = form {
+        steps.tick();
     }
 }

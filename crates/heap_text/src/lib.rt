@@ -2,8 +2,9 @@
 //!
 //! A [`Text`] is a heap with the agent that uses it, and a [`JsStr`] the number of a string
 //! there. Once made, a string never changes its code units. Joining makes a rope of two strings,
-//! unless the result is short; settling a rope copies its units once, for all who use it, and a
-//! settled string is read by windows on its content words. No call takes a lock, waits or takes
+//! and cutting a slice that stands on the string, unless the result is short. Settling a rope
+//! copies its units once, for all who use it. A settled string is read by windows on its content
+//! words, which are those of a slice's parent, and of the interned string to which one forwards. No call takes a lock, waits or takes
 //! memory; a call that needs more ids or content words than the heap has left answers a
 //! [`TextFull`].
 #![tactic(auto)]
@@ -18,6 +19,7 @@ mod settling;
 mod source;
 mod string;
 mod text;
+mod windows;
 
 pub use faults::{JoinFault, TextFull};
 pub use heap_steps::Steps;

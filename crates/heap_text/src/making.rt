@@ -1,15 +1,16 @@
 // Making strings: of given units, of two strings, of a part of one.
-ghost use Rattle.std.specs.Prelude.{◌≡◌, ℕ, List, ◌+◌, ◌++◌, ◌*◌, ◌/◌, ◌%◌, ◌≤◌, ◌<◌, ◌^◌, ◌-◌, ◌||◌, IfOk, IfErr, IsErr, Ok, Err, Some, false, true, slice_index, length};
+ghost use Rattle.std.specs.Prelude.{◌≡◌, ℕ, List, ◌+◌, ◌++◌, ◌*◌, ◌/◌, ◌%◌, ◌≤◌, ◌<◌, ◌^◌, ◌-◌, ◌||◌, ◌≢◌, IfOk, IfErr, IsErr, Ok, Err, Some, false, true, slice_index, length};
 ghost use Rattle.js_units.specs.Lanes.{words_over};
-ghost use Rattle.js_header.specs.declared.form.Form.TheVariants.{Flat};
+ghost use Rattle.js_header.specs.declared.form.Form.TheVariants.{Flat, Unborn};
 ghost use Rattle.heap_rule.specs.Layout.{MAX};
 ghost use Rattle.heap_rule.specs.Births.{part};
 ghost use Rattle.heap_rule.specs.Maps.{Has, HasKey};
 ghost use Rattle.heap_rule.specs.Views.{IsSettled};
 ghost use Rattle.heap_table.specs.Agents.{Belongs, view_of, size_of};
-ghost use Rattle.heap_table.specs.Rule.{MayStand};
-ghost use Rattle.heap_text.specs.Texts.{Continues, IsSpared, Reads, Told, Uses, is_wide};
-ghost use Rattle.heap_text.specs.Joins.{AreJoinable, IsCopied, IsCut, IsJoined, IsLinked, MIN_CONS, wide_bit};
+ghost use Rattle.heap_text.specs.Texts.{Continues, HoldsForms, IsSpared, Reads, Told, Uses, is_wide};
+ghost use Rattle.heap_text.specs.Settling.{KnowsSide};
+ghost use Rattle.heap_text.specs.Joins.{AreJoinable, IsCopied, IsCut, IsJoined, IsLinked, IsPartCut, IsWideIn, MIN_CONS, wide_bit};
+ghost use Rattle.heap_text.specs.Joins as joins;
 
 use crate::faults::{JoinFault, TextFull};
 use crate::source::{Piece, Source};
@@ -20,7 +21,7 @@ use js_header::Form;
 // The greatest length of a string, in units.
 const MAX_LENGTH: u32 = 536870888;
 
-// The fewest units of a Cons.
+// The fewest units of a Cons, and of a Sliced.
 const MIN_CONS: u32 = 13;
 
 impl<'h> Text<'h> {
@@ -51,8 +52,9 @@ impl<'h> Text<'h> {
         ensures continues { Continues (view_of self.old.agent) (view_of self.new.agent) }
         ensures copied { (us vs : List ℕ) → Has (view_of self.old.agent).units a.id us → Has (view_of self.old.agent).units b.id vs → IsCopied (view_of self.old.agent) (view_of self.new.agent) (size_of self.old.heap.now) (us ++ vs) result }
     {
-        let front = self.window_on(a);
-        let back = self.window_on(b);
+        let (left, right) = self.side_forms(a, b);
+        let front = self.solid_window(a, left);
+        let back = self.solid_window(b, right);
         let source = Source::Pieces(
             Piece {
                 of: a,
@@ -76,13 +78,31 @@ impl<'h> Text<'h> {
         ensures heap { self.new.heap ≡ self.old.heap }
         ensures reads { Reads (view_of self.old.agent) (view_of self.new.agent) }
         ensures seen { Has (view_of self.new.agent).forms a.id result.0 × Has (view_of self.new.agent).forms b.id result.1 }
-        ensures stand { MayStand result.0 × MayStand result.1 }
+        ensures born { (result.0 ≢ Unborn) × (result.1 ≢ Unborn) }
+        ensures sides { KnowsSide (view_of self.new.agent) result.0 × KnowsSide (view_of self.new.agent) result.1 }
     {
         let front = self.form_now(a.id);
         if a.id == b.id {
             return (front, front);
         }
         (front, self.form_now(b.id))
+    }
+
+    // Whether a string that was seen with this form is wide; of a Thin its target tells.
+    fn is_wide_side(&mut self, of: u32, form: Form) -> bool
+        requires text { Belongs self.old.agent self.old.heap.now }
+        requires seen { Has (view_of self.old.agent).forms of form }
+        requires side { KnowsSide (view_of self.old.agent) form }
+        ensures text { Belongs self.new.agent self.new.heap.now }
+        ensures heap { self.new.heap ≡ self.old.heap }
+        ensures reads { Reads (view_of self.old.agent) (view_of self.new.agent) }
+        ensures held { HoldsForms (view_of self.old.agent) (view_of self.new.agent) }
+        ensures wide { IsWideIn (view_of self.new.agent) form result }
+    {
+        match form {
+            Form::Thin { target } => self.target_run(of, target).wide,
+            _ => has_wide_bit(form),
+        }
     }
 
     // A Cons of two strings.
@@ -96,7 +116,9 @@ impl<'h> Text<'h> {
         ensures linked { (us vs : List ℕ) → Has (view_of self.old.agent).units a.id us → Has (view_of self.old.agent).units b.id vs → IsLinked (view_of self.old.agent) (view_of self.new.agent) (size_of self.old.heap.now) a b (us ++ vs) result }
     {
         let (front, back) = self.side_forms(a, b);
-        let wide = is_either_wide(front, back);
+        let left = self.is_wide_side(a.id, front);
+        let right = self.is_wide_side(b.id, back);
+        let wide = is_either(left, right);
         let id = match self.agent.claim_id(self.heap) {
             Ok(id) => id,
             Err(full) => return Err(TextFull::Ids(full)),
@@ -157,8 +179,81 @@ impl<'h> Text<'h> {
         }
     }
 
+    // A flat string with the `n` units of a settled string from `from` on.
+    fn copy_part(&mut self, s: JsStr, from: u32, n: u32) -> Result<JsStr, TextFull>
+        requires text { Belongs self.old.agent self.old.heap.now }
+        requires settled { IsSettled (view_of self.old.agent) s.id }
+        requires within { (us : List ℕ) × Has (view_of self.old.agent).units s.id us × (from + n ≤ length us) }
+        ensures text { Belongs self.new.agent self.new.heap.now }
+        ensures heap { self.new.heap ≡ self.old.heap }
+        ensures continues { Continues (view_of self.old.agent) (view_of self.new.agent) }
+        ensures copied { (us : List ℕ) → Has (view_of self.old.agent).units s.id us → IsCopied (view_of self.old.agent) (view_of self.new.agent) (size_of self.old.heap.now) (part from n us) result }
+    {
+        let window = self.window_on(s);
+        let part = Window {
+            wide: window.wide,
+            start: window.start,
+            offset: window.offset + from,
+            len: n,
+        };
+        let source = Source::Piece(Piece {
+            of: s,
+            from,
+            window: part,
+        });
+        self.copy(&source, n)
+    }
+
+    // A Sliced of the `n` units of a settled string from `from` on.
+    fn link_part(&mut self, s: JsStr, from: u32, n: u32) -> Result<JsStr, TextFull>
+        requires text { Belongs self.old.agent self.old.heap.now }
+        requires settled { IsSettled (view_of self.old.agent) s.id }
+        requires within { (us : List ℕ) × Has (view_of self.old.agent).units s.id us × (from + n ≤ length us) }
+        requires long { MIN_CONS ≤ n }
+        ensures text { Belongs self.new.agent self.new.heap.now }
+        ensures heap { self.new.heap ≡ self.old.heap }
+        ensures continues { Continues (view_of self.old.agent) (view_of self.new.agent) }
+        ensures linked { (us : List ℕ) → Has (view_of self.old.agent).units s.id us → IsPartCut (view_of self.old.agent) (view_of self.new.agent) (size_of self.old.heap.now) s from (part from n us) result }
+    {
+        let whole = self.form_now(s.id);
+        let wide = self.is_wide_side(s.id, whole);
+        let parent = parent_of(s.id, whole);
+        let offset = offset_of(whole) + from;
+        let id = match self.agent.claim_id(self.heap) {
+            Ok(id) => id,
+            Err(full) => return Err(TextFull::Ids(full)),
+        };
+        self.agent.store_length(self.heap, id, n);
+        let form = Form::Sliced {
+            wide,
+            parent,
+            offset,
+        };
+        self.agent.birth(self.heap, id, form);
+        Ok(JsStr { id })
+    }
+
+    // A part that is not the whole.
+    fn cut(&mut self, s: JsStr, from: u32, n: u32) -> Result<JsStr, TextFull>
+        requires text { Belongs self.old.agent self.old.heap.now }
+        requires settled { IsSettled (view_of self.old.agent) s.id }
+        requires within { (us : List ℕ) × Has (view_of self.old.agent).units s.id us × (from + n ≤ length us) }
+        ensures text { Belongs self.new.agent self.new.heap.now }
+        ensures heap { self.new.heap ≡ self.old.heap }
+        ensures continues { Continues (view_of self.old.agent) (view_of self.new.agent) }
+        ensures copied { n < MIN_CONS → (us : List ℕ) → Has (view_of self.old.agent).units s.id us → IsCopied (view_of self.old.agent) (view_of self.new.agent) (size_of self.old.heap.now) (part from n us) result }
+        ensures linked { MIN_CONS ≤ n → (us : List ℕ) → Has (view_of self.old.agent).units s.id us → IsPartCut (view_of self.old.agent) (view_of self.new.agent) (size_of self.old.heap.now) s from (part from n us) result }
+    {
+        if n < MIN_CONS {
+            return self.copy_part(s, from, n);
+        }
+        self.link_part(s, from, n)
+    }
+
     /// The part of a settled string from unit `from` up to unit `to`. The whole part is the
-    /// string itself; another is a new flat string, wide exactly where a unit is over 255.
+    /// string itself. Fewer than 13 units make a new flat string, wide exactly where a unit is
+    /// over 255; from 13 on the answer is a slice, which takes one id and no content word. It
+    /// stands on the string, or, where that is a slice itself, on what that one stands on.
     pub fn slice(&mut self, s: JsStr, from: u32, to: u32) -> Result<JsStr, TextFull>
         requires text { Belongs self.old.agent self.old.heap.now }
         requires settled { IsSettled (view_of self.old.agent) s.id }
@@ -170,22 +265,11 @@ impl<'h> Text<'h> {
         ensures settled { IfOk result (λ t. IsSettled (view_of self.new.agent) t.id) }
         ensures cut { (us : List ℕ) → Has (view_of self.old.agent).units s.id us → IsCut (view_of self.old.agent) (view_of self.new.agent) (size_of self.old.heap.now) s from to us result }
     {
-        let window = self.window(s);
-        if from == 0 && to == window.len {
+        let n = self.len(s);
+        if from == 0 && to == n {
             return Ok(s);
         }
-        let part = Window {
-            wide: window.wide,
-            start: window.start,
-            offset: window.offset + from,
-            len: to - from,
-        };
-        let source = Source::Piece(Piece {
-            of: s,
-            from,
-            window: part,
-        });
-        self.copy(&source, to - from)
+        self.cut(s, from, to - from)
     }
 }
 
@@ -194,13 +278,33 @@ fn has_wide_bit(form: Form) -> bool
     ensures { result ≡ wide_bit form }
 {
     match form {
-        Form::Flat { wide, .. } | Form::Cons { wide, .. } => wide,
+        Form::Flat { wide, .. } | Form::Cons { wide, .. } | Form::Sliced { wide, .. } => wide,
         _ => false,
     }
 }
 
-fn is_either_wide(front: Form, back: Form) -> bool
-    ensures { result ≡ (wide_bit front || wide_bit back) }
+fn is_either(left: bool, right: bool) -> bool
+    ensures { result ≡ (left || right) }
 {
-    has_wide_bit(front) || has_wide_bit(back)
+    left || right
+}
+
+// The string on which a slice of the string `id` with this form stands.
+fn parent_of(id: u32, form: Form) -> u32
+    ensures { result ≡ joins.parent_of id form }
+{
+    match form {
+        Form::Sliced { parent, .. } => parent,
+        _ => id,
+    }
+}
+
+// Where the units of a string with this form begin there.
+fn offset_of(form: Form) -> u32
+    ensures { result ≡ joins.offset_of form }
+{
+    match form {
+        Form::Sliced { offset, .. } => offset,
+        _ => 0,
+    }
 }

@@ -1,6 +1,5 @@
 // Reading a string: its length, its window, its units.
-ghost use Rattle.std.specs.Prelude.{◌≡◌, ℕ, List, Bool, ◌+◌, ◌*◌, ◌/◌, ◌%◌, ◌≤◌, ◌<◌, ◌⊎◌, slice_index, length};
-ghost use Rattle.js_header.specs.declared.form.Form.TheVariants.{Flat};
+ghost use Rattle.std.specs.Prelude.{◌≡◌, ℕ, List, ◌+◌, ◌*◌, ◌/◌, ◌%◌, ◌≤◌, ◌<◌, slice_index, length};
 ghost use Rattle.js_units.specs.Lanes.{words_over};
 ghost use Rattle.heap_rule.specs.Contents.{lane_in};
 ghost use Rattle.heap_rule.specs.Maps.{Has, HasKey};
@@ -12,7 +11,6 @@ ghost use Rattle.heap_text.specs.Windows.{IsFrozenWindow, IsWindow};
 
 use crate::string::{JsStr, Window};
 use crate::text::Text;
-use js_header::Form;
 use js_units::lane;
 
 impl<'h> Text<'h> {
@@ -23,44 +21,10 @@ impl<'h> Text<'h> {
         ensures text { Belongs self.new.agent self.new.heap.now }
         ensures heap { self.new.heap ≡ self.old.heap }
         ensures reads { Reads (view_of self.old.agent) (view_of self.new.agent) }
+        ensures forms { KeepsForms (view_of self.old.agent) (view_of self.new.agent) }
         ensures length { (us : List ℕ) → Has (view_of self.old.agent).units s.id us → result ≡ length us }
     {
         self.agent.load_length(self.heap, s.id)
-    }
-
-    // A window on all units of a string whose header is a Flat.
-    pub(crate) fn flat_window(&mut self, of: JsStr, wide: bool, start: u32) -> Window
-        requires text { Belongs self.old.agent self.old.heap.now }
-        requires known { HasKey (view_of self.old.agent).units of.id }
-        requires flat { (fixed : Bool) × Has (view_of self.old.agent).forms of.id (Flat wide start fixed) }
-        ensures text { Belongs self.new.agent self.new.heap.now }
-        ensures heap { self.new.heap ≡ self.old.heap }
-        ensures reads { Reads (view_of self.old.agent) (view_of self.new.agent) }
-        ensures forms { KeepsForms (view_of self.old.agent) (view_of self.new.agent) }
-        ensures shows { (us : List ℕ) → Has (view_of self.old.agent).units of.id us → IsWindow (view_of self.new.agent) result us × (result.len ≡ length us) }
-    {
-        Window {
-            wide,
-            start,
-            offset: 0,
-            len: self.agent.load_length(self.heap, of.id),
-        }
-    }
-
-    // A window on all units of a string that is settled, or too short for a Cons.
-    pub(crate) fn window_on(&mut self, of: JsStr) -> Window
-        requires text { Belongs self.old.agent self.old.heap.now }
-        requires known { HasKey (view_of self.old.agent).units of.id }
-        requires whole { IsSettled (view_of self.old.agent) of.id ⊎ ((us : List ℕ) × Has (view_of self.old.agent).units of.id us × (length us < 13)) }
-        ensures text { Belongs self.new.agent self.new.heap.now }
-        ensures heap { self.new.heap ≡ self.old.heap }
-        ensures reads { Reads (view_of self.old.agent) (view_of self.new.agent) }
-        ensures shows { (us : List ℕ) → Has (view_of self.old.agent).units of.id us → IsWindow (view_of self.new.agent) result us × (result.len ≡ length us) }
-    {
-        match self.form_now(of.id) {
-            Form::Flat { wide, start, .. } => self.flat_window(of, wide, start),
-            _ => unreachable!(),
-        }
     }
 
     /// A window on the units of a settled string.
@@ -85,6 +49,7 @@ impl<'h> Text<'h> {
         ensures text { Belongs self.new.agent self.new.heap.now }
         ensures heap { self.new.heap ≡ self.old.heap }
         ensures reads { Reads (view_of self.old.agent) (view_of self.new.agent) }
+        ensures forms { KeepsForms (view_of self.old.agent) (view_of self.new.agent) }
         ensures lane { result ≡ lane_in (shown (view_of self.new.agent)) w.wide w.start (w.offset + i) }
         ensures unit { (us : List ℕ) → IsWindow (view_of self.old.agent) w us → result ≡ slice_index us i }
     {

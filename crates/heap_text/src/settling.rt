@@ -1,13 +1,13 @@
 // Settling a string: a rope becomes flat.
 ghost use Rattle.std.specs.Prelude.{◌≡◌, ◌≢◌, ℕ, List, Bool, ◌+◌, ◌-◌, ◌*◌, ◌<◌, ◌≤◌, ◌⊎◌, IfOk, IfErr, IsOk, length};
 ghost use Rattle.std.specs.FinMap.{get};
-ghost use Rattle.js_header.specs.declared.form.Form.TheVariants.{Cons};
-ghost use Rattle.heap_rule.specs.Forms.{IsCons};
+ghost use Rattle.js_header.specs.Form.{IsInRange};
+ghost use Rattle.js_header.specs.declared.form.Form.TheVariants.{Cons, Sliced, Unborn};
+ghost use Rattle.heap_rule.specs.Forms.{IsCons, IsSolid};
 ghost use Rattle.heap_rule.specs.Loads.{added_loads};
 ghost use Rattle.heap_rule.specs.Maps.{Has, HasKey};
 ghost use Rattle.heap_rule.specs.Views.{IsKnown, IsSettled};
 ghost use Rattle.heap_table.specs.Agents.{Belongs, size_of, view_of};
-ghost use Rattle.heap_table.specs.Rule.{MayStand};
 ghost use Rattle.heap_text.specs.Settling.{IsFlattened, IsNoRoom, IsSettling, KnowsSide};
 ghost use Rattle.heap_text.specs.Texts.{Continues, Reads};
 
@@ -33,8 +33,10 @@ impl<'h> Text<'h> {
         ensures others { (i : ℕ) → i ≢ id → get (view_of self.new.agent).forms i ≡ get (view_of self.old.agent).forms i }
         ensures side { KnowsSide (view_of self.new.agent) result }
         ensures loads { (view_of self.new.agent).form_loads ≡ added_loads (view_of self.old.agent).form_loads 1 }
-        ensures stands { MayStand result }
+        ensures born { result ≢ Unborn }
+        ensures range { IsInRange result }
         ensures settled { IsSettled (view_of self.old.agent) id → ¬ IsCons result }
+        ensures solid { (j : ℕ) (wide : Bool) (offset : ℕ) → Has (view_of self.old.agent).forms j (Sliced wide id offset) → IsSolid result }
     {
         self.agent.load_form(self.heap, id)
     }

@@ -30,4 +30,4 @@ made_stays v w k (Some s) h = let p = has_key v.units s.id h in key_of w.units s
 
 -- the giver knows what it knew
 pub known_left : (v : View) (give : ℕ) → KeepsKnown v (left_after_split v give)
-known_left v give = record { units = λ i us h. h; lengths = λ i n h. h; flats = λ i wide start fixed h. h; parts = λ i wide parent offset h. h; thins = λ i t h. h; settled = λ i h. h; frozen = λ c x h. h; known = λ i h. h; slots = λ k i h. h }
+known_left v give = record { units = λ i us h. h; lengths = λ i n h. h; flats = λ i wide start h. h; thins = λ i t h. h; settled = λ i h. h; frozen = λ c x h. h; known = λ i h. h; slots = λ k i h. h }

@@ -3,6 +3,12 @@
 #![tactic(auto)]
 
 #[cfg(test)]
+mod forwards;
+#[cfg(test)]
+mod lengths;
+#[cfg(test)]
 mod ropes;
+#[cfg(test)]
+mod slices;
 #[cfg(test)]
 mod strings;

@@ -1,5 +1,6 @@
 // Ropes: what joining makes, and settling one, also by two agents at once.
 ghost use Rattle.std.specs.Prelude.{◌≡◌, ℕ, List, ◌≤◌, ◌<◌, IfOk, IfSome, length};
+ghost use Rattle.js_header.specs.Form.{IsInRange};
 ghost use Rattle.heap_rule.specs.Maps.{Has, HasKey};
 ghost use Rattle.heap_table.specs.Agents.{Belongs, share_of, view_of};
 ghost use Rattle.heap_table.specs.Known.{KeepsKnown};
@@ -21,7 +22,7 @@ use std::thread::{Threads, join_mut};
 const LETTERS: [u16; 13] = [97, 98, 99, 100, 101, 102, 103, 104, 105, 106, 107, 108, 109];
 
 // Two strings made and joined.
-fn joined(text: &mut Text, left: &[u16], right: &[u16]) -> Option<JsStr>
+pub(crate) fn joined(text: &mut Text, left: &[u16], right: &[u16]) -> Option<JsStr>
     requires text { Belongs text.old.agent text.old.heap.now }
     requires short { (length left.now ≤ 1000) × (length right.now ≤ 1000) }
     ensures text { Belongs text.new.agent text.new.heap.now }
@@ -42,12 +43,13 @@ fn joined(text: &mut Text, left: &[u16], right: &[u16]) -> Option<JsStr>
 }
 
 // The header of a string as it is at this moment.
-fn header(text: &mut Text, s: JsStr) -> Form
+pub(crate) fn header(text: &mut Text, s: JsStr) -> Form
     requires text { Belongs text.old.agent text.old.heap.now }
     requires known { HasKey (view_of text.old.agent).units s.id }
     ensures text { Belongs text.new.agent text.new.heap.now }
     ensures heap { text.new.heap ≡ text.old.heap }
     ensures continues { Continues (view_of text.old.agent) (view_of text.new.agent) }
+    ensures range { IsInRange result }
 {
     text.agent.load_form(text.heap, s.id)
 }
@@ -245,7 +247,7 @@ fn two_agents_settle_a_rope(rt: HostRuntime) {
 }
 
 // The string joined with itself.
-fn doubled(text: &mut Text, s: JsStr) -> Result<JsStr, JoinFault>
+pub(crate) fn doubled(text: &mut Text, s: JsStr) -> Result<JsStr, JoinFault>
     requires text { Belongs text.old.agent text.old.heap.now }
     requires known { HasKey (view_of text.old.agent).units s.id }
     ensures text { Belongs text.new.agent text.new.heap.now }
@@ -352,20 +354,22 @@ fn ends<L: Ledger>(text: &mut Text, s: JsStr, blank: Blank) -> Option<(u32, u16,
     Some((window.len, first, text.unit_in(window, window.len - 1)))
 }
 
-// Ropes of a hundred thousand joins are settled on the usual stack.
+// A heap for ropes of a million joins.
+const DEEP: HeapSize = HeapSize {
+    ids: 1_000_100,
+    words: 1_000_000,
+    slots: 1,
+};
+
+// Ropes of a million joins are settled on the usual stack.
 #[test]
 fn deep_ropes(rt: HostRuntime) {
-    let size = HeapSize {
-        ids: 100010,
-        words: 20000,
-        slots: 1,
-    };
-    for (front, want) in [(false, (100012, 97, 109)), (true, (100012, 109, 108))] {
-        let Ok((heap, agent)) = Heap::make(rt.alloc(), size, 1) else {
+    for (front, want) in [(false, (1000012, 97, 109)), (true, (1000012, 109, 108))] {
+        let Ok((heap, agent)) = Heap::make(rt.alloc(), DEEP, 1) else {
             panic!(rt; "no heap");
         };
         let mut text = Text::new(&heap, agent);
-        let Some(s) = deep(&mut text, 100000, front) else {
+        let Some(s) = deep(&mut text, 1000000, front) else {
             panic!(rt; "no rope");
         };
         assert!(rt; ends::<Brand>(&mut text, s, Blank::new(1)) == Some(want));

@@ -17,22 +17,25 @@ pub returns-clause-birth : goal.returns-clause-birth
 returns-clause-birth c i f range slots me me' x h = h.2 i f refl refl range
 
 pub returns-clause-load_form : goal.returns-clause-load_form
-returns-clause-load_form c i slots me me' x h = h.3 i refl
+returns-clause-load_form c i slots me me' x h = (h.3 i refl).0
 
 pub returns-clause-load_length : goal.returns-clause-load_length
-returns-clause-load_length c i slots me me' x h = h.3 i refl
+returns-clause-load_length c i slots me me' x h = h.4 i refl
 
 pub returns-clause-load_word : goal.returns-clause-load_word
-returns-clause-load_word c p slots me me' x h = (h.2 p refl).0
+returns-clause-load_word c p slots me me' x h = (h.3 p refl).0
 
 pub returns-clause-flatten : goal.returns-clause-flatten
 returns-clause-flatten c i old new range range' slots me me' x h = (h.2 i old new refl refl refl range range').0
 
+pub returns-clause-thin : goal.returns-clause-thin
+returns-clause-thin c i t old range small slots me me' x h = (h.2 i t old refl refl refl range small).0
+
 pub returns-clause-load_slot : goal.returns-clause-load_slot
-returns-clause-load_slot c k slots me me' x h = (h.2 k refl).0
+returns-clause-load_slot c k slots me me' x h = (h.3 k refl).0
 
 pub returns-clause-enter_slot : goal.returns-clause-enter_slot
-returns-clause-enter_slot c k slots me me' x h = (h.2 k refl).0
+returns-clause-enter_slot c k slots me me' x h = (h.3 k refl).0
 
 pub returns-clause-take_slot : goal.returns-clause-take_slot
-returns-clause-take_slot c k i slots me me' x h = (h.2 k i refl refl).0
+returns-clause-take_slot c k i slots me me' x h = (h.3 k i refl refl).0

@@ -1,9 +1,9 @@
-use Rattle.std.proofs.Common.{◌∙◌, arith}
+use Rattle.std.proofs.Common.{◌∙◌, sym, arith}
 use Rattle.heap_rule.specs.declared.view.View.{View}
 use Rattle.heap_rule.proofs.MapLemmas.{has_key}
 use Rattle.heap_text.proofs.Going.{continues_reads, continues_trans}
 use Rattle.heap_text.proofs.Loaded.{known_trans, reads_trans}
-use Rattle.heap_text.proofs.Showing.{window_frozen, window_kept, window_length}
+use Rattle.heap_text.proofs.Showing.{forms_held, window_frozen, window_kept, window_length}
 use Rattle.heap_text_tests.proofs.strings.reads.Goals as goal
 
 pub loop-i-init : goal.loop-i-init
@@ -23,31 +23,47 @@ pub unit_in-requires-clause-frozen : goal.unit_in-requires-clause-frozen
 unit_in-requires-clause-frozen c = let v : View = c.args.text.now.agent.seat.me.0 in let p = has_key v.units c.args.s.id c.requires.known in
     window_frozen c.loop-i.text.agent.seat.me.0 c.window-window.result p.0 (c.loop-i.invariant.shows p.0 p.1)
 
-pub unit_at-requires-clause-settled : goal.unit_at-requires-clause-settled
-unit_at-requires-clause-settled c = c.unit_in.ensures.reads.known.settled c.args.s.id c.loop-i.invariant.settled
-
-pub unit_at-requires-clause-within : goal.unit_at-requires-clause-within
-unit_at-requires-clause-within c = let v : View = c.args.text.now.agent.seat.me.0 in let p = has_key v.units c.args.s.id c.requires.known in
-    let n = window_length c.loop-i.text.agent.seat.me.0 c.window-window.result p.0 (c.loop-i.invariant.shows p.0 p.1) in let l = c.loop-i-test.true in
-    (p.0, c.unit_in.ensures.reads.known.units c.args.s.id p.0 (c.loop-i.invariant.continues.known.units c.args.s.id p.0 p.1), omega arith)
-
 pub loop-i-preserved : goal.loop-i-preserved
-loop-i-preserved c = let v : View = c.args.text.now.agent.seat.me.0 in let u : View = c.loop-i.text.agent.seat.me.0 in let x : View = c.unit_in.new.self.agent.seat.me.0 in let y : View = c.unit_at.new.self.agent.seat.me.0 in
-    let i = c.loop-i.invariant in let r = reads_trans u x y c.unit_in.ensures.reads c.unit_at.ensures.reads in record {
-      text = c.unit_at.ensures.text;
-      heap = c.unit_at.ensures.heap ∙ (c.unit_in.ensures.heap ∙ i.heap);
-      continues = continues_trans v u y i.continues (continues_reads u y r);
-      settled = r.known.settled c.args.s.id i.settled;
-      shows = λ us h. window_kept u y c.window-window.result us r.known (i.shows us h);
+loop-i-preserved c = let v : View = c.args.text.now.agent.seat.me.0 in let u : View = c.loop-i.text.agent.seat.me.0 in let x : View = c.unit_in.new.self.agent.seat.me.0 in
+    let i = c.loop-i.invariant in let e = c.unit_in.ensures in record {
+      text = e.text;
+      heap = e.heap ∙ i.heap;
+      continues = continues_trans v u x i.continues (continues_reads u x e.reads);
+      settled = e.reads.known.settled c.args.s.id i.settled;
+      shows = λ us h. window_kept u x (forms_held u x e.forms.0) c.window-window.result us e.reads.known (i.shows us h);
       count = i.count;
     }
 
 pub returns-then-unit_in-want-clause-continues : goal.returns-then-unit_in-want-clause-continues
 returns-then-unit_in-want-clause-continues c = let u : View = c.loop-i.text.agent.seat.me.0 in let x : View = c.unit_in.new.self.agent.seat.me.0 in continues_trans c.args.text.now.agent.seat.me.0 u x c.loop-i.invariant.continues (continues_reads u x c.unit_in.ensures.reads)
 
+pub loop-k-init : goal.loop-k-init
+loop-k-init c = let i = c.loop-i.invariant in record {
+  text = i.text;
+  heap = i.heap;
+  continues = i.continues;
+  settled = i.settled;
+  long = λ us h. sym (window_length c.loop-i.text.agent.seat.me.0 c.window-window.result us (i.shows us h));
+  count = i.count;
+}
+
+pub unit_at-requires-clause-within : goal.unit_at-requires-clause-within
+unit_at-requires-clause-within c = let v : View = c.args.text.now.agent.seat.me.0 in let p = has_key v.units c.args.s.id c.requires.known in
+    let n = c.loop-k.invariant.long p.0 p.1 in let l = c.loop-k-test.true in (p.0, c.loop-k.invariant.continues.known.units c.args.s.id p.0 p.1, omega arith)
+
+pub loop-k-preserved : goal.loop-k-preserved
+loop-k-preserved c = let v : View = c.args.text.now.agent.seat.me.0 in let u : View = c.loop-k.text.agent.seat.me.0 in let x : View = c.unit_at.new.self.agent.seat.me.0 in
+    let i = c.loop-k.invariant in let e = c.unit_at.ensures in record {
+      text = e.text;
+      heap = e.heap ∙ i.heap;
+      continues = continues_trans v u x i.continues (continues_reads u x e.reads);
+      settled = e.reads.known.settled c.args.s.id i.settled;
+      long = i.long;
+      count = i.count;
+    }
+
 pub returns-then-unit_at-want-clause-continues : goal.returns-then-unit_at-want-clause-continues
-returns-then-unit_at-want-clause-continues c = let u : View = c.loop-i.text.agent.seat.me.0 in let x : View = c.unit_in.new.self.agent.seat.me.0 in let y : View = c.unit_at.new.self.agent.seat.me.0 in
-    continues_trans c.args.text.now.agent.seat.me.0 u y c.loop-i.invariant.continues (continues_reads u y (reads_trans u x y c.unit_in.ensures.reads c.unit_at.ensures.reads))
+returns-then-unit_at-want-clause-continues c = let u : View = c.loop-k.text.agent.seat.me.0 in let x : View = c.unit_at.new.self.agent.seat.me.0 in continues_trans c.args.text.now.agent.seat.me.0 u x c.loop-k.invariant.continues (continues_reads u x c.unit_at.ensures.reads)
 
 pub returns-then-len-want-clause-continues : goal.returns-then-len-want-clause-continues
 returns-then-len-want-clause-continues c = let w1 : View = c.settle.new.self.agent.seat.me.0 in let w2 : View = c.len.new.self.agent.seat.me.0 in continues_trans c.args.text.now.agent.seat.me.0 w1 w2 c.settle.ensures.continues (continues_reads w1 w2 c.len.ensures.reads)

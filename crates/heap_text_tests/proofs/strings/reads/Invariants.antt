@@ -15,3 +15,13 @@ invariant-loop-i l = record {
   shows : (us : List ℕ) → Has (view_of l.fn.text.agent).units l.s.id us → IsWindow (view_of l.text.agent) l.window us;
   count : l.window.len ≡ length l.want;
 }
+
+abbrev pub invariant-loop-k : goal.invariant-loop-k
+invariant-loop-k l = record {
+  text : Belongs l.text.agent l.text.heap.now;
+  heap : l.text.heap ≡ l.fn.text.heap;
+  continues : Continues (view_of l.fn.text.agent) (view_of l.text.agent);
+  settled : IsSettled (view_of l.text.agent) l.s.id;
+  long : (us : List ℕ) → Has (view_of l.fn.text.agent).units l.s.id us → l.k-end ≡ length us;
+  count : l.k-end ≡ length l.want;
+}

@@ -17,11 +17,11 @@ store-requires c = let r = c.requires.belongs in let h = c.args.heap.now in let 
       r.0,
       subst (λ (n : ℕ). form_at h.size c.args.id < n) (sym h.counted) (form_small h.size c.args.id lt),
       subst (λ (z : HeapSize). Allows (KeepsHeap h.table.shared.key) h.table.shared.table_id.slots seat.id seat.me (form_at z c.args.id) (λ _. word_of c.args.form) (λ _. GaveBirth (step h.table.shared.table_id.slots (form_at z c.args.id) (word_of c.args.form) 0 none) seat.me (word_of c.args.form))) r.1
-          (bears h.table.shared.key h.table.shared.table_id.slots seat.id seat.me r.2 c.args.id c.args.form c.requires.may (born_in_range seat.me.0 r.5 c.args.id c.args.form c.requires.may c.requires.fits) c.requires.fits),
+          (bears h.table.shared.key h.table.shared.table_id.slots seat.id seat.me r.2 c.args.id c.args.form (born_in_range seat.me.0 r.5 c.args.id c.args.form c.requires.fits) c.requires.fits),
     )
 
 pub encode-requires : goal.encode-requires
-encode-requires c = born_in_range c.args.self.now.seat.me.0 c.requires.belongs.5 c.args.id c.args.form c.requires.may c.requires.fits
+encode-requires c = born_in_range c.args.self.now.seat.me.0 c.requires.belongs.5 c.args.id c.args.form c.requires.fits
 
 pub returns-clause-belongs : goal.returns-clause-belongs
 returns-clause-belongs c = let e = c.store.ensures in belongs_then c.args.heap.now c.args.self.now (record { seat = c.store.new.seat; share = c.args.self.now.share }) c.requires.belongs refl e.0 e.2.0

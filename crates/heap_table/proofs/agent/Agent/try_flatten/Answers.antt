@@ -16,7 +16,7 @@ compare_exchange-requires c = let r = c.requires.belongs in let h = c.args.heap.
       r.0,
       subst (λ (n : ℕ). form_at h.size c.args.id < n) (sym h.counted) (form_small h.size c.args.id lt),
       subst (λ (z : HeapSize). Allows (KeepsHeap h.table.shared.key) h.table.shared.table_id.slots seat.id seat.me (form_at z c.args.id) (λ n. either (eqb n (word_of c.args.old)) (word_of c.args.new) n) (FlattenedForm (step h.table.shared.table_id.slots (form_at z c.args.id) (word_of c.args.old) (word_of c.args.new) none) seat.me)) r.1
-          (flattens h.table.shared.key h.table.shared.table_id.slots seat.id seat.me r.2 c.args.id c.args.old c.args.new (cons_in_range seat.me.0 r.5 c.args.id c.args.old may.0 may.1) may.2 may.3 c.requires.may),
+          (flattens h.table.shared.key h.table.shared.table_id.slots seat.id seat.me r.2 c.args.id c.args.old c.args.new (cons_in_range seat.me.0 r.5 c.args.id c.args.old may.0 may.1) may.2 c.requires.may),
     )
 
 pub encode-requires : goal.encode-requires

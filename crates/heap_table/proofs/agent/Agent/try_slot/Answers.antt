@@ -13,4 +13,4 @@ compare_exchange-requires c = let r = c.requires.belongs in let h = c.args.heap.
     )
 
 pub returns-clause-found : goal.returns-clause-found
-returns-clause-found c = (c.compare_exchange.ensures.2.2 c.args.slot c.args.id c.slot_place.ensures (ap (λ (n : ℕ). n + 1) c.from-new.ensures)).1
+returns-clause-found c = (c.compare_exchange.ensures.2.3 c.args.slot c.args.id c.slot_place.ensures (ap (λ (n : ℕ). n + 1) c.from-new.ensures)).1

@@ -7,8 +7,8 @@ use Rattle.heap_rule.specs.declared.view.View.{View}
 use Rattle.heap_table.specs.Plays.{Sat}
 use Rattle.heap_rule.proofs.Making.{keeps_making}
 use Rattle.heap_table.specs.MayMake.{MayMake}
-use Rattle.heap_table.specs.Rule.{AllMayStand}
-use Rattle.heap_table.proofs.Stay.{stand_zeros}
+use Rattle.heap_table.specs.Rule.{AreSeenAlike}
+use Rattle.heap_table.proofs.Alike.{alike_first}
 use Rattle.heap_table.proofs.heap.Heap.make.Goals as goal
 
 pub returns-in-Ok-of_words-clause-belongs : goal.returns-in-Ok-of_words-clause-belongs
@@ -19,5 +19,5 @@ returns-in-Ok-of_words-clause-belongs c = let z = c.args.size in let may : MayMa
 pub of_words-requires : goal.of_words-requires
 of_words-requires c = let z = c.args.size in let may : MayMake z c.args.agents = c.may_make.ensures.0 (search rules) in
     let zeros : c.as_slice.result.now ≡ replicate (word_count z) 0 = c.as_slice.ensures.value ∙ (c.in-Ok.ensures.items_if_clones_equal (λ y e. e) ∙ ap (λ (n : ℕ). replicate n 0) c.word_count.ensures) in
-    subst (λ (ws : List ℕ). IsSound z c.args.agents ws (first_view z c.args.agents ∷ []) × AllMayStand z ws) (sym zeros)
-    (keeps_making z c.args.agents may.0 may.1, stand_zeros z)
+    subst (λ (ws : List ℕ). IsSound z c.args.agents ws (first_view z c.args.agents ∷ []) × AreSeenAlike (first_view z c.args.agents ∷ [])) (sym zeros)
+    (keeps_making z c.args.agents may.0 may.1, alike_first (first_view z c.args.agents) refl)

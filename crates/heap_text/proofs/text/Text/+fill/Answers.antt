@@ -1,23 +1,27 @@
 use Rattle.std.proofs.Common.{ℕ, ◌+◌, ◌-◌, ◌/◌, ◌<◌, List, length, get_or, refl, ap, sym, subst, ◌∙◌, arith}
-use Rattle.std.specs.FinMap.{FinMap, get}
+use Rattle.std.specs.FinMap.{FinMap}
 use Rattle.std.specs.Ordering.{nat_cmp}
 use Rattle.js_units.specs.Lanes.{lane_count}
 use Rattle.js_header.specs.declared.form.Form.{Form}
+use Rattle.js_header.specs.declared.form.Form.TheVariants.{Cons}
 use Rattle.heap_rule.specs.declared.view.View.{View}
 use Rattle.heap_rule.specs.Maps.{Has, HasKey}
 use Rattle.heap_text.specs.Filling.{IsFilled, own_word, units_at}
 use Rattle.heap_text.specs.Settling.{KnowsSide}
 use Rattle.heap_text.proofs.Progress.{left_fits, right_fits}
+use Rattle.heap_text.specs.Windows.{IsWindow}
+use Rattle.heap_text.proofs.Sides.{units_there}
+use Rattle.heap_text.proofs.Solids.{no_cons}
 use Rattle.heap_text.proofs.Storing.{writes_reads, writes_refl, writes_trans}
 use Rattle.heap_text.proofs.Turning.{both_here, key_kept, turn_left, turn_right, units_kept}
 use Rattle.heap_text.proofs.text.Text.+fill.Goals as goal
 
-pub loop-wide-init : goal.loop-wide-init
-loop-wide-init g t c = let v : View = c.args.self.now.agent.seat.me.0 in record {
+pub loop-left-init : goal.loop-left-init
+loop-left-init g t c = let v : View = c.args.self.now.agent.seat.me.0 in record {
   text = c.requires.text;
   heap = refl;
   writes = writes_refl v;
-  above = λ i l. refl;
+  above = λ i b l r less h. h;
   lower = omega arith;
   known = c.requires.known;
   filling = record {
@@ -34,95 +38,131 @@ loop-wide-init g t c = let v : View = c.args.self.now.agent.seat.me.0 in record 
   steps = omega arith;
 }
 
--- a Flat
-pub fill_flat-requires-clause-known : goal.fill_flat-requires-clause-known
-fill_flat-requires-clause-known g t c = let v : View = c.args.self.now.agent.seat.me.0 in let uu : View = c.loop-wide.self.agent.seat.me.0 in let ff : View = c.form_now-form.new.self.agent.seat.me.0 in
-    let wide = c.args.to.wide in let start : ℕ = c.args.to.start in let id : ℕ = c.loop-wide.id in let at : ℕ = c.loop-wide.at in let n : ℕ = c.loop-wide.n in let i = c.loop-wide.invariant in let e = c.form_now-form.ensures in let fil = i.filling in
+-- a leaf
+pub leaf_window-window-requires-clause-known : goal.leaf_window-window-requires-clause-known
+leaf_window-window-requires-clause-known g t c = let v : View = c.args.self.now.agent.seat.me.0 in let uu : View = c.loop-left.self.agent.seat.me.0 in let ff : View = c.form_now-form.new.self.agent.seat.me.0 in
+    let wide = c.args.to.wide in let start : ℕ = c.args.to.start in let id : ℕ = c.loop-left.id in let at : ℕ = c.loop-left.at in let n : ℕ = c.loop-left.n in let i = c.loop-left.invariant in let e = c.form_now-form.ensures in let fil = i.filling in
     key_kept uu ff id e.reads.known i.known
 
-pub fill_flat-requires-clause-count : goal.fill_flat-requires-clause-count
-fill_flat-requires-clause-count g t c = let v : View = c.args.self.now.agent.seat.me.0 in let uu : View = c.loop-wide.self.agent.seat.me.0 in let ff : View = c.form_now-form.new.self.agent.seat.me.0 in
-    let wide = c.args.to.wide in let start : ℕ = c.args.to.start in let id : ℕ = c.loop-wide.id in let at : ℕ = c.loop-wide.at in let n : ℕ = c.loop-wide.n in let i = c.loop-wide.invariant in let e = c.form_now-form.ensures in let fil = i.filling in
-    ap length (units_kept uu ff id e.reads.known i.known) ∙ fil.count
+pub leaf_window-window-requires-clause-leaf : goal.leaf_window-window-requires-clause-leaf
+leaf_window-window-requires-clause-leaf g t c = no_cons c.form_now-form.result c.in_default.not-Cons
 
-pub fill_flat-requires-clause-short : goal.fill_flat-requires-clause-short
-fill_flat-requires-clause-short g t c = let v : View = c.args.self.now.agent.seat.me.0 in let uu : View = c.loop-wide.self.agent.seat.me.0 in let ff : View = c.form_now-form.new.self.agent.seat.me.0 in
-    let wide = c.args.to.wide in let start : ℕ = c.args.to.start in let id : ℕ = c.loop-wide.id in let at : ℕ = c.loop-wide.at in let n : ℕ = c.loop-wide.n in let i = c.loop-wide.invariant in let e = c.form_now-form.ensures in let fil = i.filling in
+pub fill_leaf-requires-clause-known : goal.fill_leaf-requires-clause-known
+fill_leaf-requires-clause-known g t c = let v : View = c.args.self.now.agent.seat.me.0 in let uu : View = c.loop-left.self.agent.seat.me.0 in let ff : View = c.form_now-form.new.self.agent.seat.me.0 in
+    let wide = c.args.to.wide in let start : ℕ = c.args.to.start in let id : ℕ = c.loop-left.id in let at : ℕ = c.loop-left.at in let n : ℕ = c.loop-left.n in let i = c.loop-left.invariant in let e = c.form_now-form.ensures in let fil = i.filling in
+    let gg : View = c.leaf_window-window.new.self.agent.seat.me.0 in let w = c.leaf_window-window.ensures in
+    key_kept ff gg id w.reads.known (key_kept uu ff id e.reads.known i.known)
+
+pub fill_leaf-requires-clause-shows : goal.fill_leaf-requires-clause-shows
+fill_leaf-requires-clause-shows g t c = let v : View = c.args.self.now.agent.seat.me.0 in let uu : View = c.loop-left.self.agent.seat.me.0 in let ff : View = c.form_now-form.new.self.agent.seat.me.0 in
+    let wide = c.args.to.wide in let start : ℕ = c.args.to.start in let id : ℕ = c.loop-left.id in let at : ℕ = c.loop-left.at in let n : ℕ = c.loop-left.n in let i = c.loop-left.invariant in let e = c.form_now-form.ensures in let fil = i.filling in
+    let gg : View = c.leaf_window-window.new.self.agent.seat.me.0 in let w = c.leaf_window-window.ensures in
+    let key = key_kept uu ff id e.reads.known i.known in
+    subst (IsWindow gg c.leaf_window-window.result) (sym (units_kept ff gg id w.reads.known key)) (w.shows (units_at ff id) (units_there ff id key)).0
+
+pub fill_leaf-requires-clause-whole : goal.fill_leaf-requires-clause-whole
+fill_leaf-requires-clause-whole g t c = let v : View = c.args.self.now.agent.seat.me.0 in let uu : View = c.loop-left.self.agent.seat.me.0 in let ff : View = c.form_now-form.new.self.agent.seat.me.0 in
+    let wide = c.args.to.wide in let start : ℕ = c.args.to.start in let id : ℕ = c.loop-left.id in let at : ℕ = c.loop-left.at in let n : ℕ = c.loop-left.n in let i = c.loop-left.invariant in let e = c.form_now-form.ensures in let fil = i.filling in
+    let gg : View = c.leaf_window-window.new.self.agent.seat.me.0 in let w = c.leaf_window-window.ensures in
+    let key = key_kept uu ff id e.reads.known i.known in
+    (w.shows (units_at ff id) (units_there ff id key)).1 ∙ (ap length (units_kept uu ff id e.reads.known i.known) ∙ fil.count)
+
+pub fill_leaf-requires-clause-count : goal.fill_leaf-requires-clause-count
+fill_leaf-requires-clause-count g t c = let v : View = c.args.self.now.agent.seat.me.0 in let uu : View = c.loop-left.self.agent.seat.me.0 in let ff : View = c.form_now-form.new.self.agent.seat.me.0 in
+    let wide = c.args.to.wide in let start : ℕ = c.args.to.start in let id : ℕ = c.loop-left.id in let at : ℕ = c.loop-left.at in let n : ℕ = c.loop-left.n in let i = c.loop-left.invariant in let e = c.form_now-form.ensures in let fil = i.filling in
+    let gg : View = c.leaf_window-window.new.self.agent.seat.me.0 in let w = c.leaf_window-window.ensures in
+    let key = key_kept uu ff id e.reads.known i.known in
+    ap length (units_kept ff gg id w.reads.known key ∙ units_kept uu ff id e.reads.known i.known) ∙ fil.count
+
+pub fill_leaf-requires-clause-short : goal.fill_leaf-requires-clause-short
+fill_leaf-requires-clause-short g t c = let v : View = c.args.self.now.agent.seat.me.0 in let uu : View = c.loop-left.self.agent.seat.me.0 in let ff : View = c.form_now-form.new.self.agent.seat.me.0 in
+    let wide = c.args.to.wide in let start : ℕ = c.args.to.start in let id : ℕ = c.loop-left.id in let at : ℕ = c.loop-left.at in let n : ℕ = c.loop-left.n in let i = c.loop-left.invariant in let e = c.form_now-form.ensures in let fil = i.filling in
+    let gg : View = c.leaf_window-window.new.self.agent.seat.me.0 in let w = c.leaf_window-window.ensures in
     omega (arith, fil.within, c.requires.short)
 
-pub fill_flat-requires-clause-own : goal.fill_flat-requires-clause-own
-fill_flat-requires-clause-own g t c o l k = let v : View = c.args.self.now.agent.seat.me.0 in let uu : View = c.loop-wide.self.agent.seat.me.0 in let ff : View = c.form_now-form.new.self.agent.seat.me.0 in
-    let wide = c.args.to.wide in let start : ℕ = c.args.to.start in let id : ℕ = c.loop-wide.id in let at : ℕ = c.loop-wide.at in let n : ℕ = c.loop-wide.n in let i = c.loop-wide.invariant in let e = c.form_now-form.ensures in let fil = i.filling in
-    subst (λ (x : FinMap nat_cmp ℕ). HasKey x (start + o / lane_count wide)) (sym e.reads.own_words) (i.writes.own_words (start + o / lane_count wide) (c.requires.own o (omega (arith, i.behind, l)) (omega (arith, k, fil.within))))
+pub fill_leaf-requires-clause-own : goal.fill_leaf-requires-clause-own
+fill_leaf-requires-clause-own g t c o l k = let v : View = c.args.self.now.agent.seat.me.0 in let uu : View = c.loop-left.self.agent.seat.me.0 in let ff : View = c.form_now-form.new.self.agent.seat.me.0 in
+    let wide = c.args.to.wide in let start : ℕ = c.args.to.start in let id : ℕ = c.loop-left.id in let at : ℕ = c.loop-left.at in let n : ℕ = c.loop-left.n in let i = c.loop-left.invariant in let e = c.form_now-form.ensures in let fil = i.filling in
+    let gg : View = c.leaf_window-window.new.self.agent.seat.me.0 in let w = c.leaf_window-window.ensures in
+    subst (λ (x : FinMap nat_cmp ℕ). HasKey x (start + o / lane_count wide)) (sym (w.reads.own_words ∙ e.reads.own_words))
+    (i.writes.own_words (start + o / lane_count wide) (c.requires.own o (omega (arith, i.behind, l)) (omega (arith, k, fil.within))))
 
-pub fill_flat-requires-clause-fits : goal.fill_flat-requires-clause-fits
-fill_flat-requires-clause-fits g t c b k l = let v : View = c.args.self.now.agent.seat.me.0 in let uu : View = c.loop-wide.self.agent.seat.me.0 in let ff : View = c.form_now-form.new.self.agent.seat.me.0 in
-    let wide = c.args.to.wide in let start : ℕ = c.args.to.start in let id : ℕ = c.loop-wide.id in let at : ℕ = c.loop-wide.at in let n : ℕ = c.loop-wide.n in let i = c.loop-wide.invariant in let e = c.form_now-form.ensures in let fil = i.filling in
-    subst (λ (us : List ℕ). get_or us k 0 < 256) (sym (units_kept uu ff id e.reads.known i.known)) (fil.fits b k l)
+pub fill_leaf-requires-clause-fits : goal.fill_leaf-requires-clause-fits
+fill_leaf-requires-clause-fits g t c b k l = let v : View = c.args.self.now.agent.seat.me.0 in let uu : View = c.loop-left.self.agent.seat.me.0 in let ff : View = c.form_now-form.new.self.agent.seat.me.0 in
+    let wide = c.args.to.wide in let start : ℕ = c.args.to.start in let id : ℕ = c.loop-left.id in let at : ℕ = c.loop-left.at in let n : ℕ = c.loop-left.n in let i = c.loop-left.invariant in let e = c.form_now-form.ensures in let fil = i.filling in
+    let gg : View = c.leaf_window-window.new.self.agent.seat.me.0 in let w = c.leaf_window-window.ensures in
+    let key = key_kept uu ff id e.reads.known i.known in
+    subst (λ (us : List ℕ). get_or us k 0 < 256) (sym (units_kept ff gg id w.reads.known key ∙ units_kept uu ff id e.reads.known i.known)) (fil.fits b k l)
 
-pub returns-in-Flat-clause-writes : goal.returns-in-Flat-clause-writes
-returns-in-Flat-clause-writes g t c = let v : View = c.args.self.now.agent.seat.me.0 in let uu : View = c.loop-wide.self.agent.seat.me.0 in let ff : View = c.form_now-form.new.self.agent.seat.me.0 in
-    let wide = c.args.to.wide in let start : ℕ = c.args.to.start in let id : ℕ = c.loop-wide.id in let at : ℕ = c.loop-wide.at in let n : ℕ = c.loop-wide.n in let i = c.loop-wide.invariant in let e = c.form_now-form.ensures in let fil = i.filling in
-    let x : View = c.fill_flat.new.self.agent.seat.me.0 in
-    writes_trans v uu x i.writes (writes_trans uu ff x (writes_reads uu ff e.reads) c.fill_flat.ensures.writes)
+pub returns-in_default-clause-writes : goal.returns-in_default-clause-writes
+returns-in_default-clause-writes g t c = let v : View = c.args.self.now.agent.seat.me.0 in let uu : View = c.loop-left.self.agent.seat.me.0 in let ff : View = c.form_now-form.new.self.agent.seat.me.0 in
+    let wide = c.args.to.wide in let start : ℕ = c.args.to.start in let id : ℕ = c.loop-left.id in let at : ℕ = c.loop-left.at in let n : ℕ = c.loop-left.n in let i = c.loop-left.invariant in let e = c.form_now-form.ensures in let fil = i.filling in
+    let gg : View = c.leaf_window-window.new.self.agent.seat.me.0 in let w = c.leaf_window-window.ensures in
+    let x : View = c.fill_leaf.new.self.agent.seat.me.0 in
+    writes_trans v uu x i.writes (writes_trans uu ff x (writes_reads uu ff e.reads) (writes_trans ff gg x (writes_reads ff gg w.reads) c.fill_leaf.ensures.writes))
 
-pub returns-in-Flat-clause-above : goal.returns-in-Flat-clause-above
-returns-in-Flat-clause-above g t c q l = let v : View = c.args.self.now.agent.seat.me.0 in let uu : View = c.loop-wide.self.agent.seat.me.0 in let ff : View = c.form_now-form.new.self.agent.seat.me.0 in
-    let wide = c.args.to.wide in let start : ℕ = c.args.to.start in let id : ℕ = c.loop-wide.id in let at : ℕ = c.loop-wide.at in let n : ℕ = c.loop-wide.n in let i = c.loop-wide.invariant in let e = c.form_now-form.ensures in let fil = i.filling in
-    ap (λ (m : FinMap nat_cmp Form). get m q) c.fill_flat.ensures.forms.0 ∙ (e.others q (λ is. absurd (omega (arith, is, l, i.lower))) ∙ i.above q l)
+pub returns-in_default-clause-above : goal.returns-in_default-clause-above
+returns-in_default-clause-above g t c q b l r less h = let v : View = c.args.self.now.agent.seat.me.0 in let uu : View = c.loop-left.self.agent.seat.me.0 in let ff : View = c.form_now-form.new.self.agent.seat.me.0 in
+    let wide = c.args.to.wide in let start : ℕ = c.args.to.start in let id : ℕ = c.loop-left.id in let at : ℕ = c.loop-left.at in let n : ℕ = c.loop-left.n in let i = c.loop-left.invariant in let e = c.form_now-form.ensures in let fil = i.filling in
+    let gg : View = c.leaf_window-window.new.self.agent.seat.me.0 in let w = c.leaf_window-window.ensures in
+    subst (λ (m : FinMap nat_cmp Form). Has m q (Cons b l r)) (sym c.fill_leaf.ensures.forms.0)
+    (w.above q b l r (omega (arith, less, i.lower)) (e.others q (λ is. absurd (omega (arith, is, less, i.lower))) ∙ i.above q b l r less h))
 
-pub returns-in-Flat-clause-filled : goal.returns-in-Flat-clause-filled
-returns-in-Flat-clause-filled g t c = let v : View = c.args.self.now.agent.seat.me.0 in let uu : View = c.loop-wide.self.agent.seat.me.0 in let ff : View = c.form_now-form.new.self.agent.seat.me.0 in
-    let wide = c.args.to.wide in let start : ℕ = c.args.to.start in let id : ℕ = c.loop-wide.id in let at : ℕ = c.loop-wide.at in let n : ℕ = c.loop-wide.n in let i = c.loop-wide.invariant in let e = c.form_now-form.ensures in let fil = i.filling in
-    let x : View = c.fill_flat.new.self.agent.seat.me.0 in
-    fil.rest (own_word x.own_words) (subst (λ (m : FinMap nat_cmp ℕ). IsFilled wide start (own_word m) (own_word x.own_words) at n (λ k. get_or (units_at uu id) k 0)) e.reads.own_words
-    (subst (λ (us : List ℕ). IsFilled wide start (own_word ff.own_words) (own_word x.own_words) at n (λ k. get_or us k 0)) (units_kept uu ff id e.reads.known i.known) c.fill_flat.ensures.filled))
+pub returns-in_default-clause-filled : goal.returns-in_default-clause-filled
+returns-in_default-clause-filled g t c = let v : View = c.args.self.now.agent.seat.me.0 in let uu : View = c.loop-left.self.agent.seat.me.0 in let ff : View = c.form_now-form.new.self.agent.seat.me.0 in
+    let wide = c.args.to.wide in let start : ℕ = c.args.to.start in let id : ℕ = c.loop-left.id in let at : ℕ = c.loop-left.at in let n : ℕ = c.loop-left.n in let i = c.loop-left.invariant in let e = c.form_now-form.ensures in let fil = i.filling in
+    let gg : View = c.leaf_window-window.new.self.agent.seat.me.0 in let w = c.leaf_window-window.ensures in
+    let x : View = c.fill_leaf.new.self.agent.seat.me.0 in let key = key_kept uu ff id e.reads.known i.known in
+    fil.rest (own_word x.own_words) (subst (λ (m : FinMap nat_cmp ℕ). IsFilled wide start (own_word m) (own_word x.own_words) at n (λ k. get_or (units_at uu id) k 0)) (w.reads.own_words ∙ e.reads.own_words)
+    (subst (λ (us : List ℕ). IsFilled wide start (own_word gg.own_words) (own_word x.own_words) at n (λ k. get_or us k 0)) (units_kept ff gg id w.reads.known key ∙ units_kept uu ff id e.reads.known i.known) c.fill_leaf.ensures.filled))
 
-pub returns-in-Flat-clause-loads : goal.returns-in-Flat-clause-loads
-returns-in-Flat-clause-loads g t c = let v : View = c.args.self.now.agent.seat.me.0 in let uu : View = c.loop-wide.self.agent.seat.me.0 in let ff : View = c.form_now-form.new.self.agent.seat.me.0 in
-    let wide = c.args.to.wide in let start : ℕ = c.args.to.start in let id : ℕ = c.loop-wide.id in let at : ℕ = c.loop-wide.at in let n : ℕ = c.loop-wide.n in let i = c.loop-wide.invariant in let e = c.form_now-form.ensures in let fil = i.filling in
-    let one : 0 < 1 = omega arith in omega (arith, c.fill_flat.ensures.forms.1, e.loads, i.loads 1 one, i.more, c.tick.ensures)
+pub returns-in_default-clause-loads : goal.returns-in_default-clause-loads
+returns-in_default-clause-loads g t c = let v : View = c.args.self.now.agent.seat.me.0 in let uu : View = c.loop-left.self.agent.seat.me.0 in let ff : View = c.form_now-form.new.self.agent.seat.me.0 in
+    let wide = c.args.to.wide in let start : ℕ = c.args.to.start in let id : ℕ = c.loop-left.id in let at : ℕ = c.loop-left.at in let n : ℕ = c.loop-left.n in let i = c.loop-left.invariant in let e = c.form_now-form.ensures in let fil = i.filling in
+    let gg : View = c.leaf_window-window.new.self.agent.seat.me.0 in let w = c.leaf_window-window.ensures in
+    let q : ℕ = c.leaf_window-window.new.steps - c.loop-left.steps in let some : 0 < q = omega (arith, c.tick.ensures, w.more) in
+    let told = w.loads uu.form_loads 1 e.loads in omega (arith, c.fill_leaf.ensures.forms.1, told, w.more, i.loads q some, i.more, c.tick.ensures)
 
 -- a Cons
 pub left_length-m-requires-clause-known : goal.left_length-m-requires-clause-known
-left_length-m-requires-clause-known g t c = let v : View = c.args.self.now.agent.seat.me.0 in let uu : View = c.loop-wide.self.agent.seat.me.0 in let ff : View = c.form_now-form.new.self.agent.seat.me.0 in
-    let wide = c.args.to.wide in let start : ℕ = c.args.to.start in let id : ℕ = c.loop-wide.id in let at : ℕ = c.loop-wide.at in let n : ℕ = c.loop-wide.n in let i = c.loop-wide.invariant in let e = c.form_now-form.ensures in let fil = i.filling in
+left_length-m-requires-clause-known g t c = let v : View = c.args.self.now.agent.seat.me.0 in let uu : View = c.loop-left.self.agent.seat.me.0 in let ff : View = c.form_now-form.new.self.agent.seat.me.0 in
+    let wide = c.args.to.wide in let start : ℕ = c.args.to.start in let id : ℕ = c.loop-left.id in let at : ℕ = c.loop-left.at in let n : ℕ = c.loop-left.n in let i = c.loop-left.invariant in let e = c.form_now-form.ensures in let fil = i.filling in
     key_kept uu ff id e.reads.known i.known
 
 pub left_length-m-requires-clause-cons : goal.left_length-m-requires-clause-cons
-left_length-m-requires-clause-cons g t c = let v : View = c.args.self.now.agent.seat.me.0 in let uu : View = c.loop-wide.self.agent.seat.me.0 in let ff : View = c.form_now-form.new.self.agent.seat.me.0 in
-    let wide = c.args.to.wide in let start : ℕ = c.args.to.start in let id : ℕ = c.loop-wide.id in let at : ℕ = c.loop-wide.at in let n : ℕ = c.loop-wide.n in let i = c.loop-wide.invariant in let e = c.form_now-form.ensures in let fil = i.filling in
+left_length-m-requires-clause-cons g t c = let v : View = c.args.self.now.agent.seat.me.0 in let uu : View = c.loop-left.self.agent.seat.me.0 in let ff : View = c.form_now-form.new.self.agent.seat.me.0 in
+    let wide = c.args.to.wide in let start : ℕ = c.args.to.start in let id : ℕ = c.loop-left.id in let at : ℕ = c.loop-left.at in let n : ℕ = c.loop-left.n in let i = c.loop-left.invariant in let e = c.form_now-form.ensures in let fil = i.filling in
     (c.in-Cons.wide, subst (λ (x : Form). Has ff.forms id x) c.in-Cons.is e.seen)
 
 pub left_length-m-requires-clause-met : goal.left_length-m-requires-clause-met
-left_length-m-requires-clause-met g t c = let v : View = c.args.self.now.agent.seat.me.0 in let uu : View = c.loop-wide.self.agent.seat.me.0 in let ff : View = c.form_now-form.new.self.agent.seat.me.0 in
-    let wide = c.args.to.wide in let start : ℕ = c.args.to.start in let id : ℕ = c.loop-wide.id in let at : ℕ = c.loop-wide.at in let n : ℕ = c.loop-wide.n in let i = c.loop-wide.invariant in let e = c.form_now-form.ensures in let fil = i.filling in
+left_length-m-requires-clause-met g t c = let v : View = c.args.self.now.agent.seat.me.0 in let uu : View = c.loop-left.self.agent.seat.me.0 in let ff : View = c.form_now-form.new.self.agent.seat.me.0 in
+    let wide = c.args.to.wide in let start : ℕ = c.args.to.start in let id : ℕ = c.loop-left.id in let at : ℕ = c.loop-left.at in let n : ℕ = c.loop-left.n in let i = c.loop-left.invariant in let e = c.form_now-form.ensures in let fil = i.filling in
     subst (KnowsSide ff) c.in-Cons.is e.side
 
 pub overflow_sub-n : goal.overflow_sub-n
-overflow_sub-n g t c = let v : View = c.args.self.now.agent.seat.me.0 in let uu : View = c.loop-wide.self.agent.seat.me.0 in let ff : View = c.form_now-form.new.self.agent.seat.me.0 in
-    let wide = c.args.to.wide in let start : ℕ = c.args.to.start in let id : ℕ = c.loop-wide.id in let at : ℕ = c.loop-wide.at in let n : ℕ = c.loop-wide.n in let i = c.loop-wide.invariant in let e = c.form_now-form.ensures in let fil = i.filling in
+overflow_sub-n g t c = let v : View = c.args.self.now.agent.seat.me.0 in let uu : View = c.loop-left.self.agent.seat.me.0 in let ff : View = c.form_now-form.new.self.agent.seat.me.0 in
+    let wide = c.args.to.wide in let start : ℕ = c.args.to.start in let id : ℕ = c.loop-left.id in let at : ℕ = c.loop-left.at in let n : ℕ = c.loop-left.n in let i = c.loop-left.invariant in let e = c.form_now-form.ensures in let fil = i.filling in
     let gg : View = c.left_length-m.new.self.agent.seat.me.0 in let left : ℕ = c.in-Cons.left in let right : ℕ = c.in-Cons.right in let m : ℕ = c.left_length-m.result in let d = c.left_length-m.ensures in
     let both = both_here wide start (own_word v.own_words) c.args.at c.args.n (units_at v c.args.id) at n uu ff gg gg id left right m e.reads i.known fil d.sides in let ds = d.sides in
     omega (arith, both.right_some)
 
 pub overflow_sub-n-else-m-n : goal.overflow_sub-n-else-m-n
-overflow_sub-n-else-m-n g t c = let v : View = c.args.self.now.agent.seat.me.0 in let uu : View = c.loop-wide.self.agent.seat.me.0 in let ff : View = c.form_now-form.new.self.agent.seat.me.0 in
-    let wide = c.args.to.wide in let start : ℕ = c.args.to.start in let id : ℕ = c.loop-wide.id in let at : ℕ = c.loop-wide.at in let n : ℕ = c.loop-wide.n in let i = c.loop-wide.invariant in let e = c.form_now-form.ensures in let fil = i.filling in
+overflow_sub-n-else-m-n g t c = let v : View = c.args.self.now.agent.seat.me.0 in let uu : View = c.loop-left.self.agent.seat.me.0 in let ff : View = c.form_now-form.new.self.agent.seat.me.0 in
+    let wide = c.args.to.wide in let start : ℕ = c.args.to.start in let id : ℕ = c.loop-left.id in let at : ℕ = c.loop-left.at in let n : ℕ = c.loop-left.n in let i = c.loop-left.invariant in let e = c.form_now-form.ensures in let fil = i.filling in
     let gg : View = c.left_length-m.new.self.agent.seat.me.0 in let left : ℕ = c.in-Cons.left in let right : ℕ = c.in-Cons.right in let m : ℕ = c.left_length-m.result in let d = c.left_length-m.ensures in
     let both = both_here wide start (own_word v.own_words) c.args.at c.args.n (units_at v c.args.id) at n uu ff gg gg id left right m e.reads i.known fil d.sides in let ds = d.sides in
     omega (arith, both.right_some)
 
-pub loop-wide-smaller : goal.loop-wide-smaller
-loop-wide-smaller g t c = let v : View = c.args.self.now.agent.seat.me.0 in let uu : View = c.loop-wide.self.agent.seat.me.0 in let ff : View = c.form_now-form.new.self.agent.seat.me.0 in
-    let wide = c.args.to.wide in let start : ℕ = c.args.to.start in let id : ℕ = c.loop-wide.id in let at : ℕ = c.loop-wide.at in let n : ℕ = c.loop-wide.n in let i = c.loop-wide.invariant in let e = c.form_now-form.ensures in let fil = i.filling in
+pub loop-left-smaller : goal.loop-left-smaller
+loop-left-smaller g t c = let v : View = c.args.self.now.agent.seat.me.0 in let uu : View = c.loop-left.self.agent.seat.me.0 in let ff : View = c.form_now-form.new.self.agent.seat.me.0 in
+    let wide = c.args.to.wide in let start : ℕ = c.args.to.start in let id : ℕ = c.loop-left.id in let at : ℕ = c.loop-left.at in let n : ℕ = c.loop-left.n in let i = c.loop-left.invariant in let e = c.form_now-form.ensures in let fil = i.filling in
     let gg : View = c.left_length-m.new.self.agent.seat.me.0 in let left : ℕ = c.in-Cons.left in let right : ℕ = c.in-Cons.right in let m : ℕ = c.left_length-m.result in let d = c.left_length-m.ensures in
     let both = both_here wide start (own_word v.own_words) c.args.at c.args.n (units_at v c.args.id) at n uu ff gg gg id left right m e.reads i.known fil d.sides in let ds = d.sides in
     omega (arith, both.right_some)
 
 pub fill-requires : goal.fill-requires
-fill-requires g t c κs within = let v : View = c.args.self.now.agent.seat.me.0 in let uu : View = c.loop-wide.self.agent.seat.me.0 in let ff : View = c.form_now-form.new.self.agent.seat.me.0 in
-    let wide = c.args.to.wide in let start : ℕ = c.args.to.start in let id : ℕ = c.loop-wide.id in let at : ℕ = c.loop-wide.at in let n : ℕ = c.loop-wide.n in let i = c.loop-wide.invariant in let e = c.form_now-form.ensures in let fil = i.filling in
+fill-requires g t c κs within = let v : View = c.args.self.now.agent.seat.me.0 in let uu : View = c.loop-left.self.agent.seat.me.0 in let ff : View = c.form_now-form.new.self.agent.seat.me.0 in
+    let wide = c.args.to.wide in let start : ℕ = c.args.to.start in let id : ℕ = c.loop-left.id in let at : ℕ = c.loop-left.at in let n : ℕ = c.loop-left.n in let i = c.loop-left.invariant in let e = c.form_now-form.ensures in let fil = i.filling in
     let gg : View = c.left_length-m.new.self.agent.seat.me.0 in let left : ℕ = c.in-Cons.left in let right : ℕ = c.in-Cons.right in let m : ℕ = c.left_length-m.result in let d = c.left_length-m.ensures in
     let both = both_here wide start (own_word v.own_words) c.args.at c.args.n (units_at v c.args.id) at n uu ff gg gg id left right m e.reads i.known fil d.sides in let ds = d.sides in (
       omega (arith, fil.fewer, both.right_some),
@@ -151,8 +191,8 @@ fill-requires g t c κs within = let v : View = c.args.self.now.agent.seat.me.0 
     )
 
 pub fill-requires-else-m-n : goal.fill-requires-else-m-n
-fill-requires-else-m-n g t c κs within = let v : View = c.args.self.now.agent.seat.me.0 in let uu : View = c.loop-wide.self.agent.seat.me.0 in let ff : View = c.form_now-form.new.self.agent.seat.me.0 in
-    let wide = c.args.to.wide in let start : ℕ = c.args.to.start in let id : ℕ = c.loop-wide.id in let at : ℕ = c.loop-wide.at in let n : ℕ = c.loop-wide.n in let i = c.loop-wide.invariant in let e = c.form_now-form.ensures in let fil = i.filling in
+fill-requires-else-m-n g t c κs within = let v : View = c.args.self.now.agent.seat.me.0 in let uu : View = c.loop-left.self.agent.seat.me.0 in let ff : View = c.form_now-form.new.self.agent.seat.me.0 in
+    let wide = c.args.to.wide in let start : ℕ = c.args.to.start in let id : ℕ = c.loop-left.id in let at : ℕ = c.loop-left.at in let n : ℕ = c.loop-left.n in let i = c.loop-left.invariant in let e = c.form_now-form.ensures in let fil = i.filling in
     let gg : View = c.left_length-m.new.self.agent.seat.me.0 in let left : ℕ = c.in-Cons.left in let right : ℕ = c.in-Cons.right in let m : ℕ = c.left_length-m.result in let d = c.left_length-m.ensures in
     let both = both_here wide start (own_word v.own_words) c.args.at c.args.n (units_at v c.args.id) at n uu ff gg gg id left right m e.reads i.known fil d.sides in let ds = d.sides in (
       omega (arith, fil.fewer, both.left_some, both.right_some),
@@ -180,40 +220,40 @@ fill-requires-else-m-n g t c κs within = let v : View = c.args.self.now.agent.s
       ),
     )
 
-pub loop-wide-preserved-then-m-n : goal.loop-wide-preserved-then-m-n
-loop-wide-preserved-then-m-n g t c = let v : View = c.args.self.now.agent.seat.me.0 in let uu : View = c.loop-wide.self.agent.seat.me.0 in let ff : View = c.form_now-form.new.self.agent.seat.me.0 in
-    let wide = c.args.to.wide in let start : ℕ = c.args.to.start in let id : ℕ = c.loop-wide.id in let at : ℕ = c.loop-wide.at in let n : ℕ = c.loop-wide.n in let i = c.loop-wide.invariant in let e = c.form_now-form.ensures in let fil = i.filling in
+pub loop-left-preserved-then-m-n : goal.loop-left-preserved-then-m-n
+loop-left-preserved-then-m-n g t c = let v : View = c.args.self.now.agent.seat.me.0 in let uu : View = c.loop-left.self.agent.seat.me.0 in let ff : View = c.form_now-form.new.self.agent.seat.me.0 in
+    let wide = c.args.to.wide in let start : ℕ = c.args.to.start in let id : ℕ = c.loop-left.id in let at : ℕ = c.loop-left.at in let n : ℕ = c.loop-left.n in let i = c.loop-left.invariant in let e = c.form_now-form.ensures in let fil = i.filling in
     let gg : View = c.left_length-m.new.self.agent.seat.me.0 in let left : ℕ = c.in-Cons.left in let right : ℕ = c.in-Cons.right in let m : ℕ = c.left_length-m.result in let d = c.left_length-m.ensures in
     let both = both_here wide start (own_word v.own_words) c.args.at c.args.n (units_at v c.args.id) at n uu ff gg gg id left right m e.reads i.known fil d.sides in let ds = d.sides in
     let hh : View = c.fill.new.self.agent.seat.me.0 in let r = c.fill.ensures in record {
       text = r.text;
       heap = r.heap ∙ (d.heap ∙ (e.heap ∙ i.heap));
       writes = writes_trans v uu hh i.writes (writes_trans uu gg hh (writes_trans uu ff gg (writes_reads uu ff e.reads) (writes_reads ff gg d.reads)) r.writes);
-      above = λ q l. r.above q (omega (arith, l, i.lower, d.below.0, d.below.1)) ∙ (ap (λ (m : FinMap nat_cmp Form). get m q) d.forms.0 ∙ (e.others q (λ is. absurd (omega (arith, is, l, i.lower))) ∙ i.above q l));
+      above = λ q b l o less h. r.above q b l o (omega (arith, less, i.lower, d.below.0, d.below.1)) (subst (λ (m : FinMap nat_cmp Form). Has m q (Cons b l o)) (sym d.forms.0) (e.others q (λ is. absurd (omega (arith, is, less, i.lower))) ∙ i.above q b l o less h));
       lower = omega (arith, i.lower, d.below.0, d.below.1);
       known = key_kept gg hh right r.writes.known d.known.1;
       filling = turn_left wide start (own_word v.own_words) c.args.at c.args.n (units_at v c.args.id) at n uu ff gg hh id left right m e.reads d.reads d.known.1 r.writes.known fil both r.filled;
       behind = omega (arith, i.behind);
-      loads = λ k l. let q : ℕ = c.fill.new.steps - c.loop-wide.steps + k in let some : 0 < q = omega arith in omega (arith, r.loads, r.more, e.loads, d.forms.1, i.loads q some, i.more, c.tick.ensures);
+      loads = λ k l. let q : ℕ = c.fill.new.steps - c.loop-left.steps + k in let some : 0 < q = omega arith in omega (arith, r.loads, r.more, e.loads, d.forms.1, i.loads q some, i.more, c.tick.ensures);
       more = omega (arith, r.more, i.more, c.tick.ensures);
       steps = omega (arith, r.steps, c.tick.ensures, i.steps, both.right_some);
     }
 
-pub loop-wide-preserved : goal.loop-wide-preserved
-loop-wide-preserved g t c = let v : View = c.args.self.now.agent.seat.me.0 in let uu : View = c.loop-wide.self.agent.seat.me.0 in let ff : View = c.form_now-form.new.self.agent.seat.me.0 in
-    let wide = c.args.to.wide in let start : ℕ = c.args.to.start in let id : ℕ = c.loop-wide.id in let at : ℕ = c.loop-wide.at in let n : ℕ = c.loop-wide.n in let i = c.loop-wide.invariant in let e = c.form_now-form.ensures in let fil = i.filling in
+pub loop-left-preserved : goal.loop-left-preserved
+loop-left-preserved g t c = let v : View = c.args.self.now.agent.seat.me.0 in let uu : View = c.loop-left.self.agent.seat.me.0 in let ff : View = c.form_now-form.new.self.agent.seat.me.0 in
+    let wide = c.args.to.wide in let start : ℕ = c.args.to.start in let id : ℕ = c.loop-left.id in let at : ℕ = c.loop-left.at in let n : ℕ = c.loop-left.n in let i = c.loop-left.invariant in let e = c.form_now-form.ensures in let fil = i.filling in
     let gg : View = c.left_length-m.new.self.agent.seat.me.0 in let left : ℕ = c.in-Cons.left in let right : ℕ = c.in-Cons.right in let m : ℕ = c.left_length-m.result in let d = c.left_length-m.ensures in
     let both = both_here wide start (own_word v.own_words) c.args.at c.args.n (units_at v c.args.id) at n uu ff gg gg id left right m e.reads i.known fil d.sides in let ds = d.sides in
     let hh : View = c.fill-else-m-n.new.self.agent.seat.me.0 in let r = c.fill-else-m-n.ensures in record {
       text = r.text;
       heap = r.heap ∙ (d.heap ∙ (e.heap ∙ i.heap));
       writes = writes_trans v uu hh i.writes (writes_trans uu gg hh (writes_trans uu ff gg (writes_reads uu ff e.reads) (writes_reads ff gg d.reads)) r.writes);
-      above = λ q l. r.above q (omega (arith, l, i.lower, d.below.0, d.below.1)) ∙ (ap (λ (m : FinMap nat_cmp Form). get m q) d.forms.0 ∙ (e.others q (λ is. absurd (omega (arith, is, l, i.lower))) ∙ i.above q l));
+      above = λ q b l o less h. r.above q b l o (omega (arith, less, i.lower, d.below.0, d.below.1)) (subst (λ (m : FinMap nat_cmp Form). Has m q (Cons b l o)) (sym d.forms.0) (e.others q (λ is. absurd (omega (arith, is, less, i.lower))) ∙ i.above q b l o less h));
       lower = omega (arith, i.lower, d.below.0, d.below.1);
       known = key_kept gg hh left r.writes.known d.known.0;
       filling = turn_right wide start (own_word v.own_words) c.args.at c.args.n (units_at v c.args.id) at n uu ff gg hh id left right m e.reads d.reads d.known.0 r.writes.known fil both r.filled;
       behind = omega (arith, i.behind);
-      loads = λ k l. let q : ℕ = c.fill-else-m-n.new.steps - c.loop-wide.steps + k in let some : 0 < q = omega arith in omega (arith, r.loads, r.more, e.loads, d.forms.1, i.loads q some, i.more, c.tick.ensures);
+      loads = λ k l. let q : ℕ = c.fill-else-m-n.new.steps - c.loop-left.steps + k in let some : 0 < q = omega arith in omega (arith, r.loads, r.more, e.loads, d.forms.1, i.loads q some, i.more, c.tick.ensures);
       more = omega (arith, r.more, i.more, c.tick.ensures);
       steps = omega (arith, r.steps, c.tick.ensures, i.steps, both.right_some);
     }

@@ -13,6 +13,7 @@ use Rattle.heap_text.specs.Written.{Holds}
 use Rattle.heap_text.proofs.Going.{known_stored}
 use Rattle.heap_text.proofs.Listing.{listed_same, shows_kept}
 use Rattle.heap_text.proofs.Placing.{IsStored, filled_none, filled_on, lane_small, placed_filled}
+use Rattle.heap_text.proofs.Showing.{forms_held}
 use Rattle.heap_text.proofs.Storing.{word_put, writes_reads, writes_refl, writes_stored, writes_trans}
 use Rattle.heap_text.proofs.text.Text.copy_lanes.Goals as goal
 
@@ -70,7 +71,7 @@ loop-done-preserved c = let v : View = c.args.self.now.agent.seat.me.0 in let u 
       heap = e.heap ∙ i.heap;
       writes = writes_trans v u w i.writes (writes_trans u p w (writes_reads u p e.reads) (subst (Writes p) (sym f.view) (writes_stored p (start + number) x)));
       forms = (ap (λ (y : View). y.forms) f.view ∙ (e.forms.0 ∙ i.forms.0), ap (λ (y : View). y.form_loads) f.view ∙ (e.forms.1 ∙ i.forms.1));
-      shows = shows_kept p w c.args.source.now known e.shows;
+      shows = shows_kept p w c.args.source.now known (forms_held p w (ap (λ (y : View). y.forms) f.view)) e.shows;
       holds = subst (λ (xs : List ℕ). Holds xs c.patched-word.new.held) i.same e.holds;
       same = listed_same p w c.args.source.now known e.shows ∙ (e.listed ∙ i.same);
       filled = filled_on wide start (own_word v.own_words) (own_word u.own_words) (own_word w.own_words) c.args.at done count (λ k. get_or us k 0) i.filled next;

@@ -293,7 +293,7 @@ flatten_step-requires-clause-may g c = let v : View = c.args.self.now.agent.seat
     let zero : (q : ℕ) → q < words_over wide (length us) → Has w.own_words (start + q) 0 = λ q l. subst (λ (x : View). Has x.own_words (start + q) 0) (sym ok.view) (run_zero b.own_words start want q (omega (arith, l, words))) in
     let some : 1 ≤ words_over wide (length us) = some_words wide (length us) (omega (arith, long)) in
     let inside = (possible_within f2 r2.text.5).words (start + 0) (own 0 some) in let lawful = (possible_lawful f2 r2.text.5).3 in
-    let form : Has f2.forms i (Cons wide left right) = r2.above i d.below.1 ∙ (r1.above i d.below.0 ∙ (ap (λ (x : View). get x.forms i) ok.view ∙ (ap (λ (x : FinMap nat_cmp Form). get x i) (d.forms.0 ∙ fa.0) ∙ c.requires.seen))) in
+    let form : Has f2.forms i (Cons wide left right) = r2.above i wide left right d.below.1 (r1.above i wide left right d.below.0 (ap (λ (x : View). get x.forms i) ok.view ∙ (ap (λ (x : FinMap nat_cmp Form). get x i) (d.forms.0 ∙ fa.0) ∙ c.requires.seen))) in
     let units : Has f2.units i us = r2.writes.known.units i us (r1.writes.known.units i us (subst (λ (x : View). Has x.units i us) (sym ok.view) (d.reads.known.units i us (e.known.units i us known)))) in (
       form,
       tt,

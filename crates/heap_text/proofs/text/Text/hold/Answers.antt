@@ -5,7 +5,7 @@ use Rattle.heap_text.specs.Sources.{Shows, listed, piece_units}
 use Rattle.heap_text.specs.Written.{Holds}
 use Rattle.heap_text.proofs.Holding.{holds_back, holds_front, holds_one}
 use Rattle.heap_text.proofs.Listing.{shows_kept}
-use Rattle.heap_text.proofs.Showing.{window_frozen, window_length}
+use Rattle.heap_text.proofs.Showing.{forms_held, window_frozen, window_length}
 use Rattle.heap_text.proofs.text.Text.hold.Goals as goal
 
 pub hold_in-requires-clause-frozen : goal.hold_in-requires-clause-frozen
@@ -18,13 +18,13 @@ pub hold_in-held-requires-clause-frozen : goal.hold_in-held-requires-clause-froz
 hold_in-held-requires-clause-frozen c = let v : View = c.args.self.now.agent.seat.me.0 in let s = subst (Shows v) c.in-Pieces.is c.requires.shows in window_frozen v c.in-Pieces.back.window (piece_units v c.in-Pieces.back) s.1.1
 
 pub returns-in-Piece-clause-shows : goal.returns-in-Piece-clause-shows
-returns-in-Piece-clause-shows c = shows_kept c.args.self.now.agent.seat.me.0 c.hold_in.new.self.agent.seat.me.0 c.args.source.now c.hold_in.ensures.reads.known c.requires.shows
+returns-in-Piece-clause-shows c = shows_kept c.args.self.now.agent.seat.me.0 c.hold_in.new.self.agent.seat.me.0 c.args.source.now c.hold_in.ensures.reads.known (forms_held c.args.self.now.agent.seat.me.0 c.hold_in.new.self.agent.seat.me.0 c.hold_in.ensures.forms.0) c.requires.shows
 
 pub returns-then-i-left-clause-shows : goal.returns-then-i-left-clause-shows
-returns-then-i-left-clause-shows c = shows_kept c.args.self.now.agent.seat.me.0 c.hold_in-then-i-left.new.self.agent.seat.me.0 c.args.source.now c.hold_in-then-i-left.ensures.reads.known c.requires.shows
+returns-then-i-left-clause-shows c = shows_kept c.args.self.now.agent.seat.me.0 c.hold_in-then-i-left.new.self.agent.seat.me.0 c.args.source.now c.hold_in-then-i-left.ensures.reads.known (forms_held c.args.self.now.agent.seat.me.0 c.hold_in-then-i-left.new.self.agent.seat.me.0 c.hold_in-then-i-left.ensures.forms.0) c.requires.shows
 
 pub returns-else-i-left-clause-shows : goal.returns-else-i-left-clause-shows
-returns-else-i-left-clause-shows c = shows_kept c.args.self.now.agent.seat.me.0 c.hold_in-held.new.self.agent.seat.me.0 c.args.source.now c.hold_in-held.ensures.reads.known c.requires.shows
+returns-else-i-left-clause-shows c = shows_kept c.args.self.now.agent.seat.me.0 c.hold_in-held.new.self.agent.seat.me.0 c.args.source.now c.hold_in-held.ensures.reads.known (forms_held c.args.self.now.agent.seat.me.0 c.hold_in-held.new.self.agent.seat.me.0 c.hold_in-held.ensures.forms.0) c.requires.shows
 
 pub returns-in-Units-clause-holds : goal.returns-in-Units-clause-holds
 returns-in-Units-clause-holds c = let v : View = c.args.self.now.agent.seat.me.0 in let l = subst (λ (x : Source). c.args.i < length (listed v x)) c.in-Units.is c.requires.within in let e = c.unit_of.ensures in let f = c.from.ensures in

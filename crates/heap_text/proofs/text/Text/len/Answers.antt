@@ -4,6 +4,7 @@ use Rattle.heap_rule.specs.Maps.{Has}
 use Rattle.heap_rule.proofs.MapLemmas.{insert_same}
 use Rattle.heap_rule.proofs.Possible.{possible_length}
 use Rattle.heap_text.proofs.Loaded.{reads_length}
+use Rattle.heap_text.proofs.Storing.{forms_length}
 use Rattle.heap_text.proofs.text.Text.len.Goals as goal
 
 pub returns-clause-length : goal.returns-clause-length
@@ -12,3 +13,6 @@ returns-clause-length c us h = let v : View = c.args.self.now.agent.seat.me.0 in
 
 pub returns-clause-reads : goal.returns-clause-reads
 returns-clause-reads c = let e = c.load_length.ensures in reads_length c.args.self.now.agent.seat.me.0 c.load_length.new.self.seat.me.0 c.args.s.id c.load_length.result e.known e.view
+
+pub returns-clause-forms : goal.returns-clause-forms
+returns-clause-forms c = forms_length c.args.self.now.agent.seat.me.0 c.load_length.new.self.seat.me.0 c.args.s.id c.load_length.result c.load_length.ensures.view

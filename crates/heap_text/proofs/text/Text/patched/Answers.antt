@@ -9,6 +9,7 @@ use Rattle.heap_text.specs.Written.{Holds}
 use Rattle.heap_text.proofs.Listing.{listed_same, shows_kept}
 use Rattle.heap_text.proofs.Loaded.{reads_word}
 use Rattle.heap_text.proofs.Placing.{whole_placed}
+use Rattle.heap_text.proofs.Showing.{forms_held}
 use Rattle.heap_text.proofs.Storing.{shown_own}
 use Rattle.heap_text.proofs.text.Text.patched.Goals as goal
 
@@ -17,7 +18,7 @@ returns-then-patch-lanes-clause-placed c = let v : View = c.args.self.now.agent.
     whole_placed p.wide (own_word v.own_words c.args.at) c.pack_word.result p.low p.count (λ k. get_or us (p.first + k) 0) (c.if-patch-lanes.true ∙ c.lanes.ensures) c.requires.lanes c.pack_word.ensures.word
 
 pub change_word-requires-clause-shows : goal.change_word-requires-clause-shows
-change_word-requires-clause-shows c = shows_kept c.args.self.now.agent.seat.me.0 c.load_word-word.new.self.seat.me.0 c.args.source.now c.load_word-word.ensures.known c.requires.shows
+change_word-requires-clause-shows c = shows_kept c.args.self.now.agent.seat.me.0 c.load_word-word.new.self.seat.me.0 c.args.source.now c.load_word-word.ensures.known (forms_held c.args.self.now.agent.seat.me.0 c.load_word-word.new.self.seat.me.0 c.load_word-word.ensures.forms) c.requires.shows
 
 pub change_word-requires-clause-holds : goal.change_word-requires-clause-holds
 change_word-requires-clause-holds c = let v : View = c.args.self.now.agent.seat.me.0 in let w : View = c.load_word-word.new.self.seat.me.0 in

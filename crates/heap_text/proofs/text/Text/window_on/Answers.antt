@@ -1,28 +1,46 @@
-use Rattle.std.proofs.Common.{◌<◌, ℕ, List, ⊎_elim, length, subst, sym, arith}
+use Rattle.std.proofs.Common.{subst, ◌∙◌, arith}
 use Rattle.js_header.specs.declared.form.Form.{Form}
+use Rattle.js_header.specs.declared.form.Form.TheVariants.{Sliced}
 use Rattle.heap_rule.specs.declared.view.View.{View}
-use Rattle.heap_rule.specs.Forms.{IsCons}
 use Rattle.heap_rule.specs.Maps.{Has}
-use Rattle.heap_rule.specs.Views.{IsSettled}
+use Rattle.heap_text.specs.Settling.{KnowsSide}
+use Rattle.heap_text.proofs.Leading.{leaf_solid, possible_parent}
 use Rattle.heap_text.proofs.Loaded.{reads_trans}
-use Rattle.heap_text.proofs.Sides.{is_cons, possible_cons}
 use Rattle.heap_text.proofs.Turning.{key_kept}
 use Rattle.heap_text.proofs.text.Text.window_on.Goals as goal
 
-pub flat_window-requires-clause-known : goal.flat_window-requires-clause-known
-flat_window-requires-clause-known c = key_kept c.args.self.now.agent.seat.me.0 c.form_now.new.self.agent.seat.me.0 c.args.of.id c.form_now.ensures.reads.known c.requires.known
+-- a Sliced
+pub form_now-under-requires-clause-known : goal.form_now-under-requires-clause-known
+form_now-under-requires-clause-known c = subst (KnowsSide c.form_now-form.new.self.agent.seat.me.0) c.in-Sliced.is c.form_now-form.ensures.side
 
-pub flat_window-requires-clause-flat : goal.flat_window-requires-clause-flat
-flat_window-requires-clause-flat c = (c.in-Flat.fixed, subst (λ (f : Form). Has c.form_now.new.self.agent.seat.me.0.forms c.args.of.id f) c.in-Flat.is c.form_now.ensures.seen)
+pub part_window-requires-clause-known : goal.part_window-requires-clause-known
+part_window-requires-clause-known c = key_kept c.form_now-form.new.self.agent.seat.me.0 c.form_now-under.new.self.agent.seat.me.0 c.args.of.id c.form_now-under.ensures.reads.known (key_kept c.args.self.now.agent.seat.me.0 c.form_now-form.new.self.agent.seat.me.0 c.args.of.id c.form_now-form.ensures.reads.known c.requires.known)
 
-pub unreachable-requires : goal.unreachable-requires
-unreachable-requires c = let v : View = c.args.self.now.agent.seat.me.0 in let u : View = c.form_now.new.self.agent.seat.me.0 in let e = c.form_now.ensures in let i = c.args.of.id in let t = is_cons c.form_now.result e.stands c.in_default.not-Flat in ⊎_elim
-    (λ (s : IsSettled v i). e.settled s (subst IsCons (sym t.3) tt))
-    (λ (q : (us : List ℕ) × Has v.units i us × (length us < 13)). let long = possible_cons u e.text.5 i t.0 t.1 t.2 q.0 (subst (λ (f : Form). Has u.forms i f) t.3 e.seen) (e.reads.known.units i q.0 q.1) in let short = q.2 in absurd (omega (arith, long, short)))
-    c.requires.whole
+pub part_window-requires-clause-sliced : goal.part_window-requires-clause-sliced
+part_window-requires-clause-sliced c = let u : View = c.form_now-form.new.self.agent.seat.me.0 in let i = c.args.of.id in let parent = c.in-Sliced.parent in
+    let here : Has u.forms i (Sliced c.in-Sliced.wide parent c.in-Sliced.offset) = subst (λ (f : Form). Has u.forms i f) c.in-Sliced.is c.form_now-form.ensures.seen in
+    let less = possible_parent u c.form_now-form.ensures.text.5 i c.in-Sliced.wide parent c.in-Sliced.offset here in
+    (c.in-Sliced.wide, c.form_now-under.ensures.others i (λ e. absurd (omega (arith, e, less))) ∙ here)
+
+pub part_window-requires-clause-solid : goal.part_window-requires-clause-solid
+part_window-requires-clause-solid c = c.form_now-under.ensures.solid c.args.of.id c.in-Sliced.wide c.in-Sliced.offset (subst (λ (f : Form). Has c.form_now-form.new.self.agent.seat.me.0.forms c.args.of.id f) c.in-Sliced.is c.form_now-form.ensures.seen)
+
+pub returns-in-Sliced-clause-reads : goal.returns-in-Sliced-clause-reads
+returns-in-Sliced-clause-reads c = let v : View = c.args.self.now.agent.seat.me.0 in let u : View = c.form_now-form.new.self.agent.seat.me.0 in let w : View = c.form_now-under.new.self.agent.seat.me.0 in let x : View = c.part_window.new.self.agent.seat.me.0 in
+    reads_trans v w x (reads_trans v u w c.form_now-form.ensures.reads c.form_now-under.ensures.reads) c.part_window.ensures.reads
+
+pub returns-in-Sliced-clause-shows : goal.returns-in-Sliced-clause-shows
+returns-in-Sliced-clause-shows c us h = let i = c.args.of.id in c.part_window.ensures.shows us (c.form_now-under.ensures.reads.known.units i us (c.form_now-form.ensures.reads.known.units i us h))
+
+-- a Flat or a Thin
+pub solid_window-requires-clause-known : goal.solid_window-requires-clause-known
+solid_window-requires-clause-known c = key_kept c.args.self.now.agent.seat.me.0 c.form_now-form.new.self.agent.seat.me.0 c.args.of.id c.form_now-form.ensures.reads.known c.requires.known
+
+pub solid_window-requires-clause-solid : goal.solid_window-requires-clause-solid
+solid_window-requires-clause-solid c = let e = c.form_now-form.ensures in leaf_solid c.form_now-form.result e.born (e.settled c.requires.settled) c.in_default.not-Sliced
 
 pub returns-clause-reads : goal.returns-clause-reads
-returns-clause-reads c = let v : View = c.args.self.now.agent.seat.me.0 in let u : View = c.form_now.new.self.agent.seat.me.0 in reads_trans v u c.flat_window.new.self.agent.seat.me.0 c.form_now.ensures.reads c.flat_window.ensures.reads
+returns-clause-reads c = reads_trans c.args.self.now.agent.seat.me.0 c.form_now-form.new.self.agent.seat.me.0 c.solid_window.new.self.agent.seat.me.0 c.form_now-form.ensures.reads c.solid_window.ensures.reads
 
 pub returns-clause-shows : goal.returns-clause-shows
-returns-clause-shows c us h = c.flat_window.ensures.shows us (c.form_now.ensures.reads.known.units c.args.of.id us h)
+returns-clause-shows c us h = c.solid_window.ensures.shows us (c.form_now-form.ensures.reads.known.units c.args.of.id us h)

@@ -11,6 +11,7 @@ use Rattle.heap_text.specs.Written.{AreWords, Holds, IsWordOf}
 use Rattle.heap_text.proofs.Going.{continues_reads, continues_stored, continues_trans, continues_words, known_stored, known_words, run_kept, run_keys, words_stored}
 use Rattle.heap_text.proofs.Loaded.{key_more}
 use Rattle.heap_text.proofs.Listing.{listed_same, shows_kept}
+use Rattle.heap_text.proofs.Showing.{forms_held}
 use Rattle.heap_text.proofs.text.Text.write.Goals as goal
 
 pub loop-at-init : goal.loop-at-init
@@ -19,7 +20,7 @@ loop-at-init c = let v : View = c.args.self.now.agent.seat.me.0 in let w : View 
       text = e.belongs;
       heap = refl;
       continues = continues_words v w start want e.view e.low;
-      shows = shows_kept v w c.args.source.now known c.requires.shows;
+      shows = shows_kept v w c.args.source.now known (forms_held v w (ap (λ (x : View). x.forms) e.view)) c.requires.shows;
       holds = c.none-held.ensures (listed v c.args.source.now);
       same = listed_same v w c.args.source.now known c.requires.shows;
       ids = ap (λ (x : View). x.used.ids) e.view;
@@ -39,7 +40,7 @@ loop-at-preserved c = let v : View = c.args.self.now.agent.seat.me.0 in let u : 
       text = f.belongs;
       heap = e.heap ∙ i.heap;
       continues = continues_trans v u w i.continues (continues_trans u p w (continues_reads u p e.reads) (subst (Continues p) (sym f.view) (continues_stored p (start + at) word)));
-      shows = shows_kept p w c.args.source.now known e.shows;
+      shows = shows_kept p w c.args.source.now known (forms_held p w (ap (λ (x : View). x.forms) f.view)) e.shows;
       holds = subst (λ (xs : List ℕ). Holds xs c.pack-word.new.held) i.same e.holds;
       same = listed_same p w c.args.source.now known e.shows ∙ (e.listed ∙ i.same);
       ids = ap (λ (x : View). x.used.ids) f.view ∙ (ap (λ (n : Counters). n.ids) e.reads.used ∙ i.ids);
