@@ -6,7 +6,7 @@ use native.Mathlib.Decide.{ℕ_discrete, dec_le}
 use Rattle.js_units.specs.Lanes.{words_over}
 use Rattle.atomic_table.specs.Seated.{TableId}
 use Rattle.js_store.specs.Faults.{Honest, JoinFault as JoinTold, NeverSlots, SlotsShut, Step, concat_part}
-use Rattle.js_store.specs.Rows.{copy_words, cut_ids, cut_words, flat_words, join_ids, join_words, settle_words, wide_words}
+use Rattle.js_store.specs.Rows.{cut_ids, cut_words, flat_words, join_ids, join_words, settle_words, wide_words}
 use Rattle.heap_rule.specs.declared.size.Counters.{Counters}
 use Rattle.heap_rule.specs.declared.size.HeapSize.{HeapSize}
 use Rattle.heap_rule.specs.declared.view.View.{View}
@@ -19,7 +19,8 @@ use Rattle.heap_table.specs.declared.claims.CounterFull.{CounterFull}
 use Rattle.std.specs.FinMap.{get}
 use Rattle.heap_slots.specs.declared.faults.TableFull.{TableFull}
 use Rattle.heap_slots.specs.declared.faults.TableFull.TheVariants as table
-use Rattle.heap_slots.specs.Answers.{HasLeft, IsRefused}
+use Rattle.heap_slots.specs.Answers.{AreHeaderWords, HasLeft, IsRefused}
+use Rattle.heap_slots.specs.Answers as slots
 use Rattle.heap_slots.specs.Goes.{Goes}
 use Rattle.heap_text.specs.declared.faults.JoinFault.{JoinFault}
 use Rattle.heap_text.specs.declared.faults.JoinFault.TheVariants as join
@@ -30,9 +31,10 @@ use Rattle.heap_text.specs.Joins.{IsCut, IsJoined}
 use Rattle.heap_text.specs.Settling.{IsFlattened, IsNoRoom, IsSettling}
 use Rattle.heap_text.specs.Texts.{Continues, IsSpared, Reads, Told, Uses}
 use Rattle.heap_text.specs.Texts as texts
+use Rattle.heap_intern.specs.Counted.{FoundFree}
 use Rattle.heap_intern.specs.Faults.{fault_in_join, fault_in_table, fault_in_text}
 use Rattle.heap_intern.specs.Sessions.{is_settled, state_by}
-use Rattle.heap_intern.proofs.Rows.{copy_bound, cut_ids_one, cut_words_copy, few_words, join_ids_one, join_words_copy, wide_same, words_most}
+use Rattle.heap_intern.proofs.Rows.{cut_ids_one, cut_words_copy, few_words, join_ids_one, join_words_copy, wide_same, words_most}
 use Rattle.heap_intern.proofs.States.{grows_continues, grows_goes, step_most, step_reads, test_settled}
 
 -- a refusal of a text
@@ -78,7 +80,6 @@ module _ (v w : View) (l : ℕ) (t : TableId) (a b : JsStr) (us vs : List ℕ) (
   copied_words = words_over (texts.is_wide (us ++ vs)) (length (us ++ vs))
 
   copy_most : 0 < m → 0 < n → m + n < 13 → copied_words ≤ join_words m n
-  unfolding copied_words
   copy_most a b l = subst (λ (k : ℕ). copied_words ≤ k) (sym (join_words_copy m n a b l)) (subst (λ (k : ℕ). words_over (texts.is_wide (us ++ vs)) k ≤ 3) (sym (length-append us vs)) (few_words (texts.is_wide (us ++ vs)) (m + n) l))
 
   ok_by : (s : JsStr) (i k : ℕ) → m ≡ i → n ≡ k → IsJoined v w w.sizes a b us vs (Ok s) → Step (state_by v l t) (state_by w l t) None (join_ids m n) (join_words m n)
@@ -170,8 +171,9 @@ module _ (v w : View) (l : ℕ) (t : TableId) (s : JsStr) (us : List ℕ) (from 
   abbrev cut_size : ℕ
   cut_size = words_over (texts.is_wide cut) (length cut)
 
-  cut_most : cut_size ≤ copy_words (to - from)
-  cut_most = subst (λ (k : ℕ). words_over (texts.is_wide cut) k ≤ copy_words (to - from)) (sym (part_length from (to - from) us (omega arith))) (copy_bound (texts.is_wide cut) (to - from))
+  -- the words of a short part
+  cut_most : to - from < 13 → cut_size ≤ 3
+  cut_most short = subst (λ (k : ℕ). words_over (texts.is_wide cut) k ≤ 3) (sym (part_length from (to - from) us (omega arith))) (few_words (texts.is_wide cut) (to - from) short)
     where
       part_length : (o n : ℕ) (xs : List ℕ) → o + n ≤ length xs → length (part o n xs) ≡ n
       part_length o n xs le = let d = length-drop o xs in length-take-le n (drop o xs) (omega arith)
@@ -186,10 +188,15 @@ module _ (v w : View) (l : ℕ) (t : TableId) (s : JsStr) (us : List ℕ) (from 
   whole_ok r e f j = let q = j.whole e f in nothing_used v w l t (cut_ids from to (length us)) (cut_words from to (length us)) p c q.2.1
 
   part_ok : (r : JsStr) → (from ≡ 0 → to ≡ length us → ⊥) → IsCut v w w.sizes s from to us (Ok r) → Step (state_by v l t) (state_by w l t) None (cut_ids from to (length us)) (cut_words from to (length us))
-  part_ok r never j = ⊎_elim
-      (λ q. step_used v w l t 1 cut_size (cut_ids from to (length us)) (cut_words from to (length us)) (let d = cut_ids_one from to (length us) never in omega arith) (let d = cut_words_copy from to (length us) never in let g = cut_most in omega arith) p c q.2.2)
+  part_ok r never j = dite (dec_le 13 (to - from))
+      (λ long. ⊎_elim
+      (λ q. step_used v w l t 1 0 (cut_ids from to (length us)) (cut_words from to (length us)) (let d = cut_ids_one from to (length us) never in omega arith) (omega arith) p c q.2.2)
       (λ q. let bad : Ok r ≡ Err q.0 = q.1 in absurd (cc))
-      (j.other (other never))
+      (j.long (other never) long))
+      (λ many. let short : to - from < 13 = omega arith in ⊎_elim
+      (λ q. step_used v w l t 1 cut_size (cut_ids from to (length us)) (cut_words from to (length us)) (let d = cut_ids_one from to (length us) never in omega arith) (let d = cut_words_copy from to (length us) never short in let g = cut_most short in omega arith) p c q.2.2)
+      (λ q. let bad : Ok r ≡ Err q.0 = q.1 in absurd (cc))
+      (j.short (other never) short))
 
   pub cut_ok : (r : JsStr) → IsCut v w w.sizes s from to us (Ok r) → Step (state_by v l t) (state_by w l t) None (cut_ids from to (length us)) (cut_words from to (length us))
   cut_ok r j = dite (ℕ_discrete from 0) (λ e. dite (ℕ_discrete to (length us)) (λ f. whole_ok r e f j) (λ ne. part_ok r (λ _ f. ne f) j)) (λ ne. part_ok r (λ e _. ne e) j)
@@ -197,33 +204,57 @@ module _ (v w : View) (l : ℕ) (t : TableId) (s : JsStr) (us : List ℕ) (from 
   whole_err : (full : TextFull) → from ≡ 0 → to ≡ length us → IsCut v w w.sizes s from to us (Err full) → ⊥
   whole_err full e f j = let q = j.whole e f in let bad : Err full ≡ Ok q.0 = q.1 in cc
 
+  refused_part : (full f : TextFull) (n : ℕ) → f ≡ full → (from ≡ 0 → to ≡ length us → ⊥) → n ≤ cut_words from to (length us) → Told w w.sizes n f → IsSpared v w n f
+      → Step (state_by v l t) (state_by w l t) (Some (fault_in_text full)) (cut_ids from to (length us)) (cut_words from to (length us))
+  refused_part full f n is never le told spared = subst (λ (one : ℕ). Step (state_by v l t) (state_by w l t) (Some (fault_in_text full)) one (cut_words from to (length us))) (sym (cut_ids_one from to (length us) never))
+      (step_refused v w l t n (cut_words from to (length us)) full le p c (subst (Told w w.sizes n) is told) (subst (IsSpared v w n) is spared))
+
   part_err : (full : TextFull) → (from ≡ 0 → to ≡ length us → ⊥) → IsCut v w w.sizes s from to us (Err full) → Step (state_by v l t) (state_by w l t) (Some (fault_in_text full)) (cut_ids from to (length us)) (cut_words from to (length us))
-  part_err full never j = ⊎_elim
+  part_err full never j = dite (dec_le 13 (to - from))
+      (λ long. ⊎_elim
       (λ q. let bad : Err full ≡ Ok q.0 = q.1 in absurd (cc))
-      (λ q. let same : Err full ≡ Err q.0 = q.1 in let is : q.0 ≡ full = cc in
-      subst (λ (one : ℕ). Step (state_by v l t) (state_by w l t) (Some (fault_in_text full)) one (cut_words from to (length us))) (sym (cut_ids_one from to (length us) never))
-      (step_refused v w l t cut_size (cut_words from to (length us)) full (let d = cut_words_copy from to (length us) never in let g = cut_most in omega arith) p c
-      (subst (Told w w.sizes cut_size) is q.2.0) (subst (IsSpared v w cut_size) is q.2.1)))
-      (j.other (other never))
+      (λ q. let same : Err full ≡ Err q.0 = q.1 in let is : q.0 ≡ full = cc in refused_part full q.0 0 is never (omega arith) q.2.1 q.2.2)
+      (j.long (other never) long))
+      (λ many. let short : to - from < 13 = omega arith in ⊎_elim
+      (λ q. let bad : Err full ≡ Ok q.0 = q.1 in absurd (cc))
+      (λ q. let same : Err full ≡ Err q.0 = q.1 in let is : q.0 ≡ full = cc in refused_part full q.0 cut_size is never (let d = cut_words_copy from to (length us) never short in let g = cut_most short in omega arith) q.2.0 q.2.1)
+      (j.short (other never) short))
 
   pub cut_err : (full : TextFull) → IsCut v w w.sizes s from to us (Err full) → Step (state_by v l t) (state_by w l t) (Some (fault_in_text full)) (cut_ids from to (length us)) (cut_words from to (length us))
   cut_err full j = dite (ℕ_discrete from 0) (λ e. dite (ℕ_discrete to (length us)) (λ f. absurd (whole_err full e f j)) (λ ne. part_err full (λ _ f. ne f) j)) (λ ne. part_err full (λ e _. ne e) j)
 
 -- interning
-honest_table : (v w : View) (us : List ℕ) (l : ℕ) (t : TableId) (f : TableFull) → IsRefused v w us f → Honest (state_by w l t) (Some (fault_in_table f))
-honest_table v w us l t (table.Ids f) h = let full = h.1 in let a = full.0 in let b = full.1 in let c = full.2 in (record { can_fill = refl; past_end = omega arith; end_is = b; at_is = sym h.2 }, a)
-honest_table v w us l t (table.Slots n) h = (refl, h.0)
+honest_table : (v w : View) (us : List ℕ) (words l : ℕ) (t : TableId) (f : TableFull) → IsRefused v w us words f → Honest (state_by w l t) (Some (fault_in_table f))
+honest_table v w us words l t (table.Ids f) h = let full = h.2 in let a = full.0 in let b = full.1 in let c = full.2 in (record { can_fill = refl; past_end = omega arith; end_is = b; at_is = sym h.3 }, a)
+honest_table v w us words l t (table.Words f) h = let full = h.2 in let a = full.0 in let b = full.1 in let c = full.2 in record { can_fill = refl; past_end = omega arith; end_is = b; at_is = sym h.3 }
+honest_table v w us words l t (table.Slots n) h = (refl, h.0)
 
-left_most : (v w : View) (us : List ℕ) → HasLeft v w us → w.used.ids ≤ v.used.ids + 1
-left_most v w us h = ⊎_elim (λ e. omega arith) (λ t. let e = t.1 in omega arith) h
+left_most : (v w : View) (us : List ℕ) (words : ℕ) → HasLeft v w us words → (w.used.ids ≤ v.used.ids + 1) × (w.used.words ≤ v.used.words + words)
+left_most v w us words h = ⊎_elim (λ t. let e = t.0 in let d = t.1 in (omega arith, omega arith)) (λ t. let e = t.1 in let d = t.2 in (omega arith, omega arith)) h
 
-pub interned_err : (v w : View) (us : List ℕ) (l : ℕ) (t : TableId) (f : TableFull) (words : ℕ) → IsPossible v → Goes v w [] → IsRefused v w us f → Step (state_by v l t) (state_by w l t) (Some (fault_in_table f)) 1 words
-interned_err v w us l t (table.Ids f) words p g h = let a = h.0 in let b = h.1.0 in let c = g.words_used in record { grows = grows_goes v w [] l t p g; honest = honest_table v w us l t (table.Ids f) h; within_ids = omega arith; within_words = omega arith }
-interned_err v w us l t (table.Slots n) words p g h = let a = left_most v w us h.2 in let c = g.words_used in record { grows = grows_goes v w [] l t p g; honest = honest_table v w us l t (table.Slots n) h; within_ids = omega arith; within_words = omega arith }
+-- the words of a header are at most those of a copy
+pub header_most : (v : View) (id : ℕ) (us : List ℕ) (words : ℕ) → AreHeaderWords v id us words → words ≤ wide_words (length us)
+header_most v id us words h = ⊎_elim (λ e. omega arith) (λ t. let e = t.0 in let m = words_most (slots.is_wide us) (length us) in omega arith) h
 
-pub interned_shut : (v w : View) (us : List ℕ) (l : ℕ) (t : TableId) (f : TableFull) → IsRefused v w us f → SlotsShut (state_by w l t) (Some (fault_in_table f)) us
-interned_shut v w us l t (table.Ids f) h = tt
-interned_shut v w us l t (table.Slots n) h = h.1
+pub interned_err : (v w : View) (us : List ℕ) (words l : ℕ) (t : TableId) (f : TableFull) (most : ℕ) → words ≤ most → IsPossible v → Goes v w [] → IsRefused v w us words f → Step (state_by v l t) (state_by w l t) (Some (fault_in_table f)) 1 most
+interned_err v w us words l t (table.Ids f) most le p g h = let a = h.0 in let b = h.2.0 in let c = h.1 in record { grows = grows_goes v w [] l t p g; honest = honest_table v w us words l t (table.Ids f) h; within_ids = omega arith; within_words = omega arith }
+interned_err v w us words l t (table.Words f) most le p g h = let a = h.0 in let b = h.2.0 in let c = h.1 in record { grows = grows_goes v w [] l t p g; honest = honest_table v w us words l t (table.Words f) h; within_ids = omega arith; within_words = omega arith }
+interned_err v w us words l t (table.Slots n) most le p g h = let a = left_most v w us words h.2 in let b = a.0 in let c = a.1 in record { grows = grows_goes v w [] l t p g; honest = honest_table v w us words l t (table.Slots n) h; within_ids = omega arith; within_words = omega arith }
 
-pub interned_ok : (v w : View) (l : ℕ) (t : TableId) (calls : Calls) (words : ℕ) → IsPossible v → Goes v w calls → w.used.ids ≤ v.used.ids + 1 → Step (state_by v l t) (state_by w l t) None 1 words
-interned_ok v w l t calls words p g u = let c = g.words_used in record { grows = grows_goes v w calls l t p g; honest = tt; within_ids = omega arith; within_words = omega arith }
+pub interned_shut : (v w : View) (us : List ℕ) (words l : ℕ) (t : TableId) (f : TableFull) → IsRefused v w us words f → SlotsShut (state_by w l t) (Some (fault_in_table f)) us
+interned_shut v w us words l t (table.Ids f) h = tt
+interned_shut v w us words l t (table.Words f) h = tt
+interned_shut v w us words l t (table.Slots n) h = h.1
+
+pub interned_ok : (v w : View) (l : ℕ) (t : TableId) (calls : Calls) (words most : ℕ) → words ≤ most → IsPossible v → Goes v w calls → w.used.ids ≤ v.used.ids + 1 → w.used.words ≤ v.used.words + words → Step (state_by v l t) (state_by w l t) None 1 most
+interned_ok v w l t calls words most le p g u c = record { grows = grows_goes v w calls l t p g; honest = tt; within_ids = omega arith; within_words = omega arith }
+
+-- the slot that was found free
+pub interned_free : (v w : View) (us : List ℕ) (words : ℕ) (x : View) (f : TableFull) → IsRefused v w us words f → FoundFree x w (Some (fault_in_table f))
+interned_free v w us words x (table.Ids f) h = h.4
+interned_free v w us words x (table.Words f) h = inl h.4
+interned_free v w us words x (table.Slots n) h = tt
+
+-- no slot was loaded
+pub settle_free : (v w : View) (us : List ℕ) (wide : Bool) (f : TextFull) → IsNoRoom v w w.sizes us f wide → w.slot_loads ≡ v.slot_loads → FoundFree v w (Some (fault_in_text f))
+settle_free v w us wide f h e = let is = h.words.1 in subst (λ (g : TextFull). FoundFree v w (Some (fault_in_text g))) (sym is) (inr e)

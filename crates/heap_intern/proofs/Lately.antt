@@ -28,6 +28,6 @@ pub kept_unit : (v : View) (l : Kept) (us : List ℕ) (n i k r : ℕ) → IsKept
 kept_unit v l us n i k r h g same b at e = let place : l.id * 4294967296 + i ≡ l.place + k = subst (λ (m : ℕ). m * 4294967296 + i ≡ l.place + k) (sym same) at in
     e ∙ (h (omega arith)).1 us (subst (λ (m : ℕ). Has v.units m us) (sym same) g) k i b place
 
-pub interns_known : (v w : View) (us : List ℕ) (r : Result ℕ TableFull) → Interns v w us r → KeepsKnown v w
-interns_known v w us (Ok i) h = h.0.known
-interns_known v w us (Err f) h = h.0.known
+pub interns_known : (v w : View) (us : List ℕ) (words : ℕ) (r : Result ℕ TableFull) → Interns v w us words r → KeepsKnown v w
+interns_known v w us words (Ok i) h = h.0.known
+interns_known v w us words (Err f) h = h.0.known

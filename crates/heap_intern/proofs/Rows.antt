@@ -1,7 +1,7 @@
 -- What calls on texts use, against the rows of a store.
-use Rattle.std.proofs.Common.{◌≡◌, ℕ, ◌+◌, ◌-◌, ◌<◌, ◌≤◌, Bool, true, false, ◌||◌, List, [], ◌∷◌, refl, ap, ◌∙◌, arith, if◌then◌else◌, nat_eq, nat_lt, lt-ltb, ltb-true, ne_eqb, eqb-true}
+use Rattle.std.proofs.Common.{◌≡◌, ℕ, ◌+◌, ◌-◌, ◌<◌, ◌≤◌, Bool, true, false, ◌||◌, List, [], ◌∷◌, refl, ap, ◌∙◌, arith, if◌then◌else◌, nat_eq, nat_lt, lt-ltb, ne_eqb, eqb-true}
 use Rattle.js_units.specs.Lanes.{words_over}
-use Rattle.js_store.specs.Rows.{copy_words, cut_ids, cut_words, flat_words, intern_words, is_part_empty, is_whole, join_ids, join_words, settle_words, wide_words}
+use Rattle.js_store.specs.Rows.{cut_ids, cut_words, flat_words, intern_words, is_part_empty, is_whole, join_ids, join_words, settle_words, wide_words}
 use Rattle.js_store.specs.Rows as rows
 use Rattle.heap_text.specs.Texts as texts
 
@@ -20,13 +20,6 @@ words_most false n = omega arith
 pub few_words : (b : Bool) (n : ℕ) → n < 13 → words_over b n ≤ 3
 few_words true n l = omega arith
 few_words false n l = omega arith
-
-copy_by : (t : Bool) (b : Bool) (n : ℕ) → (t ≡ true → n < 13) → words_over b n ≤ (if t then 3 else wide_words n)
-copy_by true b n h = few_words b n (h refl)
-copy_by false b n h = words_most b n
-
-pub copy_bound : (b : Bool) (n : ℕ) → words_over b n ≤ copy_words n
-copy_bound b n = copy_by (nat_lt n 13) b n (ltb-true n 13)
 
 -- neither side is empty
 full_by : (m n : ℕ) → 0 < m → 0 < n → is_part_empty m n ≡ false
@@ -50,10 +43,11 @@ part_by from to n never = part_on (nat_eq from 0) from to n (eqb-true from 0) ne
 pub cut_ids_one : (from to n : ℕ) → (from ≡ 0 → to ≡ n → ⊥) → cut_ids from to n ≡ 1
 cut_ids_one from to n never = ap (λ (x : Bool). if x then 0 else 1) (part_by from to n never)
 
-pub cut_words_copy : (from to n : ℕ) → (from ≡ 0 → to ≡ n → ⊥) → cut_words from to n ≡ copy_words (to - from)
-cut_words_copy from to n never = ap (λ (x : Bool). if x then 0 else copy_words (to - from)) (part_by from to n never)
+-- a short part is copied
+pub cut_words_copy : (from to n : ℕ) → (from ≡ 0 → to ≡ n → ⊥) → to - from < 13 → cut_words from to n ≡ 3
+cut_words_copy from to n never l = ap (λ (x : Bool). if x then 0 else if nat_lt (to - from) 13 then 3 else 0) (part_by from to n never) ∙ ap (λ (x : Bool). if x then 3 else 0) (lt-ltb (to - from) 13 l)
 
 -- settling is a part of interning
-pub settle_part : (b : Bool) (n : ℕ) → settle_words b n + 0 ≤ intern_words b n
+pub settle_part : (b : Bool) (n : ℕ) → settle_words b n + wide_words n ≤ intern_words b n
 settle_part true n = omega arith
 settle_part false n = omega arith

@@ -106,7 +106,7 @@ pub history_goes : (v w : View) (calls : Calls) → Goes v w calls → history w
 history_goes v w calls g = (λ i. g.seen i ++ g.mine i) ∙ sym (append_assoc v.seen v.mine calls)
 
 pub grows_goes : (v w : View) (calls : Calls) (l : ℕ) (t : TableId) → IsPossible v → Goes v w calls → Grows (state_by v l t) (state_by w l t)
-grows_goes v w calls l t p g = let uw = g.words_used in let lw = g.words_low in grows_by v w l t p g.known g.sizes g.agents g.share g.seen g.ids_used (omega arith) g.ids_low (omega arith)
+grows_goes v w calls l t p g = grows_by v w l t p g.known g.sizes g.agents g.share g.seen g.ids_used g.words_used g.ids_low g.words_low
     (λ u i h. subst (λ (h : Calls). Contains h (u, i)) (sym (history_goes v w calls g)) (Contains-append_left (history v) calls (u, i) h))
 
 -- the same table, as it was before
@@ -119,4 +119,4 @@ step_most v w l t i n p r = step_within (step_reads v w l t p r) (omega arith) (
 
 -- loads of slots
 pub step_looks : (v w : View) (l : ℕ) (t : TableId) → IsPossible v → Looks v w → Step (state_by v l t) (state_by w l t) None 0 0
-step_looks v w l t p k = let a = k.used in let b = k.goes.words_used in record { grows = grows_goes v w [] l t p k.goes; honest = tt; within_ids = omega arith; within_words = omega arith }
+step_looks v w l t p k = let a = k.used in let b = k.words in record { grows = grows_goes v w [] l t p k.goes; honest = tt; within_ids = omega arith; within_words = omega arith }

@@ -17,6 +17,7 @@ fault_in_text (text.Words f) = Full (report.Words f.at f.want f.end)
 
 abbrev pub fault_in_table : TableFull → StoreFault
 fault_in_table (table.Ids f) = Full (report.Ids f.at f.want f.end)
+fault_in_table (table.Words f) = Full (report.Words f.at f.want f.end)
 fault_in_table (table.Slots slots) = Full (report.Slots slots)
 
 abbrev pub fault_in_join : JoinFault → ConcatFault

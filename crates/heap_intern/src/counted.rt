@@ -3,8 +3,9 @@ ghost use Rattle.std.specs.Prelude.{◌≡◌, ℕ, [], ◌∷◌, ◌++◌, ◌
 ghost use Rattle.js_store.specs.Faults.{SlotsShut, Step, fault_of};
 ghost use Rattle.js_store.specs.Rows.{intern_words};
 ghost use Rattle.js_store.specs.State.{Has, IsKnown, IsSettled, text};
+ghost use Rattle.heap_slots.specs.Answers.{IsForwarded};
 ghost use Rattle.heap_slots.specs.SlotLoads.{LoadsSlots, loads_at};
-ghost use Rattle.heap_intern.specs.Counted.{answered};
+ghost use Rattle.heap_intern.specs.Counted.{FoundFree, answered};
 ghost use Rattle.heap_intern.specs.Sessions.{state_in, view_in};
 
 use crate::faults::{table_fault, text_fault};
@@ -18,7 +19,9 @@ use std::sync::ledger::{Blank, Ledger};
 impl<'h> Session<'h> {
     /// As `intern` of a store, and counts each load of a slot of the string table. No slot is
     /// loaded twice but the one that answers: once more after its units were compared, which
-    /// enters the call in the history.
+    /// enters the call in the history. The header of `s` then forwards to the answer, unless it is
+    /// a fixed Flat. The table is told to be full exactly where every slot was found used with other
+    /// units: where an id or words were wanted, a slot was found free, or none was loaded.
     pub fn intern_counted<L: Ledger>(
         &mut self,
         s: JsStr,
@@ -26,11 +29,13 @@ impl<'h> Session<'h> {
     ) -> Result<JsStr, StoreFault>
         requires { IsKnown (state_in self.old) s.id }
         ensures ok { IfOk result (λ r. Has (state_in self.new) r.id (text (state_in self.old) s.id) × IsSettled (state_in self.new) r.id × IsSettled (state_in self.new) s.id) }
+        ensures forwards { IfOk result (λ r. IsForwarded (view_in self.new) s.id r.id) }
         ensures step { Step (state_in self.old) (state_in self.new) (fault_of result) 1
             (intern_words ((state_in self.old).settled s.id) (length (text (state_in self.old) s.id))) }
         ensures grown { IfOk result (λ r. (state_in self.new).history ≡ (state_in self.old).history ++ (text (state_in self.old) s.id, r.id) ∷ []) }
         ensures kept { OnErr result ((state_in self.new).history ≡ (state_in self.old).history) }
         ensures shut { SlotsShut (state_in self.new) (fault_of result) (text (state_in self.old) s.id) }
+        ensures free { FoundFree (view_in self.old) (view_in self.new) (fault_of result) }
         ensures loads { LoadsSlots (view_in self.old) (view_in self.new) (answered result) steps.old steps.new }
         ensures few { (k : ℕ) → loads_at (view_in self.new) k ≤ loads_at (view_in self.old) k + 2 }
         ensures most { steps.new ≤ steps.old + 2 * (state_in self.old).sizes.slots }
@@ -57,11 +62,14 @@ impl<'h> Session<'h> {
         requires some { 0 < blank.parts }
         requires known { IsKnown (state_in self.old) s.id }
         ensures ok { IfOk result (λ r. Has (state_in self.new) r.id (text (state_in self.old) s.id) × IsSettled (state_in self.new) r.id × IsSettled (state_in self.new) s.id) }
+        ensures forwards { IfOk result (λ r. IsForwarded (view_in self.new) s.id r.id) }
         ensures step { Step (state_in self.old) (state_in self.new) (fault_of result) 1
             (intern_words ((state_in self.old).settled s.id) (length (text (state_in self.old) s.id))) }
         ensures grown { IfOk result (λ r. (state_in self.new).history ≡ (state_in self.old).history ++ (text (state_in self.old) s.id, r.id) ∷ []) }
         ensures kept { OnErr result ((state_in self.new).history ≡ (state_in self.old).history) }
         ensures shut { SlotsShut (state_in self.new) (fault_of result) (text (state_in self.old) s.id) }
+        ensures free { FoundFree (view_in self.old) (view_in self.new) (fault_of result) }
+        ensures few { (k : ℕ) → loads_at (view_in self.new) k ≤ loads_at (view_in self.old) k + 2 }
     {
         let mut steps = Steps::<L>::start(blank);
         self.intern_counted(s, &mut steps)

@@ -32,6 +32,11 @@ pub(crate) fn table_fault(full: TableFull) -> StoreFault
             want: full.want,
             end: full.end,
         }),
+        TableFull::Words(full) => StoreFault::Full(FullReport::Words {
+            at: full.at,
+            want: full.want,
+            end: full.end,
+        }),
         TableFull::Slots { slots } => StoreFault::Full(FullReport::Slots { slots }),
     }
 }

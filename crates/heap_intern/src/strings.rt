@@ -9,7 +9,14 @@ use std::sync::ledger::Blank;
 impl<'h> Strings for Session<'h> {
     type Ref = JsStr;
 
-    ghost use Rattle.heap_intern.specs.Sessions.{SessionFrame, state_in};
+    ghost use Rattle.std.specs.Prelude.{◌≡◌, ℕ, [], ◌∷◌, ◌++◌, ◌+◌, ◌≤◌, length, IfOk, OnErr};
+    ghost use Rattle.js_store.specs.Faults.{SlotsShut, Step, fault_of};
+    ghost use Rattle.js_store.specs.Rows.{intern_words};
+    ghost use Rattle.js_store.specs.State.{Has, IsKnown, IsSettled, text};
+    ghost use Rattle.heap_slots.specs.Answers.{IsForwarded};
+    ghost use Rattle.heap_slots.specs.SlotLoads.{loads_at};
+    ghost use Rattle.heap_intern.specs.Counted.{FoundFree};
+    ghost use Rattle.heap_intern.specs.Sessions.{SessionFrame, state_in, view_in};
     ghost use Rattle.heap_table.specs.Agents.{view_of};
     ghost use Rattle.heap_intern.specs.Sessions.{table_of};
     ghost use Rattle.heap_intern.specs.Sound.{sound_of};
@@ -67,7 +74,21 @@ impl<'h> Strings for Session<'h> {
         }
     }
 
-    fn intern(&mut self, s: JsStr) -> Result<JsStr, StoreFault> {
+    /// As of every store. The header of `s` then forwards to the answer, unless it is a fixed Flat,
+    /// and no slot of the string table is loaded more than twice. The table is told to be full
+    /// exactly where every slot was found used with other units.
+    fn intern(&mut self, s: JsStr) -> Result<JsStr, StoreFault>
+        requires { IsKnown (state_in self.old) s.id }
+        ensures ok { IfOk result (λ r. Has (state_in self.new) r.id (text (state_in self.old) s.id) × IsSettled (state_in self.new) r.id × IsSettled (state_in self.new) s.id) }
+        ensures forwards { IfOk result (λ r. IsForwarded (view_in self.new) s.id r.id) }
+        ensures step { Step (state_in self.old) (state_in self.new) (fault_of result) 1
+            (intern_words ((state_in self.old).settled s.id) (length (text (state_in self.old) s.id))) }
+        ensures grown { IfOk result (λ r. (state_in self.new).history ≡ (state_in self.old).history ++ (text (state_in self.old) s.id, r.id) ∷ []) }
+        ensures kept { OnErr result ((state_in self.new).history ≡ (state_in self.old).history) }
+        ensures shut { SlotsShut (state_in self.new) (fault_of result) (text (state_in self.old) s.id) }
+        ensures free { FoundFree (view_in self.old) (view_in self.new) (fault_of result) }
+        ensures few { (k : ℕ) → loads_at (view_in self.new) k ≤ loads_at (view_in self.old) k + 2 }
+    {
         self.intern_by::<Brand>(s, Blank::new(1))
     }
 

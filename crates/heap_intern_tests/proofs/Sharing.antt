@@ -50,3 +50,7 @@ is_of a h n s e z = (
   ap (λ (x : State SessionFrame). x.frame.table) e,
   ap (λ (x : State SessionFrame). x.sizes) e ∙ (λ i. record { ids = (z i).ids; words = (z i).words; slots = (z i).slots }),
 )
+
+-- a session that went on is still one of its heap
+pub still_of : (a b : State SessionFrame) (h : Heap) → GoesOn a b → IsOf a h → IsOf b h
+still_of a b h g e = (ap (λ (f : SessionFrame). f.table) g.frame ∙ e.0, g.sizes ∙ e.1)

@@ -8,3 +8,5 @@ mod counted;
 mod reads;
 #[cfg(test)]
 mod sessions;
+#[cfg(test)]
+mod slices;

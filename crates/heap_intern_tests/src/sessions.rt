@@ -18,9 +18,10 @@ use std::test::Fail;
 use std::thread::{Threads, join_mut};
 
 // A new string of these units, and what it is interned as.
-fn interned(session: &mut Session, units: &[u16]) -> Result<(JsStr, JsStr), StoreFault>
+pub(crate) fn interned(session: &mut Session, units: &[u16]) -> Result<(JsStr, JsStr), StoreFault>
     requires short { length units.now ≤ 100 }
     ensures goes_on { GoesOn (state_in session.old) (state_in session.new) }
+    ensures known { IfOk result (λ r. IsKnown (state_in session.new) r.0.id × IsKnown (state_in session.new) r.1.id) }
 {
     match made(session, units) {
         Ok(s) => put(session, s),
@@ -39,6 +40,7 @@ fn made(session: &mut Session, units: &[u16]) -> Result<JsStr, StoreFault>
 fn put(session: &mut Session, s: JsStr) -> Result<(JsStr, JsStr), StoreFault>
     requires known { IsKnown (state_in session.old) s.id }
     ensures goes_on { GoesOn (state_in session.old) (state_in session.new) }
+    ensures known { IfOk result (λ r. IsKnown (state_in session.new) r.0.id × IsKnown (state_in session.new) r.1.id) }
 {
     match session.intern(s) {
         Ok(t) => Ok((s, t)),

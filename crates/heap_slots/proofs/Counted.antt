@@ -1,5 +1,5 @@
 -- Whoever has seen all slots, each used one in a call of its own, has as many used slots as its history has different lists.
-use Rattle.std.proofs.Common.{◌≡◌, ◌≢◌, ℕ, zero, suc, ◌+◌, ◌<◌, ◌≤◌, Bool, true, false, cond, List, [], ◌++◌, sym, refl, ap, ◌∙◌, subst, arith, append-nil, Option, Some, None, if◌then◌else◌}
+use Rattle.std.proofs.Common.{◌≡◌, ℕ, zero, suc, ◌+◌, ◌<◌, ◌≤◌, Bool, false, List, ◌++◌, sym, refl, ap, ◌∙◌, subst, arith, append-nil, Option, Some, None, if◌then◌else◌}
 use Rattle.std.specs.Prelude.{Contains, is_some}
 use Rattle.std.proofs.Math.Logic.{∥∥₁_elim}
 use Rattle.std.proofs.Props.{props}
@@ -12,17 +12,17 @@ use Rattle.heap_rule.specs.declared.view.View.{View}
 use Rattle.heap_rule.specs.declared.size.HeapSize.{HeapSize}
 use Rattle.heap_rule.specs.Contents.{units_of}
 use Rattle.heap_rule.specs.Learning.{learned_all}
-use Rattle.heap_rule.specs.Maps.{Has, HasKey}
+use Rattle.heap_rule.specs.Maps.{Has}
 use Rattle.heap_rule.specs.Paths.{Calls}
 use Rattle.heap_rule.specs.Slots.{loaded_slot}
-use Rattle.heap_rule.specs.Sound.{IsPossible, StandsIn, IsSound, At}
+use Rattle.heap_rule.specs.Sound.{IsPossible, StandsIn}
 use Rattle.heap_rule.specs.Views.{history}
-use Rattle.heap_rule.proofs.MapLemmas.{insert_other, insert_same, key_of}
+use Rattle.heap_rule.proofs.MapLemmas.{insert_other, insert_same}
 use Rattle.heap_rule.proofs.Possible.{possible_inside}
 use Rattle.heap_table.specs.Known.{KeepsKnown}
 use Rattle.heap_table.specs.Plays.{FoundSlot}
 use Rattle.heap_slots.specs.Counting.{count_below, different}
-use Rattle.heap_slots.specs.Goes.{Goes, Looks}
+use Rattle.heap_slots.specs.Goes.{Looks}
 use Rattle.heap_slots.specs.Visits.{Counted}
 use Rattle.heap_slots.proofs.Distinct.{used_different}
 use Rattle.heap_slots.proofs.Going.{looks_self, looks_slot, looks_trans}

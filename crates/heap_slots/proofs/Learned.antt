@@ -5,7 +5,7 @@ use mathlib.Core.Logic.{dite}
 use native.Mathlib.Decide.{ℕ_discrete}
 use Rattle.std.specs.Ordering.{nat_cmp}
 use Rattle.std.specs.Cmp.{unsigned_tied}
-use Rattle.std.specs.FinMap.{FinMap, get, insert, entries, find, get-entries, contains_key, keys}
+use Rattle.std.specs.FinMap.{FinMap, get, insert, entries, find, get-entries, keys}
 use Rattle.js_units.specs.Lanes.{words_over}
 use Rattle.js_header.specs.declared.form.Form.{Form}
 use Rattle.js_header.specs.declared.form.Form.TheVariants.{Flat}
@@ -14,7 +14,7 @@ use Rattle.heap_rule.specs.Contents.{span}
 use Rattle.heap_rule.specs.Maps.{Has, HasKey, first_some, first_in}
 use Rattle.heap_rule.specs.Learning.{all_frozen, all_named, by_cons, by_flat, by_thin, frozen_word, justified, learn_into, learn_one, learned_all, named_by}
 use Rattle.heap_rule.proofs.MapLemmas.{has_key, insert_other, insert_same, key_of}
-use Rattle.heap_slots.specs.Stretches.{AreFrozen, IsLearned}
+use Rattle.heap_slots.specs.Stretches.{IsLearned}
 
 abbrev IsIn : ℕ → List ℕ → Type 0
 IsIn i [] = ⊥

@@ -3,8 +3,11 @@ pub mod Loading
 pub mod Learned
 pub mod Possibly
 pub mod Stretching
+pub mod Packing
 pub mod Reading
 pub mod Bearing
+pub mod Copies
+pub mod Moving
 pub mod Distinct
 pub mod Counted
 pub mod Visiting

@@ -1,5 +1,5 @@
 -- Loads of slots, one by one and along the path.
-use Rattle.std.proofs.Common.{◌≡◌, ◌≢◌, ℕ, zero, suc, ◌+◌, ◌*◌, ◌<◌, ◌≤◌, List, sym, refl, ap, ◌∙◌, subst, arith, Option, Some, None, Result, Ok, nat_eq, if◌then◌else◌, Bool, true, false, eq-eqb, ne_eqb}
+use Rattle.std.proofs.Common.{◌≡◌, ◌≢◌, ℕ, zero, suc, ◌+◌, ◌*◌, ◌<◌, ◌≤◌, List, sym, refl, ap, ◌∙◌, subst, arith, Option, Some, nat_eq, if◌then◌else◌, Bool, eq-eqb, ne_eqb}
 use Rattle.std.specs.Prelude.{unwrap_or}
 use mathlib.Core.Logic.{dite}
 use native.Mathlib.Decide.{ℕ_discrete}
@@ -192,6 +192,17 @@ slots_from u v w answer before after e z h = record {
   entered = h.entered;
   inside = λ k l. subst (λ (y : HeapSize). k < y.slots) z (h.inside k l);
   sum = h.sum ∙ ap (λ (y : HeapSize). before + sum_below h.times y.slots) z;
+}
+
+-- a step after the walk that loads no slot
+pub slots_then : (v w x : View) (answer : Option ℕ) (before after : ℕ) → x.slot_loads ≡ w.slot_loads → ((k i : ℕ) → Has w.slots k i → Has x.slots k i) → LoadsSlots v w answer before after → LoadsSlots v x answer before after
+slots_then v w x answer before after e slots h = record {
+  times = h.times;
+  each = λ k. ap (λ (m : FinMap nat_cmp ℕ). unwrap_or (get m k) 0) e ∙ h.each k;
+  twice = h.twice;
+  entered = λ k l. let t = h.entered k l in (t.0, t.1, slots k t.0 t.2);
+  inside = h.inside;
+  sum = h.sum;
 }
 
 -- no slot more than twice, and all together at most twice their number

@@ -1,5 +1,5 @@
 -- Visits of slots, and the walk over them.
-use Rattle.std.proofs.Common.{◌≡◌, ℕ, ◌+◌, ◌%◌, ◌<◌, ◌≤◌, inl, inr, ⊎_elim, Bool, true, List, [], ◌∷◌, ◌++◌, sym, refl, ap, ◌∙◌, subst, arith, Option, Some, None, Result, Ok, Err}
+use Rattle.std.proofs.Common.{◌≡◌, ℕ, ◌+◌, ◌%◌, ◌<◌, ◌≤◌, inl, inr, ⊎_elim, Bool, List, [], ◌∷◌, ◌++◌, sym, refl, ap, ◌∙◌, subst, arith, Option, Some, None, Result, Ok, Err}
 use Rattle.std.specs.Prelude.{unwrap_or}
 use mathlib.Core.Logic.{dite}
 use native.Mathlib.Decide.{ℕ_discrete}
@@ -7,9 +7,10 @@ use Rattle.std.specs.FinMap.{FinMap, get}
 use Rattle.std.specs.Ordering.{nat_cmp}
 use Rattle.js_units.specs.Lanes.{hash_of}
 use Rattle.js_header.specs.declared.form.Form.{Form}
-use Rattle.js_header.specs.declared.form.Form.TheVariants.{Flat}
+use Rattle.js_header.specs.declared.form.Form.TheVariants.{Unborn, Flat, Cons, Sliced, Thin}
 use Rattle.heap_rule.specs.declared.view.View.{View}
 use Rattle.heap_rule.specs.declared.size.HeapSize.{HeapSize}
+use Rattle.heap_rule.specs.Forms.{IsSliced}
 use Rattle.heap_rule.specs.Maps.{Has, HasKey}
 use Rattle.heap_rule.specs.Paths.{rank, place}
 use Rattle.heap_rule.specs.Slots.{IsShutAt, entered, entry_in, units_by}
@@ -19,26 +20,26 @@ use Rattle.heap_rule.proofs.Paths.{place_inside, rank_place, ranks_all, ranks_be
 use Rattle.heap_rule.proofs.Possible.{possible_inside, possible_slot}
 use Rattle.heap_rule.proofs.SlotTests.{shut_exactly}
 use Rattle.heap_table.specs.Known.{KeepsKnown}
-use Rattle.heap_table.specs.declared.claims.CounterFull.{CounterFull}
 use Rattle.heap_slots.specs.declared.faults.TableFull.{TableFull}
-use Rattle.heap_slots.specs.declared.faults.TableFull.TheVariants.{Ids, Slots}
+use Rattle.heap_slots.specs.declared.faults.TableFull.TheVariants.{Ids, Words, Slots}
 use Rattle.heap_slots.specs.declared.probing.Visit.{Visit}
 use Rattle.heap_slots.specs.declared.probing.Visit.TheVariants.{Answer, Next}
-use Rattle.heap_slots.specs.declared.stretch.Stretch.{Stretch}
-use Rattle.heap_slots.specs.Answers.{HasLeft, Interns, IsFixed, IsRefused}
-use Rattle.heap_slots.specs.Goes.{Goes, Looks}
+use Rattle.heap_slots.specs.declared.sought.Sought.{Sought}
+use Rattle.heap_slots.specs.Answers.{AreHeaderWords, HasLeft, Interns, IsFixed, IsRefused}
+use Rattle.heap_slots.specs.Goes.{Goes, KeepsForms, Looks}
+use Rattle.heap_slots.specs.Headers.{IsNoHeader, header_words, ids_of, words_of}
 use Rattle.heap_slots.specs.SlotLoads.{IsFirst}
-use Rattle.heap_slots.specs.Stretches.{AreFrozen, LiesIn}
-use Rattle.heap_slots.specs.Visits.{IsAnswer, IsBehind, IsMade, IsNext, IsNoId, Visited, Visits, ids_of}
-use Rattle.heap_slots.proofs.Going.{goes_self, goes_trans}
+use Rattle.heap_slots.specs.Stretches.{AreFrozen, IsSought}
+use Rattle.heap_slots.specs.Visits.{IsAnswer, IsBehind, IsMade, IsNext, IsUnmade, Visited, Visits}
+use Rattle.heap_slots.proofs.Going.{forms_self, forms_trans, goes_self, goes_trans}
 use Rattle.heap_slots.proofs.Possibly.{possible_open}
-use Rattle.heap_slots.proofs.Stretching.{frozen_kept, lies_kept}
+use Rattle.heap_slots.proofs.Stretching.{frozen_kept, sought_kept}
 
 -- what a view knows of the string in a slot stays known
 module _ (v w : View) (p : IsPossible v) (k : KeepsKnown v w) (us : List ℕ) where
   flat_kept : (l t : ℕ) (wide : Bool) (start : ℕ) (fixed : Bool) → Has v.slots l t → Has v.forms t (Flat wide start fixed) → Has w.forms t (Flat wide start fixed)
   flat_kept l t wide start fixed h g = let q = possible_slot v p l t (Flat wide start fixed) h g in
-      subst (λ (f : Form). Has w.forms t f) (sym q.2) (k.flats t q.0 q.1 true (subst (λ (f : Form). Has v.forms t f) q.2 g))
+      subst (λ (f : Form). Has w.forms t f) (sym q.2) (k.flats t q.0 q.1 (subst (λ (f : Form). Has v.forms t f) q.2 g))
 
   pub shut_kept : (l : ℕ) → IsShutAt v us l → IsShutAt w us l
   shut_kept l t = (
@@ -52,7 +53,7 @@ module _ (v w : View) (p : IsPossible v) (k : KeepsKnown v w) (us : List ℕ) wh
   behind_kept z l b j m r = shut_kept j (b j (subst (λ (y : HeapSize). j < y.slots) z m) (subst (λ (y : HeapSize). rank us y.slots j < rank us y.slots l) z r))
 
   pub fixed_kept : (i : ℕ) → IsFixed v us i → IsFixed w us i
-  fixed_kept i h = ((h.0.0, h.0.1, k.flats i h.0.0 h.0.1 true h.0.2), k.units i us h.1)
+  fixed_kept i h = ((h.0.0, h.0.1, k.flats i h.0.0 h.0.1 h.0.2), k.units i us h.1)
 
   pub made_kept : (header : Option ℕ) → IsMade v us header → IsMade w us header
   made_kept None h = tt
@@ -71,36 +72,46 @@ each_behind v w p k z id l key h us u = let q = has_key v.units id key in let sa
 pub entered_is : (v : View) (k i : ℕ) (us : List ℕ) → Has v.slots k i → Has v.units i us → entered v k (entry_in v k) ≡ v.mine ++ (us, i) ∷ []
 entered_is v k i us h u = ap (λ (o : Option ℕ). entered v k (units_by v o)) h ∙ (ap (λ (o : Option (List ℕ)). entered v k o) u ∙ ap (λ (o : Option ℕ). v.mine ++ (us, unwrap_or o 0) ∷ []) h)
 
--- a step before a visit, which used the ids of a header that wasn't there before
-module _ (a v w : View) (us : List ℕ) (k : ℕ) (g : Goes a v []) where
-  pub answer_after : (header made : Option ℕ) (i : ℕ) → v.used.ids + ids_of header ≡ a.used.ids + ids_of made → IsAnswer v w us k made i → IsAnswer a w us k header i
-  answer_after header made i e h = let u = h.used in record { goes = goes_trans a v w [] ((us, i) ∷ []) g h.goes; used = omega arith; fixed = h.fixed; stands = h.stands }
+-- a step before a visit, which used the ids and the words of a header that wasn't there before
+module _ (a v w : View) (us : List ℕ) (words k : ℕ) (g : Goes a v []) (forms : KeepsForms a v) where
+  pub answer_after : (header made : Option ℕ) (i : ℕ) → v.used.ids + ids_of header ≡ a.used.ids + ids_of made → v.used.words + words_of words header ≡ a.used.words + words_of words made → IsAnswer v w us words k made i → IsAnswer a w us words k header i
+  answer_after header made i e d h = let u = h.used in let x = h.used_words in
+      record { goes = goes_trans a v w [] ((us, i) ∷ []) g h.goes; forms = forms_trans a v w forms h.forms; used = omega arith; used_words = omega arith; fixed = h.fixed; stands = h.stands }
 
-  pub next_after : (header made next : Option ℕ) → v.used.ids + ids_of header ≡ a.used.ids + ids_of made → IsNext v w us k made next → IsNext a w us k header next
-  next_after header made next e h = let u = h.used in record { goes = goes_trans a v w [] [] g h.goes; used = omega arith; shut = h.shut; made_is = h.made_is }
+  pub next_after : (header made next : Option ℕ) → v.used.ids + ids_of header ≡ a.used.ids + ids_of made → v.used.words + words_of words header ≡ a.used.words + words_of words made → IsNext v w us words k made next → IsNext a w us words k header next
+  next_after header made next e d h = let u = h.used in let x = h.used_words in
+      record { goes = goes_trans a v w [] [] g h.goes; forms = forms_trans a v w forms h.forms; used = omega arith; used_words = omega arith; shut = h.shut; made_is = h.made_is }
 
-  pub visited_after : (header made : Option ℕ) (r : Visit) → v.used.ids + ids_of header ≡ a.used.ids + ids_of made → Visited v w us k made r → Visited a w us k header r
-  visited_after header made (Answer i) e h = answer_after header made i e h
-  visited_after header made (Next next) e h = next_after header made next e h
+  pub visited_after : (header made : Option ℕ) (r : Visit) → v.used.ids + ids_of header ≡ a.used.ids + ids_of made → v.used.words + words_of words header ≡ a.used.words + words_of words made → Visited v w us words k made r → Visited a w us words k header r
+  visited_after header made (Answer i) e d h = answer_after header made i e d h
+  visited_after header made (Next next) e d h = next_after header made next e d h
 
-pub visits_after : (a v w : View) (us : List ℕ) (k : ℕ) (header : Option ℕ) (r : Result Visit CounterFull) → Looks a v → Visits v w us k header r → Visits a w us k header r
-visits_after a v w us k header (Ok r) l h = visited_after a v w us k l.goes header header r (ap (λ (n : ℕ). n + ids_of header) l.used) h
-visits_after a v w us k header (Err f) l h = record { goes = goes_trans a v w [] [] l.goes h.goes; used = h.used ∙ l.used; none = h.none; full = h.full; low = h.low; free = h.free }
+told_after : (a v w : View) (words : ℕ) (f : TableFull) → v.used.ids ≡ a.used.ids → v.used.words ≡ a.used.words → IsNoHeader v w words f → IsNoHeader a w words f
+told_after a v w words (Ids f) e d h = (h.0, h.1, h.2 ∙ e, h.3 ∙ ap (λ (n : ℕ). n + words) d)
+told_after a v w words (Words f) e d h = (h.0, h.1, h.2 ∙ e, h.3 ∙ d)
+told_after a v w words (Slots n) e d h = h
+
+pub visits_after : (a v w : View) (us : List ℕ) (words k : ℕ) (header : Option ℕ) (r : Result Visit TableFull) → Looks a v → KeepsForms a v → Visits v w us words k header r → Visits a w us words k header r
+visits_after a v w us words k header (Ok r) l forms h = visited_after a v w us words k l.goes forms header header r (ap (λ (n : ℕ). n + ids_of header) l.used) (ap (λ (n : ℕ). n + words_of words header) l.words) h
+visits_after a v w us words k header (Err f) l forms h =
+    record { goes = goes_trans a v w [] [] l.goes h.goes; forms = forms_trans a v w forms h.forms; none = h.none; told = told_after a v w words f l.used l.words h.told; free = h.free }
 
 -- the walk: behind r slots that differ, with what was made so far
-pub record Probing (a v : View) (s : Stretch) (us : List ℕ) (r : ℕ) (header : Option ℕ) : Type 0 where
+pub record Probing (a v : View) (s : Sought) (us : List ℕ) (words r : ℕ) (header : Option ℕ) : Type 0 where
   pub goes : Goes a v []
+  pub forms : KeepsForms a v
   pub used : v.used.ids ≡ a.used.ids + ids_of header
-  pub lies : LiesIn v s
-  pub frozen : AreFrozen v s.wide s.start s.len
+  pub used_words : v.used.words ≡ a.used.words + words_of words header
+  pub lies : IsSought v s
+  pub frozen : s.offset ≡ 0 → AreFrozen v s.wide s.start s.len
   pub units : Has v.units s.id us
   pub passed : (j : ℕ) → j < a.sizes.slots → rank us a.sizes.slots j < r → IsShutAt v us j
   pub made : IsMade v us header
 
-pub probing_none : (a : View) (s : Stretch) (us : List ℕ) → LiesIn a s → AreFrozen a s.wide s.start s.len → Has a.units s.id us → Probing a a s us 0 None
-probing_none a s us l f u = record { goes = goes_self a; used = omega arith; lies = l; frozen = f; units = u; passed = ranks_none (IsShutAt a us) us a.sizes.slots; made = tt }
+pub probing_none : (a : View) (s : Sought) (us : List ℕ) (words : ℕ) → IsSought a s → (s.offset ≡ 0 → AreFrozen a s.wide s.start s.len) → Has a.units s.id us → Probing a a s us words 0 None
+probing_none a s us words l f u = record { goes = goes_self a; forms = forms_self a; used = omega arith; used_words = omega arith; lies = l; frozen = f; units = u; passed = ranks_none (IsShutAt a us) us a.sizes.slots; made = tt }
 
-module _ (a v : View) (s : Stretch) (us : List ℕ) (r : ℕ) (header : Option ℕ) (p : Probing a v s us r header) (n h : ℕ) (slots : n ≡ a.sizes.slots) (hash : h ≡ hash_of us) where
+module _ (a v : View) (s : Sought) (us : List ℕ) (words r : ℕ) (header : Option ℕ) (p : Probing a v s us words r header) (n h : ℕ) (slots : n ≡ a.sizes.slots) (hash : h ≡ hash_of us) where
   -- the slot that the code visits
   at_place : (P : ℕ → Type 0) → P (place us a.sizes.slots r) → P ((h % n + r) % n)
   at_place P x = subst (λ (m : ℕ). P ((h % m + r) % m)) (sym slots) (subst (λ (y : ℕ). P ((y % a.sizes.slots + r) % a.sizes.slots)) (sym hash) x)
@@ -128,31 +139,42 @@ module _ (a v : View) (s : Stretch) (us : List ℕ) (r : ℕ) (header : Option �
   next_behind l = at_place (IsBehind v us) (subst (λ (z : HeapSize). (j : ℕ) → j < z.slots → rank us z.slots j < rank us z.slots (place us a.sizes.slots r) → IsShutAt v us j) (sym p.goes.sizes)
       (ranks_before (IsShutAt v us) us a.sizes.slots r (subst (λ (m : ℕ). r < m) slots l) p.passed))
 
-  pub next_probing : (w : View) (made : Option ℕ) → IsPossible v → IsNext v w us ((h % n + r) % n) header made → Probing a w s us (r + 1) made
-  next_probing w made possible g = let u = g.used in let u' = p.used in let k = g.goes.known in record {
+  pub next_probing : (w : View) (made : Option ℕ) → IsPossible v → IsNext v w us words ((h % n + r) % n) header made → Probing a w s us words (r + 1) made
+  next_probing w made possible g = let u = g.used in let u' = p.used in let x = g.used_words in let x' = p.used_words in let k = g.goes.known in record {
     goes = goes_trans a v w [] [] p.goes g.goes;
+    forms = forms_trans a v w p.forms g.forms;
     used = omega arith;
-    lies = lies_kept v w k s p.lies;
-    frozen = frozen_kept v w k s.wide s.start s.len p.frozen;
+    used_words = omega arith;
+    lies = sought_kept v w k g.forms s p.lies;
+    frozen = λ none. frozen_kept v w k s.wide s.start s.len (p.frozen none);
     units = k.units s.id us p.units;
     passed = ranks_next (IsShutAt w us) us a.sizes.slots r (λ j l m. shut_kept v w possible k us j (p.passed j l m)) (to_place (IsShutAt w us) g.shut);
     made = g.made_is;
   }
 
-  pub probed_to : (w : View) (k i : ℕ) → IsAnswer v w us k header i → Interns a w us (Ok i)
-  probed_to w k i g = let u = g.used in let u' = p.used in (goes_trans a v w [] ((us, i) ∷ []) p.goes g.goes, omega arith, g.fixed, (k, g.stands))
+  pub probed_to : (w : View) (k i : ℕ) → IsAnswer v w us words k header i → Interns a w us words (Ok i)
+  probed_to w k i g = let u = g.used in let u' = p.used in let x = g.used_words in let x' = p.used_words in (goes_trans a v w [] ((us, i) ∷ []) p.goes g.goes, omega arith, omega arith, g.fixed, (k, g.stands))
 
-  pub probed_no_id : (w : View) (f : CounterFull) → r < n → IsNoId v w ((h % n + r) % n) header f → Interns a w us (Err (Ids f))
-  probed_no_id w f l g = let none : ids_of header ≡ 0 = ap ids_of g.none in let u = g.used in let u' = p.used in let go = goes_trans a v w [] [] p.goes g.goes in
-      (go, (omega arith, g.full, g.low, ((h % n + r) % n, subst (λ (z : HeapSize). (h % n + r) % n < z.slots) (sym go.sizes) (next_inside l), g.free)))
+  free_slot : (w : View) (f : TableFull) → r < n → IsUnmade v w words ((h % n + r) % n) header f → (k : ℕ) × (k < w.sizes.slots) × (get w.slots k ≡ None)
+  free_slot w f l g = let go = goes_trans a v w [] [] p.goes g.goes in ((h % n + r) % n, subst (λ (z : HeapSize). (h % n + r) % n < z.slots) (sym go.sizes) (next_inside l), g.free)
 
-  pub probed_all : r ≡ n → Interns a v us (Err (Slots n))
+  refused_by : (w : View) (f : TableFull) → r < n → IsUnmade v w words ((h % n + r) % n) header f → IsNoHeader v w words f → IsRefused a w us words f
+  refused_by w (Ids f) l g t = let none : ids_of header ≡ 0 = ap ids_of g.none in let none' : words_of words header ≡ 0 = ap (words_of words) g.none in let u' = p.used in let x' = p.used_words in let t2 = t.2 in let t3 = t.3 in
+      (omega arith, omega arith, t.0, t.1, free_slot w (Ids f) l g)
+  refused_by w (Words f) l g t = let none : ids_of header ≡ 0 = ap ids_of g.none in let none' : words_of words header ≡ 0 = ap (words_of words) g.none in let u' = p.used in let x' = p.used_words in let t2 = t.2 in let t3 = t.3 in
+      (omega arith, omega arith, t.0, t.1, free_slot w (Words f) l g)
+  refused_by w (Slots m) l g t = absurd t
+
+  pub probed_unmade : (w : View) (f : TableFull) → r < n → IsUnmade v w words ((h % n + r) % n) header f → Interns a w us words (Err f)
+  probed_unmade w f l g = (goes_trans a v w [] [] p.goes g.goes, refused_by w f l g g.told)
+
+  pub probed_all : r ≡ n → Interns a v us words (Err (Slots n))
   probed_all e = let all : (j : ℕ) → j < a.sizes.slots → IsShutAt v us j = ranks_all (IsShutAt v us) us a.sizes.slots (subst (λ (m : ℕ). (j : ℕ) → j < a.sizes.slots → rank us a.sizes.slots j < m → IsShutAt v us j) (e ∙ slots) p.passed) in
-      (p.goes, (slots ∙ ap (λ (z : HeapSize). z.slots) (sym p.goes.sizes), (shut_exactly v us v.sizes.slots).1 (subst (λ (z : HeapSize). (j : ℕ) → j < z.slots → IsShutAt v us j) (sym p.goes.sizes) all), left_by header p.used p.made))
+      (p.goes, (slots ∙ ap (λ (z : HeapSize). z.slots) (sym p.goes.sizes), (shut_exactly v us v.sizes.slots).1 (subst (λ (z : HeapSize). (j : ℕ) → j < z.slots → IsShutAt v us j) (sym p.goes.sizes) all), left_by header p.used p.used_words p.made))
     where
-      left_by : (header : Option ℕ) → v.used.ids ≡ a.used.ids + ids_of header → IsMade v us header → HasLeft a v us
-      left_by None u m = inl (omega arith)
-      left_by (Some i) u m = inr (i, u, m)
+      left_by : (header : Option ℕ) → v.used.ids ≡ a.used.ids + ids_of header → v.used.words ≡ a.used.words + words_of words header → IsMade v us header → HasLeft a v us words
+      left_by None u x m = inl (omega arith, omega arith)
+      left_by (Some i) u x m = inr (i, u, x, m)
 
 -- a slot that is found free was not known to be used
 pub none_there : (m : FinMap nat_cmp ℕ) (k x : ℕ) → x ≡ 0 → ((i : ℕ) → Has m k i → x ≡ i + 1) → get m k ≡ None
@@ -174,15 +196,35 @@ pub ids_most : (header : Option ℕ) → ids_of header ≤ 1
 ids_most None = omega arith
 ids_most (Some i) = omega arith
 
+pub words_most : (words : ℕ) (header : Option ℕ) → words_of words header ≤ words
+words_most words None = omega arith
+words_most words (Some i) = omega arith
+
 -- what holds of the units that are known of a string
 pub only_units : (m : FinMap nat_cmp (List ℕ)) (id : ℕ) (us ws : List ℕ) (P : List ℕ → Type 0) → Has m id ws → Has m id us → P ws → P us
 only_units m id us ws P h g p = let same : Some ws ≡ Some us = sym h ∙ g in let is : ws ≡ us = cc in subst P is p
 
--- loads before it
-refused_after : (a v w : View) (us : List ℕ) (f : TableFull) → v.used.ids ≡ a.used.ids → IsRefused v w us f → IsRefused a w us f
-refused_after a v w us (Ids f) e h = (h.0 ∙ e, h.1, h.2, h.3)
-refused_after a v w us (Slots n) e h = (h.0, h.1, ⊎_elim (λ t. inl (t ∙ e)) (λ t. inr (t.0, t.1 ∙ ap (λ (x : ℕ). x + 1) e, t.2)) h.2)
+-- loads before it, and loads after it
+refused_after : (a v w : View) (us : List ℕ) (words : ℕ) (f : TableFull) → v.used.ids ≡ a.used.ids → v.used.words ≡ a.used.words → IsRefused v w us words f → IsRefused a w us words f
+refused_after a v w us words (Ids f) e d h = (h.0 ∙ e, h.1 ∙ ap (λ (n : ℕ). n + words) d, h.2, h.3, h.4)
+refused_after a v w us words (Words f) e d h = (h.0 ∙ e, h.1 ∙ d, h.2, h.3, h.4)
+refused_after a v w us words (Slots n) e d h = (h.0, h.1, ⊎_elim (λ t. inl (t.0 ∙ e, t.1 ∙ d)) (λ t. inr (t.0, t.1 ∙ ap (λ (x : ℕ). x + 1) e, t.2 ∙ ap (λ (x : ℕ). x + words) d, t.3)) h.2)
 
-pub interns_after : (a v w : View) (us : List ℕ) (r : Result ℕ TableFull) → Looks a v → Interns v w us r → Interns a w us r
-interns_after a v w us (Ok i) l h = let u = h.1 in let e = l.used in (goes_trans a v w [] ((us, i) ∷ []) l.goes h.0, omega arith, h.2, h.3)
-interns_after a v w us (Err f) l h = (goes_trans a v w [] [] l.goes h.0, refused_after a v w us f l.used h.1)
+pub interns_after : (a v w : View) (us : List ℕ) (words : ℕ) (r : Result ℕ TableFull) → Looks a v → Interns v w us words r → Interns a w us words r
+interns_after a v w us words (Ok i) l h = let u = h.1 in let x = h.2 in let e = l.used in let d = l.words in (goes_trans a v w [] ((us, i) ∷ []) l.goes h.0, omega arith, omega arith, h.3, h.4)
+interns_after a v w us words (Err f) l h = (goes_trans a v w [] [] l.goes h.0, refused_after a v w us words f l.used l.words h.1)
+
+pub interned_then : (v w x : View) (us : List ℕ) (words i : ℕ) → Interns v w us words (Ok i) → Looks w x → Interns v x us words (Ok i)
+interned_then v w x us words i h l = let u = h.1 in let m = h.2 in let e = l.used in let d = l.words in let f = h.3 in let k = l.goes.known in
+    (goes_trans v w x ((us, i) ∷ []) [] h.0 l.goes, omega arith, omega arith, fixed_later f, (h.4.0, k.slots h.4.0 i h.4.1))
+  where
+    fixed_later : IsFixed w us i → IsFixed x us i
+    fixed_later f = ((f.0.0, f.0.1, l.goes.known.flats i f.0.0 f.0.1 f.0.2), l.goes.known.units i us f.1)
+
+-- the words that a header takes, as the caller sees them
+pub header_words_are : (v : View) (id : ℕ) (f : Form) (us : List ℕ) → ((wide : Bool) (start : ℕ) (fixed : Bool) → Has v.forms id (Flat wide start fixed) → IsSliced f → ⊥) → AreHeaderWords v id us (header_words f us)
+header_words_are v id (Sliced wide parent offset) us never = inr (refl, λ x y z h. never x y z h tt)
+header_words_are v id Unborn us never = inl refl
+header_words_are v id (Flat wide start fixed) us never = inl refl
+header_words_are v id (Cons wide left right) us never = inl refl
+header_words_are v id (Thin t) us never = inl refl

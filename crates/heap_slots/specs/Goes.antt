@@ -1,6 +1,7 @@
--- What a call on the string table leaves of what an agent knows and has: what is known stays known, what is its own stays its own, no content
--- word is claimed, counters and uses never fall, and the given calls go to the end of its history.
+-- What a call on the string table leaves of what an agent knows and has: what is known stays known, what is its own stays its own, counters and
+-- uses never fall, and the given calls go to the end of its history.
 use Rattle.std.specs.Prelude.{◌≡◌, ℕ, ◌≤◌, [], ◌++◌}
+use Rattle.js_header.specs.declared.form.Form.{Form}
 use Rattle.heap_rule.specs.declared.view.View.{View}
 use Rattle.heap_rule.specs.Maps.{Has}
 use Rattle.heap_rule.specs.Paths.{Calls}
@@ -15,9 +16,9 @@ pub record Goes (v w : View) (calls : Calls) : Type 0 where
   pub live : w.live ≡ v.live
   pub share : w.share ≡ v.share
   pub ids_used : v.used.ids ≤ w.used.ids
-  pub words_used : w.used.words ≡ v.used.words
+  pub words_used : v.used.words ≤ w.used.words
   pub ids_low : v.low.ids ≤ w.low.ids
-  pub words_low : w.low.words ≡ v.low.words
+  pub words_low : v.low.words ≤ w.low.words
   pub seen : w.seen ≡ v.seen
   pub mine : w.mine ≡ v.mine ++ calls
 
@@ -25,3 +26,8 @@ pub record Goes (v w : View) (calls : Calls) : Type 0 where
 pub record Looks (v w : View) : Type 0 where
   pub goes : Goes v w []
   pub used : w.used.ids ≡ v.used.ids
+  pub words : w.used.words ≡ v.used.words
+
+-- each form that the view has stays as it is
+abbrev pub KeepsForms : View → View → Type 0
+KeepsForms v w = (i : ℕ) (f : Form) → Has v.forms i f → Has w.forms i f

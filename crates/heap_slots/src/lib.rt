@@ -7,10 +7,13 @@
 //! or takes memory.
 #![tactic(auto)]
 
+mod copying;
 mod counting;
 mod faults;
+mod forwarding;
 mod header;
 mod probing;
+mod sought;
 mod stretch;
 
 pub use counting::count_interned;

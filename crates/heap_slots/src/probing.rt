@@ -1,20 +1,23 @@
 // The probe of the string table. Each load of a slot is counted.
-ghost use Rattle.std.specs.Prelude.{◌≡◌, ℕ, List, ◌+◌, ◌*◌, ◌%◌, ◌≤◌, ◌<◌, ◌^◌, Ok, Some, None};
+ghost use Rattle.std.specs.Prelude.{◌≡◌, ℕ, List, ◌+◌, ◌*◌, ◌%◌, ◌≤◌, ◌<◌, ◌^◌, Ok, Some, None, IfOk};
 ghost use Rattle.std.specs.FinMap.{get};
 ghost use Rattle.js_units.specs.Lanes.{hash_of};
 ghost use Rattle.heap_rule.specs.Maps.{Has, HasKey};
 ghost use Rattle.heap_rule.specs.Views.{IsKnown, IsSettled};
 ghost use Rattle.heap_table.specs.Agents.{Belongs, view_of, size_of};
-ghost use Rattle.heap_slots.specs.Answers.{Interns};
+ghost use Rattle.heap_slots.specs.Answers.{AreHeaderWords, Interns, IsForwarded};
+ghost use Rattle.heap_slots.specs.Goes.{KeepsForms};
 ghost use Rattle.heap_slots.specs.SlotLoads.{IsFirst, LoadsSlots, answered, loads_at};
-ghost use Rattle.heap_slots.specs.Stretches.{AreFrozen, LiesIn};
+ghost use Rattle.heap_slots.specs.Stretches.{AreFrozen, IsSought};
+ghost use Rattle.heap_slots.specs.Headers.{header_words};
 ghost use Rattle.heap_slots.specs.Visits.{IsBehind, IsMade, LoadsOne, Visited, Visits, entries, entries_in};
 
 use crate::faults::TableFull;
+use crate::forwarding::forward;
 use crate::header::make_header;
-use crate::stretch::{Stretch, hash_units, is_same, stretch_of};
+use crate::sought::{Sought, hash_units, is_same, seek};
 use heap_steps::Steps;
-use heap_table::{Agent, CounterFull, Heap, Step};
+use heap_table::{Agent, Heap, Step};
 use std::marker::Brand;
 use std::sync::ledger::{Blank, Ledger};
 
@@ -30,20 +33,20 @@ pub(crate) enum Visit {
 fn visit_used<L: Ledger>(
     agent: &mut Agent,
     heap: &Heap,
-    s: Stretch,
+    s: Sought,
     k: u32,
     t: u32,
     header: Option<u32>,
     steps: &mut Steps<L>,
 ) -> Visit
     requires belongs { Belongs agent.old heap.now }
-    requires lies { LiesIn (view_of agent.old) s }
+    requires lies { IsSought (view_of agent.old) s }
     requires known { HasKey (view_of agent.old).units s.id }
     requires inside { k < (size_of heap.now).slots }
     requires used { Has (view_of agent.old).slots k t × IsKnown (view_of agent.old) t }
     requires header { (us : List ℕ) → Has (view_of agent.old).units s.id us → IsMade (view_of agent.old) us header }
     ensures belongs { Belongs agent.new heap.now }
-    ensures visited { (us : List ℕ) → Has (view_of agent.old).units s.id us → Visited (view_of agent.old) (view_of agent.new) us k header result }
+    ensures visited { (us : List ℕ) → Has (view_of agent.old).units s.id us → Visited (view_of agent.old) (view_of agent.new) us (header_words s.form us) k header result }
     ensures loads { LoadsOne (view_of agent.old) (view_of agent.new) k (entries result) steps.old steps.new }
     ensures count { steps.new ≡ steps.old + entries result }
 {
@@ -59,19 +62,19 @@ fn visit_used<L: Ledger>(
 fn put<L: Ledger>(
     agent: &mut Agent,
     heap: &Heap,
-    s: Stretch,
+    s: Sought,
     k: u32,
     id: u32,
     steps: &mut Steps<L>,
 ) -> Visit
     requires belongs { Belongs agent.old heap.now }
-    requires lies { LiesIn (view_of agent.old) s }
+    requires lies { IsSought (view_of agent.old) s }
     requires known { HasKey (view_of agent.old).units s.id }
     requires inside { k < (size_of heap.now).slots }
     requires behind { (us : List ℕ) → Has (view_of agent.old).units s.id us → IsBehind (view_of agent.old) us k }
     requires header { (us : List ℕ) → Has (view_of agent.old).units s.id us → IsMade (view_of agent.old) us (Some id) }
     ensures belongs { Belongs agent.new heap.now }
-    ensures visited { (us : List ℕ) → Has (view_of agent.old).units s.id us → Visited (view_of agent.old) (view_of agent.new) us k (Some id) result }
+    ensures visited { (us : List ℕ) → Has (view_of agent.old).units s.id us → Visited (view_of agent.old) (view_of agent.new) us (header_words s.form us) k (Some id) result }
     ensures loads { LoadsOne (view_of agent.old) (view_of agent.new) k (entries result) steps.old steps.new }
 {
     match agent.claim_slot(heap, k, id) {
@@ -87,21 +90,21 @@ fn put<L: Ledger>(
 fn take<L: Ledger>(
     agent: &mut Agent,
     heap: &Heap,
-    s: Stretch,
+    s: Sought,
     k: u32,
     header: Option<u32>,
     steps: &mut Steps<L>,
-) -> Result<Visit, CounterFull>
+) -> Result<Visit, TableFull>
     requires belongs { Belongs agent.old heap.now }
-    requires lies { LiesIn (view_of agent.old) s }
+    requires lies { IsSought (view_of agent.old) s }
     requires known { HasKey (view_of agent.old).units s.id }
-    requires frozen { AreFrozen (view_of agent.old) s.wide s.start s.len }
+    requires frozen { s.offset ≡ 0 → AreFrozen (view_of agent.old) s.wide s.start s.len }
     requires inside { k < (size_of heap.now).slots }
     requires free { get (view_of agent.old).slots k ≡ None }
     requires behind { (us : List ℕ) → Has (view_of agent.old).units s.id us → IsBehind (view_of agent.old) us k }
     requires header { (us : List ℕ) → Has (view_of agent.old).units s.id us → IsMade (view_of agent.old) us header }
     ensures belongs { Belongs agent.new heap.now }
-    ensures visits { (us : List ℕ) → Has (view_of agent.old).units s.id us → Visits (view_of agent.old) (view_of agent.new) us k header result }
+    ensures visits { (us : List ℕ) → Has (view_of agent.old).units s.id us → Visits (view_of agent.old) (view_of agent.new) us (header_words s.form us) k header result }
     ensures loads { LoadsOne (view_of agent.old) (view_of agent.new) k (entries_in result) steps.old steps.new }
 {
     if let Some(id) = header {
@@ -118,20 +121,20 @@ fn take<L: Ledger>(
 fn visit_slot<L: Ledger>(
     agent: &mut Agent,
     heap: &Heap,
-    s: Stretch,
+    s: Sought,
     k: u32,
     header: Option<u32>,
     steps: &mut Steps<L>,
-) -> Result<Visit, CounterFull>
+) -> Result<Visit, TableFull>
     requires belongs { Belongs agent.old heap.now }
-    requires lies { LiesIn (view_of agent.old) s }
+    requires lies { IsSought (view_of agent.old) s }
     requires known { HasKey (view_of agent.old).units s.id }
-    requires frozen { AreFrozen (view_of agent.old) s.wide s.start s.len }
+    requires frozen { s.offset ≡ 0 → AreFrozen (view_of agent.old) s.wide s.start s.len }
     requires inside { k < (size_of heap.now).slots }
     requires behind { (us : List ℕ) → Has (view_of agent.old).units s.id us → IsBehind (view_of agent.old) us k }
     requires header { (us : List ℕ) → Has (view_of agent.old).units s.id us → IsMade (view_of agent.old) us header }
     ensures belongs { Belongs agent.new heap.now }
-    ensures visits { (us : List ℕ) → Has (view_of agent.old).units s.id us → Visits (view_of agent.old) (view_of agent.new) us k header result }
+    ensures visits { (us : List ℕ) → Has (view_of agent.old).units s.id us → Visits (view_of agent.old) (view_of agent.new) us (header_words s.form us) k header result }
     ensures loads { LoadsOne (view_of agent.old) (view_of agent.new) k (entries_in result + 1) steps.old steps.new }
     ensures again { HasKey (view_of agent.old).slots k → steps.new ≡ steps.old + (entries_in result + 1) }
 {
@@ -146,17 +149,18 @@ fn visit_slot<L: Ledger>(
 fn probe<L: Ledger>(
     agent: &mut Agent,
     heap: &Heap,
-    s: Stretch,
+    s: Sought,
     hash: u32,
     steps: &mut Steps<L>,
 ) -> Result<u32, TableFull>
     requires belongs { Belongs agent.old heap.now }
-    requires lies { LiesIn (view_of agent.old) s }
+    requires lies { IsSought (view_of agent.old) s }
     requires known { HasKey (view_of agent.old).units s.id }
-    requires frozen { AreFrozen (view_of agent.old) s.wide s.start s.len }
+    requires frozen { s.offset ≡ 0 → AreFrozen (view_of agent.old) s.wide s.start s.len }
     requires hash { (us : List ℕ) → Has (view_of agent.old).units s.id us → hash ≡ hash_of us }
     ensures belongs { Belongs agent.new heap.now }
-    ensures interns { (us : List ℕ) → Has (view_of agent.old).units s.id us → Interns (view_of agent.old) (view_of agent.new) us result }
+    ensures forms { KeepsForms (view_of agent.old) (view_of agent.new) }
+    ensures interns { (us : List ℕ) → Has (view_of agent.old).units s.id us → Interns (view_of agent.old) (view_of agent.new) us (header_words s.form us) result }
     ensures loads { LoadsSlots (view_of agent.old) (view_of agent.new) (answered result) steps.old steps.new }
     ensures first { (us : List ℕ) → Has (view_of agent.old).units s.id us → IsFirst (view_of agent.old) us → steps.new ≡ steps.old + 2 }
 {
@@ -166,7 +170,7 @@ fn probe<L: Ledger>(
     for r in 0..n {
         let visit = match visit_slot(agent, heap, s, (start + r) % n, header, steps) {
             Ok(visit) => visit,
-            Err(full) => return Err(TableFull::Ids(full)),
+            Err(full) => return Err(full),
         };
         match visit {
             Visit::Answer { id } => return Ok(id),
@@ -179,6 +183,8 @@ fn probe<L: Ledger>(
 /// As [`intern`], and counts each load of a slot. No slot is loaded twice but the one that
 /// answers: once more after its units were compared, which enters the call in the history. So a
 /// string that was seen in the first slot of its path takes two loads.
+///
+/// The header of `id` then forwards to the answer, unless it is a fixed Flat, which stays for good.
 pub fn intern_counted<L: Ledger>(
     agent: &mut Agent,
     heap: &Heap,
@@ -189,15 +195,21 @@ pub fn intern_counted<L: Ledger>(
     requires known { HasKey (view_of agent.old).units id }
     requires settled { IsSettled (view_of agent.old) id }
     ensures belongs { Belongs agent.new heap.now }
-    ensures interns { (us : List ℕ) → Has (view_of agent.old).units id us → Interns (view_of agent.old) (view_of agent.new) us result }
+    ensures interns { (us : List ℕ) → Has (view_of agent.old).units id us → (words : ℕ) × AreHeaderWords (view_of agent.old) id us words × Interns (view_of agent.old) (view_of agent.new) us words result }
+    ensures forwards { IfOk result (λ i. IsForwarded (view_of agent.new) id i) }
     ensures loads { LoadsSlots (view_of agent.old) (view_of agent.new) (answered result) steps.old steps.new }
     ensures first { (us : List ℕ) → Has (view_of agent.old).units id us → IsFirst (view_of agent.old) us → steps.new ≡ steps.old + 2 }
     ensures few { (k : ℕ) → loads_at (view_of agent.new) k ≤ loads_at (view_of agent.old) k + 2 }
     ensures most { steps.new ≤ steps.old + 2 * (size_of heap.now).slots }
 {
-    let s = stretch_of(agent, heap, id);
+    let s = seek(agent, heap, id);
     let hash = hash_units(agent, heap, s);
-    probe(agent, heap, s, hash, steps)
+    let answer = match probe(agent, heap, s, hash, steps) {
+        Ok(answer) => answer,
+        Err(full) => return Err(full),
+    };
+    forward(agent, heap, s, answer);
+    Ok(answer)
 }
 
 // The ledger of a caller that counts nothing.
@@ -214,7 +226,8 @@ fn intern_by<L: Ledger>(
     requires known { HasKey (view_of agent.old).units id }
     requires settled { IsSettled (view_of agent.old) id }
     ensures belongs { Belongs agent.new heap.now }
-    ensures interns { (us : List ℕ) → Has (view_of agent.old).units id us → Interns (view_of agent.old) (view_of agent.new) us result }
+    ensures interns { (us : List ℕ) → Has (view_of agent.old).units id us → (words : ℕ) × AreHeaderWords (view_of agent.old) id us words × Interns (view_of agent.old) (view_of agent.new) us words result }
+    ensures forwards { IfOk result (λ i. IsForwarded (view_of agent.new) id i) }
     ensures few { (k : ℕ) → loads_at (view_of agent.new) k ≤ loads_at (view_of agent.old) k + 2 }
 {
     let mut steps = Steps::<L>::start(blank);
@@ -222,14 +235,17 @@ fn intern_by<L: Ledger>(
 }
 
 /// The interned string of the units of `id`, by its number: of all strings with these units the
-/// one that stands in the table. Where none stands there yet, a fixed Flat over the words of `id`
-/// is put there, which takes one id. No slot is loaded more than twice.
+/// one that stands in the table. Where none stands there yet, a fixed Flat is put there, which takes
+/// one id: over the words of `id`, or over a copy of its units where `id` is a part of another
+/// string. No slot is loaded more than twice. The header of `id` then forwards to the answer, unless
+/// it is a fixed Flat, which stays for good.
 pub fn intern(agent: &mut Agent, heap: &Heap, id: u32) -> Result<u32, TableFull>
     requires belongs { Belongs agent.old heap.now }
     requires known { HasKey (view_of agent.old).units id }
     requires settled { IsSettled (view_of agent.old) id }
     ensures belongs { Belongs agent.new heap.now }
-    ensures interns { (us : List ℕ) → Has (view_of agent.old).units id us → Interns (view_of agent.old) (view_of agent.new) us result }
+    ensures interns { (us : List ℕ) → Has (view_of agent.old).units id us → (words : ℕ) × AreHeaderWords (view_of agent.old) id us words × Interns (view_of agent.old) (view_of agent.new) us words result }
+    ensures forwards { IfOk result (λ i. IsForwarded (view_of agent.new) id i) }
     ensures few { (k : ℕ) → loads_at (view_of agent.new) k ≤ loads_at (view_of agent.old) k + 2 }
 {
     intern_by::<Brand>(agent, heap, id, Blank::new(1))

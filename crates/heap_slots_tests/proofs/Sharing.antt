@@ -6,11 +6,12 @@ use Rattle.heap_rule.specs.Paths.{Calls}
 use Rattle.heap_table.specs.declared.agent.Agent.{Agent}
 use Rattle.heap_table.specs.declared.heap.Heap.{Heap}
 use Rattle.heap_table.specs.Agents.{Belongs, view_of}
+use Rattle.heap_table.specs.Known.{KeepsKnown}
 use Rattle.heap_text.specs.Texts.{Continues}
 use Rattle.heap_slots.specs.declared.faults.TableFull.{TableFull}
 use Rattle.heap_slots.specs.Answers.{Interns}
 use Rattle.heap_slots.specs.Goes.{Goes}
-use Rattle.heap_slots_tests.specs.Turns.{GoesOn, Turns}
+use Rattle.heap_slots_tests.specs.Turns.{GoesOn, KnowsOn, Turns}
 
 -- a string was made and interned
 turns_goes : (v u w : View) (calls : Calls) → Continues v u → Goes u w calls → Turns v w
@@ -23,9 +24,9 @@ turns_goes v u w calls c g = record {
   mine = g.mine ∙ ap (λ (m : Calls). m ++ calls) c.mine;
 }
 
-pub turns_interned : (v u w : View) (us : List ℕ) (r : Result ℕ TableFull) → Continues v u → Interns u w us r → Turns v w
-turns_interned v u w us (Ok i) c h = turns_goes v u w ((us, i) ∷ []) c h.0
-turns_interned v u w us (Err f) c h = turns_goes v u w [] c h.0
+pub turns_interned : (v u w : View) (us : List ℕ) (words : ℕ) (r : Result ℕ TableFull) → Continues v u → Interns u w us words r → Turns v w
+turns_interned v u w us words (Ok i) c h = turns_goes v u w ((us, i) ∷ []) c h.0
+turns_interned v u w us words (Err f) c h = turns_goes v u w [] c h.0
 
 -- who had the whole share has it still
 pub still_whole : (v w : View) → Turns v w → v.share ≡ v.agents → w.share ≡ w.agents
@@ -60,3 +61,20 @@ module _ (v l r a b : View) (give : ℕ) (left : l ≡ left_after_split v give) 
   pub joined_share : give ≤ v.share → a.share + b.share ≡ v.share
   joined_share some = let p : a.share ≡ v.share - give = ta.share ∙ ap (λ (x : View). x.share) left in
       let q : b.share ≡ give = tb.share ∙ ap (λ (x : View). x.share) right in omega arith
+
+-- interning keeps what is known
+pub interns_known : (v w : View) (us : List ℕ) (words : ℕ) (r : Result ℕ TableFull) → Interns v w us words r → KeepsKnown v w
+interns_known v w us words (Ok i) h = h.0.known
+interns_known v w us words (Err f) h = h.0.known
+
+pub knows_on : (v : View) (a : Agent) (h : Heap) → Belongs a h → KeepsKnown v (view_of a) → KnowsOn v a h
+unfolding KnowsOn
+knows_on v a h b k = (b, k)
+
+pub knower_belongs : (v : View) (a : Agent) (h : Heap) → KnowsOn v a h → Belongs a h
+unfolding KnowsOn
+knower_belongs v a h g = g.0
+
+pub knower_keeps : (v : View) (a : Agent) (h : Heap) → KnowsOn v a h → KeepsKnown v (view_of a)
+unfolding KnowsOn
+knower_keeps v a h g = g.1

@@ -5,4 +5,6 @@
 #[cfg(test)]
 mod counted;
 #[cfg(test)]
+mod forwarding;
+#[cfg(test)]
 mod slots;

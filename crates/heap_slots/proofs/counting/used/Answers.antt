@@ -1,9 +1,7 @@
-use Rattle.std.proofs.Common.{◌≡◌, ◌+◌, ℕ, None, Some, subst, sym}
+use Rattle.std.proofs.Common.{◌+◌, ℕ, subst, sym}
 use Rattle.heap_rule.specs.declared.view.View.{View}
-use Rattle.heap_rule.specs.Slots.{slot_word}
 use Rattle.heap_slots.specs.Visits.{Counted}
 use Rattle.heap_slots.proofs.Counted.{counted_next, found_some}
-use Rattle.heap_slots.proofs.Going.{looks_slot}
 use Rattle.heap_slots.proofs.counting.used.Goals as goal
 
 pub returns-in-Some-clause-counts : goal.returns-in-Some-clause-counts

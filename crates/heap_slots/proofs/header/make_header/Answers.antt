@@ -1,60 +1,46 @@
-use Rattle.std.proofs.Common.{◌≡◌, ◌+◌, ◌≤◌, ◌∙◌, ℕ, true, ap, subst, sym, arith}
-use Rattle.js_header.specs.declared.form.Form.TheVariants.{Flat}
+use Rattle.std.proofs.Common.{◌≡◌, ◌+◌, ℕ, List, inl, subst, sym, arith}
+use Rattle.std.specs.Prelude.{IfOk, IfErr}
+use Rattle.js_header.specs.declared.form.Form.{Form}
 use Rattle.heap_rule.specs.declared.view.View.{View}
-use Rattle.heap_rule.specs.declared.size.HeapSize.{HeapSize}
-use Rattle.heap_rule.specs.declared.size.Counter.TheVariants.{Ids}
-use Rattle.heap_rule.specs.Births.{born, stored_length, MayBear}
-use Rattle.heap_rule.specs.Claims.{won_claim}
-use Rattle.heap_rule.specs.Maps.{HasKey}
-use Rattle.heap_rule.proofs.MapLemmas.{has_key, insert_same, key_of}
-use Rattle.heap_rule.proofs.Possible.{possible_short}
-use Rattle.heap_table.specs.Known.{KeepsKnown}
-use Rattle.heap_table.specs.Full.{IsFull}
-use Rattle.heap_slots.proofs.Bearing.{goes_born, goes_full, header_fits, header_fixed}
-use Rattle.heap_slots.proofs.Stretching.{stretch_length}
+use Rattle.heap_rule.specs.Forms.{IsSliced}
+use Rattle.heap_rule.specs.Maps.{Has}
+use Rattle.heap_rule.proofs.MapLemmas.{has_key}
+use Rattle.heap_slots.specs.Answers.{IsFixed}
+use Rattle.heap_slots.specs.Headers.{IsNoHeader, header_words}
+use Rattle.heap_slots.proofs.Bearing.{frozen_word, no_part, no_words, plain_over}
+use Rattle.heap_slots.proofs.Going.{goes_self}
+use Rattle.heap_slots.proofs.Possibly.{possible_free, possible_sliced}
+use Rattle.heap_slots.proofs.Stretching.{sought_length}
 use Rattle.heap_slots.proofs.header.make_header.Goals as goal
 
-pub returns-in-Err-clause-goes : goal.returns-in-Err-clause-goes
-returns-in-Err-clause-goes c = goes_full c.args.agent.now.seat.me.0 c.claim_id.new.self.seat.me.0 c.in-Err.full.at c.in-Err.ensures.refused.0 c.claim_id.ensures.low
+pub copied_header-requires-clause-some : goal.copied_header-requires-clause-some
+copied_header-requires-clause-some c = let v : View = c.args.agent.now.seat.me.0 in let s = c.args.s in let l = c.requires.lies in let p = c.requires.belongs.5 in let u = has_key v.units s.id c.requires.known in let n = sought_length v p s u.0 l u.1 in
+    let many = possible_sliced v p s.id c.in-Sliced.wide c.in-Sliced.parent c.in-Sliced.offset u.0 (subst (λ (f : Form). Has v.forms s.id f) c.in-Sliced.is l.own) u.1 in omega arith
 
-pub returns-in-Err-clause-slots : goal.returns-in-Err-clause-slots
-returns-in-Err-clause-slots c = ap (λ (x : View). x.slots) c.in-Err.ensures.refused.0
+pub returns-in-Sliced-clause-ok : goal.returns-in-Sliced-clause-ok
+returns-in-Sliced-clause-ok c = let v : View = c.args.agent.now.seat.me.0 in let w : View = c.copied_header.new.agent.seat.me.0 in
+    subst (λ (f : Form). IfOk c.copied_header.result (λ i. (us : List ℕ) → Has v.units c.args.s.id us → IsFixed w us i × (w.used.words ≡ v.used.words + header_words f us))) (sym c.in-Sliced.is) c.copied_header.ensures.ok
+
+pub returns-in-Sliced-clause-err : goal.returns-in-Sliced-clause-err
+returns-in-Sliced-clause-err c = let v : View = c.args.agent.now.seat.me.0 in let w : View = c.copied_header.new.agent.seat.me.0 in
+    subst (λ (f : Form). IfErr c.copied_header.result (λ e. (us : List ℕ) → Has v.units c.args.s.id us → IsNoHeader v w (header_words f us) e)) (sym c.in-Sliced.is) c.copied_header.ensures.err
+
+pub bear-requires-clause-over : goal.bear-requires-clause-over
+bear-requires-clause-over c = let v : View = c.args.agent.now.seat.me.0 in let s = c.args.s in let l = c.requires.lies in let u = has_key v.units s.id c.requires.known in let whole : IsSliced s.form → ⊥ = no_part s.form c.in_default.not-Sliced in
+    (u.0, plain_over v c.requires.belongs.5 s l whole (c.requires.frozen (l.whole whole).1) c.first_word.result c.first_word.ensures.empty c.first_word.ensures.some u.0 u.1)
+
+pub returns-in-Ok-clause-goes : goal.returns-in-Ok-clause-goes
+returns-in-Ok-clause-goes c = let v : View = c.args.agent.now.seat.me.0 in let s = c.args.s in let l = c.requires.lies in let p = c.requires.belongs.5 in let whole : IsSliced s.form → ⊥ = no_part s.form c.in_default.not-Sliced in let all = c.requires.frozen (l.whole whole).1 in
+    c.bear.ensures.goes v (goes_self v) (λ q lo hi own. possible_free v p q (inl (frozen_word v p s l whole all c.first_word.result c.first_word.ensures.empty c.first_word.ensures.some q lo hi)) own)
+
+pub returns-in-Err-clause-goes : goal.returns-in-Err-clause-goes
+returns-in-Err-clause-goes c = let v : View = c.args.agent.now.seat.me.0 in let s = c.args.s in let l = c.requires.lies in let p = c.requires.belongs.5 in let whole : IsSliced s.form → ⊥ = no_part s.form c.in_default.not-Sliced in let all = c.requires.frozen (l.whole whole).1 in
+    c.bear.ensures.goes v (goes_self v) (λ q lo hi own. possible_free v p q (inl (frozen_word v p s l whole all c.first_word.result c.first_word.ensures.empty c.first_word.ensures.some q lo hi)) own)
+
+pub returns-in-Ok-clause-ok : goal.returns-in-Ok-clause-ok
+returns-in-Ok-clause-ok c us h = let v : View = c.args.agent.now.seat.me.0 in let s = c.args.s in let l = c.requires.lies in let whole : IsSliced s.form → ⊥ = no_part s.form c.in_default.not-Sliced in let none = no_words s.form us whole in let same = c.bear.ensures.words in
+    (c.in-Ok.ensures.ok us (plain_over v c.requires.belongs.5 s l whole (c.requires.frozen (l.whole whole).1) c.first_word.result c.first_word.ensures.empty c.first_word.ensures.some us h), omega arith)
 
 pub returns-in-Err-clause-err : goal.returns-in-Err-clause-err
-returns-in-Err-clause-err c = let e = c.in-Err.ensures.refused in (
-  subst (λ (z : HeapSize). IsFull c.in-Err.full 1 z.ids) (sym (ap (λ (x : View). x.sizes) e.0 ∙ c.requires.belongs.1)) e.1,
-  ap (λ (x : View). x.low.ids) e.0,
-  ap (λ (x : View). x.used.ids) e.0,
-)
-
-pub store_length-requires-clause-may : goal.store_length-requires-clause-may
-store_length-requires-clause-may c = let v : View = c.args.agent.now.seat.me.0 in let id = c.in-Ok.id in let u = has_key v.units c.args.s.id c.requires.known in
-    let n = stretch_length v c.requires.belongs.5 c.args.s u.0 c.requires.lies u.1 in let short = possible_short v c.requires.belongs.5 c.args.s.id u.0 u.1 in
-    (subst (λ (y : View). HasKey y.own_ids id) (sym c.in-Ok.ensures.view) (key_of _ id 0 (insert_same v.own_ids id 0)), omega arith)
-
-pub birth-requires-clause-fits : goal.birth-requires-clause-fits
-birth-requires-clause-fits c = let v : View = c.args.agent.now.seat.me.0 in let y : View = c.store_length.new.self.seat.me.0 in let s = c.args.s in let id = c.in-Ok.id in
-    let is : y ≡ stored_length (won_claim v Ids id 1) id s.len = c.store_length.ensures.view ∙ ap (λ (a : View). stored_length a id s.len) c.in-Ok.ensures.view in
-    subst (λ (a : View). MayBear a id (Flat s.wide c.first_word.result true)) (sym is) (header_fits v c.requires.belongs.5 s c.requires.lies c.requires.frozen id c.first_word.result c.first_word.ensures.empty c.first_word.ensures.some)
-
-pub returns-clause-goes : goal.returns-clause-goes
-returns-clause-goes c = let v : View = c.args.agent.now.seat.me.0 in let x : View = c.claim_id.new.self.seat.me.0 in let y : View = c.store_length.new.self.seat.me.0 in let w : View = c.birth.new.self.seat.me.0 in let s = c.args.s in let id = c.in-Ok.id in
-    let first = c.first_word.result in let r : View = stored_length (won_claim v Ids id 1) id s.len in
-    let is : y ≡ r = c.store_length.ensures.view ∙ ap (λ (a : View). stored_length a id s.len) c.in-Ok.ensures.view in
-    let born_is : w ≡ born r id (Flat s.wide first true) = c.birth.ensures.view ∙ ap (λ (a : View). born a id (Flat s.wide first true)) is in
-    let low : v.low.ids ≤ id + 1 = subst (λ (a : View). v.low.ids ≤ a.low.ids) c.in-Ok.ensures.view c.claim_id.ensures.low in
-    (goes_born v c.requires.belongs.5 s c.requires.lies c.requires.frozen id first c.first_word.ensures.empty c.first_word.ensures.some w born_is c.in-Ok.ensures.above_own low (subst (λ (a : View). KeepsKnown a w) is c.birth.ensures.known)).0
-
-pub returns-clause-slots : goal.returns-clause-slots
-returns-clause-slots c = let v : View = c.args.agent.now.seat.me.0 in let s = c.args.s in let id = c.in-Ok.id in
-    ap (λ (a : View). a.slots) c.birth.ensures.view ∙ (ap (λ (a : View). a.slots) c.store_length.ensures.view ∙ ap (λ (a : View). a.slots) c.in-Ok.ensures.view)
-
-pub returns-clause-used : goal.returns-clause-used
-returns-clause-used c = ap (λ (a : View). a.used.ids) c.birth.ensures.view ∙ (ap (λ (a : View). a.used.ids) c.store_length.ensures.view ∙ ap (λ (a : View). a.used.ids) c.in-Ok.ensures.view)
-
-pub returns-clause-ok : goal.returns-clause-ok
-returns-clause-ok c us h = let v : View = c.args.agent.now.seat.me.0 in let y : View = c.store_length.new.self.seat.me.0 in let w : View = c.birth.new.self.seat.me.0 in let s = c.args.s in let id = c.in-Ok.id in
-    let first = c.first_word.result in let r : View = stored_length (won_claim v Ids id 1) id s.len in
-    let is : y ≡ r = c.store_length.ensures.view ∙ ap (λ (a : View). stored_length a id s.len) c.in-Ok.ensures.view in
-    let born_is : w ≡ born r id (Flat s.wide first true) = c.birth.ensures.view ∙ ap (λ (a : View). born a id (Flat s.wide first true)) is in
-    header_fixed v c.requires.belongs.5 s c.requires.lies c.requires.frozen id first c.first_word.ensures.empty c.first_word.ensures.some us h w born_is
+returns-in-Err-clause-err c us h = let whole : IsSliced c.args.s.form → ⊥ = no_part c.args.s.form c.in_default.not-Sliced in let none = no_words c.args.s.form us whole in let same = c.bear.ensures.words in let f = c.in-Err.ensures.err in
+    (f.0, f.1, f.2, omega arith)

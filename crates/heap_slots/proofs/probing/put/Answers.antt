@@ -1,13 +1,14 @@
-use Rattle.std.proofs.Common.{◌≢◌, ◌-◌, ◌<◌, ℕ, Some, ap, subst, sym, arith}
+use Rattle.std.proofs.Common.{◌≢◌, ◌+◌, ◌-◌, ◌<◌, ℕ, Some, ap, subst, sym, arith}
 use Rattle.heap_rule.specs.declared.view.View.{View}
 use Rattle.heap_rule.specs.declared.size.HeapSize.{HeapSize}
 use Rattle.heap_rule.specs.declared.size.Counters.{Counters}
 use Rattle.heap_rule.proofs.MapLemmas.{has_key}
 use Rattle.heap_rule.proofs.Possible.{possible_lawful}
-use Rattle.heap_slots.proofs.Going.{goes_won, looks_lost}
+use Rattle.heap_slots.proofs.Going.{forms_same, goes_won, looks_lost}
+use Rattle.heap_slots.specs.Headers.{header_words}
 use Rattle.heap_slots.specs.Visits.{entries}
 use Rattle.heap_slots.proofs.Loading.{loads_from, loads_none, loads_took}
-use Rattle.heap_slots.proofs.Stretching.{key_kept, lies_kept}
+use Rattle.heap_slots.proofs.Stretching.{key_kept, sought_kept}
 use Rattle.heap_slots.proofs.Visiting.{each_made, fixed_kept, visited_after}
 use Rattle.heap_slots.proofs.probing.put.Goals as goal
 
@@ -19,7 +20,9 @@ pub returns-in-Won-clause-visited : goal.returns-in-Won-clause-visited
 returns-in-Won-clause-visited g c us h = let v : View = c.args.agent.now.seat.me.0 in let w : View = c.claim_slot.new.self.seat.me.0 in let e = c.claim_slot.ensures in let head = c.requires.header us h in
     let go = goes_won v w c.args.k c.args.id us head.1 e.known (rw c.in-Won.is at e.view) in record {
       goes = go.0;
+      forms = forms_same v w e.forms;
       used = omega (arith, ap (λ (n : Counters). n.ids) go.1);
+      used_words = omega (arith, ap (λ (n : Counters). n.words) go.1);
       fixed = fixed_kept v w c.requires.belongs.5 e.known us c.args.id head;
       stands = go.2;
     }
@@ -29,7 +32,7 @@ overflow_cast-winner g c = let v : View = c.args.agent.now.seat.me.0 in let word
     let small = (possible_lawful v c.requires.belongs.5).1 in omega arith
 
 pub visit_used-requires-clause-lies : goal.visit_used-requires-clause-lies
-visit_used-requires-clause-lies g c = lies_kept c.args.agent.now.seat.me.0 c.claim_slot.new.self.seat.me.0 c.claim_slot.ensures.known c.args.s c.requires.lies
+visit_used-requires-clause-lies g c = let v : View = c.args.agent.now.seat.me.0 in let u : View = c.claim_slot.new.self.seat.me.0 in sought_kept v u c.claim_slot.ensures.known (forms_same v u c.claim_slot.ensures.forms) c.args.s c.requires.lies
 
 pub visit_used-requires-clause-known : goal.visit_used-requires-clause-known
 visit_used-requires-clause-known g c = key_kept c.args.agent.now.seat.me.0 c.claim_slot.new.self.seat.me.0 c.claim_slot.ensures.known c.args.s.id c.requires.known
@@ -44,7 +47,7 @@ visit_used-requires-clause-header g c = each_made c.args.agent.now.seat.me.0 c.c
 pub returns-in-Lost-clause-visited : goal.returns-in-Lost-clause-visited
 returns-in-Lost-clause-visited g c us h = let v : View = c.args.agent.now.seat.me.0 in let u : View = c.claim_slot.new.self.seat.me.0 in let w : View = c.visit_used.new.agent.seat.me.0 in let k = c.claim_slot.ensures.known in
     let word : ℕ = c.in-Lost.word in let some : word ≢ 0 = c.in-Lost.ensures.taken in let l = (looks_lost v u c.args.k c.args.id (word - 1) word (omega arith) k c.in-Lost.ensures.view).0 in
-    visited_after v u w us c.args.k l.goes (Some c.args.id) (Some c.args.id) c.visit_used.result (omega (arith, l.used)) (c.visit_used.ensures.visited us (k.units c.args.s.id us h))
+    visited_after v u w us (header_words c.args.s.form us) c.args.k l.goes (forms_same v u c.claim_slot.ensures.forms) (Some c.args.id) (Some c.args.id) c.visit_used.result (omega (arith, l.used)) (ap (λ (n : ℕ). n + header_words c.args.s.form us) l.words) (c.visit_used.ensures.visited us (k.units c.args.s.id us h))
 
 pub returns-in-Won-clause-loads : goal.returns-in-Won-clause-loads
 returns-in-Won-clause-loads g c = let v : View = c.args.agent.now.seat.me.0 in let w : View = c.claim_slot.new.self.seat.me.0 in

@@ -3,15 +3,16 @@ use Rattle.std.specs.FinMap.{FinMap, get}
 use Rattle.std.specs.Ordering.{nat_cmp}
 use Rattle.heap_rule.specs.declared.view.View.{View}
 use Rattle.heap_rule.proofs.MapLemmas.{has_key}
-use Rattle.heap_slots.proofs.Going.{free_there, looks_slot, stands_there}
+use Rattle.heap_slots.proofs.Going.{forms_same, free_there, looks_slot, stands_there}
+use Rattle.heap_slots.specs.Headers.{header_words}
 use Rattle.heap_slots.specs.Visits.{entries, entries_in}
 use Rattle.heap_slots.proofs.Loading.{loads_after, loads_once}
-use Rattle.heap_slots.proofs.Stretching.{frozen_kept, key_kept, lies_kept}
+use Rattle.heap_slots.proofs.Stretching.{frozen_kept, key_kept, sought_kept}
 use Rattle.heap_slots.proofs.Visiting.{each_behind, each_made, none_there, visits_after}
 use Rattle.heap_slots.proofs.probing.visit_slot.Goals as goal
 
 pub visit_used-requires-clause-lies : goal.visit_used-requires-clause-lies
-visit_used-requires-clause-lies g c = lies_kept c.args.agent.now.seat.me.0 c.load_slot.new.self.seat.me.0 c.load_slot.ensures.known c.args.s c.requires.lies
+visit_used-requires-clause-lies g c = let v : View = c.args.agent.now.seat.me.0 in let u : View = c.load_slot.new.self.seat.me.0 in sought_kept v u c.load_slot.ensures.known (forms_same v u c.load_slot.ensures.forms) c.args.s c.requires.lies
 
 pub visit_used-requires-clause-known : goal.visit_used-requires-clause-known
 visit_used-requires-clause-known g c = key_kept c.args.agent.now.seat.me.0 c.load_slot.new.self.seat.me.0 c.load_slot.ensures.known c.args.s.id c.requires.known
@@ -24,16 +25,16 @@ visit_used-requires-clause-header g c = each_made c.args.agent.now.seat.me.0 c.l
 
 pub returns-in-Some-clause-visits : goal.returns-in-Some-clause-visits
 returns-in-Some-clause-visits g c us h = let v : View = c.args.agent.now.seat.me.0 in let u : View = c.load_slot.new.self.seat.me.0 in let w : View = c.visit_used.new.agent.seat.me.0 in let k = c.load_slot.ensures.known in
-    visits_after v u w us c.args.k c.args.header (Ok c.visit_used.result) (looks_slot v u c.args.k _ k c.in-Some.ensures.view) (c.visit_used.ensures.visited us (k.units c.args.s.id us h))
+    visits_after v u w us (header_words c.args.s.form us) c.args.k c.args.header (Ok c.visit_used.result) (looks_slot v u c.args.k _ k c.in-Some.ensures.view) (forms_same v u c.load_slot.ensures.forms) (c.visit_used.ensures.visited us (k.units c.args.s.id us h))
 
 pub take-requires-clause-lies : goal.take-requires-clause-lies
-take-requires-clause-lies g c = lies_kept c.args.agent.now.seat.me.0 c.load_slot.new.self.seat.me.0 c.load_slot.ensures.known c.args.s c.requires.lies
+take-requires-clause-lies g c = let v : View = c.args.agent.now.seat.me.0 in let u : View = c.load_slot.new.self.seat.me.0 in sought_kept v u c.load_slot.ensures.known (forms_same v u c.load_slot.ensures.forms) c.args.s c.requires.lies
 
 pub take-requires-clause-known : goal.take-requires-clause-known
 take-requires-clause-known g c = key_kept c.args.agent.now.seat.me.0 c.load_slot.new.self.seat.me.0 c.load_slot.ensures.known c.args.s.id c.requires.known
 
 pub take-requires-clause-frozen : goal.take-requires-clause-frozen
-take-requires-clause-frozen g c = frozen_kept c.args.agent.now.seat.me.0 c.load_slot.new.self.seat.me.0 c.load_slot.ensures.known c.args.s.wide c.args.s.start c.args.s.len c.requires.frozen
+take-requires-clause-frozen g c none = frozen_kept c.args.agent.now.seat.me.0 c.load_slot.new.self.seat.me.0 c.load_slot.ensures.known c.args.s.wide c.args.s.start c.args.s.len (c.requires.frozen none)
 
 pub take-requires-clause-free : goal.take-requires-clause-free
 take-requires-clause-free g c = let v : View = c.args.agent.now.seat.me.0 in let u : View = c.load_slot.new.self.seat.me.0 in
@@ -48,7 +49,7 @@ take-requires-clause-header g c = each_made c.args.agent.now.seat.me.0 c.load_sl
 
 pub returns-in-None-clause-visits : goal.returns-in-None-clause-visits
 returns-in-None-clause-visits g c us h = let v : View = c.args.agent.now.seat.me.0 in let u : View = c.load_slot.new.self.seat.me.0 in let w : View = c.take.new.agent.seat.me.0 in let k = c.load_slot.ensures.known in
-    visits_after v u w us c.args.k c.args.header c.take.result (looks_slot v u c.args.k _ k c.load_slot.ensures.view) (c.take.ensures.visits us (k.units c.args.s.id us h))
+    visits_after v u w us (header_words c.args.s.form us) c.args.k c.args.header c.take.result (looks_slot v u c.args.k _ k c.load_slot.ensures.view) (forms_same v u c.load_slot.ensures.forms) (c.take.ensures.visits us (k.units c.args.s.id us h))
 
 pub returns-in-Some-clause-loads : goal.returns-in-Some-clause-loads
 returns-in-Some-clause-loads g c = let v : View = c.args.agent.now.seat.me.0 in let u : View = c.load_slot.new.self.seat.me.0 in let w : View = c.visit_used.new.agent.seat.me.0 in let n : ℕ = entries c.visit_used.result in

@@ -1,16 +1,14 @@
-use Rattle.std.proofs.Common.{ℕ, ap, subst, arith}
-use Rattle.js_header.specs.declared.form.Form.{Form}
-use Rattle.js_header.specs.declared.form.Form.TheVariants.{Flat}
+use Rattle.std.proofs.Common.{ℕ, ap, arith}
 use Rattle.heap_rule.specs.declared.view.View.{View}
 use Rattle.heap_rule.specs.declared.size.Counters.{Counters}
 use Rattle.heap_rule.specs.Maps.{Has}
 use Rattle.heap_rule.specs.Slots.{entry_in}
 use Rattle.heap_rule.proofs.MapLemmas.{has_key, key_of}
-use Rattle.heap_rule.proofs.Possible.{possible_slot}
 use Rattle.heap_slots.specs.Answers.{IsFixed}
-use Rattle.heap_slots.proofs.Going.{goes_slot, goes_trans}
+use Rattle.heap_slots.specs.Headers.{header_words}
+use Rattle.heap_slots.proofs.Going.{forms_same, forms_trans, goes_slot, goes_trans}
 use Rattle.heap_slots.proofs.Loading.{loads_from, loads_none, loads_once}
-use Rattle.heap_slots.proofs.Visiting.{each_made, entered_is, fixed_kept, ids_most}
+use Rattle.heap_slots.proofs.Visiting.{each_made, entered_is, fixed_kept, ids_most, words_most}
 use Rattle.heap_slots.proofs.probing.visit_used.Goals as goal
 
 pub load_slot-requires-clause-enter : goal.load_slot-requires-clause-enter
@@ -21,10 +19,11 @@ pub returns-then-is_same-clause-visited : goal.returns-then-is_same-clause-visit
 returns-then-is_same-clause-visited g c us h = let v : View = c.args.agent.now.seat.me.0 in let w : View = c.is_same.new.agent.seat.me.0 in let x : View = c.load_slot.new.self.seat.me.0 in let e = c.is_same.ensures in let f = c.load_slot.ensures in
     let k = c.args.k in let t = c.args.t in let known = e.looks.goes.known in let there : Has w.slots k t = known.slots k t c.requires.used.0 in let same = e.same us h in let units : Has w.units t us = rw c.if-is_same.true at same in
     let go = goes_slot w x k _ (entry_in w k) _ (entered_is w k t us there units) f.known f.view in
-    let form = e.form in let p = possible_slot w e.belongs.5 k t (Flat form.0 form.1 form.2) there form.3 in
-    let fixed : IsFixed w us t = ((p.0, p.1, subst (λ (g : Form). Has w.forms t g) p.2 form.3), units) in record {
+    let fixed : IsFixed w us t = (e.form, units) in record {
       goes = goes_trans v w x _ _ e.looks.goes go.0;
+      forms = forms_trans v w x e.forms (forms_same w x f.forms);
       used = omega (arith, ap (λ (n : Counters). n.ids) go.1, e.looks.used, ids_most c.args.header);
+      used_words = omega (arith, ap (λ (n : Counters). n.words) go.1, e.looks.words, words_most (header_words c.args.s.form us) c.args.header);
       fixed = fixed_kept w x e.belongs.5 f.known us t fixed;
       stands = f.known.slots k t there;
     }
@@ -32,7 +31,9 @@ returns-then-is_same-clause-visited g c us h = let v : View = c.args.agent.now.s
 pub returns-clause-visited : goal.returns-clause-visited
 returns-clause-visited g c us h = let v : View = c.args.agent.now.seat.me.0 in let w : View = c.is_same.new.agent.seat.me.0 in let e = c.is_same.ensures in let known = e.looks.goes.known in let same = e.same us h in record {
   goes = e.looks.goes;
+  forms = e.forms;
   used = omega (arith, e.looks.used);
+  used_words = omega (arith, e.looks.words);
   shut = (c.args.t, known.slots c.args.k c.args.t c.requires.used.0, rw c.if-is_same.false at same);
   made_is = each_made v w c.requires.belongs.5 known c.args.s.id c.args.header c.requires.known c.requires.header us (known.units c.args.s.id us h);
 }

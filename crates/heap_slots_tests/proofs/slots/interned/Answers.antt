@@ -12,4 +12,5 @@ pub intern-requires-clause-settled : goal.intern-requires-clause-settled
 intern-requires-clause-settled c = let f = c.in-Ok.ensures.form in (Flat (is_wide c.args.units.now) f.0 false, f.1, λ x. x)
 
 pub returns-clause-turns : goal.returns-clause-turns
-returns-clause-turns c = turns_interned c.args.text.now.agent.seat.me.0 c.make_flat.new.self.agent.seat.me.0 c.intern.new.agent.seat.me.0 c.args.units.now c.intern.result c.make_flat.ensures.continues (c.intern.ensures.interns c.args.units.now c.in-Ok.ensures.units)
+returns-clause-turns c = let i = c.intern.ensures.interns c.args.units.now c.in-Ok.ensures.units in
+    turns_interned c.args.text.now.agent.seat.me.0 c.make_flat.new.self.agent.seat.me.0 c.intern.new.agent.seat.me.0 c.args.units.now i.0 c.intern.result c.make_flat.ensures.continues i.2

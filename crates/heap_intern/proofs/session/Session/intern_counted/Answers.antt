@@ -1,10 +1,10 @@
-use Rattle.std.proofs.Common.{◌≡◌, ◌∙◌, ℕ, Bool, List, true, [], ◌∷◌, None, Some, Ok, Err, length, ap, subst, sym, arith}
+use Rattle.std.proofs.Common.{◌≡◌, ◌∙◌, ℕ, Bool, List, true, [], ◌∷◌, None, Some, length, ap, subst, sym, arith}
 use Rattle.std.specs.Prelude.{unwrap_or}
 use Rattle.std.specs.FinMap.{get}
 use Rattle.js_header.specs.declared.form.Form.TheVariants.{Flat}
 use Rattle.js_store.specs.Faults.{Step}
 use Rattle.js_store.specs.Limits.{limit_units}
-use Rattle.js_store.specs.Rows.{intern_words, settle_words}
+use Rattle.js_store.specs.Rows.{intern_words, settle_words, wide_words}
 use Rattle.js_store.proofs.Laws.{step_after, step_within}
 use Rattle.heap_rule.specs.declared.size.HeapSize.{HeapSize}
 use Rattle.heap_rule.specs.declared.view.View.{View}
@@ -15,7 +15,7 @@ use Rattle.heap_text.specs.Settling.{IsNoRoom}
 use Rattle.heap_slots.proofs.Loading.{slots_few, slots_from, slots_most, slots_none}
 use Rattle.heap_intern.specs.Faults.{fault_in_table, fault_in_text}
 use Rattle.heap_intern.specs.Sessions.{is_settled, state_by, table_of}
-use Rattle.heap_intern.proofs.Calls.{interned_err, interned_ok, settle_refused, settled_step, shut_text}
+use Rattle.heap_intern.proofs.Calls.{header_most, interned_err, interned_free, interned_ok, settle_free, settle_refused, settled_step, shut_text}
 use Rattle.heap_intern.proofs.Rows.{settle_part}
 use Rattle.heap_text.proofs.Loaded.{known_trans}
 use Rattle.heap_intern.proofs.Lately.{interns_known, kept_by}
@@ -24,25 +24,29 @@ use Rattle.heap_intern.proofs.session.Session.intern_counted.Goals as goal
 
 pub returns-in-Ok-intern_counted-clause-ok : goal.returns-in-Ok-intern_counted-clause-ok
 returns-in-Ok-intern_counted-clause-ok g c = let v : View = c.args.self.now.text.agent.seat.me.0 in let w : View = c.intern_counted.new.agent.seat.me.0 in let u = has_key v.units c.args.s.id c.requires in let e = c.settle.ensures in
-    let i = c.in-Ok-intern_counted.ensures.interns u.0 (e.continues.known.units c.args.s.id u.0 u.1) in let id = c.in-Ok-intern_counted.id in (
-      subst (Has w.units id) (sym (text_is v.units c.args.s.id u.0 u.1)) i.2.1,
-      settled_test w id (Flat i.2.0.0 i.2.0.1 true, i.2.0.2, λ x. x),
+    let i = (c.in-Ok-intern_counted.ensures.interns u.0 (e.continues.known.units c.args.s.id u.0 u.1)).2 in let id = c.in-Ok-intern_counted.id in (
+      subst (Has w.units id) (sym (text_is v.units c.args.s.id u.0 u.1)) i.3.1,
+      settled_test w id (Flat i.3.0.0 i.3.0.1 true, i.3.0.2, λ x. x),
       settled_test w c.args.s.id (i.0.known.settled c.args.s.id c.in-Ok.ensures.settled),
     )
 
 pub returns-in-Ok-intern_counted-clause-step : goal.returns-in-Ok-intern_counted-clause-step
 returns-in-Ok-intern_counted-clause-step g c = let s = c.args.self.now in let v : View = s.text.agent.seat.me.0 in let x : View = c.settle.new.self.agent.seat.me.0 in let w : View = c.intern_counted.new.agent.seat.me.0 in
     let u = has_key v.units c.args.s.id c.requires in let e = c.settle.ensures in let l = limit_units s.limit in let t = table_of s.text.heap.now in
-    let i = c.in-Ok-intern_counted.ensures.interns u.0 (e.continues.known.units c.args.s.id u.0 u.1) in
+    let found = c.in-Ok-intern_counted.ensures.interns u.0 (e.continues.known.units c.args.s.id u.0 u.1) in let i = found.2 in let most = header_most x c.args.s.id u.0 found.0 found.1 in
+    let settling = subst (λ (us : List ℕ). Step (state_by v l t) (state_by x l t) None 0 (settle_words (is_settled (get v.forms c.args.s.id)) (length us))) (sym (text_is v.units c.args.s.id u.0 u.1)) (settled_step v x l t c.args.s.id u.0 s.belongs.5 e.continues (λ h. (e.again h).1) (c.in-Ok.ensures.used u.0 u.1)) in
+    let interning = subst (λ (us : List ℕ). Step (state_by x l t) (state_by w l t) None 1 (wide_words (length us))) (sym (text_is v.units c.args.s.id u.0 u.1)) (interned_ok x w l t ((u.0, c.in-Ok-intern_counted.id) ∷ []) found.0 (wide_words (length u.0)) most e.text.5 i.0 i.1 i.2) in
     step_at v w l t (table_of c.settle.new.self.heap.now) None 1 (intern_words (is_settled (get v.forms c.args.s.id)) (length (unwrap_or (get v.units c.args.s.id) []))) (ap (λ y. table_of y.now) e.heap)
-    (step_after (subst (λ (us : List ℕ). Step (state_by v l t) (state_by x l t) None 0 (settle_words (is_settled (get v.forms c.args.s.id)) (length us))) (sym (text_is v.units c.args.s.id u.0 u.1)) (settled_step v x l t c.args.s.id u.0 s.belongs.5 e.continues (λ h. (e.again h).1) (c.in-Ok.ensures.used u.0 u.1))) (interned_ok x w l t ((u.0, c.in-Ok-intern_counted.id) ∷ []) 0 e.text.5 i.0 i.1) (omega arith) (settle_part (is_settled (get v.forms c.args.s.id)) (length (unwrap_or (get v.units c.args.s.id) []))))
+    (step_after settling interning (omega arith) (settle_part (is_settled (get v.forms c.args.s.id)) (length (unwrap_or (get v.units c.args.s.id) []))))
 
 pub returns-in-Err-intern_counted-clause-step : goal.returns-in-Err-intern_counted-clause-step
 returns-in-Err-intern_counted-clause-step g c = let s = c.args.self.now in let v : View = s.text.agent.seat.me.0 in let x : View = c.settle.new.self.agent.seat.me.0 in let w : View = c.intern_counted.new.agent.seat.me.0 in
     let u = has_key v.units c.args.s.id c.requires in let e = c.settle.ensures in let l = limit_units s.limit in let t = table_of s.text.heap.now in let f = c.in-Err-intern_counted.full in
-    let i = c.in-Err-intern_counted.ensures.interns u.0 (e.continues.known.units c.args.s.id u.0 u.1) in
+    let found = c.in-Err-intern_counted.ensures.interns u.0 (e.continues.known.units c.args.s.id u.0 u.1) in let i = found.2 in let most = header_most x c.args.s.id u.0 found.0 found.1 in
+    let settling = subst (λ (us : List ℕ). Step (state_by v l t) (state_by x l t) None 0 (settle_words (is_settled (get v.forms c.args.s.id)) (length us))) (sym (text_is v.units c.args.s.id u.0 u.1)) (settled_step v x l t c.args.s.id u.0 s.belongs.5 e.continues (λ h. (e.again h).1) (c.in-Ok.ensures.used u.0 u.1)) in
+    let interning = subst (λ (us : List ℕ). Step (state_by x l t) (state_by w l t) (Some (fault_in_table f)) 1 (wide_words (length us))) (sym (text_is v.units c.args.s.id u.0 u.1)) (interned_err x w u.0 found.0 l t f (wide_words (length u.0)) most e.text.5 i.0 i.1) in
     rw c.table_fault.ensures (step_at v w l t (table_of c.settle.new.self.heap.now) (Some (fault_in_table f)) 1 (intern_words (is_settled (get v.forms c.args.s.id)) (length (unwrap_or (get v.units c.args.s.id) []))) (ap (λ y. table_of y.now) e.heap)
-    (step_after (subst (λ (us : List ℕ). Step (state_by v l t) (state_by x l t) None 0 (settle_words (is_settled (get v.forms c.args.s.id)) (length us))) (sym (text_is v.units c.args.s.id u.0 u.1)) (settled_step v x l t c.args.s.id u.0 s.belongs.5 e.continues (λ h. (e.again h).1) (c.in-Ok.ensures.used u.0 u.1))) (interned_err x w u.0 l t f 0 e.text.5 i.0 i.1) (omega arith) (settle_part (is_settled (get v.forms c.args.s.id)) (length (unwrap_or (get v.units c.args.s.id) [])))))
+    (step_after settling interning (omega arith) (settle_part (is_settled (get v.forms c.args.s.id)) (length (unwrap_or (get v.units c.args.s.id) [])))))
 
 -- the string wasn't settled, and there is no room to settle it
 pub returns-in-Err-clause-step : goal.returns-in-Err-clause-step
@@ -60,6 +64,18 @@ returns-in-Err-clause-kept g c = history_continues c.args.self.now.text.agent.se
 
 pub returns-in-Err-clause-shut : goal.returns-in-Err-clause-shut
 returns-in-Err-clause-shut g c = let s = c.args.self.now in rw c.text_fault.ensures (shut_text c.settle.new.self.agent.seat.me.0 (limit_units s.limit) (table_of c.settle.new.self.heap.now) c.in-Err.full _)
+
+pub returns-in-Err-clause-free : goal.returns-in-Err-clause-free
+returns-in-Err-clause-free g c = let s = c.args.self.now in let v : View = s.text.agent.seat.me.0 in let w : View = c.settle.new.self.agent.seat.me.0 in
+    let p = has_key v.units c.args.s.id c.requires in let e = c.settle.ensures in
+    let sizes : w.sizes ≡ size_of s.text.heap.now = e.text.1 ∙ ap (λ x. size_of x.now) e.heap in
+    let room : (wide : Bool) × IsNoRoom v w w.sizes p.0 c.in-Err.full wide = subst (λ (z : HeapSize). (wide : Bool) × IsNoRoom v w z p.0 c.in-Err.full wide) (sym sizes) (c.in-Err.ensures.refused p.0 p.1) in
+    rw c.text_fault.ensures (settle_free v w p.0 room.0 c.in-Err.full room.1 e.continues.slot_loads)
+
+pub returns-in-Err-intern_counted-clause-free : goal.returns-in-Err-intern_counted-clause-free
+returns-in-Err-intern_counted-clause-free g c = let v : View = c.args.self.now.text.agent.seat.me.0 in let x : View = c.settle.new.self.agent.seat.me.0 in let w : View = c.intern_counted.new.agent.seat.me.0 in
+    let u = has_key v.units c.args.s.id c.requires in let found = c.in-Err-intern_counted.ensures.interns u.0 (c.settle.ensures.continues.known.units c.args.s.id u.0 u.1) in
+    rw c.table_fault.ensures (interned_free x w u.0 found.0 v c.in-Err-intern_counted.full found.2.1)
 
 pub returns-in-Ok-intern_counted-clause-loads : goal.returns-in-Ok-intern_counted-clause-loads
 returns-in-Ok-intern_counted-clause-loads g c = let e = c.settle.ensures.continues in
@@ -91,9 +107,9 @@ returns-in-Err-clause-few g c = slots_few c.args.self.now.text.agent.seat.me.0 c
 pub invariant_of-self-2-clause-last_kept : goal.invariant_of-self-2-clause-last_kept
 invariant_of-self-2-clause-last_kept g c = let s = c.args.self.now in let v : View = s.text.agent.seat.me.0 in let x : View = c.settle.new.self.agent.seat.me.0 in let w : View = c.intern_counted.new.agent.seat.me.0 in
     let e = c.settle.ensures in let u = has_key v.units c.args.s.id c.requires in
-    kept_by v w (known_trans v x w e.continues.known (interns_known x w u.0 c.intern_counted.result (c.intern_counted.ensures.interns u.0 (e.continues.known.units c.args.s.id u.0 u.1)))) s.last s.last_kept
+    (let found = c.intern_counted.ensures.interns u.0 (e.continues.known.units c.args.s.id u.0 u.1) in kept_by v w (known_trans v x w e.continues.known (interns_known x w u.0 found.0 c.intern_counted.result found.2)) s.last s.last_kept)
 
 pub invariant_of-self-2-clause-older_kept : goal.invariant_of-self-2-clause-older_kept
 invariant_of-self-2-clause-older_kept g c = let s = c.args.self.now in let v : View = s.text.agent.seat.me.0 in let x : View = c.settle.new.self.agent.seat.me.0 in let w : View = c.intern_counted.new.agent.seat.me.0 in
     let e = c.settle.ensures in let u = has_key v.units c.args.s.id c.requires in
-    kept_by v w (known_trans v x w e.continues.known (interns_known x w u.0 c.intern_counted.result (c.intern_counted.ensures.interns u.0 (e.continues.known.units c.args.s.id u.0 u.1)))) s.older s.older_kept
+    (let found = c.intern_counted.ensures.interns u.0 (e.continues.known.units c.args.s.id u.0 u.1) in kept_by v w (known_trans v x w e.continues.known (interns_known x w u.0 found.0 c.intern_counted.result found.2)) s.older s.older_kept)
