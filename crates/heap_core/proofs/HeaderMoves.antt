@@ -19,7 +19,7 @@ use Rattle.heap_rule.specs.Agents.{spent}
 use Rattle.heap_views.specs.declared.load.Load.{Load}
 use Rattle.heap_views.specs.Loading.{loaded_by, HasRoom}
 use Rattle.heap_views.specs.Probing.{HasShorts}
-use Rattle.heap_views.specs.Moving.{Stays}
+use Rattle.heap_births.specs.Moving.{Stays}
 use Rattle.heap_core.specs.declared.event.Refusal.{Refusal}
 use Rattle.heap_core.specs.declared.event.Refusal.TheVariants.{NotEnabled, Memory}
 use Rattle.heap_core.specs.declared.event.Event.TheVariants as event

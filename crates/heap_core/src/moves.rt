@@ -3,7 +3,7 @@ ghost use Rattle.std.specs.Prelude.{◌≡◌, ◌==◌, if◌then◌else◌, �
 ghost use Rattle.js_header.specs.Form.{IsInRange, word_of};
 ghost use Rattle.js_header.specs.declared.form.Form.TheVariants as form;
 ghost use Rattle.heap_rule.specs.HeaderMoves.{MayFlatten, flattened, MayThin, thinned};
-ghost use Rattle.heap_views.specs.Moving.{Stays};
+ghost use Rattle.heap_births.specs.Moving.{Stays};
 ghost use Rattle.heap_core.specs.Core.{core};
 ghost use Rattle.heap_core.specs.Events.{IsCore, Applied, CanFlatten, CanThinTo, Moved};
 ghost use Rattle.heap_core.specs.declared.event.Event.TheVariants as event;
@@ -11,8 +11,9 @@ ghost use Rattle.heap_core.specs.declared.event.Event.TheVariants as event;
 use crate::contents::header;
 use crate::event::Refusal;
 use crate::play::is_live;
+use heap_births::moves;
 use heap_rule::{HeapSize, View};
-use heap_views::{learning, moves};
+use heap_views::learning;
 use js_header::{Form, encode};
 use std::alloc::Global;
 

@@ -1,5 +1,5 @@
 -- What the executable kinds find, as plain data.
-use Rattle.std.proofs.Common.{◌≡◌, ℕ, suc, ◌+◌, ◌-◌, ◌<◌, ◌≤◌, Bool, List, [], ◌∷◌, ◌++◌, length, get_or, sym, refl, ap, ◌∙◌, subst, arith, append_assoc, IsTrue}
+use Rattle.std.proofs.Common.{◌≡◌, ℕ, suc, ◌+◌, ◌-◌, ◌<◌, ◌≤◌, Bool, List, [], ◌∷◌, ◌++◌, sym, ◌∙◌, subst, arith, append_assoc, IsTrue}
 use Rattle.heap_rule.specs.declared.view.View.{View}
 use Rattle.heap_rule.specs.declared.size.Counter.{Counter}
 use Rattle.heap_rule.specs.declared.size.Counter.TheVariants.{Ids}
@@ -21,10 +21,3 @@ pub span_step : (f : ℕ → ℕ) (wide : Bool) (start o n x : ℕ) (us us' all 
     → us' ++ span f wide start (o + 1) (n - (o + 1)) ≡ all
 span_step f wide start o n x us us' all l e is here = (λ i. is i ++ span f wide start (sym (next_is o) i) (n - (o + 1)))
     ∙ (append_assoc us (x ∷ []) (span f wide start (suc o) (n - (o + 1))) ∙ ((λ i. us ++ here i ∷ span f wide start (suc o) (n - (o + 1))) ∙ ((λ i. us ++ span f wide start o (sym (left_over n o l) i)) ∙ e)))
-
--- lanes that are the units of a list are the list
-pub span_all : (f : ℕ → ℕ) (wide : Bool) (start o : ℕ) (us : List ℕ) → ((k : ℕ) → k < length us → lane_in f wide start (o + k) ≡ get_or us k 0) → span f wide start o (length us) ≡ us
-span_all f wide start o [] h = refl
-span_all f wide start o (u ∷ us) h = let here : o + 0 ≡ o = omega arith in
-    (λ i. (ap (lane_in f wide start) (sym here) ∙ h 0 (omega arith)) i ∷ span f wide start (suc o) (length us))
-    ∙ ap (λ (l : List ℕ). u ∷ l) (span_all f wide start (suc o) us (λ k l. let there : suc o + k ≡ o + suc k = omega arith in ap (lane_in f wide start) there ∙ h (suc k) (omega arith)))

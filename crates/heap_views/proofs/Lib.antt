@@ -5,5 +5,3 @@ pub mod FrozenWords
 pub mod Behind
 pub mod SlotSteps
 pub mod Turning
-pub mod Joins
-pub mod Moving

@@ -1,3 +1,2 @@
 pub mod Loading
 pub mod Probing
-pub mod Moving

@@ -1,7 +1,5 @@
 // The views of agents that begin, split and join.
-ghost use Rattle.std.specs.Prelude.{◌≡◌, ◌+◌, ◌<◌, ◌≤◌, ◌^◌, ◌↔◌, ◌++◌, IsTrue, IfOk};
-ghost use Rattle.heap_rule.specs.Maps.{laid_over, upper_one};
-ghost use Rattle.heap_rule.specs.Views.{history};
+ghost use Rattle.std.specs.Prelude.{◌≡◌, ◌+◌, ◌<◌, ◌≤◌, ◌^◌, ◌↔◌, IsTrue, IfOk};
 ghost use Rattle.heap_rule.specs.Agents.{fresh, first_view, spent, left_after_split, right_after_split, MayJoin, joined};
 
 use heap_rule::{Counters, HeapSize, History, IdMap, Twin, View};

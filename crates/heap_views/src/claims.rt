@@ -1,19 +1,10 @@
-// What each kind of step does to a view, and when it may be made.
-ghost use Rattle.std.specs.Prelude.{◌≡◌, ℕ, zero, ◌+◌, ◌*◌, ◌<◌, ◌≤◌, ◌^◌, ◌↔◌, ◌⊎◌, IsTrue, IfOk, OnOk, OnErr, None, unwrap_or};
-ghost use Rattle.js_units.specs.Lanes.{words_over};
-ghost use Rattle.js_header.specs.declared.form.Form.TheVariants as form;
-ghost use Rattle.std.specs.FinMap as map;
-ghost use Rattle.heap_rule.specs.Layout.{MAX, count_in};
-ghost use Rattle.heap_rule.specs.Contents.{span, lane_in};
-ghost use Rattle.heap_rule.specs.Maps.{Has, HasKey};
-ghost use Rattle.heap_rule.specs.Views.{shown};
+// Loads and claims of counters: when they may be made, and what they make of a view.
+ghost use Rattle.std.specs.Prelude.{◌≡◌, ◌+◌, ◌<◌, ◌^◌, ◌↔◌, IsTrue, OnOk, OnErr};
+ghost use Rattle.heap_rule.specs.Layout.{count_in};
 ghost use Rattle.heap_rule.specs.Claims.{loaded_counter, MayClaim, won_claim};
-ghost use Rattle.heap_rule.specs.Births.{stored_word, MayStoreLength, stored_length, Fits, MayBear, born_with};
 
-use heap_rule::{Counter, MAX, View};
-use js_header::Form;
-use js_units::{NoMemory, Units, lane, lanes, words_for};
-use std::alloc::Global;
+use heap_rule::{Counter, View};
+use js_units::NoMemory;
 
 /// A load of a counter.
 pub fn load_counter(view: &mut View, counter: Counter, found: u32)

@@ -299,7 +299,8 @@ fn by_thin(view: &View, id: u32, other: u32, form: Form) -> Option<&[u16]>
     }
 }
 
-pub(crate) fn units_at(view: &View, id: u32) -> Option<&[u16]>
+/// The units that the view has of the string.
+pub fn units_at(view: &View, id: u32) -> Option<&[u16]>
     ensures { option_copied result ≡ get view.now.units id }
 {
     match view.units.get(id) {
@@ -425,7 +426,8 @@ fn frozen_span(
     Ok(units)
 }
 
-pub(crate) fn units_from(alloc: Global, units: &[u16]) -> Result<Units, NoMemory>
+/// A copy of these units.
+pub fn units_from(alloc: Global, units: &[u16]) -> Result<Units, NoMemory>
     ensures { IfOk result (λ us. us ≡ units.now) }
 {
     let mut all = Units::new(alloc);

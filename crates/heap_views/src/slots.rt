@@ -217,7 +217,8 @@ fn has_entry(view: &View, slot: u32, us: &[u16]) -> bool
     }
 }
 
-pub(crate) fn has_units(view: &View, id: u32, us: &[u16]) -> bool
+/// Whether the view has these units of the string.
+pub fn has_units(view: &View, id: u32, us: &[u16]) -> bool
     ensures { IsTrue result ↔ Has view.now.units id us.now }
 {
     match view.units.get(id) {
