@@ -109,4 +109,5 @@ def main():
             print(f"reading statements: {SIZES[-1] / times[SIZES[-1]] / 1e6:.1f} MB a second beyond start-up, 16 times the bytes take {times[SIZES[-1]] / times[SIZES[0]]:.1f} times as long")
 
 
-main()
+if __name__ == "__main__":
+    main()

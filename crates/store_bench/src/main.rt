@@ -4,8 +4,9 @@
 //! STORE is `plain` or `heap`. `read` reads the units of a string of 1,000,000 in turn, and `seek`
 //! looks in it for a unit that it hasn't. The others stand on a table of 50,000 lists of 20 units:
 //! `make` makes strings of such units, `known` makes and interns them, and `new` makes and interns
-//! COUNT different ones on an empty table. Anything else ends with 3, and want of room or memory
-//! with 6.
+//! COUNT different ones on an empty table. `repeat` repeats a unit to the greatest length, which a
+//! session does by ropes alone, and settles nothing. Anything else ends with 3, and want of room or
+//! memory with 6.
 #![tactic(auto)]
 
 mod measures;
@@ -36,6 +37,7 @@ fn asked(rt: &HostRuntime) -> io::Result<Option<(Kept, Measure, u32)>> {
         "make" => Measure::Make,
         "known" => Measure::Known,
         "new" => Measure::New,
+        "repeat" => Measure::Repeat,
         _ => return Ok(None),
     };
     Ok(

@@ -2,6 +2,8 @@
 ghost use Rattle.std.specs.Prelude.{◌≡◌, ◌<◌, ◌≤◌, length, IfOk};
 ghost use Rattle.js_store.specs.State.{IsKnown, IsSettled, text};
 
+use js_methods::repeat;
+use js_number::Num;
 use js_search::index_of;
 use js_store::Strings;
 use std::alloc::Global;
@@ -19,6 +21,8 @@ pub enum Measure {
     Known,
     /// The same with units that aren't there.
     New,
+    /// A unit is repeated to the greatest length.
+    Repeat,
 }
 
 /// The store has no room for so many strings, or there is no memory.
@@ -48,6 +52,7 @@ pub fn run_on<S: Strings>(
             intern_all(store, count, LISTS)
         }
         Measure::New => intern_all(store, count, u32::MAX),
+        Measure::Repeat => repeat_unit(store, count),
     }
 }
 
@@ -141,4 +146,19 @@ fn seek<S: Strings>(alloc: Global, store: &mut S, count: u32) -> Result<u64, Ref
         }
     }
     Ok(found)
+}
+
+fn repeat_unit<S: Strings>(store: &mut S, count: u32) -> Result<u64, Refusal> {
+    let most = Num::Int(i64::from(store.limit()));
+    let Ok(unit) = store.from_units([97].as_slice()) else {
+        return Err(Refusal);
+    };
+    let mut made = 0u64;
+    for _turn in 0..count {
+        let Ok(_) = repeat(store, unit, most) else {
+            return Err(Refusal);
+        };
+        made = made.wrapping_add(1);
+    }
+    Ok(made)
 }

@@ -4,7 +4,7 @@ use Rattle.heap_rule.specs.declared.view.View.{View}
 use Rattle.heap_rule.specs.Maps.{Has}
 use Rattle.heap_rule.proofs.MapLemmas.{has_key}
 use Rattle.heap_text.proofs.Loaded.{known_trans}
-use Rattle.heap_text.proofs.Showing.{window_frozen, window_kept, window_length}
+use Rattle.heap_text.proofs.Showing.{forms_held, window_frozen, window_kept, window_length}
 use Rattle.heap_example.proofs.greeting.read.Goals as goal
 
 pub loop-i-init : goal.loop-i-init
@@ -25,7 +25,7 @@ loop-i-preserved c = let u : View = c.loop-i.text.agent.seat.me.0 in let w : Vie
   text = c.unit_in.ensures.text;
   heap = c.unit_in.ensures.heap ∙ i.heap;
   known = known_trans _ _ _ i.known c.unit_in.ensures.reads.known;
-  shows = λ us h. window_kept u w c.window-window.result us c.unit_in.ensures.reads.known (i.shows us h);
+  shows = λ us h. window_kept u w (forms_held u w c.unit_in.ensures.forms.0) c.window-window.result us c.unit_in.ensures.reads.known (i.shows us h);
   copied = λ us h. let n = window_length u c.window-window.result us (i.shows us h) in let more = c.loop-i-test.true in let within : c.loop-i.i < length us = omega arith in
       c.in_ok-push.ensures.items ∙ (ap₂ (λ (front : List ℕ) (unit : ℕ). front ++ unit ∷ []) (i.copied us h) (c.unit_in.ensures.unit us (i.shows us h)) ∙ sym (take_more us c.loop-i.i 0 within));
 }

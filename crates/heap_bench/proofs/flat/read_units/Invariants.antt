@@ -2,7 +2,7 @@ use Rattle.std.proofs.Common.{◌≡◌, ℕ, List, length}
 use Rattle.heap_rule.specs.Maps.{Has}
 use Rattle.heap_rule.specs.Views.{IsSettled}
 use Rattle.heap_table.specs.Agents.{Belongs, view_of}
-use Rattle.heap_bench.proofs.measures.read_units.Given as goal
+use Rattle.heap_bench.proofs.flat.read_units.Given as goal
 
 abbrev pub invariant-loop-i : goal.invariant-loop-i
 invariant-loop-i l = record {

@@ -1,5 +1,5 @@
 use Rattle.std.proofs.Common.{arith}
-use Rattle.heap_bench.proofs.measures.read_units.Goals as goal
+use Rattle.heap_bench.proofs.flat.read_units.Goals as goal
 
 pub unit_at-unit-requires-clause-within : goal.unit_at-unit-requires-clause-within
 unit_at-unit-requires-clause-within c = let k = c.loop-i.invariant.known in let n = k.2 in (k.0, k.1, omega arith)
