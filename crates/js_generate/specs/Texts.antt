@@ -1,5 +1,5 @@
 -- The texts that are made from a number: a prelude and 32 scripts. All that is drawn is drawn in the order of the text, from the number as the first state.
-use Rattle.std.specs.Prelude.{◌+◌, ◌*◌, ◌++◌, ℕ, zero, suc, List, [], ◌∷◌, codes}
+use Rattle.std.specs.Prelude.{◌+◌, ◌*◌, ◌≤◌, ◌++◌, ℕ, zero, suc, List, [], ◌∷◌, codes, length}
 use Rattle.std.specs.String.{string_bytes}
 use Rattle.js_generate.specs.Draws.{after, draw, each, listed, next}
 use Rattle.js_generate.specs.Lines.{all_line, digits, line, print_line, word_line}
@@ -46,3 +46,7 @@ generated n = record { name = codes "gen-prelude"; text = prelude n } ∷ listed
 -- what a text of the code is
 abbrev pub named_for : Text → Named
 named_for text = record { name = string_bytes text.name; text = string_bytes text.text }
+
+-- a text of at most 4,096 bytes
+abbrev pub IsSmall : Named → Type 0
+IsSmall named = length named.text ≤ 4096

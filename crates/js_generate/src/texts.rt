@@ -1,8 +1,9 @@
 // The prelude and the scripts.
 ghost use Rattle.std.specs.Prelude.{◌≡◌, IfOk, OnOk, map};
+ghost use Rattle.std.specs.List.{All};
 ghost use Rattle.std.specs.String.{string_bytes};
 ghost use Rattle.js_generate.specs.Draws.{after, next};
-ghost use Rattle.js_generate.specs.Texts.{before, drawn_line, generated, named_for, prelude, script, word, word_length};
+ghost use Rattle.js_generate.specs.Texts.{IsSmall, before, drawn_line, generated, named_for, prelude, script, word, word_length};
 
 use crate::draws::Draws;
 use crate::lines::{ALL_LINE, line, print_line, script_name, word_line};
@@ -74,7 +75,8 @@ fn script(alloc: Global, draws: &mut Draws, j: u32) -> Result<String, AllocError
 
 /// The texts that are made from a number: the prelude, and then the scripts in order.
 pub fn texts_from(alloc: Global, n: u32) -> Result<Vec<Text>, AllocError>
-    ensures { IfOk result (λ texts. map named_for texts.items ≡ generated n) }
+    ensures made { IfOk result (λ texts. map named_for texts.items ≡ generated n) }
+    ensures small { IfOk result (λ texts. All IsSmall (map named_for texts.items)) }
 {
     let mut draws = Draws { state: n };
     let mut texts = Vec::new(alloc);

@@ -6,13 +6,13 @@ use Rattle.std.specs.Prelude.{nat_le, option_and_then}
 use Rattle.std.specs.Str.Parse.{digits_value, without_leading_plus}
 use Rattle.clap.specs.Walk.{is_empty}
 use Rattle.clap.specs.ValueTests.{is_unsigned_in}
-use Rattle.clap.specs.Words.{Row, Text, first_of, one_of}
+use Rattle.clap.specs.Words.{Row, Text, first_of}
 use Rattle.clap.specs.declared.builder.value_parser.ValueParser.TheVariants as parser
 use Rattle.clap.proofs.ValueTestLemmas.{accepts-Accepts}
 use Rattle.clap.proofs.WalkLemmas.{both}
 use Rattle.js_store.specs.declared.limit.Limit.{Limit}
 use Rattle.js_words.specs.declared.plan.Sizes.{Sizes}
-use Rattle.js_words.specs.Words.{Asked, IsInRange, IsSomeFiles, Name, Request, asked_in, files, files_in, generated_in, is_some_files, jobs_in, limit_in, made_from, most_size, most_together, named_in, number_in, number_of, request_by, request_in, request_with, sizes_by, sizes_in, summary_in}
+use Rattle.js_words.specs.Words.{Asked, IsInRange, IsSomeFiles, Name, Request, asked_in, files, files_in, generated_in, is_plain, is_some_files, jobs_in, limit_in, made_from, most_size, most_together, named_in, number_in, number_of, request_by, request_in, request_with, sizes_by, sizes_in, summary_in}
 
 none≢some : {T : Type 0} (x : T) → ◌≡◌ {A = Option T} None (Some x) → ⊥
 none≢some x is = cc
@@ -21,15 +21,15 @@ same : {T : Type 0} (x y : T) → ◌≡◌ {A = Option T} (Some x) (Some y) →
 same x y is = ap (λ o. unwrap_or o x) is
 
 number_between : (least most : ℕ) (text : Text) (n : ℕ) → number_in least most text ≡ Some n → (least ≤ n) × (n ≤ most)
-number_between least most text n is = go (is_unsigned_in least most text) refl
+number_between least most text n is = go (is_plain text && is_unsigned_in least most text) refl
   where
-    go : (b : Bool) → is_unsigned_in least most text ≡ b → (least ≤ n) × (n ≤ most)
+    go : (b : Bool) → (is_plain text && is_unsigned_in least most text) ≡ b → (least ≤ n) × (n ≤ most)
     go false fails =
         let none : None ≡ Some n = rw fails at is in
         absurd (none≢some n none)
     go true holds =
         let value = same (digits_value 10 (without_leading_plus text)) n (rw holds at is) in
-        let between = accepts-Accepts false (parser.Unsigned least most) text holds in
+        let between = accepts-Accepts false (parser.Unsigned least most) text (both _ _ holds).1 in
         (omega (arith, value, between.2), omega (arith, value, between.3))
 
 option_between : (least most : ℕ) (text : Option Text) (n : ℕ) → option_and_then (number_in least most) text ≡ Some n → (least ≤ n) × (n ≤ most)
@@ -37,7 +37,7 @@ option_between least most None n is = absurd (none≢some n is)
 option_between least most (Some text) n is = number_between least most text n is
 
 between : (least most : ℕ) (id : Text) (rows : List Row) (n : ℕ) → number_of least most id rows ≡ Some n → (least ≤ n) × (n ≤ most)
-between least most id rows n is = option_between least most (one_of id rows) n is
+between least most id rows n is = option_between least most (first_of id rows) n is
 
 -- ---- what is run
 

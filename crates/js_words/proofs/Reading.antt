@@ -1,70 +1,70 @@
 -- What the getters of the matches read of an option.
-use Rattle.std.proofs.Common.{◌≡◌, ◌⊎◌, ◌<◌, ◌≤◌, ◌^◌, ℕ, Bool, true, false, List, None, Some, Ok, Err, refl, ap, sym, ◌∙◌, codes, unwrap_or, arith, true≢false, if◌then◌else◌}
+use Rattle.std.proofs.Common.{◌≡◌, ◌⊎◌, ◌<◌, ◌≤◌, ◌^◌, ℕ, Bool, true, false, List, None, Some, Ok, Err, refl, ap, subst, sym, ◌∙◌, codes, unwrap_or, arith, true≢false, if◌then◌else◌}
 use Rattle.std.specs.declared.option.Option.{Option}
 use Rattle.std.specs.Prelude.{Result, option_and_then}
+use Rattle.std.specs.Result.{result_ok}
 use Rattle.std.specs.Option.{option_map_or}
 use Rattle.std.specs.Str.{bytes_eq}
 use Rattle.std.specs.Str.Parse.{ParsesBool, ParsesUnsigned, digits_value, true_text, without_leading_plus}
 use Rattle.std.proofs.lemmas.Slice.Eq.{bytes_eq-Decides}
-use Rattle.clap.specs.Matches.{ReadsOne, one_text}
+use Rattle.clap.specs.Matches.{ReadsOne, first_value, one_text}
 use Rattle.clap.specs.Values.{IsUnsignedIn}
 use Rattle.clap.specs.ValueTests.{is_unsigned_in}
 use Rattle.clap.specs.Words.{Text, one_of, rows_of}
 use Rattle.clap.specs.declared.builder.value_parser.ValueParser.TheVariants as parser
 use Rattle.clap.specs.declared.parser.matches.Found.{Found}
 use Rattle.clap.proofs.ValueTestLemmas.{Accepts-accepts, accepts-Accepts}
-use Rattle.clap.proofs.WalkLemmas.{one_text-rows}
-use Rattle.js_words.specs.Words.{number_in, number_of}
+use Rattle.clap.proofs.WalkLemmas.{first_value-rows, one_text-rows}
+use Rattle.js_words.specs.Words.{is_plain, number_in, number_of}
 
-no_number : (least most : ℕ) (text : Text) → (IsUnsignedIn least most text → ⊥) → number_in least most text ≡ None
-no_number least most text not = go (is_unsigned_in least most text) refl
+none≢some : {T : Type 0} (x : T) → ◌≡◌ {A = Option T} None (Some x) → ⊥
+none≢some x is = cc
+
+only_plain : (least most : ℕ) (text : Text) → is_plain text ≡ false → number_in least most text ≡ None
+only_plain least most text not_plain = rw (not_plain) refl
+
+no_number : (least most : ℕ) (text : Text) → is_plain text ≡ true → (IsUnsignedIn least most text → ⊥) → number_in least most text ≡ None
+no_number least most text plain not = go (is_unsigned_in least most text) refl
   where
     go : (b : Bool) → is_unsigned_in least most text ≡ b → number_in least most text ≡ None
     go true is = absurd (not (accepts-Accepts false (parser.Unsigned least most) text is))
-    go false is = rw (is) refl
+    go false is = rw (plain, is) refl
 
-a_number : (least most : ℕ) (text : Text) → IsUnsignedIn least most text → number_in least most text ≡ Some (digits_value 10 (without_leading_plus text))
-a_number least most text is = rw (Accepts-accepts false (parser.Unsigned least most) text is) refl
+a_number : (least most : ℕ) (text : Text) → is_plain text ≡ true → IsUnsignedIn least most text → number_in least most text ≡ Some (digits_value 10 (without_leading_plus text))
+a_number least most text plain is = rw (plain, Accepts-accepts false (parser.Unsigned least most) text is) refl
 
-module _ {E : Type 0} (G : List ℕ → Result ℕ E → Type 0) (parses : (u : List ℕ) (x : Result ℕ E) → G u x → ParsesUnsigned 32 10 u x) (least most : ℕ) (fits : most < 2 ^ 32) where
-  unread : (text : Text) → ReadsOne G text None → number_in least most text ≡ None
-  unread text h = no_number least most text (λ is. parses text (Err h.0) h.1 (is.0, omega (arith, is.3, fits)))
+module _ (least most : ℕ) (f : Found) (id : Text) where
+  -- what an option spells is what its first value spells
+  of_text : (o : Option Text) (r : Option ℕ) → o ≡ first_value f id → option_and_then (number_in least most) o ≡ r → number_of least most id (rows_of f) ≡ r
+  of_text o r given is = ap (option_and_then (number_in least most)) (sym (given ∙ first_value-rows f id)) ∙ is
 
-  outside : (text : Text) (n : ℕ) → ReadsOne G text (Some n) → (n < least) ⊎ (most < n) → number_in least most text ≡ None
-  outside text n h out =
-      let parsed = parses text (Ok n) h in
-      no_number least most text (λ is. grind (arith, out, parsed.1, is.2, is.3))
+  pub number_not_given : None ≡ first_value f id → number_of least most id (rows_of f) ≡ None
+  number_not_given given = of_text None None given refl
 
-  inside : (text : Text) (n : ℕ) → ReadsOne G text (Some n) → least ≤ n → n ≤ most → number_in least most text ≡ Some n
-  inside text n h low high =
-      let parsed = parses text (Ok n) h in
-      a_number least most text (parsed.0.0, omega (arith, parsed.0.1), omega (arith, parsed.1, low), omega (arith, parsed.1, high)) ∙ ap Some (sym parsed.1)
+  module _ (text : Text) (given : Some text ≡ first_value f id) where
+    pub number_not_plain : is_plain text ≡ false → number_of least most id (rows_of f) ≡ None
+    number_not_plain not_plain = of_text (Some text) None given (only_plain least most text not_plain)
 
-  module _ (f : Found) (id : Text) where
-    of_text : (r : Option ℕ) → option_and_then (number_in least most) (one_text f id) ≡ r → number_of least most id (rows_of f) ≡ r
-    of_text r is = ap (option_and_then (number_in least most)) (sym (one_text-rows f id)) ∙ is
+    module _ (plain : is_plain text ≡ true) (fits : most < 2 ^ 32) {E : Type 0} where
+      pub number_unread : (x : Result ℕ E) → ParsesUnsigned 32 10 text x → None ≡ result_ok x → number_of least most id (rows_of f) ≡ None
+      number_unread (Ok n) parsed none = absurd (none≢some n none)
+      number_unread (Err e) parsed none = of_text (Some text) None given (no_number least most text plain (λ is. parsed (is.0, omega (arith, is.3, fits))))
 
-    pub number_unread : ((t : Text) → one_text f id ≡ Some t → ReadsOne G t None) → number_of least most id (rows_of f) ≡ None
-    number_unread reads = of_text None (go (one_text f id) reads)
-      where
-        go : (o : Option Text) → ((t : Text) → o ≡ Some t → ReadsOne G t None) → option_and_then (number_in least most) o ≡ None
-        go None reads = refl
-        go (Some t) reads = unread t (reads t refl)
+      module _ (n : ℕ) where
+        parsed_to : (x : Result ℕ E) → ParsesUnsigned 32 10 text x → Some n ≡ result_ok x → ParsesUnsigned {E = E} 32 10 text (Ok n)
+        parsed_to (Ok m) parsed is = subst (λ k. ParsesUnsigned {E = E} 32 10 text (Ok k)) (sym (ap (λ o. unwrap_or o n) is)) parsed
+        parsed_to (Err e) parsed is = absurd (none≢some n (sym is))
 
-    pub number_outside : (n : ℕ) → ((t : Text) → one_text f id ≡ Some t → ReadsOne G t (Some n)) → (n < least) ⊎ (most < n) → number_of least most id (rows_of f) ≡ None
-    number_outside n reads out = of_text None (go (one_text f id) reads)
-      where
-        go : (o : Option Text) → ((t : Text) → o ≡ Some t → ReadsOne G t (Some n)) → option_and_then (number_in least most) o ≡ None
-        go None reads = refl
-        go (Some t) reads = outside t n (reads t refl) out
+        pub number_outside : (x : Result ℕ E) → ParsesUnsigned 32 10 text x → Some n ≡ result_ok x → (n < least) ⊎ (most < n) → number_of least most id (rows_of f) ≡ None
+        number_outside x parses is out =
+            let parsed = parsed_to x parses is in
+            of_text (Some text) None given (no_number least most text plain (λ is. grind (arith, out, parsed.1, is.2, is.3)))
 
-    pub number_inside : (n : ℕ) → (one_text f id ≡ None → ◌≡◌ {A = Option ℕ} (Some n) None) → ((t : Text) → one_text f id ≡ Some t → ReadsOne G t (Some n))
-        → least ≤ n → n ≤ most → number_of least most id (rows_of f) ≡ Some n
-    number_inside n none reads low high = of_text (Some n) (go (one_text f id) none reads)
-      where
-        go : (o : Option Text) → (o ≡ None → ◌≡◌ {A = Option ℕ} (Some n) None) → ((t : Text) → o ≡ Some t → ReadsOne G t (Some n)) → option_and_then (number_in least most) o ≡ Some n
-        go None none reads = sym (none refl)
-        go (Some t) none reads = inside t n (reads t refl) low high
+        pub number_inside : (x : Result ℕ E) → ParsesUnsigned 32 10 text x → Some n ≡ result_ok x → least ≤ n → n ≤ most → number_of least most id (rows_of f) ≡ Some n
+        number_inside x parses is low high =
+            let parsed = parsed_to x parses is in
+            of_text (Some text) (Some n) given
+            (a_number least most text plain (parsed.0.0, omega (arith, parsed.0.1), omega (arith, parsed.1, low), omega (arith, parsed.1, high)) ∙ ap Some (sym parsed.1))
 
 -- whether a flag was given
 abbrev pub is_true : Option Text → Bool

@@ -35,13 +35,18 @@ pub record Request : Type 0 where
 
 -- ---- values of options
 
--- the number that a text spells: decimal digits, and a plus in front or none; where it is in the range
+-- a text that may spell a number: its first byte is a digit from 1 to 9, or the text is `0`, so there is neither a sign nor a leading zero
+abbrev pub is_plain : Text → Bool
+is_plain [] = false
+is_plain (first ∷ rest) = (nat_le 49 first && nat_le first 57) || (first == 48 && is_empty rest)
+
+-- the number that a text spells: decimal digits, without a sign and without a leading zero; where it is in the range
 abbrev pub number_in : ℕ → ℕ → Text → Option ℕ
-number_in least most text = if is_unsigned_in least most text then Some (digits_value 10 (without_leading_plus text)) else None
+number_in least most text = if is_plain text && is_unsigned_in least most text then Some (digits_value 10 (without_leading_plus text)) else None
 
 -- the number of an option
 abbrev pub number_of : ℕ → ℕ → Text → List Row → Option ℕ
-number_of least most id rows = option_and_then (number_in least most) (one_of id rows)
+number_of least most id rows = option_and_then (number_in least most) (first_of id rows)
 
 abbrev pub most_jobs : ℕ
 most_jobs = 64
@@ -61,7 +66,7 @@ sizes_by _ _ _ = None
 abbrev pub sizes_in : List Row → Option Sizes
 sizes_in rows = sizes_by (number_of 1 most_size (codes "ids") rows) (number_of 1 most_size (codes "heap-words") rows) (number_of 1 most_size (codes "slots") rows)
 
--- `--limit`: 32 or 64
+-- `--limit`: 32 or 64, spelled so
 abbrev pub limit_by : ℕ → Option Limit
 limit_by bits = if bits == 32 then Some Bits32 else (if bits == 64 then Some Bits64 else None)
 

@@ -1,6 +1,6 @@
 use Rattle.std.proofs.Common.{rules, ◌≡◌, ◌++◌, ◌*◌, ℕ, List, codes, sym, ap, ◌∙◌}
 use Rattle.std.specs.String.{string_bytes}
-use Rattle.js_generate.specs.Draws.{after, each}
+use Rattle.js_generate.specs.Draws.{after}
 use Rattle.js_generate.specs.Texts.{drawn_line}
 use Rattle.js_generate.proofs.Rounds.{after_none, each_none, lines_more, rounds_more}
 use Rattle.js_generate.proofs.texts.script.Goals as goal

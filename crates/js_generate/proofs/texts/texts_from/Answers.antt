@@ -1,7 +1,9 @@
-use Rattle.std.proofs.Common.{rules, ◌≡◌, ◌++◌, ◌∷◌, [], sym, ◌∙◌}
-use Rattle.js_generate.specs.Texts.{before}
+use Rattle.std.proofs.Common.{rules, ◌≡◌, ◌++◌, ◌∷◌, [], ap, arith, codes, sym, ◌∙◌}
+use Rattle.js_generate.specs.Draws.{listed}
+use Rattle.js_generate.specs.Texts.{Named, before, named_script, prelude}
 use Rattle.js_generate.specs.declared.texts.Text.{Text}
 use Rattle.js_generate.proofs.Rounds.{after_none, first_text, next_text, rounds_more}
+use Rattle.js_generate.proofs.Small.{generated_small}
 use Rattle.js_generate.proofs.texts.texts_from.Goals as goal
 
 pub loop-j-init : goal.loop-j-init
@@ -24,3 +26,11 @@ loop-j-preserved c =
       texts = next_text n state j c.loop-j.texts.items c.push-in-loop-j.new.self.items made c.loop-j.invariant.texts c.loop-j.invariant.state pushed c.in_ok-script_name.ensures c.in_ok-script.ensures.text;
       state = c.in_ok-script.ensures.state ∙ rounds_more 128 (before n 16) state j c.loop-j.invariant.state;
     }
+
+pub returns-clause-small : goal.returns-clause-small
+returns-clause-small c =
+    let n = c.args.n in
+    let start : Named = record { name = codes "gen-prelude"; text = prelude n } in
+    let whole : c.loop-j.j ≡ 32 = omega (arith, c.loop-j-test.false, c.loop-j.auto.j-end) in
+    let is = c.loop-j.invariant.texts ∙ ap (λ k. start ∷ listed (named_script n) k) whole in
+    rw (is) (generated_small n)

@@ -1,4 +1,4 @@
-use Rattle.std.proofs.Common.{◌≡◌, ◌+◌, ◌*◌, ◌/◌, ◌%◌, ◌^◌, ℕ, ap}
+use Rattle.std.proofs.Common.{◌+◌, ◌*◌, ◌/◌, ◌%◌, ℕ, ap}
 use Rattle.js_generate.specs.Draws.{draw, next}
 use Rattle.js_generate.proofs.draws.Draws.draw.Goals as goal
 

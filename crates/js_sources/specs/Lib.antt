@@ -1,0 +1,4 @@
+pub mod Program
+pub mod Reading
+pub mod Spelling
+pub mod Answers
