@@ -1,0 +1,15 @@
+//! A prelude and scripts run on a heap of their own, in threads.
+//!
+//! [`run_program`] makes a heap, runs the prelude on it, and then, where that ended Done, each of the
+//! scripts from the bindings that the prelude left, in groups. Whatever the number of groups and
+//! however the threads take turns, each script prints and ends as it is meant, or ends Full or for
+//! want of memory with the first ones of its lines.
+#![tactic(auto)]
+
+mod prepare;
+mod program;
+mod ran;
+mod stages;
+
+pub use program::run_program;
+pub use ran::{Kept, Ran, Setup};
