@@ -1,110 +1,222 @@
--- How scripts end that were run: Done, with status 1, or for want of memory.
-use Rattle.std.proofs.Common.{◌≡◌, ◌⊎◌, inl, inr, ℕ, List, [], ◌∷◌, ◌++◌, false, Some, refl, sym, ap, ◌∙◌, arith, subst}
+-- How files ended that were run, and what is meant.
+use Rattle.std.proofs.Common.{◌≡◌, ◌⊎◌, inl, inr, ⊎_elim, ℕ, List, [], ◌∷◌, ◌++◌, map, Option, None, Some, refl, sym, ap, ap₂, ◌∙◌, append-nil, arith, subst}
 use Rattle.std.specs.List.{concat}
-use Rattle.js_store.specs.State.{State}
-use Rattle.js_store.specs.Faults.{Honest}
-use Rattle.js_store.specs.declared.faults.FullReport.{FullReport}
-use Rattle.js_store.specs.declared.faults.FullReport.TheVariants.{Ids, Words, Slots}
-use Rattle.js_store.specs.declared.faults.StoreFault.TheVariants as store
+use Rattle.js_store.specs.State.{State, Sizes}
 use Rattle.js_syntax.specs.Tree.{Tree}
+use Rattle.js_texts.specs.Texts.{Every}
 use Rattle.js_evaluator.specs.declared.ending.End.{End}
-use Rattle.js_values.specs.Outcome.{Out, gave, ended, threw, unsupported}
+use Rattle.js_evaluator.specs.declared.ending.End.TheVariants.{Done, Threw, Unsupported, Full, Memory}
 use Rattle.js_evaluator.specs.Evaluates.{end_of}
-use Rattle.js_run.specs.declared.answer.Finish.{Finish}
-use Rattle.js_run.specs.Words.{Name}
-use Rattle.js_run.specs.Meaning as meaning
-use Rattle.js_run.specs.Meaning.{Run, RunsAs, AllRun, IsBroken, flow_of, run_of, runs_of}
-use Rattle.js_run.specs.Verdict.{status_of, status_or, out_of, err_of, end_line}
-use Rattle.js_run.specs.Answer as answer
-use Rattle.js_run.specs.Answer.{AllFinish, Finishes, written, told, status}
+use Rattle.js_evaluator.specs.Script.{Flow}
+use Rattle.js_jobs.specs.declared.job.Outcome.{Outcome}
+use Rattle.js_fits.specs.Files.{RunFile, IsAsMeant, means_of}
+use Rattle.js_fits.specs.Fits.{Fits, all_meant}
+use Rattle.js_fits.specs.Tells.{EndTells, FileTells, IsMeantOrMemory}
+use Rattle.js_fits.proofs.First.{AreFirst, are_first}
+use Rattle.js_words.specs.Words.{Request}
+use Rattle.js_sources.specs.Program.{Name, Program, in_order}
+use Rattle.js_program.specs.declared.ran.Ran.{Ran}
+use Rattle.js_program.specs.Ran.{HasOutcome, IsRan, all_outcomes, prelude_by, scripts_by, sizes_by, state_kept}
+use Rattle.js_run.specs.Asked.{setup_of}
+use Rattle.js_run.specs.Meant.{all_flows, ends_meant, printed_meant, report_meant, run_after, script_flows, status_meant, out_meant}
+use Rattle.js_run.specs.Rows.{FirstFull}
+use Rattle.js_run.specs.Verdict.{Printed, WasRun, count_line, end_line, end_lines, ends_of, err_of, out_of, printed_by, report_of, status_of, status_or}
 
--- a store that isn't bounded is never full
-pub never_full : {F : Type 0} (s : State F) (report : FullReport) → s.bounded ≡ false → Honest s (Some (store.Full report)) → ⊥
-never_full s (Ids at want end) plain honest = absurd (cc (plain, honest.0.can_fill))
-never_full s (Words at want end) plain honest = absurd (cc (plain, honest.can_fill))
-never_full s (Slots slots) plain honest = absurd (cc (plain, honest.0))
+-- ---- the statuses of files that were run
 
--- the statuses of scripts that were run
 abbrev pub IsRunStatus : ℕ → Type 0
-IsRunStatus n = (n ≡ 0) ⊎ ((n ≡ 1) ⊎ (n ≡ 6))
+IsRunStatus n = (n ≡ 0) ⊎ ((n ≡ 1) ⊎ ((n ≡ 5) ⊎ (n ≡ 6)))
 
-status_by : {A : Type 0} (o : Out A) (later : ℕ) → IsRunStatus later → IsRunStatus (status_or (end_of o) later)
-status_by (gave x l) later is = is
-status_by (ended (threw k) l) later is = inr (inl refl)
-status_by (ended (unsupported at) l) later is = inr (inl refl)
+status_one : (e : End) (later : ℕ) → IsRunStatus later → IsRunStatus (status_or e later)
+status_one Done later is = is
+status_one (Threw k) later is = inr (inl refl)
+status_one (Unsupported at) later is = inr (inl refl)
+status_one (Full report) later is = inr (inr (inl refl))
+status_one Memory later is = inr (inr (inr refl))
 
-status_one : (name : Name) (tree : Tree) (run : Run) (later : ℕ) → RunsAs name tree run → IsRunStatus later → IsRunStatus (status_or run.end later)
-status_one name tree run later (inl is) rest = subst (λ (r : Run). IsRunStatus (status_or r.end later)) (sym is) (status_by (flow_of tree).out later rest)
-status_one name tree run later (inr broken) rest = subst (λ (e : End). IsRunStatus (status_or e later)) (sym broken.end_is) (inr (inr refl))
+pub status_is : (es : List End) → IsRunStatus (status_of es)
+status_is [] = inl refl
+status_is (e ∷ es) = status_one e (status_of es) (status_is es)
 
-pub status_is : (names : List Name) (trees : List Tree) (runs : List Run) → AllRun names trees runs → IsRunStatus (status_of runs)
-status_is _ _ _ meaning.AllRun.none = inl refl
-status_is _ _ _ (meaning.AllRun.next name names tree trees run runs ran rest) = status_one name tree run (status_of runs) ran (status_is names trees runs rest)
+-- ---- where the status is 0, all ended Done, and no line is told
 
--- scripts whose status is 0 were run as they are meant
+done_one : (e : End) (later : ℕ) → status_or e later ≡ 0 → (e ≡ Done) × (later ≡ 0)
+done_one Done later is = (refl, is)
+done_one (Threw k) later is = absurd (omega (arith, is))
+done_one (Unsupported at) later is = absurd (omega (arith, is))
+done_one (Full report) later is = absurd (omega (arith, is))
+done_one Memory later is = absurd (omega (arith, is))
 
-done_by : {A : Type 0} (o : Out A) (later : ℕ) → status_or (end_of o) later ≡ 0 → later ≡ 0
-done_by (gave x l) later is = is
-done_by (ended (threw k) l) later is = absurd (omega (arith, is))
-done_by (ended (unsupported at) l) later is = absurd (omega (arith, is))
-
-done_one : (name : Name) (tree : Tree) (run : Run) (later : ℕ) → RunsAs name tree run → status_or run.end later ≡ 0 → (run ≡ run_of name tree) × (later ≡ 0)
-done_one name tree run later (inl is) none = (is, done_by (flow_of tree).out later (subst (λ (r : Run). status_or r.end later ≡ 0) is none))
-done_one name tree run later (inr broken) none = absurd (omega (arith, subst (λ (e : End). status_or e later ≡ 0) broken.end_is none))
-
-pub all_meant : (names : List Name) (trees : List Tree) (runs : List Run) → AllRun names trees runs → status_of runs ≡ 0 → runs ≡ runs_of names trees
-all_meant _ _ _ meaning.AllRun.none is = refl
-all_meant _ _ _ (meaning.AllRun.next name names tree trees run runs ran rest) is =
-    let one = done_one name tree run (status_of runs) ran is in
-    ap (λ r. r ∷ runs) one.0 ∙ ap (λ rs. run_of name tree ∷ rs) (all_meant names trees runs rest one.1)
-
--- where the status is 0, no line is told
-
-quiet_by : {A : Type 0} (name : Name) (o : Out A) (later : ℕ) (lines : List ℕ) → status_or (end_of o) later ≡ 0 → (later ≡ 0 → lines ≡ []) → end_line name (end_of o) ++ lines ≡ []
-quiet_by name (gave x l) later lines is quiet = quiet is
-quiet_by name (ended (threw k) l) later lines is quiet = absurd (omega (arith, is))
-quiet_by name (ended (unsupported at) l) later lines is quiet = absurd (omega (arith, is))
-
-pub quiet : (names : List Name) (trees : List Tree) → status_of (runs_of names trees) ≡ 0 → err_of (runs_of names trees) ≡ []
-quiet [] trees is = refl
+pub quiet : (names : List Name) (es : List End) → status_of es ≡ 0 → end_lines names es ≡ []
+quiet [] es is = refl
 quiet (name ∷ names) [] is = refl
-quiet (name ∷ names) (tree ∷ trees) is = quiet_by name (flow_of tree).out (status_of (runs_of names trees)) (err_of (runs_of names trees)) is (quiet names trees)
+quiet (name ∷ names) (e ∷ es) is =
+    let one = done_one e (status_of es) is in
+    ap (λ (x : End). end_line name x ++ end_lines names es) one.0 ∙ quiet names es one.1
 
--- where the first script that didn't end Done has status 1, it is the first that isn't meant to end Done
+abbrev file_ends : List RunFile → List End
+file_ends files = map (λ f. f.end) files
 
-early_by : {A : Type 0} (o : Out A) (later other : ℕ) → status_or (end_of o) later ≡ 1 → (later ≡ 1 → other ≡ 1) → status_or (end_of o) other ≡ 1
-early_by (gave x l) later other is more = more is
-early_by (ended (threw k) l) later other is more = refl
-early_by (ended (unsupported at) l) later other is more = refl
+-- ---- what files tell that were run
 
-early_one : (name : Name) (tree : Tree) (run : Run) (later other : ℕ) → RunsAs name tree run → status_or run.end later ≡ 1 → (later ≡ 1 → other ≡ 1) → status_or (run_of name tree).end other ≡ 1
-early_one name tree run later other (inl is) one more = early_by (flow_of tree).out later other (subst (λ (r : Run). status_or r.end later ≡ 1) is one) more
-early_one name tree run later other (inr broken) one more = absurd (omega (arith, subst (λ (e : End). status_or e later ≡ 1) broken.end_is one))
+module _ {F : Type 0} (z : Sizes) (s : State F) (means : List Flow) where
+  -- where all ended Done, all ended as they are meant
+  done_meant : (files : List RunFile) → Every (FileTells z s means) files → status_of (file_ends files) ≡ 0 → Every IsAsMeant files
+  done_meant [] tells is = tt
+  done_meant (f ∷ files) tells is =
+      let one = done_one f.end (status_of (file_ends files)) is in
+      let meant : Done ≡ end_of f.mean.out = subst (λ (e : End). EndTells z s means f.mean f.part e) one.0 tells.0.end in
+      (one.0 ∙ meant, done_meant files tells.1 one.1)
 
-pub early_meant : (names : List Name) (trees : List Tree) (runs : List Run) → AllRun names trees runs → status_of runs ≡ 1 → status_of (runs_of names trees) ≡ 1
-early_meant _ _ _ meaning.AllRun.none is = absurd (omega (arith, is))
-early_meant _ _ _ (meaning.AllRun.next name names tree trees run runs ran rest) is =
-    early_one name tree run (status_of runs) (status_of (runs_of names trees)) ran is (early_meant names trees runs rest)
+  early_one : (e : End) (f : RunFile) (later other : ℕ) → EndTells z s means f.mean f.part e → status_or e later ≡ 1 → (later ≡ 1 → other ≡ 1) → status_or (end_of f.mean.out) other ≡ 1
+  early_one Done f later other tells is more = subst (λ (e : End). status_or e other ≡ 1) tells (more is)
+  early_one (Threw k) f later other tells is more = subst (λ (e : End). status_or e other ≡ 1) tells refl
+  early_one (Unsupported at) f later other tells is more = subst (λ (e : End). status_or e other ≡ 1) tells refl
+  early_one (Full report) f later other tells is more = absurd (omega (arith, is))
+  early_one Memory f later other tells is more = absurd (omega (arith, is))
 
--- what the code's records report is what the runs do
+  -- where the first file that didn't end Done has status 1, it is the first that isn't meant to end Done
+  early_meant : (files : List RunFile) (rest : List Flow) → Every (FileTells z s means) files → status_of (file_ends files) ≡ 1 → status_of (ends_meant (means_of files ++ rest)) ≡ 1
+  early_meant [] rest tells is = absurd (omega (arith, is))
+  early_meant (f ∷ files) rest tells is =
+      early_one f.end f (status_of (file_ends files)) (status_of (ends_meant (means_of files ++ rest))) tells.0.end is (early_meant files rest tells.1)
 
-pub record Reported (names : List Name) (trees : List Tree) (fs : List Finish) : Type 0 where
-  pub runs : List Run
-  pub ran : AllRun names trees runs
-  pub status_same : status_of runs ≡ status fs
-  pub out_same : out_of runs ≡ written fs
-  pub err_same : err_of runs ≡ told fs
+  full_one : (f : RunFile) (files : List RunFile) (e : End) → f.end ≡ e → FileTells z s means f → status_or e (status_of (file_ends files)) ≡ 5
+      → (status_of (file_ends files) ≡ 5 → FirstFull z s means files) → FirstFull z s means (f ∷ files)
+  full_one f files Done is tells five more =
+      let r = more five in
+      record {
+        before = f ∷ r.before;
+        file = r.file;
+        after = r.after;
+        split = ap (λ fs. f ∷ fs) r.split;
+        done = (is, r.done);
+        report = r.report;
+        full = r.full;
+        ran_out = r.ran_out;
+      }
+  full_one f files (Full report) is tells five more = record {
+    before = [];
+    file = f;
+    after = files;
+    split = refl;
+    done = tt;
+    report = report;
+    full = is;
+    ran_out = subst (λ (x : End). EndTells z s means f.mean f.part x) is tells.end;
+  }
+  full_one f files (Threw k) is tells five more = absurd (omega (arith, five))
+  full_one f files (Unsupported at) is tells five more = absurd (omega (arith, five))
+  full_one f files Memory is tells five more = absurd (omega (arith, five))
 
-pub reported : (names : List Name) (trees : List Tree) (fs : List Finish) → AllFinish names trees fs → Reported names trees fs
-reported _ _ _ answer.AllFinish.none = record { runs = []; ran = meaning.AllRun.none; status_same = refl; out_same = refl; err_same = refl }
-reported _ _ _ (answer.AllFinish.next name names tree trees f fs one rest) =
-    let more = reported names trees fs rest in
-    record {
-      runs = one.run ∷ more.runs;
-      ran = meaning.AllRun.next name names tree trees one.run more.runs one.runs more.ran;
-      status_same = ap (status_or one.run.end) more.status_same ∙ ap (λ e. status_or e (status fs)) (sym one.is.end_is);
-      out_same = ap (λ l. concat one.run.lines ++ l) more.out_same ∙ ap (λ l. l ++ written fs) (sym one.is.lines_are);
-      err_same = ap (λ l. end_line one.run.name one.run.end ++ l) more.err_same
-          ∙ ap (λ e. end_line one.run.name e ++ told fs) (sym one.is.end_is)
-          ∙ ap (λ n. end_line n f.end ++ told fs) (sym one.is.name);
-    }
+  -- the first file that didn't end Done ended Full
+  first_full : (files : List RunFile) → Every (FileTells z s means) files → status_of (file_ends files) ≡ 5 → FirstFull z s means files
+  first_full [] tells is = absurd (omega (arith, is))
+  first_full (f ∷ files) tells is = full_one f files f.end refl tells.0 is (first_full files tells.1)
+
+  -- where all ended as they are meant, they printed what they are meant to
+  meant_lines : (files : List RunFile) → Every (FileTells z s means) files → Every IsAsMeant files → map (λ f. f.lines) files ≡ map (λ m. concat m.lines) (means_of files)
+  meant_lines [] tells all = refl
+  meant_lines (f ∷ files) tells all = ap₂ (λ l ls. l ∷ ls) (tells.0.lines all.0) (meant_lines files tells.1 all.1)
+
+meant_ends : (files : List RunFile) → Every IsAsMeant files → file_ends files ≡ ends_meant (means_of files)
+meant_ends [] all = refl
+meant_ends (f ∷ files) all = ap₂ (λ e es. e ∷ es) all.0 (meant_ends files all.1)
+
+without_memory : (files : List RunFile) → Every IsMeantOrMemory files → Every (λ e. e ≡ Memory → ⊥) (file_ends files) → Every IsAsMeant files
+without_memory [] all none = tt
+without_memory (f ∷ files) all none = (⊎_elim (λ is. is) (λ is. absurd (none.0 is)) all.0, without_memory files all.1 none.1)
+
+-- ---- the lines of scripts, without those of the prelude
+
+abbrev behind : {X : Type 0} → List X → List X
+behind [] = []
+behind (x ∷ xs) = xs
+
+printed_is : (os : List Outcome) → printed_by os ≡ concat (map (λ o. o.lines) os)
+printed_is [] = refl
+printed_is (o ∷ os) = ap (λ l. o.lines ++ l) (printed_is os)
+
+meant_is : (ms : List Flow) → printed_meant ms ≡ concat (map (λ m. concat m.lines) ms)
+meant_is [] = refl
+meant_is (m ∷ ms) = ap (λ l. concat m.lines ++ l) (meant_is ms)
+
+same_lines : (os : List Outcome) (ms : List Flow) → map (λ o. o.lines) os ≡ map (λ m. concat m.lines) ms → printed_by os ≡ printed_meant ms
+same_lines os ms is = printed_is os ∙ ap concat is ∙ sym (meant_is ms)
+
+-- the prelude, if there is one, has the first lines
+scripts_lines : (tree : Option Tree) (outcome : Option Outcome) (os : List Outcome) (flow : Option Flow) (flows : List Flow) → HasOutcome tree outcome
+    → ((t : Tree) → tree ≡ Some t → (m : Flow) × (flow ≡ Some m)) → (tree ≡ None → flow ≡ None)
+    → map (λ o. o.lines) (all_outcomes outcome os) ≡ map (λ m. concat m.lines) (all_meant flow flows) → printed_by os ≡ printed_meant (run_after flow flows)
+scripts_lines None None os None flows has some none is = same_lines os flows is
+scripts_lines None None os (Some m) flows has some none is = absurd (cc (none refl))
+scripts_lines (Some t) (Some o) os (Some m) flows has some none is = same_lines os (run_after (Some m) flows) (ap behind is)
+scripts_lines (Some t) (Some o) os None flows has some none is = absurd (cc (some t refl).1)
+scripts_lines None (Some o) os flow flows has some none is = absurd has
+scripts_lines (Some t) None os flow flows has some none is = absurd has
+
+-- ---- a program that was run
+
+module _ (request : Request) (trees : Program Tree) (ran : Ran) (p : IsRan (setup_of request) trees.prelude trees.scripts ran) where
+  flows : List Flow
+  flows = all_flows request trees
+
+  first : AreFirst (all_flows request trees) p.files
+  first = are_first (state_kept (setup_of request) ran.kept) (prelude_by (setup_of request) trees.prelude) (scripts_by (setup_of request) trees.prelude trees.scripts) p.files p.run.each p.are
+
+  status_same : status_of (ends_of ran) ≡ status_of (file_ends p.files)
+  status_same = ap status_of (sym p.ends)
+
+  means_same : Every IsAsMeant p.files → all_flows request trees ≡ means_of p.files
+  means_same all = first.split ∙ (ap (λ x. means_of p.files ++ x) (first.all all) ∙ append-nil (means_of p.files))
+
+  ends_same : Every IsAsMeant p.files → ends_of ran ≡ ends_meant (all_flows request trees)
+  ends_same all = sym p.ends ∙ meant_ends p.files all ∙ ap ends_meant (sym (means_same all))
+
+  has_flow : (tree : Option Tree) (t : Tree) → tree ≡ Some t → (m : Flow) × (prelude_by (setup_of request) tree ≡ Some m)
+  has_flow None t is = absurd (cc is)
+  has_flow (Some x) t is = (_, refl)
+
+  no_flow : (tree : Option Tree) → tree ≡ None → prelude_by (setup_of request) tree ≡ None
+  no_flow None is = refl
+  no_flow (Some x) is = absurd (cc is)
+
+  lines_same : Every IsAsMeant p.files → printed_by ran.scripts.items ≡ printed_meant (script_flows request trees)
+  lines_same all =
+      let means : map (λ m. concat m.lines) (means_of p.files) ≡ map (λ m. concat m.lines) (all_flows request trees) = ap (map (λ m. concat m.lines)) (sym (means_same all)) in
+      let printed = meant_lines (sizes_by (setup_of request)) (state_kept (setup_of request) ran.kept) (all_flows request trees) p.files p.tells.each all in
+      scripts_lines trees.prelude ran.prelude ran.scripts.items (prelude_by (setup_of request) trees.prelude) (scripts_by (setup_of request) trees.prelude trees.scripts) p.has_prelude
+      (has_flow trees.prelude) (no_flow trees.prelude) (sym p.lines ∙ printed ∙ means)
+
+  out_same : Every IsAsMeant p.files → out_of ran ≡ out_meant request trees ran.interned
+  out_same all = ap (λ l. l ++ count_line ran.interned) (lines_same all)
+
+  -- what is reported is what is meant
+  report_same : (names : Program Name) → Every IsAsMeant p.files → report_of (WasRun names ran) ≡ report_meant request names trees ran.interned
+  report_same names all =
+      let ends = ends_same all in
+      ap (λ es. Printed (status_of es) (out_of ran) (end_lines (in_order names) es)) ends
+      ∙ ap (λ l. Printed (status_meant request trees) l (end_lines (in_order names) (ends_meant (all_flows request trees)))) (out_same all)
+
+  pub all_done : status_of (ends_of ran) ≡ 0 → Every IsAsMeant p.files
+  all_done is = done_meant (sizes_by (setup_of request)) (state_kept (setup_of request) ran.kept) (all_flows request trees) p.files p.tells.each (sym status_same ∙ is)
+
+  pub done_status : status_of (ends_of ran) ≡ 0 → status_meant request trees ≡ 0
+  done_status is = ap status_of (sym (ends_same (all_done is))) ∙ is
+
+  pub done_out : status_of (ends_of ran) ≡ 0 → out_of ran ≡ out_meant request trees ran.interned
+  done_out is = out_same (all_done is)
+
+  pub done_err : (names : Program Name) → status_of (ends_of ran) ≡ 0 → err_of names ran ≡ []
+  done_err names is = quiet (in_order names) (ends_of ran) is
+
+  pub early_status : status_of (ends_of ran) ≡ 1 → status_meant request trees ≡ 1
+  early_status is = ap (λ ms. status_of (ends_meant ms)) first.split
+      ∙ early_meant (sizes_by (setup_of request)) (state_kept (setup_of request) ran.kept) (all_flows request trees) p.files first.rest p.tells.each (sym status_same ∙ is)
+
+  pub full_first : status_of (ends_of ran) ≡ 5 → FirstFull (sizes_by (setup_of request)) (state_kept (setup_of request) ran.kept) (all_flows request trees) p.files
+  full_first is = first_full (sizes_by (setup_of request)) (state_kept (setup_of request) ran.kept) (all_flows request trees) p.files p.tells.each (sym status_same ∙ is)
+
+  pub complete : (names : Program Name) → Fits (sizes_by (setup_of request)) (all_flows request trees) → Every (λ e. e ≡ Memory → ⊥) (ends_of ran)
+      → report_of (WasRun names ran) ≡ report_meant request names trees ran.interned
+  complete names fits none = report_same names (without_memory p.files (p.tells.fits fits) (subst (Every (λ e. e ≡ Memory → ⊥)) (sym p.ends) none))

@@ -1,9 +1,6 @@
-pub mod Told
-pub mod Lawful
-pub mod Turns
-pub mod Ends
-pub mod Contents
-pub mod Rows
-pub mod Written
-pub mod Stages
-pub mod Single
+mod Written
+mod Told
+mod Contents
+mod Ends
+mod Becoming
+mod Rows

@@ -1,29 +1,31 @@
 -- Each status and why it comes, from the outcome.
-use Rattle.std.proofs.Common.{◌≡◌, ◌⊎◌, inl, inr, ℕ, ◌≤◌, ◌<◌, List, None, Some, refl, sym, ap, ◌∙◌, subst, arith}
-use Rattle.std.specs.declared.option.Option.{Option}
+use Rattle.std.proofs.Common.{◌≡◌, ◌⊎◌, inl, inr, ℕ, ◌≤◌, ◌<◌, List, Option, None, Some, refl, sym, ap, ◌∙◌, subst, arith}
+use Rattle.js_generate.specs.Texts.{Named}
 use Rattle.js_io.specs.Counts.{next_count}
 use Rattle.js_io.specs.FilesState.{FilesState}
-use Rattle.js_run.specs.Words.{Name, Plan, files_of, plan_of}
-use Rattle.js_run.specs.Meaning.{Run, AllRun, runs_of}
-use Rattle.js_run.specs.Verdict.{Verdict, BadWords, NotRead, TooLarge, Refused, NoMemory, Ran, Report, Refusal, Printed, report_of, status_of, out_of, err_of, unread_line, large_line}
+use Rattle.js_syntax.specs.Tree.{Tree}
+use Rattle.js_words.specs.Words.{Request, request_of}
+use Rattle.js_sources.specs.Program.{Name, Program, in_order}
+use Rattle.js_sources.specs.Reading.{IsQuiet, IsUnread, IsLarge}
+use Rattle.js_sources.specs.Spelling.{Spell, FirstRefused}
+use Rattle.js_program.specs.declared.ran.Ran.{Ran}
+use Rattle.js_program.specs.Ran.{IsRan}
+use Rattle.js_run.specs.Asked.{AreTexts, names_of, setup_of}
+use Rattle.js_run.specs.Verdict.{Verdict, BadWords, NotRead, TooLarge, Refused, NoMemory, WasRun, Report, Refusal, Printed, report_of, kept_of, status_of, ends_of, unread_line, large_line}
 use Rattle.js_run.specs.Moment.{Moment, Sinks, Ended}
-use Rattle.js_run.specs.Cause.{AllSpell, FirstRefused, IsQuiet, IsUnread, IsLarge, HasCauseBy, HasCauseIn, IsRun}
+use Rattle.js_run.specs.Cause.{HasCauseBy, HasCauseIn, OfTexts, names_in}
 use Rattle.js_run.specs.Ending.{TakesAll, IsEnd}
 use Rattle.js_run.specs.Outcome.{Outcome}
 use Rattle.js_run.specs.Rows as row
-use Rattle.js_run.specs.Rows.{NoFault, IsWant, OrWant, Exactly, IsFileFault, IsToldLarge, IsNoScript, IsToldRefused, IsRefusal, IsRefusalTold, IsMemory, AreRun, runs_by, Prints, PrintsAll, PrintsEarly, IsCut, IsHonest, IsRanTo, IsDone}
-use Rattle.js_syntax.specs.Tree.{Tree}
-use Rattle.js_run.proofs.Ends.{IsRunStatus, all_meant, early_meant, quiet, status_is}
-use Rattle.js_run.proofs.Contents.{OneScript, NoneRefused, not_large, read_same, read_small, none_refused, same_trees}
+use Rattle.js_run.specs.Rows.{NoFault, IsWant, OrWant, Exactly, IsFileFault, IsToldLarge, IsNoScript, IsToldRefused, IsRefusal, IsRefusalTold, IsMemory, AreRun, Prints, PrintsAll, PrintsEarly, PrintsFull, IsCut, IsHonest, IsRanTo, IsDone}
+use Rattle.js_run.proofs.Contents.{OneScript, NoneRefused, not_large, read_small, none_refused, same_trees, texts_read, texts_same}
+use Rattle.js_run.proofs.Ends.{IsRunStatus, status_is, done_status, done_out, done_err, early_status, full_first, complete}
 
--- the status of scripts that were run
-ran_status : (old new : FilesState) (names : List Name) (runs : List Run) → IsRun old new names runs → IsRunStatus (status_of runs)
-ran_status old new names runs why = status_is names why.trees runs why.ran
-
-not_ran : (status wanted : ℕ) → IsRunStatus status → status ≡ wanted → 2 ≤ wanted → wanted < 6 → ⊥
+not_ran : (status wanted : ℕ) → IsRunStatus status → status ≡ wanted → 2 ≤ wanted → wanted < 5 → ⊥
 not_ran status wanted (inl none) is low high = omega (arith, none, is, low)
 not_ran status wanted (inr (inl one)) is low high = omega (arith, one, is, low)
-not_ran status wanted (inr (inr six)) is low high = omega (arith, six, is, high)
+not_ran status wanted (inr (inr (inl five))) is low high = omega (arith, five, is, high)
+not_ran status wanted (inr (inr (inr six))) is low high = omega (arith, six, is, high)
 
 abbrev status_in : Report → ℕ
 status_in (Refusal status line) = status
@@ -32,7 +34,8 @@ status_in (Printed status written told) = status
 not_seven : (status : ℕ) → IsRunStatus status → status ≡ 7 → ⊥
 not_seven status (inl none) is = omega (arith, none, is)
 not_seven status (inr (inl one)) is = omega (arith, one, is)
-not_seven status (inr (inr six)) is = omega (arith, six, is)
+not_seven status (inr (inr (inl five))) is = omega (arith, five, is)
+not_seven status (inr (inr (inr six))) is = omega (arith, six, is)
 
 -- the status is that of the report, or 7
 code_of : (r : Report) (code : ℕ) (old new : Sinks) → IsEnd r code old new → (code ≡ status_in r) ⊎ (code ≡ 7)
@@ -47,43 +50,42 @@ decided code status wanted (inr is) w lt = absurd (omega (arith, is, w, lt))
 
 -- 2
 
-bad_words : (plan : Option Plan) (old new : FilesState) (v : Verdict) → HasCauseBy plan old new v → status_in (report_of v) ≡ 2 → plan ≡ None
+bad_words : (request : Option Request) (old new : FilesState) (v : Verdict) → HasCauseBy request old new v → status_in (report_of v) ≡ 2 → request ≡ None
 bad_words None old new v why is = refl
-bad_words (Some plan) old new BadWords why is = absurd why
-bad_words (Some plan) old new (NotRead name) why is = absurd (omega (arith, is))
-bad_words (Some plan) old new (TooLarge name) why is = absurd (omega (arith, is))
-bad_words (Some plan) old new (Refused name fault) why is = absurd (omega (arith, is))
-bad_words (Some plan) old new NoMemory why is = absurd (omega (arith, is))
-bad_words (Some plan) old new (Ran runs) why is = absurd (not_ran _ 2 (ran_status old new (files_of plan) runs why) is (omega arith) (omega arith))
+bad_words (Some request) old new BadWords why is = absurd why
+bad_words (Some request) old new (NotRead name) why is = absurd (omega (arith, is))
+bad_words (Some request) old new (TooLarge name) why is = absurd (omega (arith, is))
+bad_words (Some request) old new (Refused name fault) why is = absurd (omega (arith, is))
+bad_words (Some request) old new NoMemory why is = absurd (omega (arith, is))
+bad_words (Some request) old new (WasRun names ran) why is = absurd (not_ran _ 2 (status_is (ends_of ran)) is (omega arith) (omega arith))
 
-refused_words : (ended : Ended) (old new : Moment) (v : Verdict) → HasCauseBy None old.files new.files v → IsEnd (report_of v) ended.code old.sinks new.sinks → OrWant 2 ended old new
-refused_words ended old new BadWords why end = inl end.status
-refused_words ended old new NoMemory why end = inr end
-refused_words ended old new (NotRead name) why end = absurd why
-refused_words ended old new (TooLarge name) why end = absurd why
-refused_words ended old new (Refused name fault) why end = absurd why
-refused_words ended old new (Ran runs) why end = absurd why
+refused_words : (ended : Ended) (old new : Moment) (v : Verdict) → HasCauseBy None old.files new.files v → IsEnd (report_of v) ended.code old.sinks new.sinks → ended.kept ≡ kept_of v → OrWant 2 ended old new
+refused_words ended old new BadWords why end kept = inl end.status
+refused_words ended old new NoMemory why end kept = inr (record { told = end; kept = kept })
+refused_words ended old new (NotRead name) why end kept = absurd why
+refused_words ended old new (TooLarge name) why end kept = absurd why
+refused_words ended old new (Refused name fault) why end kept = absurd why
+refused_words ended old new (WasRun names ran) why end kept = absurd why
 
 -- 3
 
-file_fault : (words : List (List ℕ)) (plan : Option Plan) (old new : FilesState) (v : Verdict) → plan_of words ≡ plan → HasCauseBy plan old new v → status_in (report_of v) ≡ 3 → IsFileFault words old new
-file_fault words (Some plan) old new (NotRead name) planned why is = record {
-  plan = plan;
-  planned = planned;
-  why = inl (subst (λ (n : Name). IsUnread old new (files_of plan) n) (sym why.blames) why);
+file_fault : (words : List (List ℕ)) (request : Option Request) (old new : FilesState) (v : Verdict) → request_of words ≡ request → HasCauseBy request old new v → status_in (report_of v) ≡ 3 → IsFileFault words old new
+file_fault words (Some request) old new (NotRead name) lawful why is = record {
+  request = request;
+  lawful = lawful;
+  why = inl (subst (λ (n : Name). IsUnread old new (in_order (names_of request.asked)) n) (sym why.blames) why);
 }
-file_fault words (Some plan) old new (TooLarge name) planned why is = record {
-  plan = plan;
-  planned = planned;
-  why = inr (subst (λ (n : Name). IsLarge old new (files_of plan) n) (sym why.blames) why);
+file_fault words (Some request) old new (TooLarge name) lawful why is = record {
+  request = request;
+  lawful = lawful;
+  why = inr (subst (λ (n : Name). IsLarge old new (in_order (names_of request.asked)) n) (sym why.blames) why);
 }
-file_fault words plan old new BadWords planned why is = absurd (omega (arith, is))
-file_fault words plan old new (Refused name fault) planned why is = absurd (omega (arith, is))
-file_fault words plan old new NoMemory planned why is = absurd (omega (arith, is))
-file_fault words (Some plan) old new (Ran runs) planned why is = absurd (not_ran _ 3 (ran_status old new (files_of plan) runs why) is (omega arith) (omega arith))
-file_fault words None old new (Ran runs) planned why is = absurd why
-file_fault words None old new (NotRead name) planned why is = absurd why
-file_fault words None old new (TooLarge name) planned why is = absurd why
+file_fault words request old new BadWords lawful why is = absurd (omega (arith, is))
+file_fault words request old new (Refused name fault) lawful why is = absurd (omega (arith, is))
+file_fault words request old new NoMemory lawful why is = absurd (omega (arith, is))
+file_fault words request old new (WasRun names ran) lawful why is = absurd (not_ran _ 3 (status_is (ends_of ran)) is (omega arith) (omega arith))
+file_fault words None old new (NotRead name) lawful why is = absurd why
+file_fault words None old new (TooLarge name) lawful why is = absurd why
 
 -- a read that failed was counted
 counted : (before after : ℕ) → after ≡ next_count before → NoFault before after → ⊥
@@ -91,59 +93,68 @@ counted before after once calm = calm.1 (omega (arith, once, calm.0))
 
 -- but for 3
 
-quiet_but : (plan : Option Plan) (code : ℕ) (old new : Moment) (v : Verdict) → HasCauseBy plan old.files new.files v → IsEnd (report_of v) code old.sinks new.sinks → (code ≡ 3 → ⊥)
+quiet_but : (request : Option Request) (code : ℕ) (old new : Moment) (v : Verdict) → HasCauseBy request old.files new.files v → IsEnd (report_of v) code old.sinks new.sinks → (code ≡ 3 → ⊥)
     → IsQuiet old.files new.files
 quiet_but None code old new BadWords why end other = why
 quiet_but None code old new NoMemory why end other = why
 quiet_but None code old new (NotRead name) why end other = absurd why
 quiet_but None code old new (TooLarge name) why end other = absurd why
 quiet_but None code old new (Refused name fault) why end other = absurd why
-quiet_but None code old new (Ran runs) why end other = absurd why
-quiet_but (Some plan) code old new BadWords why end other = absurd why
-quiet_but (Some plan) code old new NoMemory why end other = why
-quiet_but (Some plan) code old new (NotRead name) why end other = absurd (other end.status)
-quiet_but (Some plan) code old new (TooLarge name) why end other = absurd (other end.status)
-quiet_but (Some plan) code old new (Refused name fault) why end other = why.quiet
-quiet_but (Some plan) code old new (Ran runs) why end other = why.quiet
+quiet_but None code old new (WasRun names ran) why end other = absurd why
+quiet_but (Some request) code old new BadWords why end other = absurd why
+quiet_but (Some request) code old new NoMemory why end other = why
+quiet_but (Some request) code old new (NotRead name) why end other = absurd (other end.status)
+quiet_but (Some request) code old new (TooLarge name) why end other = absurd (other end.status)
+quiet_but (Some request) code old new (Refused name fault) why end other = why.quiet
+quiet_but (Some request) code old new (WasRun names ran) why end other = why.quiet
 
-large_end : (words : List (List ℕ)) (ended : Ended) (old new : Moment) (large : IsToldLarge words old.files new.files) (v : Verdict) → HasCauseIn old.files new.files (files_of large.plan) v
-    → IsEnd (report_of v) ended.code old.sinks new.sinks → OrWant 3 ended old new
-large_end words ended old new large BadWords why end = absurd why
-large_end words ended old new large (NotRead name) why end = inl end.status
-large_end words ended old new large (TooLarge name) why end = inl end.status
-large_end words ended old new large (Refused name fault) why end =
-    absurd (omega (arith, large.larger, read_small old.files.held large.before large.after large.name large.bytes (files_of large.plan) why.contents large.is why.read large.split))
-large_end words ended old new large NoMemory why end = inr end
-large_end words ended old new large (Ran runs) why end =
-    absurd (omega (arith, large.larger, read_small old.files.held large.before large.after large.name large.bytes (files_of large.plan) why.contents large.is why.read large.split))
+-- where all files were read, none is told to be too large
+told_small : (words : List (List ℕ)) (old new : FilesState) (large : IsToldLarge words old new) (v : Verdict) → OfTexts large.request old new v → ⊥
+told_small words old new large v why =
+    let (sources, read) = texts_read old.held large.request.asked why.sources why.texts in
+    omega (arith, large.larger, read_small old.held large.before large.after large.name large.bytes (in_order (names_of large.request.asked)) sources large.is read large.split)
+
+large_end : (words : List (List ℕ)) (ended : Ended) (old new : Moment) (large : IsToldLarge words old.files new.files) (v : Verdict) → HasCauseIn old.files new.files large.request v
+    → IsEnd (report_of v) ended.code old.sinks new.sinks → ended.kept ≡ kept_of v → OrWant 3 ended old new
+large_end words ended old new large BadWords why end kept = absurd why
+large_end words ended old new large (NotRead name) why end kept = inl end.status
+large_end words ended old new large (TooLarge name) why end kept = inl end.status
+large_end words ended old new large (Refused name fault) why end kept = absurd (told_small words old.files new.files large (Refused name fault) why)
+large_end words ended old new large NoMemory why end kept = inr (record { told = end; kept = kept })
+large_end words ended old new large (WasRun names ran) why end kept = absurd (told_small words old.files new.files large (WasRun names ran) why)
 
 -- 4
 
-no_script : (words : List (List ℕ)) (plan : Option Plan) (old new : FilesState) (v : Verdict) → plan_of words ≡ plan → HasCauseBy plan old new v → status_in (report_of v) ≡ 4 → IsNoScript words old new
-no_script words (Some plan) old new (Refused name fault) planned why is = record { plan = plan; planned = planned; name = name; fault = fault; refused = why }
-no_script words None old new (Refused name fault) planned why is = absurd why
-no_script words plan old new BadWords planned why is = absurd (omega (arith, is))
-no_script words plan old new (NotRead name) planned why is = absurd (omega (arith, is))
-no_script words plan old new (TooLarge name) planned why is = absurd (omega (arith, is))
-no_script words plan old new NoMemory planned why is = absurd (omega (arith, is))
-no_script words (Some plan) old new (Ran runs) planned why is = absurd (not_ran _ 4 (ran_status old new (files_of plan) runs why) is (omega arith) (omega arith))
-no_script words None old new (Ran runs) planned why is = absurd why
+no_script : (words : List (List ℕ)) (request : Option Request) (old new : FilesState) (v : Verdict) → request_of words ≡ request → HasCauseBy request old new v → status_in (report_of v) ≡ 4 → IsNoScript words old new
+no_script words (Some request) old new (Refused name fault) lawful why is = record { request = request; lawful = lawful; name = name; fault = fault; refused = why }
+no_script words None old new (Refused name fault) lawful why is = absurd why
+no_script words request old new BadWords lawful why is = absurd (omega (arith, is))
+no_script words request old new (NotRead name) lawful why is = absurd (omega (arith, is))
+no_script words request old new (TooLarge name) lawful why is = absurd (omega (arith, is))
+no_script words request old new NoMemory lawful why is = absurd (omega (arith, is))
+no_script words request old new (WasRun names ran) lawful why is = absurd (not_ran _ 4 (status_is (ends_of ran)) is (omega arith) (omega arith))
 
-refused_end : NoneRefused → (words : List (List ℕ)) (ended : Ended) (old new : Moment) (told : IsToldRefused words old.files new.files) (v : Verdict) → HasCauseIn old.files new.files (files_of told.plan) v
-    → IsEnd (report_of v) ended.code old.sinks new.sinks → OrWant 4 ended old new
-refused_end law words ended old new told BadWords why end = absurd why
-refused_end law words ended old new told (NotRead name) why end = absurd (counted old.files.faults new.files.faults why.once told.calm)
-refused_end law words ended old new told (TooLarge name) why end =
-    absurd (not_large old.files.held why.up_to.before why.up_to.after name (files_of told.plan) told.contents old.files.oversize new.files.oversize told.told why.up_to.split why.larger)
-refused_end law words ended old new told (Refused name fault) why end = inl end.status
-refused_end law words ended old new told NoMemory why end = inr end
-refused_end law words ended old new told (Ran runs) why end =
-    let same = read_same old.files.held (files_of told.plan) told.contents why.contents told.told why.read in
-    absurd (none_refused law told.contents why.trees (files_of told.plan) told.name told.fault (subst (λ (c : List (List ℕ)). AllSpell c why.trees) same why.spell) told.first)
+-- a told file among those that were read isn't too large
+told_not_large : (request : Request) (old new : FilesState) (sources : Program Named) (name : Name) → row.AreTold old.held (in_order (names_of request.asked))
+    → AreTexts request.asked old.held sources → IsLarge old new (in_order (names_of request.asked)) name → ⊥
+told_not_large request old new sources name told texts why =
+    let (all, read) = texts_read old.held request.asked sources texts in
+    not_large old.held why.up_to.before why.up_to.after name (in_order (names_of request.asked)) all old.oversize new.oversize read told why.up_to.split why.larger
+
+refused_end : OneScript → NoneRefused → (words : List (List ℕ)) (ended : Ended) (old new : Moment) (told : IsToldRefused words old.files new.files) (v : Verdict) → HasCauseIn old.files new.files told.request v
+    → IsEnd (report_of v) ended.code old.sinks new.sinks → ended.kept ≡ kept_of v → OrWant 4 ended old new
+refused_end one law words ended old new told BadWords why end kept = absurd why
+refused_end one law words ended old new told (NotRead name) why end kept = absurd (counted old.files.faults new.files.faults why.once told.calm)
+refused_end one law words ended old new told (TooLarge name) why end kept = absurd (told_not_large told.request old.files new.files told.sources name told.told told.texts why)
+refused_end one law words ended old new told (Refused name fault) why end kept = inl end.status
+refused_end one law words ended old new told NoMemory why end kept = inr (record { told = end; kept = kept })
+refused_end one law words ended old new told (WasRun names ran) why end kept =
+    let same = texts_same old.files.held told.request.asked why.sources told.sources told.told why.texts told.texts in
+    absurd (none_refused one law told.sources why.cause.trees told.name told.fault (subst (λ (x : Program Named). Spell x why.cause.trees) same why.cause.spell) told.first)
 
 -- what a refusal tells
 
-not_code : (code status wanted : ℕ) → IsRunStatus status → (code ≡ status) ⊎ (code ≡ 7) → code ≡ wanted → 2 ≤ wanted → wanted < 6 → ⊥
+not_code : (code status wanted : ℕ) → IsRunStatus status → (code ≡ status) ⊎ (code ≡ 7) → code ≡ wanted → 2 ≤ wanted → wanted < 5 → ⊥
 not_code code status wanted ran (inl is) w low high = not_ran status wanted ran (sym is ∙ w) low high
 not_code code status wanted ran (inr is) w low high = omega (arith, is, w, high)
 
@@ -157,179 +168,187 @@ no_six ended six (inl two) = omega (arith, six, two)
 no_six ended six (inr (inl three)) = omega (arith, six, three)
 no_six ended six (inr (inr four)) = omega (arith, six, four)
 
-refusal_told : (words : List (List ℕ)) (plan : Option Plan) (ended : Ended) (old new : Moment) (v : Verdict) → plan_of words ≡ plan → HasCauseBy plan old.files new.files v
-    → IsEnd (report_of v) ended.code old.sinks new.sinks → IsRefusal ended → IsRefusalTold words ended old new
-refusal_told words plan ended old new BadWords planned why end is = record {
+refusal_told : (words : List (List ℕ)) (request : Option Request) (ended : Ended) (old new : Moment) (v : Verdict) → request_of words ≡ request → HasCauseBy request old.files new.files v
+    → IsEnd (report_of v) ended.code old.sinks new.sinks → ended.kept ≡ kept_of v → IsRefusal ended → IsRefusalTold words ended old new
+refusal_told words request ended old new BadWords lawful why end kept is = record {
   line = _;
   is = row.IsLine.bad_words end.status;
   told = record { status = refl; silent = end.silent; told = end.told };
+  kept = kept;
 }
-refusal_told words None ended old new (NotRead name) planned why end is = absurd why
-refusal_told words (Some plan) ended old new (NotRead name) planned why end is = record {
+refusal_told words None ended old new (NotRead name) lawful why end kept is = absurd why
+refusal_told words (Some request) ended old new (NotRead name) lawful why end kept is = record {
   line = _;
   is = subst (λ (n : Name). row.IsLine words ended.code old.files new.files (unread_line n)) why.blames
-      (row.IsLine.unread end.status plan planned (subst (λ (n : Name). IsUnread old.files new.files (files_of plan) n) (sym why.blames) why));
+      (row.IsLine.unread end.status request lawful (subst (λ (n : Name). IsUnread old.files new.files (in_order (names_of request.asked)) n) (sym why.blames) why));
   told = record { status = refl; silent = end.silent; told = end.told };
+  kept = kept;
 }
-refusal_told words None ended old new (TooLarge name) planned why end is = absurd why
-refusal_told words (Some plan) ended old new (TooLarge name) planned why end is = record {
+refusal_told words None ended old new (TooLarge name) lawful why end kept is = absurd why
+refusal_told words (Some request) ended old new (TooLarge name) lawful why end kept is = record {
   line = _;
   is = subst (λ (n : Name). row.IsLine words ended.code old.files new.files (large_line n)) why.blames
-      (row.IsLine.large end.status plan planned (subst (λ (n : Name). IsLarge old.files new.files (files_of plan) n) (sym why.blames) why));
+      (row.IsLine.large end.status request lawful (subst (λ (n : Name). IsLarge old.files new.files (in_order (names_of request.asked)) n) (sym why.blames) why));
   told = record { status = refl; silent = end.silent; told = end.told };
+  kept = kept;
 }
-refusal_told words None ended old new (Refused name fault) planned why end is = absurd why
-refusal_told words (Some plan) ended old new (Refused name fault) planned why end is = record {
+refusal_told words None ended old new (Refused name fault) lawful why end kept is = absurd why
+refusal_told words (Some request) ended old new (Refused name fault) lawful why end kept is = record {
   line = _;
-  is = row.IsLine.refused end.status plan planned name fault why;
+  is = row.IsLine.refused end.status request lawful name fault why;
   told = record { status = refl; silent = end.silent; told = end.told };
+  kept = kept;
 }
-refusal_told words plan ended old new NoMemory planned why end is = absurd (no_six ended end.status is)
-refusal_told words None ended old new (Ran runs) planned why end is = absurd why
-refusal_told words (Some plan) ended old new (Ran runs) planned why end is =
-    absurd (not_refusal ended (status_of runs) (ran_status old.files new.files (files_of plan) runs why) (code_of (report_of (Ran runs)) ended.code old.sinks new.sinks end) is)
+refusal_told words request ended old new NoMemory lawful why end kept is = absurd (no_six ended end.status is)
+refusal_told words request ended old new (WasRun names ran) lawful why end kept is =
+    absurd (not_refusal ended (status_of (ends_of ran)) (status_is (ends_of ran)) (code_of (report_of (WasRun names ran)) ended.code old.sinks new.sinks end) is)
 
--- 0, 1, 6 and 7
-
-module _ (words : List (List ℕ)) (plan : Plan) (old new : FilesState) (planned : plan_of words ≡ Some plan) (runs : List Run) (why : IsRun old new (files_of plan) runs) where
-  abbrev are_run : AreRun words old new
-  are_run = record {
-    plan = plan;
-    planned = planned;
-    contents = why.contents;
-    trees = why.trees;
-    read = why.read;
-    quiet = why.quiet;
-    spell = why.spell;
-  }
+-- 0, 1, 5, 6 and 7
 
 record RanTo (words : List (List ℕ)) (ended : Ended) (old new : Moment) : Type 0 where
   run : AreRun words old.files new.files
-  runs : List Run
-  ran : AllRun (files_of run.plan) run.trees runs
-  end : IsEnd (report_of (Ran runs)) ended.code old.sinks new.sinks
+  ran : Ran
+  program : IsRan (setup_of run.request) run.trees.prelude run.trees.scripts ran
+  end : IsEnd (report_of (WasRun (names_in run.sources) ran)) ended.code old.sinks new.sinks
+  kept : ended.kept ≡ Some ran.kept
 
-ran_to_end : (words : List (List ℕ)) (plan : Plan) (ended : Ended) (old new : Moment) (runs : List Run) → plan_of words ≡ Some plan → IsRun old.files new.files (files_of plan) runs
-    → IsEnd (report_of (Ran runs)) ended.code old.sinks new.sinks → RanTo words ended old new
-ran_to_end words plan ended old new runs planned why end = record { run = are_run words plan old.files new.files planned runs why; runs = runs; ran = why.ran; end = end }
+ran_to_end : (words : List (List ℕ)) (request : Request) (ended : Ended) (old new : Moment) (names : Program Name) (ran : Ran) → request_of words ≡ Some request → OfTexts request old.files new.files (WasRun names ran)
+    → IsEnd (report_of (WasRun names ran)) ended.code old.sinks new.sinks → ended.kept ≡ Some ran.kept → RanTo words ended old new
+ran_to_end words request ended old new names ran lawful why end kept = record {
+  run = record { request = request; lawful = lawful; sources = why.sources; texts = why.texts; quiet = why.quiet; trees = why.cause.trees; spell = why.cause.spell };
+  ran = ran;
+  program = why.cause.program;
+  end = subst (λ (ns : Program Name). IsEnd (report_of (WasRun ns ran)) ended.code old.sinks new.sinks) why.cause.named end;
+  kept = kept;
+}
 
-other : (code status : ℕ) → code ≡ status → (code < 2) ⊎ (code ≡ 7) → 2 ≤ status → status < 7 → ⊥
-other code status is (inl few) low high = omega (arith, is, few, low)
-other code status is (inr cut) low high = omega (arith, is, cut, high)
+other : (code status : ℕ) → code ≡ status → (code < 2) ⊎ ((code ≡ 5) ⊎ (code ≡ 7)) → 2 ≤ status → status < 7 → (status ≡ 5 → ⊥) → ⊥
+other code status is (inl few) low high not_five = omega (arith, is, few, low)
+other code status is (inr (inl five)) low high not_five = not_five (sym is ∙ five)
+other code status is (inr (inr cut)) low high not_five = omega (arith, is, cut, high)
 
--- a status other than 2, 3, 4 and 6 comes of scripts that were run
-ran_only : (words : List (List ℕ)) (plan : Option Plan) (ended : Ended) (old new : Moment) (v : Verdict) → plan_of words ≡ plan → HasCauseBy plan old.files new.files v
-    → IsEnd (report_of v) ended.code old.sinks new.sinks → (ended.code < 2) ⊎ (ended.code ≡ 7) → RanTo words ended old new
-ran_only words plan ended old new BadWords planned why end is = absurd (other ended.code 2 end.status is (omega arith) (omega arith))
-ran_only words plan ended old new (NotRead name) planned why end is = absurd (other ended.code 3 end.status is (omega arith) (omega arith))
-ran_only words plan ended old new (TooLarge name) planned why end is = absurd (other ended.code 3 end.status is (omega arith) (omega arith))
-ran_only words plan ended old new (Refused name fault) planned why end is = absurd (other ended.code 4 end.status is (omega arith) (omega arith))
-ran_only words plan ended old new NoMemory planned why end is = absurd (other ended.code 6 end.status is (omega arith) (omega arith))
-ran_only words None ended old new (Ran runs) planned why end is = absurd why
-ran_only words (Some plan) ended old new (Ran runs) planned why end is = ran_to_end words plan ended old new runs planned why end
+-- a status other than 2, 3, 4 and 6 comes of a program that was run
+ran_only : (words : List (List ℕ)) (request : Option Request) (ended : Ended) (old new : Moment) (v : Verdict) → request_of words ≡ request → HasCauseBy request old.files new.files v
+    → IsEnd (report_of v) ended.code old.sinks new.sinks → ended.kept ≡ kept_of v → (ended.code < 2) ⊎ ((ended.code ≡ 5) ⊎ (ended.code ≡ 7)) → RanTo words ended old new
+ran_only words request ended old new BadWords lawful why end kept is = absurd (other ended.code 2 end.status is (omega arith) (omega arith) (λ no. omega (arith, no)))
+ran_only words request ended old new (NotRead name) lawful why end kept is = absurd (other ended.code 3 end.status is (omega arith) (omega arith) (λ no. omega (arith, no)))
+ran_only words request ended old new (TooLarge name) lawful why end kept is = absurd (other ended.code 3 end.status is (omega arith) (omega arith) (λ no. omega (arith, no)))
+ran_only words request ended old new (Refused name fault) lawful why end kept is = absurd (other ended.code 4 end.status is (omega arith) (omega arith) (λ no. omega (arith, no)))
+ran_only words request ended old new NoMemory lawful why end kept is = absurd (other ended.code 6 end.status is (omega arith) (omega arith) (λ no. omega (arith, no)))
+ran_only words None ended old new (WasRun names ran) lawful why end kept is = absurd why
+ran_only words (Some request) ended old new (WasRun names ran) lawful why end kept is = ran_to_end words request ended old new names ran lawful why end kept
 
-prints : (words : List (List ℕ)) (status : ℕ) (ended : Ended) (old new : Moment) → status < 7 → ended.code ≡ status → RanTo words ended old new → Prints words status old new
+prints : (words : List (List ℕ)) (status : ℕ) (ended : Ended) (old new : Moment) → status < 7 → ended.code ≡ status → RanTo words ended old new → Prints words status ended old new
 prints words status ended old new small is r = by r.end
   where
-    by : IsEnd (report_of (Ran r.runs)) ended.code old.sinks new.sinks → Prints words status old new
-    by (inl whole) = record { run = r.run; runs = r.runs; ran = r.ran; ends = sym whole.status ∙ is; out = whole.out; err = whole.err }
+    by : IsEnd (report_of (WasRun (names_in r.run.sources) r.ran)) ended.code old.sinks new.sinks → Prints words status ended old new
+    by (inl whole) = record { run = r.run; ran = r.ran; program = r.program; ends = sym whole.status ∙ is; out = whole.out; err = whole.err; kept = r.kept }
     by (inr (inl cut)) = absurd (omega (arith, cut.status, is, small))
     by (inr (inr cut)) = absurd (omega (arith, cut.status, is, small))
 
-prints_all : (words : List (List ℕ)) (old new : Moment) → Prints words 0 old new → PrintsAll words old new
-prints_all words old new p =
-    let same : p.runs ≡ runs_of (files_of p.run.plan) p.run.trees = all_meant (files_of p.run.plan) p.run.trees p.runs p.ran p.ends in
-    let ends : status_of (runs_of (files_of p.run.plan) p.run.trees) ≡ 0 = subst (λ (r : List Run). status_of r ≡ 0) same p.ends in
-    record {
-      run = p.run;
-      ends = ends;
-      out = subst (λ (r : List Run). TakesAll old.sinks.out new.sinks.out (out_of r)) same p.out;
-      err = subst (λ (l : List ℕ). TakesAll old.sinks.err new.sinks.err l) (ap err_of same ∙ quiet (files_of p.run.plan) p.run.trees ends) p.err;
-    }
+prints_all : (words : List (List ℕ)) (ended : Ended) (old new : Moment) → Prints words 0 ended old new → PrintsAll words ended old new
+prints_all words ended old new p = record {
+  prints = p;
+  meant = done_status p.run.request p.run.trees p.ran p.program p.ends;
+  out = subst (λ (l : List ℕ). TakesAll old.sinks.out new.sinks.out l) (done_out p.run.request p.run.trees p.ran p.program p.ends) p.out;
+  err = subst (λ (l : List ℕ). TakesAll old.sinks.err new.sinks.err l) (done_err p.run.request p.run.trees p.ran p.program (names_in p.run.sources) p.ends) p.err;
+}
 
-prints_early : (words : List (List ℕ)) (old new : Moment) → Prints words 1 old new → PrintsEarly words old new
-prints_early words old new p = record { prints = p; meant = early_meant (files_of p.run.plan) p.run.trees p.runs p.ran p.ends }
+prints_early : (words : List (List ℕ)) (ended : Ended) (old new : Moment) → Prints words 1 ended old new → PrintsEarly words ended old new
+prints_early words ended old new p = record { prints = p; meant = early_status p.run.request p.run.trees p.ran p.program p.ends }
+
+prints_full : (words : List (List ℕ)) (ended : Ended) (old new : Moment) → Prints words 5 ended old new → PrintsFull words ended old new
+prints_full words ended old new p = record { prints = p; full = full_first p.run.request p.run.trees p.ran p.program p.ends }
 
 -- memory was wanting
 
-memory_end : (words : List (List ℕ)) (plan : Option Plan) (ended : Ended) (old new : Moment) (v : Verdict) → plan_of words ≡ plan → HasCauseBy plan old.files new.files v
-    → IsEnd (report_of v) ended.code old.sinks new.sinks → ended.code ≡ 6 → IsMemory words ended old new
-memory_end words plan ended old new BadWords planned why end is = absurd (omega (arith, end.status, is))
-memory_end words plan ended old new (NotRead name) planned why end is = absurd (omega (arith, end.status, is))
-memory_end words plan ended old new (TooLarge name) planned why end is = absurd (omega (arith, end.status, is))
-memory_end words plan ended old new (Refused name fault) planned why end is = absurd (omega (arith, end.status, is))
-memory_end words plan ended old new NoMemory planned why end is = inl end
-memory_end words None ended old new (Ran runs) planned why end is = absurd why
-memory_end words (Some plan) ended old new (Ran runs) planned why end is =
-    inr (prints words 6 ended old new (omega arith) is (ran_to_end words plan ended old new runs planned why end))
+memory_end : (words : List (List ℕ)) (request : Option Request) (ended : Ended) (old new : Moment) (v : Verdict) → request_of words ≡ request → HasCauseBy request old.files new.files v
+    → IsEnd (report_of v) ended.code old.sinks new.sinks → ended.kept ≡ kept_of v → ended.code ≡ 6 → IsMemory words ended old new
+memory_end words request ended old new BadWords lawful why end kept is = absurd (omega (arith, end.status, is))
+memory_end words request ended old new (NotRead name) lawful why end kept is = absurd (omega (arith, end.status, is))
+memory_end words request ended old new (TooLarge name) lawful why end kept is = absurd (omega (arith, end.status, is))
+memory_end words request ended old new (Refused name fault) lawful why end kept is = absurd (omega (arith, end.status, is))
+memory_end words request ended old new NoMemory lawful why end kept is = inl (record { told = end; kept = kept })
+memory_end words None ended old new (WasRun names ran) lawful why end kept is = absurd why
+memory_end words (Some request) ended old new (WasRun names ran) lawful why end kept is =
+    inr (prints words 6 ended old new (omega arith) is (ran_to_end words request ended old new names ran lawful why end kept))
 
-cut_short : (words : List (List ℕ)) (ended : Ended) (old new : Moment) → ended.code ≡ 7 → RanTo words ended old new → IsCut words ended.code old new
+cut_short : (words : List (List ℕ)) (ended : Ended) (old new : Moment) → ended.code ≡ 7 → RanTo words ended old new → IsCut words ended old new
 cut_short words ended old new is r = by r.end
   where
-    by : IsEnd (report_of (Ran r.runs)) ended.code old.sinks new.sinks → IsCut words ended.code old new
-    by (inl whole) = absurd (not_seven (status_of r.runs) (status_is (files_of r.run.plan) r.run.trees r.runs r.ran) (sym whole.status ∙ is))
-    by (inr cut) = record { run = r.run; runs = r.runs; ran = r.ran; cut = cut }
+    by : IsEnd (report_of (WasRun (names_in r.run.sources) r.ran)) ended.code old.sinks new.sinks → IsCut words ended old new
+    by (inl whole) = absurd (not_seven (status_of (ends_of r.ran)) (status_is (ends_of r.ran)) (sym whole.status ∙ is))
+    by (inr cut) = record { run = r.run; ran = r.ran; program = r.program; cut = cut; kept = r.kept }
 
-honest_end : OneScript → NoneRefused → (words : List (List ℕ)) (ended : Ended) (old new : Moment) (honest : IsHonest words old.files new.files) (v : Verdict) → HasCauseIn old.files new.files (files_of honest.plan) v
-    → IsEnd (report_of v) ended.code old.sinks new.sinks → IsDone words ended old new honest
-honest_end one none words ended old new honest BadWords why end = absurd why
-honest_end one none words ended old new honest (NotRead name) why end = absurd (counted old.files.faults new.files.faults why.once honest.calm)
-honest_end one none words ended old new honest (TooLarge name) why end =
-    absurd (not_large old.files.held why.up_to.before why.up_to.after name (files_of honest.plan) honest.contents old.files.oversize new.files.oversize honest.told why.up_to.split why.larger)
-honest_end one none words ended old new honest (Refused name fault) why end =
-    let same = read_same old.files.held (files_of honest.plan) honest.contents why.contents honest.told why.read in
-    absurd (none_refused none honest.contents honest.trees (files_of honest.plan) name fault honest.spell (subst (λ (c : List (List ℕ)). FirstRefused (files_of honest.plan) c name fault) same why.first))
-honest_end one none words ended old new honest NoMemory why end = inr end
-honest_end one none words ended old new honest (Ran runs) why end =
-    let same = read_same old.files.held (files_of honest.plan) honest.contents why.contents honest.told why.read in
-    let trees = same_trees one honest.contents why.trees honest.trees (subst (λ (c : List (List ℕ)). AllSpell c why.trees) same why.spell) honest.spell in
-    inl (record { runs = runs; ran = subst (λ (ts : List Tree). AllRun (files_of honest.plan) ts runs) trees why.ran; end = end })
+honest_end : OneScript → NoneRefused → (words : List (List ℕ)) (ended : Ended) (old new : Moment) (honest : IsHonest words old.files new.files) (v : Verdict) → HasCauseIn old.files new.files honest.request v
+    → IsEnd (report_of v) ended.code old.sinks new.sinks → ended.kept ≡ kept_of v → IsDone words ended old new honest
+honest_end one none words ended old new honest BadWords why end kept = absurd why
+honest_end one none words ended old new honest (NotRead name) why end kept = absurd (counted old.files.faults new.files.faults why.once honest.calm)
+honest_end one none words ended old new honest (TooLarge name) why end kept = absurd (told_not_large honest.request old.files new.files honest.sources name honest.told honest.texts why)
+honest_end one none words ended old new honest (Refused name fault) why end kept =
+    let same = texts_same old.files.held honest.request.asked why.sources honest.sources honest.told why.texts honest.texts in
+    absurd (none_refused one none honest.sources honest.trees name fault honest.spell (subst (λ (x : Program Named). FirstRefused x name fault) same why.cause))
+honest_end one none words ended old new honest NoMemory why end kept = inr (record { told = end; kept = kept })
+honest_end one none words ended old new honest (WasRun names ran) why end kept =
+    let same = texts_same old.files.held honest.request.asked why.sources honest.sources honest.told why.texts honest.texts in
+    let trees = same_trees one honest.sources why.cause.trees honest.trees (subst (λ (x : Program Named). Spell x why.cause.trees) same why.cause.spell) honest.spell in
+    let program : IsRan (setup_of honest.request) honest.trees.prelude honest.trees.scripts ran = subst (λ (t : Program Tree). IsRan (setup_of honest.request) t.prelude t.scripts ran) trees why.cause.program in
+    inl (record {
+      ran = ran;
+      program = program;
+      end = subst (λ (ns : Program Name). IsEnd (report_of (WasRun ns ran)) ended.code old.sinks new.sinks) (why.cause.named ∙ ap names_in same) end;
+      kept = kept;
+      complete = complete honest.request honest.trees ran program (names_in honest.sources);
+    })
 
 module _ (words : List (List ℕ)) (ended : Ended) (old new : Moment) (one : OneScript) (none : NoneRefused) (o : Outcome words ended old new) where
   ends : (ended.code ≡ status_in (report_of o.verdict)) ⊎ (ended.code ≡ 7)
   ends = code_of (report_of o.verdict) ended.code old.sinks new.sinks o.ending
 
-  because : (plan : Option Plan) → plan_of words ≡ plan → HasCauseBy plan old.files new.files o.verdict
-  because plan planned = subst (λ (p : Option Plan). HasCauseBy p old.files new.files o.verdict) planned o.cause
+  because : (request : Option Request) → request_of words ≡ request → HasCauseBy request old.files new.files o.verdict
+  because request lawful = subst (λ (r : Option Request). HasCauseBy r old.files new.files o.verdict) lawful o.cause
 
-  pub words_row : Exactly 2 ended old new (plan_of words ≡ None)
+  pub words_row : Exactly 2 ended old new (request_of words ≡ None)
   words_row = (
-    λ is. bad_words (plan_of words) old.files new.files o.verdict o.cause (decided _ _ 2 ends is (omega arith)),
-    λ is. refused_words ended old new o.verdict (because None is) o.ending,
+    λ is. bad_words (request_of words) old.files new.files o.verdict o.cause (decided _ _ 2 ends is (omega arith)),
+    λ is. refused_words ended old new o.verdict (because None is) o.ending o.kept,
   )
 
   pub read_row : ended.code ≡ 3 → IsFileFault words old.files new.files
-  read_row is = file_fault words (plan_of words) old.files new.files o.verdict refl o.cause (decided _ _ 3 ends is (omega arith))
+  read_row is = file_fault words (request_of words) old.files new.files o.verdict refl o.cause (decided _ _ 3 ends is (omega arith))
 
   pub quiet_row : (ended.code ≡ 3 → ⊥) → IsQuiet old.files new.files
-  quiet_row other = quiet_but (plan_of words) ended.code old new o.verdict o.cause o.ending other
+  quiet_row other = quiet_but (request_of words) ended.code old new o.verdict o.cause o.ending other
 
   pub large_row : IsToldLarge words old.files new.files → OrWant 3 ended old new
-  large_row large = large_end words ended old new large o.verdict (because (Some large.plan) large.planned) o.ending
+  large_row large = large_end words ended old new large o.verdict (because (Some large.request) large.lawful) o.ending o.kept
 
   pub script_row : ended.code ≡ 4 → IsNoScript words old.files new.files
-  script_row is = no_script words (plan_of words) old.files new.files o.verdict refl o.cause (decided _ _ 4 ends is (omega arith))
+  script_row is = no_script words (request_of words) old.files new.files o.verdict refl o.cause (decided _ _ 4 ends is (omega arith))
 
   pub refused_row : IsToldRefused words old.files new.files → OrWant 4 ended old new
-  refused_row told = refused_end none words ended old new told o.verdict (because (Some told.plan) told.planned) o.ending
+  refused_row told = refused_end one none words ended old new told o.verdict (because (Some told.request) told.lawful) o.ending o.kept
 
   pub told_row : IsRefusal ended → IsRefusalTold words ended old new
-  told_row is = refusal_told words (plan_of words) ended old new o.verdict refl o.cause o.ending is
+  told_row is = refusal_told words (request_of words) ended old new o.verdict refl o.cause o.ending o.kept is
 
-  ran_to : (ended.code < 2) ⊎ (ended.code ≡ 7) → RanTo words ended old new
-  ran_to is = ran_only words (plan_of words) ended old new o.verdict refl o.cause o.ending is
+  ran_to : (ended.code < 2) ⊎ ((ended.code ≡ 5) ⊎ (ended.code ≡ 7)) → RanTo words ended old new
+  ran_to is = ran_only words (request_of words) ended old new o.verdict refl o.cause o.ending o.kept is
 
   pub memory_row : ended.code ≡ 6 → IsMemory words ended old new
-  memory_row is = memory_end words (plan_of words) ended old new o.verdict refl o.cause o.ending is
+  memory_row is = memory_end words (request_of words) ended old new o.verdict refl o.cause o.ending o.kept is
 
-  pub print_row : ended.code ≡ 0 → PrintsAll words old new
-  print_row is = prints_all words old new (prints words 0 ended old new (omega arith) is (ran_to (inl (omega (arith, is)))))
+  pub print_row : ended.code ≡ 0 → PrintsAll words ended old new
+  print_row is = prints_all words ended old new (prints words 0 ended old new (omega arith) is (ran_to (inl (omega (arith, is)))))
 
-  pub early_row : ended.code ≡ 1 → PrintsEarly words old new
-  early_row is = prints_early words old new (prints words 1 ended old new (omega arith) is (ran_to (inl (omega (arith, is)))))
+  pub early_row : ended.code ≡ 1 → PrintsEarly words ended old new
+  early_row is = prints_early words ended old new (prints words 1 ended old new (omega arith) is (ran_to (inl (omega (arith, is)))))
 
-  pub write_row : ended.code ≡ 7 → IsCut words 7 old new
-  write_row is = subst (λ (n : ℕ). IsCut words n old new) is (cut_short words ended old new is (ran_to (inr is)))
+  pub full_row : ended.code ≡ 5 → PrintsFull words ended old new
+  full_row is = prints_full words ended old new (prints words 5 ended old new (omega arith) is (ran_to (inr (inl is))))
+
+  pub write_row : ended.code ≡ 7 → IsCut words ended old new
+  write_row is = cut_short words ended old new is (ran_to (inr (inr is)))
 
   pub honest_row : (honest : IsHonest words old.files new.files) → IsDone words ended old new honest
-  honest_row honest = honest_end one none words ended old new honest o.verdict (because (Some honest.plan) honest.planned) o.ending
+  honest_row honest = honest_end one none words ended old new honest o.verdict (because (Some honest.request) honest.lawful) o.ending o.kept

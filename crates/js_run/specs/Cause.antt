@@ -1,106 +1,66 @@
 -- Why a call has its verdict. With every verdict but that a file can't be read or is too large, no read failed or found
 -- too large a file.
-use Rattle.std.specs.Prelude.{◌≡◌, ℕ, ◌≤◌, List, [], ◌∷◌, ◌++◌, length, None, Some}
-use Rattle.std.specs.declared.option.Option.{Option}
-use Rattle.js_io.specs.Counts.{next_count}
-use Rattle.js_io.specs.FilesState.{Tells, IsTooLarge, FilesState}
-use Rattle.js_io.specs.declared.files.TheConstants.{FILE_MAX}
-use Rattle.js_script.specs.declared.fault.Role.TheVariants.{Main}
-use Rattle.js_script.specs.declared.fault.ParseFault.{ParseFault}
+use Rattle.std.specs.Prelude.{◌≡◌, ℕ, List, Option, None, Some, map, option_map}
+use Rattle.js_io.specs.FilesState.{FilesState}
+use Rattle.js_generate.specs.Texts.{Named}
 use Rattle.js_syntax.specs.Tree.{Tree}
-use Rattle.js_script.specs.Spells as script
-use Rattle.js_run.specs.Words.{Name, Plan, files_of, plan_of}
-use Rattle.js_run.specs.Meaning.{Run, AllRun}
-use Rattle.js_run.specs.Verdict.{Verdict, BadWords, NotRead, TooLarge, Refused, NoMemory, Ran}
+use Rattle.js_words.specs.Words.{Request, request_of}
+use Rattle.js_sources.specs.Program.{Name, Program, in_order}
+use Rattle.js_sources.specs.Reading.{IsQuiet, IsUnread, IsLarge}
+use Rattle.js_sources.specs.Spelling.{Spell, FirstRefused}
+use Rattle.js_program.specs.declared.ran.Ran.{Ran}
+use Rattle.js_program.specs.declared.ran.Setup.{Setup}
+use Rattle.js_program.specs.Ran.{IsRan}
+use Rattle.js_run.specs.Asked.{AreTexts, names_of, setup_of}
+use Rattle.js_run.specs.Verdict.{Verdict, BadWords, NotRead, TooLarge, Refused, NoMemory, WasRun}
 
--- the files are as they were, as far as they are told, and no count fell
-pub record KeepsFiles (old new : FilesState) : Type 0 where
-  pub held : (name : Name) → new.held name ≡ old.held name
-  pub faults : old.faults ≤ new.faults
-  pub oversize : old.oversize ≤ new.oversize
+abbrev pub names_in : Program Named → Program Name
+names_in sources = record { prelude = option_map (λ s. s.name) sources.prelude; scripts = map (λ s. s.name) sources.scripts }
 
--- no read failed or found too large a file: both counts, and the blamed name, are as they were
-pub record IsQuiet (old new : FilesState) : Type 0 where
-  pub calm : new.faults ≡ old.faults
-  pub not_large : new.oversize ≡ old.oversize
-  pub unblamed : new.blamed ≡ old.blamed
+-- files of these names are what the texts spell, and were run so
+pub record IsRun (setup : Setup) (sources : Program Named) (names : Program Name) (ran : Ran) : Type 0 where
+  pub named : names ≡ names_in sources
+  pub trees : Program Tree
+  pub spell : Spell sources trees
+  pub program : IsRan setup trees.prelude trees.scripts ran
 
--- files of these names have these contents, as far as contents are told. None is too large: this is what keeps a told
--- file that is too large from being taken for one that was read.
-pub data Read (held : Name → Option (List ℕ)) : List Name → List (List ℕ) → Type 0 where
-  none : Read held [] []
-  next : (name : Name) (names : List Name) (bytes : List ℕ) (contents : List (List ℕ))
-      → Tells (held name) bytes → length bytes ≤ FILE_MAX → Read held names contents → Read held (name ∷ names) (bytes ∷ contents)
+-- of texts that are run so
+abbrev pub HasCauseOf : Setup → Program Named → Verdict → Type 0
+HasCauseOf setup sources BadWords = ⊥
+HasCauseOf setup sources (NotRead name) = ⊥
+HasCauseOf setup sources (TooLarge name) = ⊥
+HasCauseOf setup sources (Refused name fault) = FirstRefused sources name fault
+HasCauseOf setup sources NoMemory = Unit {0}
+HasCauseOf setup sources (WasRun names ran) = IsRun setup sources names ran
 
--- contents that spell these scripts
-pub data AllSpell : List (List ℕ) → List Tree → Type 0 where
-  none : AllSpell [] []
-  next : (bytes : List ℕ) (contents : List (List ℕ)) (tree : Tree) (trees : List Tree)
-      → script.Spells Main [] bytes tree → AllSpell contents trees → AllSpell (bytes ∷ contents) (tree ∷ trees)
-
--- the first of the contents that spells no script is that of this name, for this fault
-pub data FirstRefused : List Name → List (List ℕ) → Name → ParseFault → Type 0 where
-  here : (name : Name) (names : List Name) (bytes : List ℕ) (contents : List (List ℕ)) (fault : ParseFault)
-      → script.Refused Main [] bytes fault → FirstRefused (name ∷ names) (bytes ∷ contents) name fault
-  later : (name : Name) (names : List Name) (bytes : List ℕ) (contents : List (List ℕ)) (refused : Name) (fault : ParseFault) (tree : Tree)
-      → script.Spells Main [] bytes tree → FirstRefused names contents refused fault → FirstRefused (name ∷ names) (bytes ∷ contents) refused fault
-
--- the files before the one of this name were read
-pub record ReadUpTo (held : Name → Option (List ℕ)) (names : List Name) (name : Name) : Type 0 where
-  pub before : List Name
-  pub after : List Name
-  pub contents : List (List ℕ)
-  pub split : names ≡ before ++ name ∷ after
-  pub read : Read held before contents
-
--- one read failed, that of the file of this name, and none found too large a file; all files before it were read
-pub record IsUnread (old new : FilesState) (names : List Name) (name : Name) : Type 0 where
-  pub up_to : ReadUpTo old.held names name
-  pub once : new.faults ≡ next_count old.faults
-  pub not_large : new.oversize ≡ old.oversize
-  pub blames : new.blamed ≡ name
-
--- no read failed, the file of this name is too large, and all files before it were read
-pub record IsLarge (old new : FilesState) (names : List Name) (name : Name) : Type 0 where
-  pub up_to : ReadUpTo old.held names name
-  pub calm : new.faults ≡ old.faults
-  pub larger : IsTooLarge (old.held name) old.oversize new.oversize
-  pub blames : new.blamed ≡ name
-
--- all files were read, and the first that spells no script is the one of this name
-pub record IsRefused (old new : FilesState) (names : List Name) (name : Name) (fault : ParseFault) : Type 0 where
-  pub contents : List (List ℕ)
-  pub read : Read old.held names contents
+-- all files were read, or the texts were made, and this became of them
+pub record OfTexts (request : Request) (old new : FilesState) (verdict : Verdict) : Type 0 where
+  pub sources : Program Named
+  pub texts : AreTexts request.asked old.held sources
   pub quiet : IsQuiet old new
-  pub first : FirstRefused names contents name fault
-
--- all files were read and spell scripts, and these were run
-pub record IsRun (old new : FilesState) (names : List Name) (runs : List Run) : Type 0 where
-  pub contents : List (List ℕ)
-  pub trees : List Tree
-  pub read : Read old.held names contents
-  pub quiet : IsQuiet old new
-  pub spell : AllSpell contents trees
-  pub ran : AllRun names trees runs
+  pub cause : HasCauseOf (setup_of request) sources verdict
 
 -- of lawful words
-abbrev pub HasCauseIn : FilesState → FilesState → List Name → Verdict → Type 0
-HasCauseIn old new names BadWords = ⊥
-HasCauseIn old new names (NotRead name) = IsUnread old new names name
-HasCauseIn old new names (TooLarge name) = IsLarge old new names name
-HasCauseIn old new names (Refused name fault) = IsRefused old new names name fault
-HasCauseIn old new names NoMemory = IsQuiet old new
-HasCauseIn old new names (Ran runs) = IsRun old new names runs
+abbrev pub HasCauseIn : FilesState → FilesState → Request → Verdict → Type 0
+HasCauseIn old new request BadWords = ⊥
+HasCauseIn old new request (NotRead name) = IsUnread old new (in_order (names_of request.asked)) name
+HasCauseIn old new request (TooLarge name) = IsLarge old new (in_order (names_of request.asked)) name
+HasCauseIn old new request (Refused name fault) = OfTexts request old new (Refused name fault)
+HasCauseIn old new request NoMemory = IsQuiet old new
+HasCauseIn old new request (WasRun names ran) = OfTexts request old new (WasRun names ran)
 
 -- of words that aren't lawful
 abbrev pub IsBadWords : FilesState → FilesState → Verdict → Type 0
 IsBadWords old new BadWords = IsQuiet old new
 IsBadWords old new NoMemory = IsQuiet old new
-IsBadWords old new _ = ⊥
+IsBadWords old new (NotRead name) = ⊥
+IsBadWords old new (TooLarge name) = ⊥
+IsBadWords old new (Refused name fault) = ⊥
+IsBadWords old new (WasRun names ran) = ⊥
 
-abbrev pub HasCauseBy : Option Plan → FilesState → FilesState → Verdict → Type 0
+abbrev pub HasCauseBy : Option Request → FilesState → FilesState → Verdict → Type 0
 HasCauseBy None old new verdict = IsBadWords old new verdict
-HasCauseBy (Some plan) old new verdict = HasCauseIn old new (files_of plan) verdict
+HasCauseBy (Some request) old new verdict = HasCauseIn old new request verdict
 
 abbrev pub HasCause : List (List ℕ) → FilesState → FilesState → Verdict → Type 0
-HasCause words old new verdict = HasCauseBy (plan_of words) old new verdict
+HasCause words old new verdict = HasCauseBy (request_of words) old new verdict

@@ -1,5 +1,5 @@
-pub mod Words
-pub mod Meaning
+pub mod Asked
+pub mod Meant
 pub mod Fault
 pub mod Verdict
 pub mod Moment

@@ -1,8 +1,9 @@
 -- The files and both sinks at one moment, and how a call ended.
-use Rattle.std.specs.Prelude.{ℕ}
+use Rattle.std.specs.Prelude.{ℕ, Option}
 use Rattle.js_io.specs.FilesState.{FilesState}
 use Rattle.js_io.specs.SinkState.{SinkState}
-use Rattle.js_run.specs.declared.run.Status.{Status}
+use Rattle.js_program.specs.declared.ran.Kept.{Kept}
+use Rattle.js_run.specs.declared.status.Status.{Status}
 
 pub record Sinks : Type 0 where
   pub out : SinkState
@@ -21,6 +22,7 @@ moment files out err = record { files = files; sinks = sinks out err }
 -- what the call answered
 pub record Ended : Type 0 where
   pub code : ℕ
+  pub kept : Option Kept
 
 abbrev pub ended : Status → Ended
-ended status = record { code = status.code }
+ended status = record { code = status.code; kept = status.kept }

@@ -1,8 +1,9 @@
--- The outcome of a call: a verdict that has its cause, and what was written of it.
-use Rattle.std.specs.Prelude.{ℕ, ◌≤◌, List}
-use Rattle.js_run.specs.Verdict.{Verdict, report_of}
+-- The outcome of a call: a verdict that has its cause, what was written of it, and what is kept.
+use Rattle.std.specs.Prelude.{◌≡◌, ℕ, ◌≤◌, List}
+use Rattle.js_sources.specs.Reading.{KeepsFiles}
+use Rattle.js_run.specs.Verdict.{Verdict, report_of, kept_of}
 use Rattle.js_run.specs.Moment.{Moment, Ended}
-use Rattle.js_run.specs.Cause.{KeepsFiles, HasCause}
+use Rattle.js_run.specs.Cause.{HasCause}
 use Rattle.js_run.specs.Ending.{IsEnd}
 
 -- what every call keeps: the files as they are told, and no count falls
@@ -15,4 +16,5 @@ pub record Outcome (words : List (List ℕ)) (ended : Ended) (old new : Moment) 
   pub verdict : Verdict
   pub cause : HasCause words old.files new.files verdict
   pub ending : IsEnd (report_of verdict) ended.code old.sinks new.sinks
+  pub kept : ended.kept ≡ kept_of verdict
   pub keeps : Keeps old new

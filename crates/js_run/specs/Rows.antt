@@ -1,24 +1,39 @@
--- Each status by itself: when it comes, and what was written then. All of it follows from the outcome.
-use Rattle.std.specs.Prelude.{◌≡◌, ◌⊎◌, ℕ, ◌-◌, ◌^◌, ◌≤◌, ◌<◌, List, [], ◌∷◌, ◌++◌, length, Some}
-use Rattle.std.specs.declared.option.Option.{Option}
+-- Each status by itself: when it comes, what was written then, and what is kept. All of it follows from the outcome.
+use Rattle.std.specs.Prelude.{◌≡◌, ◌⊎◌, ℕ, ◌-◌, ◌^◌, ◌≤◌, ◌<◌, List, [], ◌∷◌, ◌++◌, length, Option, None, Some}
+use Rattle.js_generate.specs.Texts.{Named}
 use Rattle.js_io.specs.FilesState.{FilesState}
 use Rattle.js_io.specs.declared.files.TheConstants.{FILE_MAX}
 use Rattle.js_script.specs.declared.fault.ParseFault.{ParseFault}
 use Rattle.js_syntax.specs.Tree.{Tree}
-use Rattle.js_run.specs.Words.{Name, Plan, files_of, plan_of}
-use Rattle.js_run.specs.Meaning.{Run, runs_of, AllRun}
-use Rattle.js_run.specs.Verdict.{Printed, status_of, out_of, err_of, words_line, unread_line, large_line, refused_line, memory_line}
+use Rattle.js_texts.specs.Texts.{Every}
+use Rattle.js_store.specs.State.{Sizes, State}
+use Rattle.js_store.specs.declared.faults.FullReport.{FullReport}
+use Rattle.js_evaluator.specs.declared.ending.End.TheVariants.{Done, Full, Memory}
+use Rattle.js_evaluator.specs.Script.{Flow}
+use Rattle.js_fits.specs.Files.{RunFile}
+use Rattle.js_fits.specs.Fits.{Fits}
+use Rattle.js_fits.specs.Tells.{RanOut}
+use Rattle.js_words.specs.Words.{Request, request_of}
+use Rattle.js_sources.specs.Program.{Name, Program, in_order}
+use Rattle.js_sources.specs.Reading.{Read, IsQuiet, IsUnread, IsLarge}
+use Rattle.js_sources.specs.Spelling.{Spell, FirstRefused}
+use Rattle.js_program.specs.declared.ran.Ran.{Ran}
+use Rattle.js_program.specs.Ran.{IsRan, sizes_by, state_kept}
+use Rattle.js_run.specs.Asked.{AreTexts, names_of, setup_of}
+use Rattle.js_run.specs.Meant.{all_flows, status_meant, out_meant, report_meant}
+use Rattle.js_run.specs.Verdict.{WasRun, Refused, report_of, status_of, ends_of, out_of, err_of, words_line, unread_line, large_line, refused_line, memory_line}
 use Rattle.js_run.specs.Moment.{Moment, Ended}
-use Rattle.js_run.specs.Cause.{Read, AllSpell, FirstRefused, IsUnread, IsLarge, IsRefused, IsQuiet}
+use Rattle.js_run.specs.Cause.{OfTexts, names_in}
 use Rattle.js_run.specs.Ending.{TakesAll, IsTold, IsCutAtOut, IsCutAtErr, IsEnd}
 
 -- no fault was counted, and the count doesn't stand at the last value of its counter
 abbrev pub NoFault : ℕ → ℕ → Type 0
 NoFault before after = (after ≤ before) × (after ≡ 2 ^ 64 - 1 → ⊥)
 
--- want of memory before anything was run: out took nothing, and err its line
-abbrev pub IsWant : Ended → Moment → Moment → Type 0
-IsWant ended old new = IsTold 6 memory_line ended.code old.sinks new.sinks
+-- want of memory before anything was run: out took nothing, err its line, and nothing is kept
+pub record IsWant (ended : Ended) (old new : Moment) : Type 0 where
+  pub told : IsTold 6 memory_line ended.code old.sinks new.sinks
+  pub kept : ended.kept ≡ None
 
 -- this status, or want of memory in its place
 abbrev pub OrWant : ℕ → Ended → Moment → Moment → Type 0
@@ -28,135 +43,167 @@ OrWant status ended old new = (ended.code ≡ status) ⊎ IsWant ended old new
 abbrev pub Exactly : ℕ → Ended → Moment → Moment → Type 0 → Type 0
 Exactly status ended old new P = (ended.code ≡ status → P) × (P → OrWant status ended old new)
 
--- files of these names are told to have these contents, and none is too large
-pub data Told (held : Name → Option (List ℕ)) : List Name → List (List ℕ) → Type 0 where
-  none : Told held [] []
-  next : (name : Name) (names : List Name) (bytes : List ℕ) (contents : List (List ℕ))
-      → held name ≡ Some bytes → length bytes ≤ FILE_MAX → Told held names contents → Told held (name ∷ names) (bytes ∷ contents)
+-- ---- 3
+
+-- the contents of the files of these names are told
+abbrev pub AreTold : (Name → Option (List ℕ)) → List Name → Type 0
+AreTold held names = Every (λ name. (bytes : List ℕ) × (held name ≡ Some bytes)) names
 
 -- a file wasn't read, the one that is blamed: its read failed, or it is too large. All before it were read.
 pub record IsFileFault (words : List (List ℕ)) (old new : FilesState) : Type 0 where
-  pub plan : Plan
-  pub planned : plan_of words ≡ Some plan
-  pub why : IsUnread old new (files_of plan) new.blamed ⊎ IsLarge old new (files_of plan) new.blamed
+  pub request : Request
+  pub lawful : request_of words ≡ Some request
+  pub why : IsUnread old new (in_order (names_of request.asked)) new.blamed ⊎ IsLarge old new (in_order (names_of request.asked)) new.blamed
 
 -- no read failed, and the first file that isn't told to have at most so many bytes is told to have more
 pub record IsToldLarge (words : List (List ℕ)) (old new : FilesState) : Type 0 where
-  pub plan : Plan
-  pub planned : plan_of words ≡ Some plan
+  pub request : Request
+  pub lawful : request_of words ≡ Some request
   pub before : List Name
   pub name : Name
   pub after : List Name
-  pub split : files_of plan ≡ before ++ name ∷ after
-  pub contents : List (List ℕ)
-  pub told : Told old.held before contents
+  pub split : in_order (names_of request.asked) ≡ before ++ name ∷ after
+  pub sources : List Named
+  pub read : Read old.held before sources
+  pub told : AreTold old.held before
   pub bytes : List ℕ
   pub is : old.held name ≡ Some bytes
   pub larger : FILE_MAX < length bytes
   pub calm : NoFault old.faults new.faults
 
--- all files were read, and one of them is the first that spells no script
-pub record IsNoScript (words : List (List ℕ)) (old new : FilesState) : Type 0 where
-  pub plan : Plan
-  pub planned : plan_of words ≡ Some plan
-  pub name : Name
-  pub fault : ParseFault
-  pub refused : IsRefused old new (files_of plan) name fault
+-- ---- 4
 
--- no read failed, all files are told and not too large, and one of them is the first that spells no script
-pub record IsToldRefused (words : List (List ℕ)) (old new : FilesState) : Type 0 where
-  pub plan : Plan
-  pub planned : plan_of words ≡ Some plan
-  pub contents : List (List ℕ)
-  pub told : Told old.held (files_of plan) contents
+-- all files were read or the texts were made, and one of them is the first that spells no script
+pub record IsNoScript (words : List (List ℕ)) (old new : FilesState) : Type 0 where
+  pub request : Request
+  pub lawful : request_of words ≡ Some request
   pub name : Name
   pub fault : ParseFault
-  pub first : FirstRefused (files_of plan) contents name fault
+  pub refused : OfTexts request old new (Refused name fault)
+
+-- no read failed, all files are told and not too large, and one of the texts is the first that spells no script
+pub record IsToldRefused (words : List (List ℕ)) (old new : FilesState) : Type 0 where
+  pub request : Request
+  pub lawful : request_of words ≡ Some request
+  pub sources : Program Named
+  pub texts : AreTexts request.asked old.held sources
+  pub told : AreTold old.held (in_order (names_of request.asked))
+  pub name : Name
+  pub fault : ParseFault
+  pub first : FirstRefused sources name fault
   pub calm : NoFault old.faults new.faults
+
+-- ---- 2, 3 and 4
 
 -- the line of a refusal, by its status
 pub data IsLine (words : List (List ℕ)) (code : ℕ) (old new : FilesState) : List ℕ → Type 0 where
   bad_words : code ≡ 2 → IsLine words code old new words_line
-  unread : code ≡ 3 → (plan : Plan) → plan_of words ≡ Some plan → IsUnread old new (files_of plan) new.blamed
+  unread : code ≡ 3 → (request : Request) → request_of words ≡ Some request → IsUnread old new (in_order (names_of request.asked)) new.blamed
       → IsLine words code old new (unread_line new.blamed)
-  large : code ≡ 3 → (plan : Plan) → plan_of words ≡ Some plan → IsLarge old new (files_of plan) new.blamed
+  large : code ≡ 3 → (request : Request) → request_of words ≡ Some request → IsLarge old new (in_order (names_of request.asked)) new.blamed
       → IsLine words code old new (large_line new.blamed)
-  refused : code ≡ 4 → (plan : Plan) → plan_of words ≡ Some plan → (name : Name) (fault : ParseFault) → IsRefused old new (files_of plan) name fault
+  refused : code ≡ 4 → (request : Request) → request_of words ≡ Some request → (name : Name) (fault : ParseFault) → OfTexts request old new (Refused name fault)
       → IsLine words code old new (refused_line name fault)
 
 -- the statuses of what isn't run, but for want of memory
 abbrev pub IsRefusal : Ended → Type 0
 IsRefusal ended = (ended.code ≡ 2) ⊎ ((ended.code ≡ 3) ⊎ (ended.code ≡ 4))
 
--- out took nothing, and err the line; or, where a write to err failed, a prefix of it
+-- out took nothing, and err the line; or, where a write to err failed, a prefix of it. Nothing is kept.
 pub record IsRefusalTold (words : List (List ℕ)) (ended : Ended) (old new : Moment) : Type 0 where
   pub line : List ℕ
   pub is : IsLine words ended.code old.files new.files line
   pub told : IsTold ended.code line ended.code old.sinks new.sinks
+  pub kept : ended.kept ≡ None
 
--- scripts were run: all files were read, and spell them
+-- ---- 0, 1, 5, 6 and 7
+
+-- a program was run: all files were read or the texts were made, and they spell it
 pub record AreRun (words : List (List ℕ)) (old new : FilesState) : Type 0 where
-  pub plan : Plan
-  pub planned : plan_of words ≡ Some plan
-  pub contents : List (List ℕ)
-  pub trees : List Tree
-  pub read : Read old.held (files_of plan) contents
+  pub request : Request
+  pub lawful : request_of words ≡ Some request
+  pub sources : Program Named
+  pub texts : AreTexts request.asked old.held sources
   pub quiet : IsQuiet old new
-  pub spell : AllSpell contents trees
+  pub trees : Program Tree
+  pub spell : Spell sources trees
 
--- how each script ended and what it printed, by its meaning
-abbrev pub runs_by : (words : List (List ℕ)) (old new : FilesState) → AreRun words old new → List Run
-runs_by words old new run = runs_of (files_of run.plan) run.trees
-
--- the scripts were run, each as it is meant or until memory was wanting, the status is that of the first that didn't end Done, and
--- all was written: out took exactly what they print, and err the lines of those that didn't end Done
-pub record Prints (words : List (List ℕ)) (status : ℕ) (old new : Moment) : Type 0 where
+-- The program was run on the heap that is kept, the status is that of the first file that didn't end Done, and all was written: out took
+-- exactly what the scripts printed, with the line `interned N` where it is asked for, and err the lines of the files that didn't end Done.
+-- What each file's end and lines are by its meaning, and what the heap holds, stands in `program`.
+pub record Prints (words : List (List ℕ)) (status : ℕ) (ended : Ended) (old new : Moment) : Type 0 where
   pub run : AreRun words old.files new.files
-  pub runs : List Run
-  pub ran : AllRun (files_of run.plan) run.trees runs
-  pub ends : status_of runs ≡ status
-  pub out : TakesAll old.sinks.out new.sinks.out (out_of runs)
-  pub err : TakesAll old.sinks.err new.sinks.err (err_of runs)
+  pub ran : Ran
+  pub program : IsRan (setup_of run.request) run.trees.prelude run.trees.scripts ran
+  pub ends : status_of (ends_of ran) ≡ status
+  pub out : TakesAll old.sinks.out new.sinks.out (out_of ran)
+  pub err : TakesAll old.sinks.err new.sinks.err (err_of (names_in run.sources) ran)
+  pub kept : ended.kept ≡ Some ran.kept
 
--- the same where every script ended Done, which is status 0: all as it is meant, and err took nothing
-pub record PrintsAll (words : List (List ℕ)) (old new : Moment) : Type 0 where
-  pub run : AreRun words old.files new.files
-  pub ends : status_of (runs_by words old.files new.files run) ≡ 0
-  pub out : TakesAll old.sinks.out new.sinks.out (out_of (runs_by words old.files new.files run))
+-- the same where every file ended Done, which is status 0: all as it is meant, and err took nothing
+pub record PrintsAll (words : List (List ℕ)) (ended : Ended) (old new : Moment) : Type 0 where
+  pub prints : Prints words 0 ended old new
+  pub meant : status_meant prints.run.request prints.run.trees ≡ 0
+  pub out : TakesAll old.sinks.out new.sinks.out (out_meant prints.run.request prints.run.trees prints.ran.interned)
   pub err : TakesAll old.sinks.err new.sinks.err []
 
--- the same where the first script that didn't end Done threw or is unsupported: it is also the first that isn't meant to end Done
-pub record PrintsEarly (words : List (List ℕ)) (old new : Moment) : Type 0 where
-  pub prints : Prints words 1 old new
-  pub meant : status_of (runs_by words old.files new.files prints.run) ≡ 1
+-- the same where the first file that didn't end Done threw or is unsupported: it is also the first that isn't meant to end Done
+pub record PrintsEarly (words : List (List ℕ)) (ended : Ended) (old new : Moment) : Type 0 where
+  pub prints : Prints words 1 ended old new
+  pub meant : status_meant prints.run.request prints.run.trees ≡ 1
 
--- memory was wanting: before a script was run, or while the first one ran that didn't end Done
+-- the first of some files that didn't end Done ended Full, where what it reports had run out
+pub record FirstFull {F : Type 0} (z : Sizes) (s : State F) (means : List Flow) (files : List RunFile) : Type 0 where
+  pub before : List RunFile
+  pub file : RunFile
+  pub after : List RunFile
+  pub split : files ≡ before ++ file ∷ after
+  pub done : Every (λ f. f.end ≡ Done) before
+  pub report : FullReport
+  pub full : file.end ≡ Full report
+  pub ran_out : RanOut z s means file.mean file.part report
+
+-- the same where the first file that didn't end Done ended Full: the heap was full, and the stated needs didn't fit
+pub record PrintsFull (words : List (List ℕ)) (ended : Ended) (old new : Moment) : Type 0 where
+  pub prints : Prints words 5 ended old new
+  pub full : FirstFull (sizes_by (setup_of prints.run.request)) (state_kept (setup_of prints.run.request) prints.ran.kept)
+      (all_flows prints.run.request prints.run.trees) prints.program.files
+
+-- memory was wanting: before a file was run, or while the first one ran that didn't end Done
 abbrev pub IsMemory : List (List ℕ) → Ended → Moment → Moment → Type 0
-IsMemory words ended old new = IsWant ended old new ⊎ Prints words 6 old new
+IsMemory words ended old new = IsWant ended old new ⊎ Prints words 6 ended old new
 
--- scripts were run, and a write failed: one to out after a prefix of what they print, and err took nothing; or one to err
-pub record IsCut (words : List (List ℕ)) (code : ℕ) (old new : Moment) : Type 0 where
+-- the program was run, and a write failed: one to out after a prefix of what it prints, and err took nothing; or one to err
+pub record IsCut (words : List (List ℕ)) (ended : Ended) (old new : Moment) : Type 0 where
   pub run : AreRun words old.files new.files
-  pub runs : List Run
-  pub ran : AllRun (files_of run.plan) run.trees runs
-  pub cut : IsCutAtOut (out_of runs) code old.sinks new.sinks ⊎ IsCutAtErr (out_of runs) (err_of runs) code old.sinks new.sinks
+  pub ran : Ran
+  pub program : IsRan (setup_of run.request) run.trees.prelude run.trees.scripts ran
+  pub cut : IsCutAtOut (out_of ran) ended.code old.sinks new.sinks ⊎ IsCutAtErr (out_of ran) (err_of (names_in run.sources) ran) ended.code old.sinks new.sinks
+  pub kept : ended.kept ≡ Some ran.kept
 
--- the words are lawful, all files are told, not too large and spell scripts, and no read failed
+-- ---- honest files
+
+-- the words are lawful, all files are told and not too large, the texts spell a program, and no read failed
 pub record IsHonest (words : List (List ℕ)) (old new : FilesState) : Type 0 where
-  pub plan : Plan
-  pub planned : plan_of words ≡ Some plan
-  pub contents : List (List ℕ)
-  pub told : Told old.held (files_of plan) contents
-  pub trees : List Tree
-  pub spell : AllSpell contents trees
+  pub request : Request
+  pub lawful : request_of words ≡ Some request
+  pub sources : Program Named
+  pub texts : AreTexts request.asked old.held sources
+  pub told : AreTold old.held (in_order (names_of request.asked))
+  pub trees : Program Tree
+  pub spell : Spell sources trees
   pub calm : NoFault old.faults new.faults
 
--- these scripts were run, each as it is meant or until memory was wanting, and all was written, or a write failed
-pub record IsRanTo (names : List Name) (trees : List Tree) (ended : Ended) (old new : Moment) : Type 0 where
-  pub runs : List Run
-  pub ran : AllRun names trees runs
-  pub end : IsEnd (Printed (status_of runs) (out_of runs) (err_of runs)) ended.code old.sinks new.sinks
+-- The program was run, and all was written, or a write failed. Where the stated needs fit the heap and memory was wanting for no file, what
+-- is reported is what is meant.
+pub record IsRanTo (request : Request) (names : Program Name) (trees : Program Tree) (ended : Ended) (old new : Moment) : Type 0 where
+  pub ran : Ran
+  pub program : IsRan (setup_of request) trees.prelude trees.scripts ran
+  pub end : IsEnd (report_of (WasRun names ran)) ended.code old.sinks new.sinks
+  pub kept : ended.kept ≡ Some ran.kept
+  pub complete : Fits (sizes_by (setup_of request)) (all_flows request trees) → Every (λ e. e ≡ Memory → ⊥) (ends_of ran)
+      → report_of (WasRun names ran) ≡ report_meant request names trees ran.interned
 
--- the scripts were run; or memory was wanting before that
+-- the program was run; or memory was wanting before that
 abbrev pub IsDone : (words : List (List ℕ)) (ended : Ended) (old new : Moment) → IsHonest words old.files new.files → Type 0
-IsDone words ended old new honest = IsRanTo (files_of honest.plan) honest.trees ended old new ⊎ IsWant ended old new
+IsDone words ended old new honest = IsRanTo honest.request (names_in honest.sources) honest.trees ended old new ⊎ IsWant ended old new

@@ -1,6 +1,5 @@
 -- What becomes of a call, and what is reported of it: the status and the bytes for each sink.
-use Rattle.std.specs.Prelude.{ℕ, List, [], ◌∷◌, ◌++◌, codes, decimal}
-use Rattle.std.specs.List.{concat}
+use Rattle.std.specs.Prelude.{ℕ, List, [], ◌∷◌, ◌++◌, codes, decimal, map, Option, None, Some}
 use Rattle.js_script.specs.declared.fault.ParseFault.{ParseFault}
 use Rattle.js_store.specs.declared.faults.FullReport.{FullReport}
 use Rattle.js_store.specs.declared.faults.FullReport.TheVariants.{Ids, Words, Slots}
@@ -8,8 +7,11 @@ use Rattle.js_values.specs.declared.value.Kind.{Kind}
 use Rattle.js_values.specs.declared.value.Kind.TheVariants.{RangeError, TypeError, ReferenceError}
 use Rattle.js_evaluator.specs.declared.ending.End.{End}
 use Rattle.js_evaluator.specs.declared.ending.End.TheVariants.{Done, Threw, Unsupported, Full, Memory}
-use Rattle.js_run.specs.Words.{Name}
-use Rattle.js_run.specs.Meaning.{Run}
+use Rattle.js_jobs.specs.declared.job.Outcome.{Outcome}
+use Rattle.js_sources.specs.Program.{Name, Program, in_order}
+use Rattle.js_program.specs.declared.ran.Kept.{Kept}
+use Rattle.js_program.specs.declared.ran.Ran.{Ran}
+use Rattle.js_program.specs.Ran.{outcomes_in}
 use Rattle.js_run.specs.Fault.{fault_at, fault_text}
 
 pub data Verdict : Type 0 where
@@ -18,15 +20,29 @@ pub data Verdict : Type 0 where
   TooLarge : Name → Verdict
   Refused : Name → ParseFault → Verdict
   NoMemory : Verdict
-  -- the scripts were run, in this order
-  Ran : List Run → Verdict
+  -- files of these names were run
+  WasRun : Program Name → Ran → Verdict
 
--- what the scripts printed
-abbrev pub out_of : List Run → List ℕ
-out_of [] = []
-out_of (run ∷ runs) = concat run.lines ++ out_of runs
+-- ---- what was run
 
--- the line of a script that didn't end Done
+-- how all files ended that were run, the prelude first
+abbrev pub ends_of : Ran → List End
+ends_of ran = map (λ o. o.end) (outcomes_in ran)
+
+-- what scripts printed
+abbrev pub printed_by : List Outcome → List ℕ
+printed_by [] = []
+printed_by (o ∷ os) = o.lines ++ printed_by os
+
+-- the line of the number of different strings, where they were counted
+abbrev pub count_line : Option ℕ → List ℕ
+count_line None = []
+count_line (Some count) = codes "interned " ++ (decimal count ++ 10 ∷ [])
+
+abbrev pub out_of : Ran → List ℕ
+out_of ran = printed_by ran.scripts.items ++ count_line ran.interned
+
+-- ---- the line of a file that didn't end Done
 
 abbrev pub kind_text : Kind → List ℕ
 kind_text RangeError = codes ": uncaught RangeError\n"
@@ -45,11 +61,17 @@ end_line name (Unsupported at) = name ++ (codes ": unsupported at " ++ (decimal 
 end_line name (Full report) = name ++ full_text report
 end_line name Memory = name ++ codes ": out of memory\n"
 
-abbrev pub err_of : List Run → List ℕ
-err_of [] = []
-err_of (run ∷ runs) = end_line run.name run.end ++ err_of runs
+-- the lines of files of these names with these ends, in order
+abbrev pub end_lines : List Name → List End → List ℕ
+end_lines [] ends = []
+end_lines (name ∷ names) [] = []
+end_lines (name ∷ names) (e ∷ es) = end_line name e ++ end_lines names es
 
--- the status of the first script that didn't end Done, or 0
+abbrev pub err_of : Program Name → Ran → List ℕ
+err_of names ran = end_lines (in_order names) (ends_of ran)
+
+-- ---- the status of the first file that didn't end Done, or 0
+
 abbrev pub status_or : End → ℕ → ℕ
 status_or Done later = later
 status_or (Threw kind) later = 1
@@ -57,11 +79,11 @@ status_or (Unsupported at) later = 1
 status_or (Full report) later = 5
 status_or Memory later = 6
 
-abbrev pub status_of : List Run → ℕ
+abbrev pub status_of : List End → ℕ
 status_of [] = 0
-status_of (run ∷ runs) = status_or run.end (status_of runs)
+status_of (e ∷ es) = status_or e (status_of es)
 
--- the lines of refusals
+-- ---- the lines of refusals
 
 abbrev pub words_line : List ℕ
 words_line = codes "jsstr: the words are refused\n"
@@ -79,7 +101,8 @@ refused_line name fault = name ++ (58 ∷ [] ++ (decimal (fault_at fault) ++ fau
 abbrev pub memory_line : List ℕ
 memory_line = codes "jsstr: out of memory\n"
 
--- what is reported
+-- ---- what is reported, and what is kept
+
 pub data Report : Type 0 where
   -- nothing was run: a status, and a line for err
   Refusal : (status : ℕ) (line : List ℕ) → Report
@@ -92,4 +115,13 @@ report_of (NotRead name) = Refusal 3 (unread_line name)
 report_of (TooLarge name) = Refusal 3 (large_line name)
 report_of (Refused name fault) = Refusal 4 (refused_line name fault)
 report_of NoMemory = Refusal 6 memory_line
-report_of (Ran runs) = Printed (status_of runs) (out_of runs) (err_of runs)
+report_of (WasRun names ran) = Printed (status_of (ends_of ran)) (out_of ran) (err_of names ran)
+
+-- the heap and its agent, wherever files were run
+abbrev pub kept_of : Verdict → Option Kept
+kept_of BadWords = None
+kept_of (NotRead name) = None
+kept_of (TooLarge name) = None
+kept_of (Refused name fault) = None
+kept_of NoMemory = None
+kept_of (WasRun names ran) = Some ran.kept

@@ -1,16 +1,17 @@
-//! The top call of the program, [`run_words`]: it takes the words of the command line, files and
-//! two sinks, and answers the status.
+//! The top call of the program, [`run_words`]: it takes the words of the command line, files, two
+//! sinks and a gate, and answers the status and the heap that was used.
 //!
-//! Its contract says when each status comes and what each sink took, for every list of words and
-//! all contents of files. It never aborts, and it prints nothing before all files were read and
-//! spell scripts.
+//! Its contract says when each status comes, what each sink took and what the heap holds, for every
+//! list of words, all contents of files and every number of jobs. It never aborts, and it prints
+//! nothing before all files were read and spell scripts.
 #![tactic(auto)]
 
-mod answer;
-mod judging;
 mod refusing;
 mod run;
+mod stages;
+mod status;
 mod telling;
-mod words;
 
-pub use run::{Status, run_words};
+pub use js_program::Kept;
+pub use run::run_words;
+pub use status::Status;

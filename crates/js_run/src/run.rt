@@ -1,43 +1,43 @@
 // The top call.
 ghost use Rattle.std.specs.Prelude.{◌≡◌, None, map};
 ghost use Rattle.std.specs.String.{string_bytes};
-ghost use Rattle.js_run.specs.Words.{plan_of};
+ghost use Rattle.js_words.specs.Words.{request_of};
+ghost use Rattle.js_sources.specs.Reading.{IsQuiet};
 ghost use Rattle.js_run.specs.Moment.{moment, ended};
-ghost use Rattle.js_run.specs.Cause.{IsQuiet};
 ghost use Rattle.js_run.specs.Outcome.{Outcome, Keeps};
-ghost use Rattle.js_run.specs.Rows.{Exactly, OrWant, IsFileFault, IsToldLarge, IsNoScript, IsToldRefused, IsRefusal, IsRefusalTold, IsMemory, PrintsAll, PrintsEarly, IsCut, IsHonest, IsDone};
+ghost use Rattle.js_run.specs.Rows.{Exactly, OrWant, IsFileFault, IsToldLarge, IsNoScript, IsToldRefused, IsRefusal, IsRefusalTold, IsMemory, PrintsAll, PrintsEarly, PrintsFull, IsCut, IsHonest, IsDone};
 
-use crate::judging::judge;
-use crate::telling::{tell_runs, tell_stop};
+use crate::stages::{run_plan, stopped};
+use crate::status::Status;
+use crate::telling::tell_words;
 use js_io::{Files, Gate, Sink};
 use js_script::{no_refused_script, one_script};
+use js_sources::Stop;
+use js_words::{WordsFault, read_words};
 use std::alloc::Global;
 use std::thread::Threads;
 
-/// How a call of [`run_words`] ended.
-#[derive(Debug, Drop)]
-pub struct Status {
-    /// The exit status of the program.
-    pub code: u8,
-}
-
-fn run<F: Files, O: Sink, E: Sink>(
+fn run<R: Threads + Sync, F: Files, O: Sink, E: Sink, G: Gate + Sync>(
+    rt: &R,
     alloc: Global,
     words: &[String],
     files: &mut F,
     out: &mut O,
     err: &mut E,
+    gate: &G,
 ) -> Status
     ensures { Outcome (map string_bytes words.now) (ended result)
         (moment (F.state files.old) (O.state out.old) (E.state err.old))
         (moment (F.state files.new) (O.state out.new) (E.state err.new)) }
 {
-    match judge(alloc, words, files) {
-        Ok(finishes) => Status {
-            code: tell_runs(&finishes, out, err),
-        },
-        Err(stop) => Status {
-            code: tell_stop(stop, err),
+    match read_words(alloc, words) {
+        Ok(plan) => run_plan(rt, alloc, &plan, files, out, err, gate),
+        Err(fault) => match fault {
+            WordsFault::Refused => Status {
+                code: tell_words(err),
+                kept: None,
+            },
+            WordsFault::Memory => stopped(Stop::NoMemory, err),
         },
     }
 }
@@ -46,16 +46,20 @@ fn run<F: Files, O: Sink, E: Sink>(
 ///
 /// | Status | Comes |
 /// |---|---|
-/// | 0 | all files were read and all scripts ended Done, and everything was written |
-/// | 1 | the first script that didn't end Done threw, or met what the profile leaves out |
-/// | 2 | the words don't name 1 to 4096 files, or ask for more than that |
+/// | 0 | all files were read and all ended Done, and everything was written |
+/// | 1 | the first file that didn't end Done threw, or met what the profile leaves out |
+/// | 2 | the words aren't lawful |
 /// | 3 | a file can't be read, or has more than [`js_io::FILE_MAX`] bytes |
 /// | 4 | all files were read, and one spells no script |
-/// | 6 | want of memory: before any script ran, or of the first script that didn't end Done |
+/// | 5 | the first file that didn't end Done found the heap full |
+/// | 6 | want of memory: before anything ran, or of the first file that didn't end Done |
 /// | 7 | a write of what the scripts print failed |
 ///
-/// With 0, 1 and the second 6 what the scripts printed was written in the order of the words, also
-/// the lines before a script's end, and then a line for each script that didn't end Done.
+/// With 0, 1, 5 and the second 6 what the scripts printed was written in the order of the words,
+/// also the lines before a script's end; then, where it is asked for, how many different strings
+/// were interned; and then a line for each file that didn't end Done, the prelude first. With these
+/// and 7 the heap is kept, with an agent that has the whole share. The gate is entered before each
+/// script and left afterwards.
 pub fn run_words<R: Threads + Sync, F: Files, O: Sink, E: Sink, G: Gate + Sync>(
     rt: &R,
     alloc: Global,
@@ -72,7 +76,7 @@ pub fn run_words<R: Threads + Sync, F: Files, O: Sink, E: Sink, G: Gate + Sync>(
     ensures words { Exactly 2 (ended result)
         (moment (F.state files.old) (O.state out.old) (E.state err.old))
         (moment (F.state files.new) (O.state out.new) (E.state err.new))
-        (plan_of (map string_bytes words.now) ≡ None) }
+        (request_of (map string_bytes words.now) ≡ None) }
 
     ensures read { result.code ≡ 3
         → IsFileFault (map string_bytes words.now) (F.state files.old) (F.state files.new) }
@@ -97,13 +101,16 @@ pub fn run_words<R: Threads + Sync, F: Files, O: Sink, E: Sink, G: Gate + Sync>(
         (moment (F.state files.old) (O.state out.old) (E.state err.old))
         (moment (F.state files.new) (O.state out.new) (E.state err.new)) }
 
-    ensures print { result.code ≡ 0 → PrintsAll (map string_bytes words.now)
+    ensures print { result.code ≡ 0 → PrintsAll (map string_bytes words.now) (ended result)
         (moment (F.state files.old) (O.state out.old) (E.state err.old))
         (moment (F.state files.new) (O.state out.new) (E.state err.new)) }
-    ensures early { result.code ≡ 1 → PrintsEarly (map string_bytes words.now)
+    ensures early { result.code ≡ 1 → PrintsEarly (map string_bytes words.now) (ended result)
         (moment (F.state files.old) (O.state out.old) (E.state err.old))
         (moment (F.state files.new) (O.state out.new) (E.state err.new)) }
-    ensures write { result.code ≡ 7 → IsCut (map string_bytes words.now) 7
+    ensures full { result.code ≡ 5 → PrintsFull (map string_bytes words.now) (ended result)
+        (moment (F.state files.old) (O.state out.old) (E.state err.old))
+        (moment (F.state files.new) (O.state out.new) (E.state err.new)) }
+    ensures write { result.code ≡ 7 → IsCut (map string_bytes words.now) (ended result)
         (moment (F.state files.old) (O.state out.old) (E.state err.old))
         (moment (F.state files.new) (O.state out.new) (E.state err.new)) }
 
@@ -116,10 +123,8 @@ pub fn run_words<R: Threads + Sync, F: Files, O: Sink, E: Sink, G: Gate + Sync>(
         (moment (F.state files.old) (O.state out.old) (E.state err.old))
         (moment (F.state files.new) (O.state out.new) (E.state err.new)) }
 {
-    let _rt = rt;
-    let _gate = gate;
     // laws of what is spelled
     one_script();
     no_refused_script();
-    run(alloc, words, files, out, err)
+    run(rt, alloc, words, files, out, err, gate)
 }

@@ -1,16 +1,21 @@
 // Writes what becomes of a call.
-ghost use Rattle.std.specs.Prelude.{◌≡◌, ◌++◌, decimal};
+ghost use Rattle.std.specs.Prelude.{◌≡◌, ◌≤◌, ◌++◌, length, decimal};
 ghost use Rattle.js_io.specs.SinkState.{SinkState, WritesAll};
-ghost use Rattle.js_run.specs.Answer.{written, told, status, finish_report, stop_report};
-ghost use Rattle.js_run.specs.Verdict.{end_line, full_text, kind_text, status_or};
+ghost use Rattle.js_sources.specs.Answers.{sources_for};
+ghost use Rattle.js_program.specs.Ran.{outcomes_in};
+ghost use Rattle.js_run.specs.Answer.{HasNames, outcome_ends, source_names, stop_report};
+ghost use Rattle.js_run.specs.Cause.{names_in};
+ghost use Rattle.js_run.specs.Verdict.{BadWords, WasRun, count_line, end_line, end_lines, ends_of, err_of, full_text, kind_text, out_of, printed_by, report_of, status_of, status_or};
 ghost use Rattle.js_run.specs.Moment.{sinks};
 ghost use Rattle.js_run.specs.Ending.{IsEnd};
 
-use crate::answer::{Finish, Stop};
 use crate::refusing::{place, words};
 use itoa::Buffer;
 use js_evaluator::{End, Kind};
 use js_io::{Failed, Sink, write_all};
+use js_jobs::Outcome;
+use js_program::Ran;
+use js_sources::{Source, Sources, Stop};
 use js_store::FullReport;
 
 fn write_both<O: Sink>(sink: &mut O, first: &[u8], second: &[u8]) -> Result<(), Failed>
@@ -20,6 +25,14 @@ fn write_both<O: Sink>(sink: &mut O, first: &[u8], second: &[u8]) -> Result<(), 
         Ok(()) => write_all(sink, second),
         Err(Failed) => Err(Failed),
     }
+}
+
+// A number, and what stands behind it.
+fn write_number<O: Sink>(sink: &mut O, number: u32, behind: &[u8]) -> Result<(), Failed>
+    ensures { WritesAll result (O.state sink.old) (O.state sink.new) (decimal number ++ behind.now) }
+{
+    let mut digits = Buffer::new();
+    write_both(sink, digits.format(number).as_bytes(), behind)
 }
 
 // A name, and then what stands before a place, the place and what stands behind it.
@@ -33,9 +46,8 @@ fn write_place<O: Sink>(
     ensures { WritesAll result (O.state sink.old) (O.state sink.new)
         (name.now ++ (before.now ++ (decimal at ++ behind.now))) }
 {
-    let mut digits = Buffer::new();
     match write_both(sink, name.as_bytes(), before) {
-        Ok(()) => write_both(sink, digits.format(at).as_bytes(), behind),
+        Ok(()) => write_number(sink, at, behind),
         Err(Failed) => Err(Failed),
     }
 }
@@ -70,7 +82,7 @@ fn full_words(report: FullReport) -> &'static [u8]
     }
 }
 
-// Writes the line of a script that didn't end Done.
+// Writes the line of a file that didn't end Done.
 fn write_end<E: Sink>(err: &mut E, name: &str, end: End) -> Result<(), Failed>
     ensures { WritesAll result (E.state err.old) (E.state err.new) (end_line name.now end) }
 {
@@ -95,31 +107,78 @@ fn end_status(end: End) -> u8
 }
 
 // Writes what the scripts printed, in order.
-fn write_lines<O: Sink>(out: &mut O, finishes: &[Finish<'_>]) -> Result<(), Failed>
-    ensures { WritesAll result (O.state out.old) (O.state out.new) (written finishes.now) }
+fn write_lines<O: Sink>(out: &mut O, scripts: &[Outcome]) -> Result<(), Failed>
+    ensures { WritesAll result (O.state out.old) (O.state out.new) (printed_by scripts.now) }
 {
-    for finish in finishes {
-        write_all(out, finish.lines.bytes())?;
+    for script in scripts {
+        write_all(out, script.lines.bytes())?;
     }
     Ok(())
+}
+
+// Writes the line of the number of different strings, where they were counted.
+fn write_count<O: Sink>(out: &mut O, interned: Option<u32>) -> Result<(), Failed>
+    ensures { WritesAll result (O.state out.old) (O.state out.new) (count_line interned) }
+{
+    match interned {
+        None => Ok(()),
+        Some(count) => match write_all(out, b"interned ") {
+            Ok(()) => write_number(out, count, b"\n"),
+            Err(Failed) => Err(Failed),
+        },
+    }
+}
+
+// Writes all that goes to `out`.
+fn write_out<O: Sink>(out: &mut O, ran: &Ran) -> Result<(), Failed>
+    ensures { WritesAll result (O.state out.old) (O.state out.new) (out_of ran.now) }
+{
+    match write_lines(out, &ran.scripts) {
+        Ok(()) => write_count(out, ran.interned),
+        Err(Failed) => Err(Failed),
+    }
 }
 
 // Writes the lines of the scripts that didn't end Done, in order.
-fn write_ends<E: Sink>(err: &mut E, finishes: &[Finish<'_>]) -> Result<(), Failed>
-    ensures { WritesAll result (E.state err.old) (E.state err.new) (told finishes.now) }
+fn write_ends<E: Sink>(
+    err: &mut E,
+    sources: &[Source<'_>],
+    scripts: &[Outcome],
+) -> Result<(), Failed>
+    requires { length scripts.now ≤ length sources.now }
+    ensures { WritesAll result (E.state err.old) (E.state err.new)
+        (end_lines (source_names sources.now) (outcome_ends scripts.now)) }
 {
-    for finish in finishes {
-        write_end(err, finish.name, finish.end)?;
+    for k in 0..scripts.len() {
+        write_end(err, sources[k].name, scripts[k].end)?;
     }
     Ok(())
 }
 
-// The status of the first script that didn't end Done.
-fn first_status(finishes: &[Finish<'_>]) -> u8
-    ensures { result ≡ status finishes.now }
+// Writes the lines of all files that didn't end Done.
+fn write_err<E: Sink>(err: &mut E, sources: &Sources<'_>, ran: &Ran) -> Result<(), Failed>
+    requires { HasNames sources.now ran.now }
+    ensures { WritesAll result (E.state err.old) (E.state err.new)
+        (err_of (names_in (sources_for sources.now)) ran.now) }
 {
-    for finish in finishes {
-        let status = end_status(finish.end);
+    match &sources.prelude {
+        None => write_ends(err, &sources.scripts, &ran.scripts),
+        Some(source) => match &ran.prelude {
+            None => unreachable!(),
+            Some(prelude) => match write_end(err, source.name, prelude.end) {
+                Ok(()) => write_ends(err, &sources.scripts, &ran.scripts),
+                Err(Failed) => Err(Failed),
+            },
+        },
+    }
+}
+
+// The status of the first script that didn't end Done.
+fn first_status(scripts: &[Outcome]) -> u8
+    ensures { result ≡ status_of (outcome_ends scripts.now) }
+{
+    for script in scripts {
+        let status = end_status(script.end);
         if status != 0 {
             return status;
         }
@@ -127,30 +186,59 @@ fn first_status(finishes: &[Finish<'_>]) -> u8
     0
 }
 
-/// Writes what scripts printed and how they ended, and gives the status.
-pub(crate) fn tell_runs<O: Sink, E: Sink>(finishes: &[Finish<'_>], out: &mut O, err: &mut E) -> u8
-    ensures { IsEnd (finish_report finishes.now) result (sinks (O.state out.old) (E.state err.old))
-        (sinks (O.state out.new) (E.state err.new)) }
+// The status of the first file that didn't end Done.
+fn status(ran: &Ran) -> u8
+    ensures { result ≡ status_of (ends_of ran.now) }
 {
-    match write_lines(out, finishes) {
-        Ok(()) => match write_ends(err, finishes) {
-            Ok(()) => first_status(finishes),
+    match &ran.prelude {
+        None => first_status(&ran.scripts),
+        Some(prelude) => {
+            let status = end_status(prelude.end);
+            if status != 0 {
+                return status;
+            }
+            first_status(&ran.scripts)
+        }
+    }
+}
+
+/// Writes what files printed and how they ended, and gives the status.
+pub(crate) fn tell_ran<O: Sink, E: Sink>(
+    sources: &Sources<'_>,
+    ran: &Ran,
+    out: &mut O,
+    err: &mut E,
+) -> u8
+    requires { HasNames sources.now ran.now }
+    ensures { IsEnd (report_of (WasRun (names_in (sources_for sources.now)) ran.now)) result
+        (sinks (O.state out.old) (E.state err.old)) (sinks (O.state out.new) (E.state err.new)) }
+{
+    match write_out(out, ran) {
+        Ok(()) => match write_err(err, sources, ran) {
+            Ok(()) => status(ran),
             Err(Failed) => 7,
         },
         Err(Failed) => 7,
     }
 }
 
-/// Tells why no script was run, whatever the other sink took, and gives the status.
+/// Tells that the words are refused, whatever the other sink took, and gives the status.
+pub(crate) fn tell_words<E: Sink>(err: &mut E) -> u8
+    ensures { (out : SinkState) → IsEnd (report_of BadWords) result
+        (sinks out (E.state err.old)) (sinks out (E.state err.new)) }
+{
+    // a fault of err changes no status
+    let _ = write_all(err, b"jsstr: the words are refused\n");
+    2
+}
+
+/// Tells why nothing was run, whatever the other sink took, and gives the status.
 pub(crate) fn tell_stop<E: Sink>(stop: Stop<'_>, err: &mut E) -> u8
-    ensures { (out : SinkState) → IsEnd (stop_report stop.entry) result (sinks out (E.state err.old)) (sinks out (E.state err.new)) }
+    ensures { (out : SinkState) → IsEnd (stop_report stop.entry) result
+        (sinks out (E.state err.old)) (sinks out (E.state err.new)) }
 {
     // a fault of err changes no status
     match stop {
-        Stop::BadWords => {
-            let _ = write_all(err, b"jsstr: the words are refused\n");
-            2
-        }
         Stop::NotRead(name) => {
             let _ = write_both(err, name.as_bytes(), b": cannot be read\n");
             3

@@ -1,4 +1,4 @@
-//! The program `jsstr`: runs the script of a file.
+//! The program `jsstr`: runs the scripts of files, each behind a prelude, in threads on one heap.
 //!
 //! All that it does is done by [`js_run::run_words`] over the files and the streams of the
 //! process, and it ends with the status of that call. Where the runtime refuses it the words of

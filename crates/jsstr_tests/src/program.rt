@@ -7,6 +7,18 @@ use std::alloc::{AllocError, Global};
 use std::test::Fail;
 use std::thread::Threads;
 
+// The words for one file on a small heap, which takes no time to make.
+const WORDS: [&str; 8] = [
+    "jsstr",
+    "--ids",
+    "64",
+    "--heap-words",
+    "256",
+    "--slots",
+    "16",
+    "a.js",
+];
+
 // The status, and what both sinks took.
 #[derive(Drop)]
 struct Ran {
@@ -15,7 +27,7 @@ struct Ran {
     err: MemSink,
 }
 
-fn owned(alloc: Global, words: &[&str]) -> Result<Vec<String>, AllocError> {
+pub(crate) fn owned(alloc: Global, words: &[&str]) -> Result<Vec<String>, AllocError> {
     let mut owned = Vec::new(alloc);
     for word in words {
         owned.push(String::from_str(alloc, word)?)?;
@@ -53,9 +65,8 @@ fn a_sink_fails_at_any_place(rt: HostRuntime) -> Result<(), Fail> {
     let told = b"a.js:3: refused: unexpected\n";
     for most in 1..4 {
         for room in 0..11 {
-            let file = ["jsstr", "a.js"];
             let text = b"print('hel' + 'lo'); print('you');";
-            let ran = run(&rt, rt.alloc(), &file, text, most, room)?;
+            let ran = run(&rt, rt.alloc(), &WORDS, text, most, room)?;
             assert_eq!(rt; ran.code, if room < 10 { 7 } else { 0 }, "room for {room}");
             assert_eq!(rt;
                 ran.out.taken(),
@@ -63,7 +74,7 @@ fn a_sink_fails_at_any_place(rt: HostRuntime) -> Result<(), Fail> {
                 "room for {room}"
             );
             assert_eq!(rt; ran.err.taken(), b"".as_slice(), "room for {room}");
-            let ran = run(&rt, rt.alloc(), &file, b"let", most, room)?;
+            let ran = run(&rt, rt.alloc(), &WORDS, b"let", most, room)?;
             assert_eq!(rt; ran.code, 4, "room for {room}");
             assert_eq!(rt; ran.out.taken(), b"".as_slice(), "room for {room}");
             assert_eq!(rt; ran.err.taken(), &told[..room as usize], "room for {room}");
@@ -76,7 +87,7 @@ fn a_sink_fails_at_any_place(rt: HostRuntime) -> Result<(), Fail> {
 #[test]
 fn a_line_on_err_fails_behind_the_lines(rt: HostRuntime) -> Result<(), Fail> {
     let told = b"a.js: uncaught TypeError\n";
-    let words = owned(rt.alloc(), &["jsstr", "a.js"])?;
+    let words = owned(rt.alloc(), &WORDS)?;
     for room in 0..26 {
         let mut files = MemFiles::new(rt.alloc());
         files.put("a.js", b"print('x'); print(undefined.length);")?;
@@ -110,7 +121,7 @@ fn a_file_has_at_most_so_many_bytes(rt: HostRuntime) -> Result<(), Fail> {
     ] {
         let mut text = Vec::new(rt.alloc());
         text.resize(len as usize, b' ')?;
-        let ran = run(&rt, rt.alloc(), &["jsstr", "a.js"], &text, 100, 100)?;
+        let ran = run(&rt, rt.alloc(), &WORDS, &text, 100, 100)?;
         assert_eq!(rt; ran.code, code, "at {len}");
         assert_eq!(rt; ran.err.taken(), err.as_bytes(), "at {len}");
     }
@@ -120,7 +131,7 @@ fn a_file_has_at_most_so_many_bytes(rt: HostRuntime) -> Result<(), Fail> {
 // The first read fails, and the second, of another run, doesn't.
 #[test]
 fn a_read_fails(rt: HostRuntime) -> Result<(), Fail> {
-    let words = owned(rt.alloc(), &["jsstr", "a.js"])?;
+    let words = owned(rt.alloc(), &WORDS)?;
     let mut files = MemFiles::new(rt.alloc());
     files.put("a.js", b"print('x');")?;
     files.fail_at(0)?;

@@ -1,21 +1,27 @@
-use Rattle.std.proofs.Common.{sym, subst}
-use Rattle.js_run.specs.Verdict.{Report}
-use Rattle.js_run.specs.Moment.{Sinks, sinks}
-use Rattle.js_run.specs.Ending.{IsEnd}
-use Rattle.js_run.proofs.Told.{counts_kept}
+use Rattle.std.proofs.Common.{◌≡◌, None, map, refl}
+use Rattle.std.specs.String.{string_bytes}
+use Rattle.js_words.specs.Words.{request_for, request_of}
+use Rattle.js_run.specs.Moment.{ended, moment, sinks}
+use Rattle.js_run.proofs.Becoming.{lawful_outcome, memory_outcome, refused_outcome}
 use Rattle.js_run.proofs.run.run.Goals as goal
 
-pub returns-in-Err : goal.returns-in-Err
-returns-in-Err g c =
-    let judged = c.in-Err.ensures in
+pub returns-in-Ok : goal.returns-in-Ok
+returns-in-Ok g c =
+    let state = g.F.Files.state in
+    lawful_outcome (map string_bytes c.args.words.now) (ended c.run_plan.result) (request_for c.in-Ok.plan)
+    (moment (state c.args.files.now) (g.O.Sink.state c.args.out.now) (g.E.Sink.state c.args.err.now))
+    (moment (state c.run_plan.new.files) (g.O.Sink.state c.run_plan.new.out) (g.E.Sink.state c.run_plan.new.err))
+    c.in-Ok.ensures.planned c.run_plan.ensures.keeps c.run_plan.ensures.becomes
+
+pub returns-in-Refused : goal.returns-in-Refused
+returns-in-Refused g c =
     let out = g.O.Sink.state c.args.out.now in
-    let old : Sinks = sinks out (g.E.Sink.state c.args.err.now) in
-    let new : Sinks = sinks out (g.E.Sink.state c.tell_stop.new.err) in
-    let end = c.tell_stop.ensures out in
-    let kept = counts_kept _ c.tell_stop.result old new end in
-    record {
-      verdict = judged.verdict;
-      cause = judged.cause;
-      ending = subst (λ (r : Report). IsEnd r c.tell_stop.result old new) (sym judged.reports) end;
-      keeps = record { files = judged.keeps; out = kept.0; err = kept.1 };
-    }
+    let unlawful : request_of (map string_bytes c.args.words.now) ≡ None = rw (c.in-Refused.is) at c.in-Err.ensures.refused in
+    refused_outcome (map string_bytes c.args.words.now) (ended (record { code = c.tell_words.result; kept = None })) (g.F.Files.state c.args.files.now)
+    (sinks out (g.E.Sink.state c.args.err.now)) (sinks out (g.E.Sink.state c.tell_words.new.err)) unlawful refl (c.tell_words.ensures out)
+
+pub returns-in-Memory : goal.returns-in-Memory
+returns-in-Memory g c =
+    let out = g.O.Sink.state c.args.out.now in
+    memory_outcome (map string_bytes c.args.words.now) (ended c.stopped.result) (g.F.Files.state c.args.files.now)
+    (sinks out (g.E.Sink.state c.args.err.now)) (sinks out (g.E.Sink.state c.stopped.new.err)) c.stopped.ensures.kept (c.stopped.ensures.told out)

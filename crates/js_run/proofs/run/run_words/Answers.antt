@@ -1,4 +1,4 @@
-use Rattle.js_run.proofs.Rows.{memory_row, words_row, read_row, quiet_row, large_row, script_row, refused_row, told_row, print_row, early_row, write_row, honest_row}
+use Rattle.js_run.proofs.Rows.{memory_row, words_row, read_row, quiet_row, large_row, script_row, refused_row, told_row, print_row, early_row, full_row, write_row, honest_row}
 use Rattle.js_run.proofs.run.run_words.Goals as goal
 
 pub returns-clause-words : goal.returns-clause-words
@@ -39,3 +39,6 @@ returns-clause-keeps g c = c.run.ensures.keeps
 
 pub returns-clause-memory : goal.returns-clause-memory
 returns-clause-memory g c = memory_row _ _ _ _ c.one_script.ensures c.no_refused_script.ensures c.run.ensures
+
+pub returns-clause-full : goal.returns-clause-full
+returns-clause-full g c = full_row _ _ _ _ c.one_script.ensures c.no_refused_script.ensures c.run.ensures

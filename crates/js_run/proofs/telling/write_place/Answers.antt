@@ -12,10 +12,10 @@ returns-in-Ok g c =
     let state = g.O.Sink.state in
     let old = state c.args.sink.now in
     let mid = state c.write_both.new.sink in
-    let new = state c.write_both-in-Ok.new.sink in
-    regroup c.write_both-in-Ok.result old new c.args.name.now c.args.before.now (decimal c.args.at ++ c.args.behind.now)
-    (then_second c.write_both-in-Ok.result old mid new _ _
-    (rw (c.as_bytes.ensures.value) at c.in-Ok.ensures) (rw (c.as_bytes-in-Ok.ensures.value, c.format.ensures.text) at c.write_both-in-Ok.ensures))
+    let new = state c.write_number.new.sink in
+    regroup c.write_number.result old new c.args.name.now c.args.before.now (decimal c.args.at ++ c.args.behind.now)
+    (then_second c.write_number.result old mid new _ _
+    (rw (c.as_bytes.ensures.value) at c.in-Ok.ensures) c.write_number.ensures)
 
 pub returns-in-Err : goal.returns-in-Err
 returns-in-Err g c =

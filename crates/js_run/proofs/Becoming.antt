@@ -1,0 +1,224 @@
+-- What the stages of a call leave, one behind the other.
+use Rattle.std.proofs.Common.{◌≡◌, ◌≤◌, ℕ, zero, suc, List, [], ◌∷◌, length, option_map, Option, None, Some, refl, sym, ap, subst, arith}
+use Rattle.std.proofs.lemmas.List.{length-append, length-map}
+use Rattle.heap_rule.specs.Layout.{IsLawful}
+use Rattle.heap_table.specs.MayMake.{MayMake}
+use Rattle.js_generate.specs.Draws.{listed}
+use Rattle.js_generate.specs.Texts.{Named, generated, named_script}
+use Rattle.js_io.specs.FilesState.{FilesState}
+use Rattle.js_evaluator.specs.declared.ending.End.{End}
+use Rattle.js_evaluator.specs.declared.ending.End.TheVariants.{Done, Threw, Unsupported, Full, Memory}
+use Rattle.js_evaluator.specs.Script.{Flow, meaning}
+use Rattle.js_jobs.specs.declared.job.Outcome.{Outcome}
+use Rattle.js_store.specs.Limits.{limit_units}
+use Rattle.js_fits.specs.Files.{RunFile, AreFilesOf, AfterPrelude}
+use Rattle.std.specs.Borrow.{Bor}
+use Rattle.std.specs.Option.{option_copied}
+use Rattle.js_syntax.specs.declared.tree.Script.{Script}
+use Rattle.js_syntax.specs.Tree.{Tree, tree_of}
+use Rattle.js_words.specs.Words.{Asked, IsInRange, Request, files, made_from, request_of}
+use Rattle.js_sources.specs.declared.sources.Source.{Source}
+use Rattle.js_sources.specs.declared.sources.Sources.{Sources}
+use Rattle.js_sources.specs.declared.stop.Stop.{Stop}
+use Rattle.js_sources.specs.declared.stop.Stop.TheVariants as stop
+use Rattle.js_sources.specs.Answers.{RefusesFile, RefusesScript, source_for, sources_for}
+use Rattle.js_sources.specs.Program.{Name, Program, in_order, program_from}
+use Rattle.js_sources.specs.Reading as reading
+use Rattle.js_sources.specs.Reading.{AreRead, IsQuiet, KeepsFiles, Read}
+use Rattle.js_sources.specs.Spelling as spelling
+use Rattle.js_sources.specs.Spelling.{AllSpell, Spell, SpellsPrelude}
+use Rattle.js_program.specs.declared.ran.Ran.{Ran}
+use Rattle.js_program.specs.declared.ran.Setup.{Setup}
+use Rattle.js_program.specs.Meant.{left_by}
+use Rattle.js_program.specs.Ran.{HasOutcome, IsRan, all_outcomes, prelude_by, scripts_by, tree_if}
+use Rattle.js_run.specs.Answer.{Becomes, HasNames, SamePrelude, stop_report}
+use Rattle.js_run.specs.Asked.{AreTexts, setup_of}
+use Rattle.js_run.specs.Cause.{HasCauseBy, HasCauseIn, HasCauseOf, names_in}
+use Rattle.js_run.specs.Ending.{IsEnd}
+use Rattle.js_run.specs.Moment.{Ended, Moment, Sinks}
+use Rattle.js_run.specs.Outcome.{Outcome as OutcomeOf}
+use Rattle.js_run.proofs.Told.{counts_kept}
+use Rattle.js_run.specs.Verdict.{BadWords, NoMemory, NotRead, Refused, TooLarge, Verdict, WasRun, kept_of, report_of}
+
+-- ---- texts
+
+module _ (setup : Setup) (sources : Program Named) (ended : Ended) (old new : Sinks) where
+  -- the texts spell no program, or memory was wanting
+  pub script_stopped : (s : Stop) → RefusesScript sources s → ended.kept ≡ None → IsEnd (stop_report s) ended.code old new → Becomes (HasCauseOf setup sources) ended old new
+  script_stopped (stop.Refused name fault) why none end = record { verdict = Refused name.now fault; cause = why; ending = end; kept = none }
+  script_stopped stop.NoMemory why none end = record { verdict = NoMemory; cause = tt; ending = end; kept = none }
+  script_stopped (stop.NotRead name) why none end = absurd why
+  script_stopped (stop.TooLarge name) why none end = absurd why
+
+  pub memory_stopped : ended.kept ≡ None → IsEnd (stop_report stop.NoMemory) ended.code old new → Becomes (HasCauseOf setup sources) ended old new
+  memory_stopped none end = record { verdict = NoMemory; cause = tt; ending = end; kept = none }
+
+  pub program_ran : (trees : Program Tree) (ran : Ran) → Spell sources trees → IsRan setup trees.prelude trees.scripts ran → ended.kept ≡ Some ran.kept
+      → IsEnd (report_of (WasRun (names_in sources) ran)) ended.code old new → Becomes (HasCauseOf setup sources) ended old new
+  program_ran trees ran spell program kept end = record {
+    verdict = WasRun (names_in sources) ran;
+    cause = record { named = refl; trees = trees; spell = spell; program = program };
+    ending = end;
+    kept = kept;
+  }
+
+-- ---- files, and texts that were made
+
+module _ (request : Request) (before after : FilesState) (ended : Ended) (old new : Sinks) where
+  -- a file wasn't read, or memory was wanting
+  pub file_stopped : (prelude : Option Name) (scripts : List Name) (s : Stop) → request.asked ≡ files prelude scripts → RefusesFile before after (in_order (record { prelude = prelude; scripts = scripts })) s
+      → ended.kept ≡ None → IsEnd (stop_report s) ended.code old new → Becomes (HasCauseIn before after request) ended old new
+  file_stopped prelude scripts (stop.NotRead name) asked why none end = record { verdict = NotRead name.now; cause = rw (asked) why; ending = end; kept = none }
+  file_stopped prelude scripts (stop.TooLarge name) asked why none end = record { verdict = TooLarge name.now; cause = rw (asked) why; ending = end; kept = none }
+  file_stopped prelude scripts stop.NoMemory asked why none end = record { verdict = NoMemory; cause = why; ending = end; kept = none }
+  file_stopped prelude scripts (stop.Refused name fault) asked why none end = absurd why
+
+  of_texts : (sources : Program Named) → AreTexts request.asked before.held sources → IsQuiet before after → (v : Verdict) → HasCauseOf (setup_of request) sources v → HasCauseIn before after request v
+  of_texts sources texts quiet BadWords why = absurd why
+  of_texts sources texts quiet (NotRead name) why = absurd why
+  of_texts sources texts quiet (TooLarge name) why = absurd why
+  of_texts sources texts quiet (Refused name fault) why = record { sources = sources; texts = texts; quiet = quiet; cause = why }
+  of_texts sources texts quiet NoMemory why = quiet
+  of_texts sources texts quiet (WasRun names ran) why = record { sources = sources; texts = texts; quiet = quiet; cause = why }
+
+  pub texts_became : (sources : Program Named) → AreTexts request.asked before.held sources → IsQuiet before after → Becomes (HasCauseOf (setup_of request) sources) ended old new
+      → Becomes (HasCauseIn before after request) ended old new
+  texts_became sources texts quiet b = record { verdict = b.verdict; cause = of_texts sources texts quiet b.verdict b.cause; ending = b.ending; kept = b.kept }
+
+  pub files_became : (prelude : Option Name) (scripts : List Name) (sources : Program Named) (setup : Setup) → request.asked ≡ files prelude scripts → setup ≡ setup_of request
+      → AreRead before.held (record { prelude = prelude; scripts = scripts }) sources → IsQuiet before after → Becomes (HasCauseOf setup sources) ended old new
+      → Becomes (HasCauseIn before after request) ended old new
+  files_became prelude scripts sources setup asked is read quiet b =
+      texts_became sources (subst (λ (a : Asked). AreTexts a before.held sources) (sym asked) read) quiet
+      (subst (λ (s : Setup). Becomes (HasCauseOf s sources) ended old new) is b)
+
+  pub made_became : (number : ℕ) (setup : Setup) → request.asked ≡ made_from number → setup ≡ setup_of request → IsQuiet before after
+      → Becomes (HasCauseOf setup (program_from (generated number))) ended old new → Becomes (HasCauseIn before after request) ended old new
+  made_became number setup asked is quiet b =
+      let sources : Program Named = program_from (generated number) in
+      texts_became sources (subst (λ (a : Asked). AreTexts a before.held sources) (sym asked) refl) quiet
+      (subst (λ (s : Setup). Becomes (HasCauseOf s sources) ended old new) is b)
+
+-- ---- how many texts there are
+
+listed_length : {T : Type 0} (f : ℕ → T) (k : ℕ) → length (listed f k) ≡ k
+unfolding listed
+listed_length f zero = refl
+listed_length f (suc k) = let more = length-append (listed f k) (f k ∷ []) in omega (arith, more, listed_length f k)
+
+pub made_length : (number : ℕ) → length (generated number) ≡ 33
+made_length number = omega (arith, listed_length (named_script number) 32)
+
+pub made_scripts : (number : ℕ) → length (program_from (generated number)).scripts ≡ 32
+made_scripts number = listed_length (named_script number) 32
+
+pub read_length : (held : Name → Option (List ℕ)) (names : List Name) (sources : List Named) → Read held names sources → length sources ≡ length names
+read_length held _ _ reading.Read.none = refl
+read_length held _ _ (reading.Read.next name names source sources is rest) = ap suc (read_length held names sources rest)
+
+-- ---- each file that was run has a name
+
+spelled_length : (outer : List (List ℕ)) (sources : List Named) (trees : List Tree) → AllSpell outer sources trees → length trees ≡ length sources
+spelled_length outer _ _ spelling.AllSpell.none = refl
+spelled_length outer _ _ (spelling.AllSpell.next source sources tree trees spells rest) = ap suc (spelled_length outer sources trees rest)
+
+after_length : (e : End) (scripts : List Flow) (fs : List RunFile) → AfterPrelude e scripts fs → length fs ≤ length scripts
+after_length Done scripts fs is = let same = ap length is in let long = length-map fs (λ (f : RunFile). f.mean) in omega (arith, same, long)
+after_length (Threw k) scripts fs is = let same = ap length is in omega (arith, same)
+after_length (Unsupported at) scripts fs is = let same = ap length is in omega (arith, same)
+after_length (Full report) scripts fs is = let same = ap length is in omega (arith, same)
+after_length Memory scripts fs is = let same = ap length is in omega (arith, same)
+
+script_count : (tree : Option Tree) (outcome : Option Outcome) (os : List Outcome) (flow : Option Flow) (scripts : List Flow) (fs : List RunFile) → HasOutcome tree outcome
+    → ((t : Tree) → tree ≡ Some t → (m : Flow) × (flow ≡ Some m)) → (tree ≡ None → flow ≡ None)
+    → AreFilesOf flow scripts fs → length fs ≡ length (all_outcomes outcome os) → length os ≤ length scripts
+script_count None None os None scripts fs has some none are same = let long = length-map fs (λ (f : RunFile). f.mean) in omega (arith, same, ap length are, long)
+script_count None None os (Some m) scripts fs has some none are same = absurd (cc (none refl))
+script_count (Some t) (Some o) os (Some m) scripts [] has some none are same = absurd are
+script_count (Some t) (Some o) os (Some m) scripts (f ∷ fs) has some none are same = omega (arith, same, after_length f.end scripts fs are.1)
+script_count (Some t) (Some o) os None scripts fs has some none are same = absurd (cc (some t refl).1)
+script_count None (Some o) os flow scripts fs has some none are same = absurd has
+script_count (Some t) None os flow scripts fs has some none are same = absurd has
+
+module _ (setup : Setup) where
+  has_flow : (tree : Option Tree) (t : Tree) → tree ≡ Some t → (m : Flow) × (prelude_by setup tree ≡ Some m)
+  has_flow None t is = absurd (cc is)
+  has_flow (Some x) t is = (_, refl)
+
+  no_flow : (tree : Option Tree) → tree ≡ None → prelude_by setup tree ≡ None
+  no_flow None is = refl
+  no_flow (Some x) is = absurd (cc is)
+
+  pub run_length : (prelude : Option Tree) (scripts : List Tree) (ran : Ran) → IsRan setup prelude scripts ran → length ran.scripts.items ≤ length scripts
+  run_length prelude scripts ran p =
+      let many = length-map p.files (λ (f : RunFile). f.end) in
+      let as_many = length-map (all_outcomes ran.prelude ran.scripts.items) (λ (o : Outcome). o.end) in
+      let meant = length-map scripts (λ (tree : Tree). meaning tree (left_by (prelude_by setup prelude)) (limit_units setup.limit)) in
+      let same : length p.files ≡ length (all_outcomes ran.prelude ran.scripts.items) = omega (arith, many, as_many, ap length p.ends) in
+      let few = script_count prelude ran.prelude ran.scripts.items (prelude_by setup prelude) (scripts_by setup prelude scripts) p.files p.has_prelude (has_flow prelude) (no_flow prelude) p.are same in
+      omega (arith, few, meant)
+
+same_prelude : (source : Option Source) (tree : Option Tree) (outcome : Option Outcome) → SpellsPrelude (option_map source_for source) tree → HasOutcome tree outcome → SamePrelude source outcome
+same_prelude None None None spells has = tt
+same_prelude None None (Some o) spells has = absurd has
+same_prelude None (Some t) outcome spells has = absurd spells
+same_prelude (Some s) None outcome spells has = absurd spells
+same_prelude (Some s) (Some t) None spells has = absurd has
+same_prelude (Some s) (Some t) (Some o) spells has = tt
+
+pub named : (setup : Setup) (sources : Sources) (trees : Program Tree) (ran : Ran) → Spell (sources_for sources) trees → IsRan setup trees.prelude trees.scripts ran → HasNames sources ran
+named setup sources trees ran spell p = record {
+  prelude = same_prelude sources.prelude trees.prelude ran.prelude spell.prelude p.has_prelude;
+  scripts = (let a = run_length setup trees.prelude trees.scripts ran p in
+      let b = spelled_length _ _ trees.scripts spell.scripts in
+      let c = length-map sources.scripts.items source_for in
+      omega (arith, a, b, c));
+}
+
+-- ---- the words
+
+pub may_make : (request : Request) → IsInRange request → MayMake (setup_of request).size (setup_of request).jobs
+may_make request r =
+    let lawful : IsLawful (setup_of request).size = (r.ids.0, omega (arith, r.ids.1), r.heap_words.0, omega (arith, r.heap_words.1), r.slots.0, omega (arith, r.slots.1), r.together) in
+    (lawful, r.jobs.0, r.jobs.1)
+
+pub program_length : (sources : Program Named) (trees : Program Tree) → Spell sources trees → length trees.scripts ≡ length sources.scripts
+program_length sources trees spell = spelled_length _ sources.scripts trees.scripts spell.scripts
+
+still : (f : FilesState) → KeepsFiles f f
+still f = record { held = λ name. refl; faults = omega arith; oversize = omega arith }
+
+pub still_quiet : (f : FilesState) → IsQuiet f f
+still_quiet f = record { calm = refl; not_large = refl; unblamed = refl }
+
+module _ (words : List (List ℕ)) (ended : Ended) where
+  outcome : (old new : Moment) (v : Verdict) → KeepsFiles old.files new.files → HasCauseBy (request_of words) old.files new.files v → IsEnd (report_of v) ended.code old.sinks new.sinks
+      → ended.kept ≡ kept_of v → OutcomeOf words ended old new
+  outcome old new v keeps why end kept =
+      let counts = counts_kept (report_of v) ended.code old.sinks new.sinks end in
+      record { verdict = v; cause = why; ending = end; kept = kept; keeps = record { files = keeps; out = counts.0; err = counts.1 } }
+
+  pub lawful_outcome : (request : Request) (old new : Moment) → request_of words ≡ Some request → KeepsFiles old.files new.files
+      → Becomes (HasCauseIn old.files new.files request) ended old.sinks new.sinks → OutcomeOf words ended old new
+  lawful_outcome request old new lawful keeps b =
+      outcome old new b.verdict keeps (subst (λ (r : Option Request). HasCauseBy r old.files new.files b.verdict) (sym lawful) b.cause) b.ending b.kept
+
+  pub refused_outcome : (f : FilesState) (old new : Sinks) → request_of words ≡ None → ended.kept ≡ None → IsEnd (report_of BadWords) ended.code old new
+      → OutcomeOf words ended (record { files = f; sinks = old }) (record { files = f; sinks = new })
+  refused_outcome f old new unlawful none end =
+      outcome (record { files = f; sinks = old }) (record { files = f; sinks = new }) BadWords (still f) (subst (λ (r : Option Request). HasCauseBy r f f BadWords) (sym unlawful) (still_quiet f)) end none
+
+  memory_cause : (f : FilesState) (r : Option Request) → HasCauseBy r f f NoMemory
+  memory_cause f None = still_quiet f
+  memory_cause f (Some request) = still_quiet f
+
+  pub memory_outcome : (f : FilesState) (old new : Sinks) → ended.kept ≡ None → IsEnd (report_of NoMemory) ended.code old new
+      → OutcomeOf words ended (record { files = f; sinks = old }) (record { files = f; sinks = new })
+  memory_outcome f old new none end =
+      outcome (record { files = f; sinks = old }) (record { files = f; sinks = new }) NoMemory (still f) (memory_cause f (request_of words)) end none
+
+-- ---- a prelude that is lent
+
+pub tree_same : (o : Option (Bor Script)) (p : Option Script) → option_copied o ≡ p → tree_if o ≡ option_map tree_of p
+tree_same None p is = ap (option_map tree_of) is
+tree_same (Some b) p is = ap (option_map tree_of) is

@@ -1,0 +1,33 @@
+use Rattle.std.proofs.Common.{Option, Some, arith, refl, subst}
+use Rattle.std.proofs.lemmas.List.{length-map}
+use Rattle.js_syntax.specs.Tree.{Tree, tree_of}
+use Rattle.js_sources.specs.Answers.{source_for, sources_for, trees_for}
+use Rattle.js_program.specs.Ran.{IsRan, trees_of}
+use Rattle.js_run.specs.Moment.{ended, sinks}
+use Rattle.js_run.proofs.Becoming.{memory_stopped, named, program_length, program_ran, tree_same}
+use Rattle.js_run.proofs.stages.run_scripts.Goals as goal
+
+pub run_program-requires-clause-few : goal.run_program-requires-clause-few
+run_program-requires-clause-few g c = λ κs lives.
+    let long = program_length (sources_for c.args.sources.now) (trees_for c.args.scripts) c.requires.spell in
+    omega (arith, long, c.requires.few, length-map c.args.sources.now.scripts.items source_for, length-map c.args.scripts.scripts.items tree_of)
+
+pub tell_ran-code-requires : goal.tell_ran-code-requires
+tell_ran-code-requires g c =
+    let same = tree_same c.as_ref.result c.args.scripts.prelude c.as_ref.ensures.value in
+    named c.args.setup c.args.sources.now (trees_for c.args.scripts) c.in-Ok.ran c.requires.spell
+    (subst (λ (t : Option Tree). IsRan c.args.setup t (trees_of c.args.scripts.scripts.items) c.in-Ok.ran) same c.in-Ok.ensures)
+
+pub returns-in-Ok : goal.returns-in-Ok
+returns-in-Ok g c =
+    let same = tree_same c.as_ref.result c.args.scripts.prelude c.as_ref.ensures.value in
+    program_ran c.args.setup (sources_for c.args.sources.now) (ended (record { code = c.tell_ran-code.result; kept = Some c.in-Ok.ran.kept }))
+    (sinks (g.O.Sink.state c.args.out.now) (g.E.Sink.state c.args.err.now)) (sinks (g.O.Sink.state c.tell_ran-code.new.out) (g.E.Sink.state c.tell_ran-code.new.err))
+    (trees_for c.args.scripts) c.in-Ok.ran c.requires.spell
+    (subst (λ (t : Option Tree). IsRan c.args.setup t (trees_of c.args.scripts.scripts.items) c.in-Ok.ran) same c.in-Ok.ensures) refl c.tell_ran-code.ensures
+
+pub returns : goal.returns
+returns g c =
+    let out = g.O.Sink.state c.args.out.now in
+    memory_stopped c.args.setup (sources_for c.args.sources.now) (ended c.stopped.result) (sinks out (g.E.Sink.state c.args.err.now)) (sinks out (g.E.Sink.state c.stopped.new.err))
+    c.stopped.ensures.kept (c.stopped.ensures.told out)

@@ -1,0 +1,36 @@
+-- What is to be run for a request: which texts, on which heap, and whether different strings are counted.
+use Rattle.std.specs.Prelude.{◌≡◌, ℕ, List, [], Bool, true, Option, None}
+use Rattle.heap_rule.specs.declared.size.HeapSize.{HeapSize}
+use Rattle.js_generate.specs.Texts.{Named, generated}
+use Rattle.js_words.specs.declared.plan.Sizes.{Sizes}
+use Rattle.js_words.specs.Words.{Asked, Request, files, made_from}
+use Rattle.js_sources.specs.Program.{Name, Program, program_from}
+use Rattle.js_sources.specs.Reading.{AreRead}
+use Rattle.js_program.specs.declared.ran.Setup.{Setup}
+
+-- the names of the files that are to be read: none where texts are made from a number
+abbrev pub names_of : Asked → Program Name
+names_of (files prelude scripts) = record { prelude = prelude; scripts = scripts }
+names_of (made_from number) = record { prelude = None; scripts = [] }
+
+-- The texts are those of the files, as far as files are told, and none is too large; or those that are made from the number.
+abbrev pub AreTexts : Asked → (Name → Option (List ℕ)) → Program Named → Type 0
+AreTexts (files prelude scripts) held sources = AreRead held (record { prelude = prelude; scripts = scripts }) sources
+AreTexts (made_from number) held sources = sources ≡ program_from (generated number)
+
+-- texts that are made from a number count as `--summary`
+abbrev pub is_counted : Asked → Bool → Bool
+is_counted (files prelude scripts) summary = summary
+is_counted (made_from number) summary = true
+
+abbrev pub size_by : Sizes → HeapSize
+size_by sizes = record { ids = sizes.ids; words = sizes.heap_words; slots = sizes.slots }
+
+-- how the program is run: the heap has the sizes that are asked for, and as many agents as jobs
+abbrev pub setup_of : Request → Setup
+setup_of request = record {
+  jobs = request.jobs;
+  size = size_by request.sizes;
+  limit = request.limit;
+  count = is_counted request.asked request.summary;
+}

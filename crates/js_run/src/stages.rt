@@ -1,0 +1,196 @@
+// What becomes of lawful words, one stage after the other.
+ghost use Rattle.std.specs.Prelude.{◌≡◌, ◌≤◌, None, length, map};
+ghost use Rattle.heap_table.specs.MayMake.{MayMake};
+ghost use Rattle.js_generate.specs.Texts.{generated};
+ghost use Rattle.js_io.specs.SinkState.{SinkState};
+ghost use Rattle.js_words.specs.Words.{IsInRange, Request, made_from, request_for, files as named_files};
+ghost use Rattle.js_sources.specs.Answers.{AreShort, names_for, sources_for, trees_for};
+ghost use Rattle.js_sources.specs.Program.{program_from};
+ghost use Rattle.js_sources.specs.Reading.{KeepsFiles};
+ghost use Rattle.js_sources.specs.Spelling.{Spell};
+ghost use Rattle.js_run.specs.Answer.{Becomes, stop_report};
+ghost use Rattle.js_run.specs.Asked.{names_of, setup_of};
+ghost use Rattle.js_run.specs.Cause.{HasCauseIn, HasCauseOf};
+ghost use Rattle.js_run.specs.Ending.{IsEnd};
+ghost use Rattle.js_run.specs.Moment.{ended, sinks};
+
+use crate::status::Status;
+use crate::telling::{tell_ran, tell_stop};
+use heap_rule::HeapSize;
+use js_generate::texts_from;
+use js_io::{Files, Gate, Sink};
+use js_program::{Ran, Setup, run_program};
+use js_sources::{Scripts, Sources, Stop, made_sources, parse_sources, read_sources};
+use js_words::{Plan, Source};
+use std::alloc::Global;
+use std::thread::Threads;
+
+// Whether different strings are counted.
+fn counts(plan: &Plan<'_>) -> bool
+    ensures { result ≡ (setup_of (request_for plan.now)).count }
+{
+    match &plan.source {
+        Source::Files {
+            prelude: _,
+            scripts: _,
+        } => plan.summary,
+        Source::Generated(_) => true,
+    }
+}
+
+// How the program is run.
+fn setup(plan: &Plan<'_>) -> Setup
+    ensures { result ≡ setup_of (request_for plan.now) }
+{
+    let sizes = plan.sizes;
+    Setup {
+        jobs: plan.jobs,
+        size: HeapSize {
+            ids: sizes.ids,
+            words: sizes.heap_words,
+            slots: sizes.slots,
+        },
+        limit: plan.limit,
+        count: counts(plan),
+    }
+}
+
+/// Tells why nothing was run.
+pub(crate) fn stopped<E: Sink>(stop: Stop<'_>, err: &mut E) -> Status
+    ensures told { (out : SinkState) → IsEnd (stop_report stop.entry) result.code
+        (sinks out (E.state err.old)) (sinks out (E.state err.new)) }
+    ensures kept { result.kept ≡ None }
+{
+    Status {
+        code: tell_stop(stop, err),
+        kept: None,
+    }
+}
+
+// Runs the program that texts spell.
+fn run_scripts<R: Threads + Sync, O: Sink, E: Sink, G: Gate + Sync>(
+    rt: &R,
+    alloc: Global,
+    setup: Setup,
+    sources: &Sources<'_>,
+    scripts: Scripts,
+    out: &mut O,
+    err: &mut E,
+    gate: &G,
+) -> Status
+    requires may { MayMake setup.size setup.jobs }
+    requires few { length sources.now.scripts.items ≤ 4294967295 }
+    requires spell { Spell (sources_for sources.now) (trees_for scripts) }
+    ensures { Becomes (HasCauseOf setup (sources_for sources.now)) (ended result)
+        (sinks (O.state out.old) (E.state err.old)) (sinks (O.state out.new) (E.state err.new)) }
+{
+    let Scripts { prelude, scripts } = scripts;
+    match run_program(rt, alloc, prelude.as_ref(), scripts, setup, gate) {
+        Ok(ran) => {
+            let code = tell_ran(sources, &ran, out, err);
+            let Ran { kept, .. } = ran;
+            Status {
+                code,
+                kept: Some(kept),
+            }
+        }
+        Err(_) => stopped(Stop::NoMemory, err),
+    }
+}
+
+// Parses the texts, and runs the program that they spell.
+fn run_sources<R: Threads + Sync, O: Sink, E: Sink, G: Gate + Sync>(
+    rt: &R,
+    alloc: Global,
+    setup: Setup,
+    sources: &Sources<'_>,
+    out: &mut O,
+    err: &mut E,
+    gate: &G,
+) -> Status
+    requires may { MayMake setup.size setup.jobs }
+    requires few { length sources.now.scripts.items ≤ 4294967295 }
+    requires short { AreShort (sources_for sources.now) }
+    ensures { Becomes (HasCauseOf setup (sources_for sources.now)) (ended result)
+        (sinks (O.state out.old) (E.state err.old)) (sinks (O.state out.new) (E.state err.new)) }
+{
+    match parse_sources(alloc, sources) {
+        Ok(scripts) => run_scripts(rt, alloc, setup, sources, scripts, out, err, gate),
+        Err(stop) => stopped(stop, err),
+    }
+}
+
+// Makes texts from a number, and runs them.
+fn run_made<R: Threads + Sync, O: Sink, E: Sink, G: Gate + Sync>(
+    rt: &R,
+    alloc: Global,
+    setup: Setup,
+    number: u32,
+    out: &mut O,
+    err: &mut E,
+    gate: &G,
+) -> Status
+    requires may { MayMake setup.size setup.jobs }
+    ensures { Becomes (HasCauseOf setup (program_from (generated number))) (ended result)
+        (sinks (O.state out.old) (E.state err.old)) (sinks (O.state out.new) (E.state err.new)) }
+{
+    let texts = match texts_from(alloc, number) {
+        Ok(texts) => texts,
+        Err(_) => return stopped(Stop::NoMemory, err),
+    };
+    match made_sources(alloc, &texts) {
+        Ok(sources) => run_sources(rt, alloc, setup, &sources, out, err, gate),
+        Err(_) => stopped(Stop::NoMemory, err),
+    }
+}
+
+// Reads files, and runs them.
+fn run_files<R: Threads + Sync, F: Files, O: Sink, E: Sink, G: Gate + Sync>(
+    rt: &R,
+    alloc: Global,
+    setup: Setup,
+    prelude: Option<&str>,
+    scripts: &[&str],
+    files: &mut F,
+    out: &mut O,
+    err: &mut E,
+    gate: &G,
+) -> Status
+    requires may { MayMake setup.size setup.jobs }
+    requires few { length scripts.now ≤ 4096 }
+    ensures keeps { KeepsFiles (F.state files.old) (F.state files.new) }
+    ensures becomes { (request : Request)
+        → request.asked ≡ named_files (names_for prelude.entry scripts.now).prelude (names_for prelude.entry scripts.now).scripts
+        → setup ≡ setup_of request
+        → Becomes (HasCauseIn (F.state files.old) (F.state files.new) request) (ended result)
+        (sinks (O.state out.old) (E.state err.old)) (sinks (O.state out.new) (E.state err.new)) }
+{
+    match read_sources(alloc, prelude, scripts, files) {
+        Ok(sources) => run_sources(rt, alloc, setup, &sources, out, err, gate),
+        Err(stop) => stopped(stop, err),
+    }
+}
+
+/// What becomes of lawful words.
+pub(crate) fn run_plan<R: Threads + Sync, F: Files, O: Sink, E: Sink, G: Gate + Sync>(
+    rt: &R,
+    alloc: Global,
+    plan: &Plan<'_>,
+    files: &mut F,
+    out: &mut O,
+    err: &mut E,
+    gate: &G,
+) -> Status
+    requires { IsInRange (request_for plan.now) }
+    ensures keeps { KeepsFiles (F.state files.old) (F.state files.new) }
+    ensures becomes { Becomes (HasCauseIn (F.state files.old) (F.state files.new) (request_for plan.now)) (ended result)
+        (sinks (O.state out.old) (E.state err.old)) (sinks (O.state out.new) (E.state err.new)) }
+{
+    let setup = setup(plan);
+    match &plan.source {
+        Source::Files { prelude, scripts } => {
+            run_files(rt, alloc, setup, *prelude, scripts, files, out, err, gate)
+        }
+        Source::Generated(number) => run_made(rt, alloc, setup, *number, out, err, gate),
+    }
+}
