@@ -5,7 +5,8 @@ import os
 import re
 
 # What a case runs and wants: the files' bytes by name, the words behind the program's name, both outputs, the status.
-Case = collections.namedtuple("Case", "files words out err status")
+# Where one of several endings may come, `others` has those before the last.
+Case = collections.namedtuple("Case", "files words out err status others", defaults=((),))
 
 
 class Malformed(Exception):
@@ -52,7 +53,7 @@ def word_of(spelled):
 
 def block(lines):
     """The case of several lines."""
-    files, words, told = {}, ["a.js"], {"out": b"", "err": b""}
+    files, words, told, others = {}, ["a.js"], {"out": b"", "err": b""}, []
     number, status = 0, None
     while number < len(lines):
         head = re.fullmatch(r"-- (@?)(file|words|out|err|status)(?: (.*))?", lines[number])
@@ -71,11 +72,14 @@ def block(lines):
             files[rest] = body
         elif kind == "words":
             words = [word_of(word) if escaped else word for word in rest.split(" ")] if rest else []
+        elif kind == "status" and rest.endswith(" or"):
+            others.append((told["out"], told["err"].decode("utf-8", "replace"), int(rest[:-len(" or")])))
+            told = {"out": b"", "err": b""}
         elif kind == "status":
             status = int(rest)
         else:
             told[kind] = body
-    return Case(files, words, told["out"], told["err"].decode("utf-8", "replace"), status)
+    return Case(files, words, told["out"], told["err"].decode("utf-8", "replace"), status, tuple(others))
 
 
 def cases(path):
@@ -93,7 +97,7 @@ def cases(path):
             continue
         try:
             if line.startswith("== "):
-                while not lines[number].startswith("-- status "):
+                while not re.fullmatch(r"-- status \d+", lines[number]):
                     number += 1
                 number += 1
                 yield first + 1, block(lines[first + 1:number])

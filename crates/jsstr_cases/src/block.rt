@@ -1,6 +1,6 @@
 // A case that is a block of lines.
 
-use crate::case::{Case, Ending, Fault};
+use crate::case::{Case, Each, Ending, Fault};
 use crate::line::words;
 use crate::spelling::bytes_of;
 use js_io::MemFiles;
@@ -26,6 +26,8 @@ pub(crate) struct Block {
     /// The name of the file.
     name: String,
     bytes: Vec<u8>,
+    out: Vec<u8>,
+    err: Vec<u8>,
 }
 
 /// What a line makes of a block.
@@ -43,16 +45,15 @@ impl Block {
                 line,
                 files: MemFiles::new(alloc),
                 words: words(alloc)?,
-                wanted: Ending {
-                    status: 0,
-                    out: Vec::new(alloc),
-                    err: Vec::new(alloc),
-                },
+                each: None,
+                wanted: Vec::new(alloc),
             },
             part: Part::Head,
             spelled: false,
             name: String::new(alloc),
             bytes: Vec::new(alloc),
+            out: Vec::new(alloc),
+            err: Vec::new(alloc),
         })
     }
 
@@ -67,7 +68,7 @@ impl Block {
                 self.close(alloc)?;
                 match section.strip_prefix("status ") {
                     None => self.open(alloc, section),
-                    Some(status) => self.end(status),
+                    Some(status) => self.end(alloc, status),
                 }
             }
         }
@@ -99,8 +100,8 @@ impl Block {
         match self.part {
             Part::Head | Part::Words => {}
             Part::File => self.case.files.put(self.name.as_str(), &bytes)?,
-            Part::Out => self.case.wanted.out = bytes,
-            Part::Err => self.case.wanted.err = bytes,
+            Part::Out => self.out = bytes,
+            Part::Err => self.err = bytes,
         }
         Ok(())
     }
@@ -147,19 +148,40 @@ impl Block {
             let Ok(word) = String::from_utf8(bytes) else {
                 return Err(Fault::Form("a word that isn't UTF-8"));
             };
+            if let Some((first, last)) = range_of(word.as_str()) {
+                let place = self.case.words.len();
+                self.case.each = Some(Each { place, first, last });
+            }
             self.case.words.push(word)?;
         }
         Ok(())
     }
 
-    // The case, whose wanted status is this.
-    fn end(mut self, status: &str) -> Result<Step, Fault> {
-        match status.parse::<u8>() {
-            Ok(status) => {
-                self.case.wanted.status = status;
-                Ok(Step::Whole(self.case))
-            }
-            Err(_) => Err(Fault::Form("a status that is no number")),
+    // An ending that is wanted has this status: the case, or the block where another one may come.
+    fn end(mut self, alloc: Global, status: &str) -> Result<Step, Fault> {
+        let (status, has_more) = match status.strip_suffix(" or") {
+            Some(status) => (status, true),
+            None => (status, false),
+        };
+        let Ok(status) = status.parse::<u8>() else {
+            return Err(Fault::Form("a status that is no number"));
+        };
+        let out = std::mem::replace(&mut self.out, Vec::new(alloc));
+        let err = std::mem::replace(&mut self.err, Vec::new(alloc));
+        self.case.wanted.push(Ending { status, out, err })?;
+        if has_more {
+            self.part = Part::Words;
+            return Ok(Step::Open(self));
         }
+        Ok(Step::Whole(self.case))
+    }
+}
+
+// The range that a word `FIRST..LAST` stands for.
+fn range_of(word: &str) -> Option<(u32, u32)> {
+    let (first, last) = word.split_once("..")?;
+    match (first.parse::<u32>(), last.parse::<u32>()) {
+        (Ok(first), Ok(last)) => Some((first, last)),
+        _ => None,
     }
 }

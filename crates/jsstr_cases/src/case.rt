@@ -38,6 +38,14 @@ impl fmt::Display for Ending {
     }
 }
 
+/// The place of a word that stands for each number of a range, and that range.
+#[derive(Clone, Copy, Debug)]
+pub(crate) struct Each {
+    pub place: usize,
+    pub first: u32,
+    pub last: u32,
+}
+
 /// Files, the words of the command line with the program's name first, and what is wanted.
 #[derive(Debug, Drop)]
 pub(crate) struct Case {
@@ -45,7 +53,10 @@ pub(crate) struct Case {
     pub line: usize,
     pub files: MemFiles,
     pub words: Vec<String>,
-    pub wanted: Ending,
+    /// A word that stands for many.
+    pub each: Option<Each>,
+    /// One of these.
+    pub wanted: Vec<Ending>,
 }
 
 /// Why a text isn't a case, or no case file.

@@ -14,6 +14,21 @@ use std::thread::Threads;
 // So many bytes a sink takes.
 const ROOM: u32 = 65_536;
 
+// The status that tells of a full heap.
+const FULL: u8 = 5;
+
+// The sizes of heaps that are made at once, and in a moment.
+const SMALL: [&str; 6] = ["--ids", "256", "--heap-words", "1024", "--slots", "64"];
+
+const LARGER: [&str; 6] = [
+    "--ids",
+    "32768",
+    "--heap-words",
+    "131072",
+    "--slots",
+    "2048",
+];
+
 fn run<R: Threads + Sync>(
     rt: &R,
     alloc: Global,
@@ -48,18 +63,82 @@ fn refusal(name: &str, bad: BadLine) -> Error {
     anyhow!("{name}:{line}: {fault}")
 }
 
-// Runs the case, prints how it differs, and says whether it doesn't.
-fn check_case<R>(rt: &R, name: &str, case: &mut Case) -> Result<bool>
+// Whether all words but the first name files.
+fn has_names_alone(words: &[String]) -> bool {
+    words.iter().skip(1).all(|word| !word.starts_with('-'))
+}
+
+// The words, with the sizes of a heap behind the first.
+fn sized(alloc: Global, sizes: &[&str], words: &[String]) -> Result<Vec<String>, Fault> {
+    let mut all = Vec::new(alloc);
+    for word in words.iter().take(1) {
+        all.push(word.clone()?)?;
+    }
+    for word in sizes {
+        all.push(String::from_str(alloc, word)?)?;
+    }
+    for word in words.iter().skip(1) {
+        all.push(word.clone()?)?;
+    }
+    Ok(all)
+}
+
+// What becomes of the words. Where they name no option it is on a small heap, and where that is
+// full on a larger one, before it is on the heap that the program makes by itself.
+fn run_words_of<R>(rt: &R, words: &[String], files: &mut MemFiles) -> Result<Ending, Fault>
+where
+    R: AllocGlobal + Sync + Threads,
+{
+    if has_names_alone(words) {
+        for sizes in [&SMALL, &LARGER] {
+            let got = run(rt, rt.alloc(), &sized(rt.alloc(), sizes, words)?, files)?;
+            if got.status != FULL {
+                return Ok(got);
+            }
+        }
+    }
+    run(rt, rt.alloc(), words, files)
+}
+
+// Whether it is one of those that are wanted.
+fn is_wanted(got: &Ending, wanted: &[Ending]) -> bool {
+    wanted.iter().any(|wanted| got.is(wanted))
+}
+
+// Prints how a run of the case differs, and says whether it doesn't.
+fn tell<R>(rt: &R, name: &str, case: &Case, got: &Ending) -> Result<bool>
+where
+    R: AllocGlobal + Print,
+{
+    let as_wanted = is_wanted(got, &case.wanted);
+    if !as_wanted {
+        let line = case.line;
+        for wanted in case.wanted.iter() {
+            println!(rt; "{name}:{line}: wanted {wanted}")?;
+        }
+        println!(rt; "{name}:{line}: got {got}")?;
+    }
+    Ok(as_wanted)
+}
+
+// Runs the case, as often as its words say, and prints how it differs.
+fn check_case<R>(rt: &R, name: &str, case: &mut Case) -> Result<Tally>
 where
     R: AllocGlobal + Print + Sync + Threads,
 {
-    let got = run(rt, rt.alloc(), &case.words, &mut case.files)?;
-    let as_wanted = got.is(&case.wanted);
-    if !as_wanted {
-        let line = case.line;
-        println!(rt; "{name}:{line}: wanted {}; got {got}", case.wanted)?;
+    let mut tally = Tally::new();
+    let Some(each) = case.each else {
+        let got = run_words_of(rt, &case.words, &mut case.files)?;
+        return Ok(tally.with(tell(rt, name, case, &got)?));
+    };
+    for number in u64::from(each.first)..u64::from(each.last).saturating_add(1) {
+        if let Some(word) = case.words.get_mut(each.place) {
+            *word = format!(in rt.alloc(); "{number}")?;
+        }
+        let got = run_words_of(rt, &case.words, &mut case.files)?;
+        tally = tally.with(tell(rt, name, case, &got)?);
     }
-    Ok(as_wanted)
+    Ok(tally)
 }
 
 /// Runs the cases of this file, and prints each difference and how many there are.
@@ -70,7 +149,7 @@ where
     let mut cases = read_cases(rt, name)?;
     let mut tally = Tally::new();
     for case in cases.iter_mut() {
-        tally = tally.with(check_case(rt, name, case)?);
+        tally = tally.and(check_case(rt, name, case)?);
     }
     println!(rt; "{name} {}", tally.cases)?;
     Ok(tally)

@@ -10,6 +10,8 @@ pub(crate) fn case_of(alloc: Global, line: usize, text: &str) -> Result<Case, Fa
     let Some((script, wish)) = split_wish(text) else {
         return Err(Fault::Form("neither `->` nor `!` behind two blanks"));
     };
+    let mut wanted = Vec::new(alloc);
+    wanted.push(wanted_of(alloc, wish)?)?;
     let mut files = MemFiles::new(alloc);
     match script.strip_prefix('@') {
         Some(spelled) => files.put(FILE, &bytes_of(alloc, spelled)?)?,
@@ -19,7 +21,8 @@ pub(crate) fn case_of(alloc: Global, line: usize, text: &str) -> Result<Case, Fa
         line,
         files,
         words: words(alloc)?,
-        wanted: wanted(alloc, wish)?,
+        each: None,
+        wanted,
     })
 }
 
@@ -53,7 +56,7 @@ fn split_err(wish: &str) -> (&str, Option<&str>) {
     }
 }
 
-fn wanted(alloc: Global, wish: &str) -> Result<Ending, Fault> {
+fn wanted_of(alloc: Global, wish: &str) -> Result<Ending, Fault> {
     let (out, err) = split_err(wish);
     let out = match out {
         "" => Vec::new(alloc),

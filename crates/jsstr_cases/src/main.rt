@@ -52,12 +52,35 @@
 //! ```
 //!
 //! Its sections come in this order: `-- file NAME`, none or more; `-- words WORD ..`, the words
-//! behind the program's name, with one blank between two (`-- words` alone: none; without this
-//! line: `a.js`); `-- out` and `-- err` (left out: nothing); and the status. The lines below
-//! `file`, `out` and `err` are their bytes, each with its line feed. With `@` before the section's
-//! name (`-- @file a.js`, `-- @words ..`, `-- @out`, `-- @err`), `%XX` is the byte XX in its lines
-//! or words, and a `%` at the end of a line takes its line feed away, at the end of a word nothing
-//! (so `%` is the empty word). A line that begins with `-- ` or `== ` is written `%2D- ` or `%3D= `.
+//! behind the program's name, with one blank between two (`-- words` alone: none); `-- out` and
+//! `-- err` (left out: nothing); and the status. The lines below `file`, `out` and `err` are their
+//! bytes, each with its line feed. With `@` before the section's name (`-- @file a.js`,
+//! `-- @words ..`, `-- @out`, `-- @err`), `%XX` is the byte XX in its lines or words, and a `%` at
+//! the end of a line takes its line feed away, at the end of a word nothing (so `%` is the empty
+//! word). A line that begins with `-- ` or `== ` is written `%2D- ` or `%3D= `.
+//!
+//! A word `FIRST..LAST` stands for each number from FIRST to LAST: the case is run once with each,
+//! and counts as so many. Where one of several endings may come, all but the last one end with
+//! `-- status N or`, and `out` and `err` of the next one follow.
+//!
+//! ```text
+//! == room for half of what the script may need
+//! -- file a.js
+//! print('ab' + 'cd');
+//! -- words --ids 2..31 a.js
+//! -- out
+//! abcd
+//! -- status 0 or
+//! -- err
+//! a.js: heap full: ids
+//! -- status 5
+//! ```
+//!
+//! # The heap of a case
+//!
+//! A case whose words name no option runs on a small heap, which is made at once; where that is
+//! full, on a larger one, and at last on the heap that the program makes by itself. The run that
+//! doesn't find its heap full counts, or the last one. Other words have the heap that they ask for.
 #![tactic(auto)]
 
 mod block;
