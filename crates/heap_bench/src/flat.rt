@@ -5,7 +5,7 @@ ghost use Rattle.heap_rule.specs.Views.{IsSettled};
 ghost use Rattle.heap_table.specs.Agents.{Belongs, view_of};
 
 use crate::measures::Refusal;
-use heap_rule::HeapSize;
+use heap_rule::{HeapSize, MAX};
 use heap_table::Heap;
 use heap_text::{JsStr, Text};
 use std::alloc::Global;
@@ -32,7 +32,7 @@ pub(crate) fn on_heap(alloc: Global, units: u32, count: u32, making: bool) -> Re
     let Ok((heap, agent)) = Heap::make(alloc, size, 1) else {
         return Err(Refusal);
     };
-    let mut text = Text::new(&heap, agent);
+    let mut text = Text::new(&heap, agent, MAX);
     if making {
         make_strings(&mut text, units, count)
     } else {

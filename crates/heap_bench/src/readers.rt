@@ -7,6 +7,7 @@ ghost use Rattle.heap_text.specs.Windows.{IsWindow};
 
 use crate::measures::Refusal;
 use crate::ropes::{make_rope, room_for};
+use heap_rule::MAX;
 use heap_table::Heap;
 use heap_text::{JsStr, Text};
 use std::alloc::Global;
@@ -26,7 +27,7 @@ pub(crate) fn read_rope<R: Threads + Sync>(
     let Ok((heap, agent)) = Heap::make(alloc, size, 4) else {
         return Err(Refusal);
     };
-    let mut text = Text::new(&heap, agent);
+    let mut text = Text::new(&heap, agent, MAX);
     let s = make_rope(&mut text, joins, false)?;
     let sum = if at_once {
         by_four(rt, &mut text, s)
@@ -80,7 +81,7 @@ fn by_two(rt: &impl Threads, text: &mut Text, s: JsStr) -> Option<u64>
     requires share { share_of text.old.agent ≡ 2 }
 {
     let agent = text.agent.split(text.heap, 1);
-    let mut right = Text::new(text.heap, agent);
+    let mut right = Text::new(text.heap, agent, text.limit);
     two_at_once(rt, text, &mut right, s)
 }
 
@@ -109,6 +110,6 @@ fn by_four<R: Threads + Sync>(rt: &R, text: &mut Text, s: JsStr) -> Option<u64>
     requires share { share_of text.old.agent ≡ 4 }
 {
     let agent = text.agent.split(text.heap, 2);
-    let mut right = Text::new(text.heap, agent);
+    let mut right = Text::new(text.heap, agent, text.limit);
     four_at_once(rt, text, &mut right, s)
 }

@@ -6,7 +6,7 @@ ghost use Rattle.heap_table.specs.Agents.{Belongs, view_of};
 
 use crate::flat::UNITS;
 use crate::measures::Refusal;
-use heap_rule::HeapSize;
+use heap_rule::{HeapSize, MAX};
 use heap_table::Heap;
 use heap_text::{JsStr, Text};
 use std::alloc::Global;
@@ -37,7 +37,7 @@ pub(crate) fn grow_rope(
     let Ok((heap, agent)) = Heap::make(alloc, size, 1) else {
         return Err(Refusal);
     };
-    let mut text = Text::new(&heap, agent);
+    let mut text = Text::new(&heap, agent, MAX);
     let s = make_rope(&mut text, joins, front)?;
     if !settling {
         return Ok(u64::from(text.len(s)));
@@ -56,7 +56,7 @@ pub(crate) fn join_ropes(alloc: Global, joins: u32, front: bool) -> Result<u64, 
     let Ok((heap, agent)) = Heap::make(alloc, size, 1) else {
         return Err(Refusal);
     };
-    let mut text = Text::new(&heap, agent);
+    let mut text = Text::new(&heap, agent, MAX);
     let side = make_rope(&mut text, 1, false)?;
     let s = join_often(&mut text, side, side, joins, front)?;
     Ok(u64::from(text.len(s)))
@@ -147,7 +147,7 @@ pub(crate) fn cut_parts(alloc: Global, count: u32) -> Result<u64, Refusal> {
         return Err(Refusal);
     };
     let units = letters(alloc, PART as usize + 1)?;
-    let mut text = Text::new(&heap, agent);
+    let mut text = Text::new(&heap, agent, MAX);
     let Ok(s) = text.make_flat(units.as_slice()) else {
         return Err(Refusal);
     };

@@ -8,7 +8,7 @@ ghost use Rattle.heap_text.specs.Turns.{GoesOn};
 ghost use Rattle.heap_example.specs.Greeting.{Greets};
 
 use crate::refusal::Refusal;
-use heap_rule::HeapSize;
+use heap_rule::{HeapSize, MAX};
 use heap_table::Heap;
 use heap_text::{JsStr, Text};
 use std::alloc::Global;
@@ -32,10 +32,10 @@ pub fn greetings(
         slots: 1,
     };
     let (heap, agent) = Heap::make(alloc, size, 2)?;
-    let mut left = Text::new(&heap, agent);
+    let mut left = Text::new(&heap, agent, MAX);
     let hello = left.make_flat(hello)?;
     let agent = left.agent.split(&heap, 1);
-    let mut right = Text::new(&heap, agent);
+    let mut right = Text::new(&heap, agent, MAX);
     let (one, other) = greet_both(rt, &mut left, &mut right, hello, first, second);
     left.agent.join(&heap, right.agent);
     let first = read(alloc, &mut left, one?)?;

@@ -1,5 +1,5 @@
 -- What each call on a text or on the string table is as a step of a store.
-use Rattle.std.proofs.Common.{◌≡◌, ℕ, zero, suc, ◌+◌, ◌-◌, ◌<◌, ◌≤◌, ◌⊎◌, ⊎_elim, inl, inr, Bool, true, false, List, [], ◌++◌, drop, length, length-drop, length-take-le, sym, refl, ap, subst, arith, Some, None, Ok, Err}
+use Rattle.std.proofs.Common.{◌≡◌, ℕ, zero, suc, ◌+◌, ◌-◌, ◌<◌, ◌≤◌, ◌⊎◌, ⊎_elim, inl, inr, Bool, true, false, List, [], ◌++◌, drop, length, length-drop, length-take-le, sym, refl, ap, subst, arith, Some, None, Result, Ok, Err}
 use Rattle.std.proofs.lemmas.List.{length-append}
 use mathlib.Core.Logic.{dite}
 use native.Mathlib.Decide.{ℕ_discrete, dec_le}
@@ -11,7 +11,6 @@ use Rattle.heap_rule.specs.declared.size.Counters.{Counters}
 use Rattle.heap_rule.specs.declared.size.HeapSize.{HeapSize}
 use Rattle.heap_rule.specs.declared.view.View.{View}
 use Rattle.heap_rule.specs.Births.{part}
-use Rattle.heap_rule.specs.Layout.{MAX}
 use Rattle.heap_rule.specs.Paths.{Calls}
 use Rattle.heap_rule.specs.Sound.{IsPossible}
 use Rattle.heap_rule.specs.Views.{IsSettled}
@@ -19,16 +18,17 @@ use Rattle.heap_table.specs.declared.claims.CounterFull.{CounterFull}
 use Rattle.std.specs.FinMap.{get}
 use Rattle.heap_slots.specs.declared.faults.TableFull.{TableFull}
 use Rattle.heap_slots.specs.declared.faults.TableFull.TheVariants as table
-use Rattle.heap_slots.specs.Answers.{AreHeaderWords, HasLeft, IsRefused}
+use Rattle.heap_slots.specs.Answers.{HasLeft, IsPlan, IsRefused, Plan}
 use Rattle.heap_slots.specs.Answers as slots
 use Rattle.heap_slots.specs.Goes.{Goes}
+use Rattle.heap_slots.proofs.Planning.{plan_words}
 use Rattle.heap_text.specs.declared.faults.JoinFault.{JoinFault}
 use Rattle.heap_text.specs.declared.faults.JoinFault.TheVariants as join
 use Rattle.heap_text.specs.declared.faults.TextFull.{TextFull}
 use Rattle.heap_text.specs.declared.faults.TextFull.TheVariants as text
 use Rattle.heap_text.specs.declared.string.JsStr.{JsStr}
 use Rattle.heap_text.specs.Joins.{IsCut, IsJoined}
-use Rattle.heap_text.specs.Settling.{IsFlattened, IsNoRoom, IsSettling}
+use Rattle.heap_text.specs.Settling.{IsBitOf, IsFlattened, IsNoRoom, IsSettling}
 use Rattle.heap_text.specs.Texts.{Continues, IsSpared, Reads, Told, Uses}
 use Rattle.heap_text.specs.Texts as texts
 use Rattle.heap_intern.specs.Counted.{FoundFree}
@@ -68,8 +68,8 @@ flat_is us = ap (λ (b : Bool). words_over b (length us)) (wide_same us)
 nothing_used : (v w : View) (l : ℕ) (t : TableId) (i n : ℕ) → IsPossible v → Continues v w → w.used ≡ v.used → Step (state_by v l t) (state_by w l t) None i n
 nothing_used v w l t i n p c u = let x = ap (λ (c : Counters). c.ids) u in let y = ap (λ (c : Counters). c.words) u in record { grows = grows_continues v w l t p c; honest = tt; within_ids = omega arith; within_words = omega arith }
 
--- a concatenation of at most the greatest length
-module _ (v w : View) (l : ℕ) (t : TableId) (a b : JsStr) (us vs : List ℕ) (p : IsPossible v) (c : Continues v w) (most : length us + length vs ≤ MAX) where
+-- a concatenation
+module _ (v w : View) (l : ℕ) (t : TableId) (a b : JsStr) (us vs : List ℕ) (p : IsPossible v) (c : Continues v w) (most : ℕ) where
   abbrev m : ℕ
   m = length us
 
@@ -82,62 +82,74 @@ module _ (v w : View) (l : ℕ) (t : TableId) (a b : JsStr) (us vs : List ℕ) (
   copy_most : 0 < m → 0 < n → m + n < 13 → copied_words ≤ join_words m n
   copy_most a b l = subst (λ (k : ℕ). copied_words ≤ k) (sym (join_words_copy m n a b l)) (subst (λ (k : ℕ). words_over (texts.is_wide (us ++ vs)) k ≤ 3) (sym (length-append us vs)) (few_words (texts.is_wide (us ++ vs)) (m + n) l))
 
-  ok_by : (s : JsStr) (i k : ℕ) → m ≡ i → n ≡ k → IsJoined v w w.sizes a b us vs (Ok s) → Step (state_by v l t) (state_by w l t) None (join_ids m n) (join_words m n)
-  ok_by s zero k e f j = let q = j.left_empty e in nothing_used v w l t (join_ids m n) (join_words m n) p c q.2.1
-  ok_by s (suc i) zero e f j = let q = j.right_empty (omega arith) f in nothing_used v w l t (join_ids m n) (join_words m n) p c q.2.1
-  ok_by s (suc i) (suc k) e f j = let x : 0 < m = omega arith in let y : 0 < n = omega arith in dite (dec_le 13 (m + n))
+  -- what is no fault of length has at most so many units
+  pub joined_fits : (s : JsStr) → IsJoined v w w.sizes most a b us vs (Ok s) → m + n ≤ most
+  joined_fits s j = dite (dec_le (m + n) most) (λ le. le) (λ more. let bad : Ok s ≡ Err (join.TooLong m n) = (j.long (omega arith)).0 in absurd (cc))
+
+  full_fits : (full : TextFull) → IsJoined v w w.sizes most a b us vs (Err (join.Full full)) → m + n ≤ most
+  full_fits full j = dite (dec_le (m + n) most) (λ le. le) (λ more. let bad : Err (join.Full full) ≡ Err (join.TooLong m n) = (j.long (omega arith)).0 in absurd (cc))
+
+  ok_by : (s : JsStr) (i k : ℕ) → m ≡ i → n ≡ k → m + n ≤ most → IsJoined v w w.sizes most a b us vs (Ok s) → Step (state_by v l t) (state_by w l t) None (join_ids m n) (join_words m n)
+  ok_by s zero k e f le j = let q = j.left_empty le e in nothing_used v w l t (join_ids m n) (join_words m n) p c q.2.1
+  ok_by s (suc i) zero e f le j = let q = j.right_empty le (omega arith) f in nothing_used v w l t (join_ids m n) (join_words m n) p c q.2.1
+  ok_by s (suc i) (suc k) e f le j = let x : 0 < m = omega arith in let y : 0 < n = omega arith in dite (dec_le 13 (m + n))
       (λ long. ⊎_elim
       (λ q. step_used v w l t 1 0 (join_ids m n) (join_words m n) (let d = join_ids_one m n x y in omega arith) (omega arith) p c q.2.2)
       (λ q. let bad : Ok s ≡ Err (join.Full q.0) = q.1 in absurd (cc))
-      (j.rope x y long most))
+      (j.rope le x y long))
       (λ never. let short : m + n < 13 = omega arith in ⊎_elim
       (λ q. step_used v w l t 1 copied_words (join_ids m n) (join_words m n) (let d = join_ids_one m n x y in omega arith) (copy_most x y short) p c q.2.2)
       (λ q. let bad : Ok s ≡ Err (join.Full q.0) = q.1 in absurd (cc))
-      (j.short x y short))
+      (j.short le x y short))
 
-  pub joined_ok : (s : JsStr) → IsJoined v w w.sizes a b us vs (Ok s) → Step (state_by v l t) (state_by w l t) None (join_ids m n) (join_words m n)
-  joined_ok s j = ok_by s m n refl refl j
+  pub joined_ok : (s : JsStr) → IsJoined v w w.sizes most a b us vs (Ok s) → Step (state_by v l t) (state_by w l t) None (join_ids m n) (join_words m n)
+  joined_ok s j = ok_by s m n refl refl (joined_fits s j) j
 
-  err_by : (full : TextFull) (i k : ℕ) → m ≡ i → n ≡ k → IsJoined v w w.sizes a b us vs (Err (join.Full full)) → Step (state_by v l t) (state_by w l t) (Some (fault_in_text full)) (join_ids m n) (join_words m n)
-  err_by full zero k e f j = let q = j.left_empty e in let bad : Err (join.Full full) ≡ Ok q.0 = q.1 in absurd (cc)
-  err_by full (suc i) zero e f j = let q = j.right_empty (omega arith) f in let bad : Err (join.Full full) ≡ Ok q.0 = q.1 in absurd (cc)
-  err_by full (suc i) (suc k) e f j = let x : 0 < m = omega arith in let y : 0 < n = omega arith in dite (dec_le 13 (m + n))
+  err_by : (full : TextFull) (i k : ℕ) → m ≡ i → n ≡ k → m + n ≤ most → IsJoined v w w.sizes most a b us vs (Err (join.Full full)) → Step (state_by v l t) (state_by w l t) (Some (fault_in_text full)) (join_ids m n) (join_words m n)
+  err_by full zero k e f le j = let q = j.left_empty le e in let bad : Err (join.Full full) ≡ Ok q.0 = q.1 in absurd (cc)
+  err_by full (suc i) zero e f le j = let q = j.right_empty le (omega arith) f in let bad : Err (join.Full full) ≡ Ok q.0 = q.1 in absurd (cc)
+  err_by full (suc i) (suc k) e f le j = let x : 0 < m = omega arith in let y : 0 < n = omega arith in dite (dec_le 13 (m + n))
       (λ long. ⊎_elim
       (λ q. let bad : Err (join.Full full) ≡ Ok q.0 = q.1 in absurd (cc))
       (λ q. let same : Err (join.Full full) ≡ Err (join.Full q.0) = q.1 in let is : q.0 ≡ full = cc in
       subst (λ (one : ℕ). Step (state_by v l t) (state_by w l t) (Some (fault_in_text full)) one (join_words m n)) (sym (join_ids_one m n x y))
       (step_refused v w l t 0 (join_words m n) full (omega arith) p c (subst (Told w w.sizes 0) is q.2.1) (subst (IsSpared v w 0) is q.2.2)))
-      (j.rope x y long most))
+      (j.rope le x y long))
       (λ never. let short : m + n < 13 = omega arith in ⊎_elim
       (λ q. let bad : Err (join.Full full) ≡ Ok q.0 = q.1 in absurd (cc))
       (λ q. let same : Err (join.Full full) ≡ Err (join.Full q.0) = q.1 in let is : q.0 ≡ full = cc in
       subst (λ (one : ℕ). Step (state_by v l t) (state_by w l t) (Some (fault_in_text full)) one (join_words m n)) (sym (join_ids_one m n x y))
       (step_refused v w l t copied_words (join_words m n) full (copy_most x y short) p c (subst (Told w w.sizes copied_words) is q.2.0) (subst (IsSpared v w copied_words) is q.2.1)))
-      (j.short x y short))
+      (j.short le x y short))
 
-  pub joined_err : (full : TextFull) → IsJoined v w w.sizes a b us vs (Err (join.Full full)) → Step (state_by v l t) (state_by w l t) (Some (fault_in_text full)) (join_ids m n) (join_words m n)
-  joined_err full j = err_by full m n refl refl j
-
-  -- which is never too long
-  pub joined_short : (x y : ℕ) → IsJoined v w w.sizes a b us vs (Err (join.TooLong x y)) → ⊥
-  joined_short x y j = short_by m n refl refl
+  -- a fault of length tells both lengths, which are longer together
+  joined_short : (x y : ℕ) → m + n ≤ most → IsJoined v w w.sizes most a b us vs (Err (join.TooLong x y)) → ⊥
+  joined_short x y le j = short_by m n refl refl
     where
       short_by : (i k : ℕ) → m ≡ i → n ≡ k → ⊥
-      short_by zero k e f = let q = j.left_empty e in let bad : Err (join.TooLong x y) ≡ Ok q.0 = q.1 in cc
-      short_by (suc i) zero e f = let q = j.right_empty (omega arith) f in let bad : Err (join.TooLong x y) ≡ Ok q.0 = q.1 in cc
+      short_by zero k e f = let q = j.left_empty le e in let bad : Err (join.TooLong x y) ≡ Ok q.0 = q.1 in cc
+      short_by (suc i) zero e f = let q = j.right_empty le (omega arith) f in let bad : Err (join.TooLong x y) ≡ Ok q.0 = q.1 in cc
       short_by (suc i) (suc k) e f = dite (dec_le 13 (m + n))
-          (λ long. ⊎_elim (λ q. let bad : Err (join.TooLong x y) ≡ Ok q.0 = q.1 in cc) (λ q. let bad : Err (join.TooLong x y) ≡ Err (join.Full q.0) = q.1 in cc) (j.rope (omega arith) (omega arith) long most))
-          (λ never. ⊎_elim (λ q. let bad : Err (join.TooLong x y) ≡ Ok q.0 = q.1 in cc) (λ q. let bad : Err (join.TooLong x y) ≡ Err (join.Full q.0) = q.1 in cc) (j.short (omega arith) (omega arith) (omega arith)))
+          (λ long. ⊎_elim (λ q. let bad : Err (join.TooLong x y) ≡ Ok q.0 = q.1 in cc) (λ q. let bad : Err (join.TooLong x y) ≡ Err (join.Full q.0) = q.1 in cc) (j.rope le (omega arith) (omega arith) long))
+          (λ never. ⊎_elim (λ q. let bad : Err (join.TooLong x y) ≡ Ok q.0 = q.1 in cc) (λ q. let bad : Err (join.TooLong x y) ≡ Err (join.Full q.0) = q.1 in cc) (j.short le (omega arith) (omega arith) (omega arith)))
+
+  joined_long : (x y : ℕ) → IsJoined v w w.sizes most a b us vs (Err (join.TooLong x y)) → (most < m + n) × (x ≡ m) × (y ≡ n) × (w.used ≡ v.used)
+  joined_long x y j = dite (dec_le (m + n) most) (λ le. absurd (joined_short x y le j))
+      (λ more. let o = j.long (omega arith) in let same : Err (join.TooLong x y) ≡ Err (join.TooLong m n) = o.0 in (omega arith, cc, cc, o.1))
 
   -- any fault of it
-  pub joined_step : (f : JoinFault) → IsJoined v w w.sizes a b us vs (Err f) → Step (state_by v l t) (state_by w l t) (concat_part (fault_in_join f)) (join_ids m n) (join_words m n)
-  joined_step (join.TooLong x y) j = absurd (joined_short x y j)
-  joined_step (join.Full full) j = joined_err full j
+  pub joined_step : (f : JoinFault) → IsJoined v w w.sizes most a b us vs (Err f) → Step (state_by v l t) (state_by w l t) (concat_part (fault_in_join f)) (join_ids m n) (join_words m n)
+  joined_step (join.TooLong x y) j = nothing_used v w l t (join_ids m n) (join_words m n) p c (joined_long x y j).3
+  joined_step (join.Full full) j = err_by full m n refl refl (full_fits full j) j
 
-  pub joined_told : (f : JoinFault) (most' : ℕ) → m + n ≤ most' → IsJoined v w w.sizes a b us vs (Err f) → JoinTold (fault_in_join f) most' m n
-  joined_told (join.TooLong x y) most' le j = absurd (joined_short x y j)
-  joined_told (join.Full (text.Ids f)) most' le j = le
-  joined_told (join.Full (text.Words f)) most' le j = le
+  pub joined_told : (f : JoinFault) → IsJoined v w w.sizes most a b us vs (Err f) → JoinTold (fault_in_join f) most m n
+  joined_told (join.TooLong x y) j = let o = joined_long x y j in (o.0, o.1, o.2)
+  joined_told (join.Full (text.Ids f)) j = full_fits (text.Ids f) j
+  joined_told (join.Full (text.Words f)) j = full_fits (text.Words f) j
+
+-- what a text answers is over the sizes of its heap and within its limit
+pub joined_in : (v w : View) (z : HeapSize) (k most : ℕ) (a b : JsStr) (us vs : List ℕ) (r : Result JsStr JoinFault) → w.sizes ≡ z → k ≡ most → IsJoined v w z k a b us vs r → IsJoined v w w.sizes most a b us vs r
+joined_in v w z k most a b us vs r sizes same h = subst (λ (y : HeapSize). IsJoined v w y most a b us vs r) (sym sizes) (subst (λ (n : ℕ). IsJoined v w z n a b us vs r) same h)
 
 -- settling a string with the units us
 module _ (v w : View) (l : ℕ) (t : TableId) (i : ℕ) (us : List ℕ) (p : IsPossible v) (c : Continues v w) where
@@ -145,7 +157,7 @@ module _ (v w : View) (l : ℕ) (t : TableId) (i : ℕ) (us : List ℕ) (p : IsP
   settled_by true again h = step_reads v w l t p (again refl)
   settled_by false again h = ⊎_elim
       (λ (r : Reads v w). step_most v w l t 0 (wide_words (length us)) p r)
-      (λ (q : (wide : Bool) × IsFlattened v w i us wide). let words = words_most q.0 (length us) in step_used v w l t 0 (words_over q.0 (length us)) 0 (wide_words (length us)) (omega arith) words p c q.1.used) h
+      (λ (q : (wide : Bool) × IsBitOf v i wide × IsFlattened v w i us wide). let words = words_most q.0 (length us) in step_used v w l t 0 (words_over q.0 (length us)) 0 (wide_words (length us)) (omega arith) words p c q.2.used) h
 
   pub settled_step : (IsSettled v i → Reads v w) → IsSettling v w i us → Step (state_by v l t) (state_by w l t) None 0 (settle_words (is_settled (get v.forms i)) (length us))
   settled_step again h = settled_by (is_settled (get v.forms i)) (λ e. again (test_settled v i e)) h
@@ -153,14 +165,14 @@ module _ (v w : View) (l : ℕ) (t : TableId) (i : ℕ) (us : List ℕ) (p : IsP
   words_refused : (words most : ℕ) (full : CounterFull) → words ≤ most → Told w w.sizes words (text.Words full) → IsSpared v w words (text.Words full) → Step (state_by v l t) (state_by w l t) (Some (fault_in_text (text.Words full))) 0 most
   words_refused words most full le h s = let b = s.used_ids in let d = s.used_words in record { grows = grows_continues v w l t p c; honest = honest_text w l t words (text.Words full) h; within_ids = omega arith; within_words = omega arith }
 
-  refused_by : (f : TextFull) (b : Bool) → (b ≡ true → ⊥) → (wide : Bool) × IsNoRoom v w w.sizes us f wide → Step (state_by v l t) (state_by w l t) (Some (fault_in_text f)) 0 (settle_words b (length us))
+  refused_by : (f : TextFull) (b : Bool) → (b ≡ true → ⊥) → (wide : Bool) × IsBitOf v i wide × IsNoRoom v w w.sizes us f wide → Step (state_by v l t) (state_by w l t) (Some (fault_in_text f)) 0 (settle_words b (length us))
   refused_by f true never h = absurd (never refl)
-  refused_by f false never h = let n : ℕ = words_over h.0 (length us) in let r = h.1 in let is = r.words.1 in
+  refused_by f false never h = let n : ℕ = words_over h.0 (length us) in let r = h.2 in let is = r.words.1 in
       subst (λ (g : TextFull). Step (state_by v l t) (state_by w l t) (Some (fault_in_text g)) 0 (wide_words (length us))) (sym is)
       (words_refused n (wide_words (length us)) r.words.0 (words_most h.0 (length us)) (subst (Told w w.sizes n) is r.told) (subst (IsSpared v w n) is r.spared))
 
   -- refused for words, where it wasn't settled
-  pub settle_refused : (f : TextFull) → (IsSettled v i → ⊥) → (wide : Bool) × IsNoRoom v w w.sizes us f wide → Step (state_by v l t) (state_by w l t) (Some (fault_in_text f)) 0 (settle_words (is_settled (get v.forms i)) (length us))
+  pub settle_refused : (f : TextFull) → (IsSettled v i → ⊥) → (wide : Bool) × IsBitOf v i wide × IsNoRoom v w w.sizes us f wide → Step (state_by v l t) (state_by w l t) (Some (fault_in_text f)) 0 (settle_words (is_settled (get v.forms i)) (length us))
   settle_refused f never h = refused_by f (is_settled (get v.forms i)) (λ e. never (test_settled v i e)) h
 
 -- a part
@@ -224,36 +236,36 @@ module _ (v w : View) (l : ℕ) (t : TableId) (s : JsStr) (us : List ℕ) (from 
   cut_err full j = dite (ℕ_discrete from 0) (λ e. dite (ℕ_discrete to (length us)) (λ f. absurd (whole_err full e f j)) (λ ne. part_err full (λ _ f. ne f) j)) (λ ne. part_err full (λ e _. ne e) j)
 
 -- interning
-honest_table : (v w : View) (us : List ℕ) (words l : ℕ) (t : TableId) (f : TableFull) → IsRefused v w us words f → Honest (state_by w l t) (Some (fault_in_table f))
-honest_table v w us words l t (table.Ids f) h = let full = h.2 in let a = full.0 in let b = full.1 in let c = full.2 in (record { can_fill = refl; past_end = omega arith; end_is = b; at_is = sym h.3 }, a)
-honest_table v w us words l t (table.Words f) h = let full = h.2 in let a = full.0 in let b = full.1 in let c = full.2 in record { can_fill = refl; past_end = omega arith; end_is = b; at_is = sym h.3 }
-honest_table v w us words l t (table.Slots n) h = (refl, h.0)
+honest_table : (v w : View) (us : List ℕ) (plan : Plan) (l : ℕ) (t : TableId) (f : TableFull) → IsRefused v w us plan f → Honest (state_by w l t) (Some (fault_in_table f))
+honest_table v w us plan l t (table.Ids f) h = let full = h.2 in let a = full.0 in let b = full.1 in let c = full.2 in (record { can_fill = refl; past_end = omega arith; end_is = b; at_is = sym h.3 }, a)
+honest_table v w us plan l t (table.Words f) h = let full = h.2 in let a = full.0 in let b = full.1 in let c = full.2 in record { can_fill = refl; past_end = omega arith; end_is = b; at_is = sym h.3 }
+honest_table v w us plan l t (table.Slots n) h = (refl, h.0)
 
-left_most : (v w : View) (us : List ℕ) (words : ℕ) → HasLeft v w us words → (w.used.ids ≤ v.used.ids + 1) × (w.used.words ≤ v.used.words + words)
-left_most v w us words h = ⊎_elim (λ t. let e = t.0 in let d = t.1 in (omega arith, omega arith)) (λ t. let e = t.1 in let d = t.2 in (omega arith, omega arith)) h
+left_most : (v w : View) (us : List ℕ) (plan : Plan) → HasLeft v w us plan → (w.used.ids ≤ v.used.ids + 1) × (w.used.words ≤ v.used.words + plan.words)
+left_most v w us plan h = ⊎_elim (λ t. let e = t.0 in let d = t.1 in (omega arith, omega arith)) (λ t. let e = t.1 in let d = t.2 in (omega arith, omega arith)) h
 
 -- the words of a header are at most those of a copy
-pub header_most : (v : View) (id : ℕ) (us : List ℕ) (words : ℕ) → AreHeaderWords v id us words → words ≤ wide_words (length us)
-header_most v id us words h = ⊎_elim (λ e. omega arith) (λ t. let e = t.0 in let m = words_most (slots.is_wide us) (length us) in omega arith) h
+pub header_most : (v w : View) (id : ℕ) (us : List ℕ) (plan : Plan) → IsPlan v w id us plan → plan.words ≤ wide_words (length us)
+header_most v w id us plan h = ⊎_elim (λ e. omega arith) (λ t. let e = t.0 in let m = words_most (slots.is_wide us) (length us) in omega arith) (plan_words v w id us plan h)
 
-pub interned_err : (v w : View) (us : List ℕ) (words l : ℕ) (t : TableId) (f : TableFull) (most : ℕ) → words ≤ most → IsPossible v → Goes v w [] → IsRefused v w us words f → Step (state_by v l t) (state_by w l t) (Some (fault_in_table f)) 1 most
-interned_err v w us words l t (table.Ids f) most le p g h = let a = h.0 in let b = h.2.0 in let c = h.1 in record { grows = grows_goes v w [] l t p g; honest = honest_table v w us words l t (table.Ids f) h; within_ids = omega arith; within_words = omega arith }
-interned_err v w us words l t (table.Words f) most le p g h = let a = h.0 in let b = h.2.0 in let c = h.1 in record { grows = grows_goes v w [] l t p g; honest = honest_table v w us words l t (table.Words f) h; within_ids = omega arith; within_words = omega arith }
-interned_err v w us words l t (table.Slots n) most le p g h = let a = left_most v w us words h.2 in let b = a.0 in let c = a.1 in record { grows = grows_goes v w [] l t p g; honest = honest_table v w us words l t (table.Slots n) h; within_ids = omega arith; within_words = omega arith }
+pub interned_err : (v w : View) (us : List ℕ) (plan : Plan) (l : ℕ) (t : TableId) (f : TableFull) (most : ℕ) → plan.words ≤ most → IsPossible v → Goes v w [] → IsRefused v w us plan f → Step (state_by v l t) (state_by w l t) (Some (fault_in_table f)) 1 most
+interned_err v w us plan l t (table.Ids f) most le p g h = let a = h.0 in let b = h.2.0 in let c = h.1 in record { grows = grows_goes v w [] l t p g; honest = honest_table v w us plan l t (table.Ids f) h; within_ids = omega arith; within_words = omega arith }
+interned_err v w us plan l t (table.Words f) most le p g h = let a = h.0 in let b = h.2.0 in let c = h.1 in record { grows = grows_goes v w [] l t p g; honest = honest_table v w us plan l t (table.Words f) h; within_ids = omega arith; within_words = omega arith }
+interned_err v w us plan l t (table.Slots n) most le p g h = let a = left_most v w us plan h.2 in let b = a.0 in let c = a.1 in record { grows = grows_goes v w [] l t p g; honest = honest_table v w us plan l t (table.Slots n) h; within_ids = omega arith; within_words = omega arith }
 
-pub interned_shut : (v w : View) (us : List ℕ) (words l : ℕ) (t : TableId) (f : TableFull) → IsRefused v w us words f → SlotsShut (state_by w l t) (Some (fault_in_table f)) us
-interned_shut v w us words l t (table.Ids f) h = tt
-interned_shut v w us words l t (table.Words f) h = tt
-interned_shut v w us words l t (table.Slots n) h = h.1
+pub interned_shut : (v w : View) (us : List ℕ) (plan : Plan) (l : ℕ) (t : TableId) (f : TableFull) → IsRefused v w us plan f → SlotsShut (state_by w l t) (Some (fault_in_table f)) us
+interned_shut v w us plan l t (table.Ids f) h = tt
+interned_shut v w us plan l t (table.Words f) h = tt
+interned_shut v w us plan l t (table.Slots n) h = h.1
 
 pub interned_ok : (v w : View) (l : ℕ) (t : TableId) (calls : Calls) (words most : ℕ) → words ≤ most → IsPossible v → Goes v w calls → w.used.ids ≤ v.used.ids + 1 → w.used.words ≤ v.used.words + words → Step (state_by v l t) (state_by w l t) None 1 most
 interned_ok v w l t calls words most le p g u c = record { grows = grows_goes v w calls l t p g; honest = tt; within_ids = omega arith; within_words = omega arith }
 
 -- the slot that was found free
-pub interned_free : (v w : View) (us : List ℕ) (words : ℕ) (x : View) (f : TableFull) → IsRefused v w us words f → FoundFree x w (Some (fault_in_table f))
-interned_free v w us words x (table.Ids f) h = h.4
-interned_free v w us words x (table.Words f) h = inl h.4
-interned_free v w us words x (table.Slots n) h = tt
+pub interned_free : (v w : View) (us : List ℕ) (plan : Plan) (x : View) (f : TableFull) → IsRefused v w us plan f → FoundFree x w (Some (fault_in_table f))
+interned_free v w us plan x (table.Ids f) h = h.4
+interned_free v w us plan x (table.Words f) h = inl h.4
+interned_free v w us plan x (table.Slots n) h = tt
 
 -- no slot was loaded
 pub settle_free : (v w : View) (us : List ℕ) (wide : Bool) (f : TextFull) → IsNoRoom v w w.sizes us f wide → w.slot_loads ≡ v.slot_loads → FoundFree v w (Some (fault_in_text f))

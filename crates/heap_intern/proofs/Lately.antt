@@ -5,7 +5,7 @@ use Rattle.heap_rule.specs.Maps.{Has}
 use Rattle.heap_rule.proofs.MapLemmas.{has_key, key_of}
 use Rattle.heap_table.specs.Known.{KeepsKnown}
 use Rattle.heap_slots.specs.declared.faults.TableFull.{TableFull}
-use Rattle.heap_slots.specs.Answers.{Interns}
+use Rattle.heap_slots.specs.Answers.{Interns, Plan}
 use Rattle.heap_intern.specs.declared.kept.Kept.{Kept}
 use Rattle.heap_intern.specs.Lately.{HoldsUnits, IsKept}
 
@@ -28,6 +28,6 @@ pub kept_unit : (v : View) (l : Kept) (us : List ℕ) (n i k r : ℕ) → IsKept
 kept_unit v l us n i k r h g same b at e = let place : l.id * 4294967296 + i ≡ l.place + k = subst (λ (m : ℕ). m * 4294967296 + i ≡ l.place + k) (sym same) at in
     e ∙ (h (omega arith)).1 us (subst (λ (m : ℕ). Has v.units m us) (sym same) g) k i b place
 
-pub interns_known : (v w : View) (us : List ℕ) (words : ℕ) (r : Result ℕ TableFull) → Interns v w us words r → KeepsKnown v w
-interns_known v w us words (Ok i) h = h.0.known
-interns_known v w us words (Err f) h = h.0.known
+pub interns_known : (v w : View) (us : List ℕ) (plan : Plan) (r : Result ℕ TableFull) → Interns v w us plan r → KeepsKnown v w
+interns_known v w us plan (Ok i) h = h.0.known
+interns_known v w us plan (Err f) h = h.0.known

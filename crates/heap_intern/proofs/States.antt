@@ -15,7 +15,7 @@ use Rattle.heap_rule.specs.declared.size.Counters.{Counters}
 use Rattle.heap_rule.specs.declared.size.HeapSize.{HeapSize}
 use Rattle.heap_rule.specs.declared.view.View.{View}
 use Rattle.heap_rule.specs.Forms.{IsCons}
-use Rattle.heap_rule.specs.Maps.{Has}
+use Rattle.heap_rule.specs.Maps.{Has, HasKey}
 use Rattle.heap_rule.specs.Paths.{Calls}
 use Rattle.heap_rule.specs.SlotTests.{shut}
 use Rattle.heap_rule.specs.Sound.{IsPossible}
@@ -53,6 +53,9 @@ test_settled v i h = settled_of (get v.forms i) h
 -- what is known of a number
 pub text_is : (m : FinMap nat_cmp (List ℕ)) (n : ℕ) (us : List ℕ) → Has m n us → unwrap_or (get m n) [] ≡ us
 text_is m n us h = ap (λ (o : Option (List ℕ)). unwrap_or o []) h
+
+pub has_text : (m : FinMap nat_cmp (List ℕ)) (n : ℕ) → HasKey m n → Has m n (unwrap_or (get m n) [])
+has_text m n h = let p = has_key m n h in p.1 ∙ ap Some (sym (text_is m n p.0 p.1))
 
 module _ (v w : View) (k : KeepsKnown v w) where
   pub known_same : (n : ℕ) → IsSome (get v.units n) → get w.units n ≡ get v.units n

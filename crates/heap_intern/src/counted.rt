@@ -44,8 +44,9 @@ impl<'h> Session<'h> {
             Ok(()) => {}
             Err(full) => return Err(text_fault(full)),
         }
-        let heap = self.text.heap;
-        match intern_counted(&mut self.text.agent, heap, s.id, steps) {
+        let text = &mut self.text;
+        let heap = text.heap;
+        match intern_counted(&mut text.agent, heap, s.id, steps) {
             Ok(id) => Ok(JsStr { id }),
             Err(full) => Err(table_fault(full)),
         }

@@ -1,4 +1,6 @@
 // A heap with the agent by which one thread uses it as a store.
+ghost use Rattle.std.specs.Prelude.{◌≡◌};
+ghost use Rattle.js_store.specs.Limits.{limit_units};
 ghost use Rattle.heap_table.specs.Agents.{Belongs, view_of};
 ghost use Rattle.heap_intern.specs.Lately.{IsKept};
 
@@ -17,6 +19,7 @@ pub struct Session<'h> {
     pub(crate) limit: Limit,
     pub(crate) last: Kept,
     pub(crate) older: Kept,
+    ghost one_limit: { text.limit ≡ limit_units limit },
     ghost belongs: { Belongs text.agent text.heap.now },
     ghost last_kept: { IsKept (view_of text.agent) last },
     ghost older_kept: { IsKept (view_of text.agent) older },

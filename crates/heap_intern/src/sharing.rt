@@ -1,10 +1,11 @@
 // How sessions are made, split and joined, and what they count.
 ghost use Rattle.std.specs.Prelude.{◌≡◌, ◌≤◌, ◌<◌, None};
+ghost use Rattle.std.specs.FinMap.{contains_key};
 ghost use Rattle.js_store.specs.Faults.{Step};
 ghost use Rattle.js_store.specs.Limits.{limit_units};
 ghost use Rattle.heap_rule.specs.Agents.{joined, left_after_split, right_after_split};
 ghost use Rattle.heap_table.specs.Agents.{Belongs, view_of};
-ghost use Rattle.heap_slots.specs.Counting.{different};
+ghost use Rattle.heap_slots.specs.Counting.{count_below, different};
 ghost use Rattle.heap_intern.specs.Sessions.{state_by, state_in, table_of, view_in};
 ghost use Rattle.heap_intern.specs.Shares.{BelongsAs, IsJoined, IsWhole, MayJoin, left_by, right_by, total_by};
 
@@ -23,7 +24,7 @@ impl<'h> Session<'h> {
         ensures state { state_in result ≡ state_by (view_of agent) (limit_units limit) (table_of heap.now) }
     {
         Session {
-            text: Text::new(heap, agent),
+            text: Text::new(heap, agent, limit.units()),
             limit,
             last: Kept::none(),
             older: Kept::none(),
@@ -40,10 +41,11 @@ impl<'h> Session<'h> {
         ensures left { state_in self.new ≡ left_by (state_in self.old) give }
         ensures right { state_in result ≡ right_by (state_in self.old) give }
     {
-        let heap = self.text.heap;
-        let agent = self.text.agent.split(heap, give);
+        let text = &mut self.text;
+        let heap = text.heap;
+        let agent = text.agent.split(heap, give);
         Session {
-            text: Text::new(heap, agent),
+            text: Text::new(heap, agent, self.limit.units()),
             limit: self.limit,
             last: Kept::none(),
             older: Kept::none(),
@@ -58,9 +60,10 @@ impl<'h> Session<'h> {
         ensures joined { IsJoined (state_in self.old) (state_in other.entry) (state_in self.new) }
     {
         let Session { text, .. } = other;
-        let Text { heap: _, agent } = text;
-        let heap = self.text.heap;
-        self.text.agent.join(heap, agent);
+        let Text { agent, .. } = text;
+        let text = &mut self.text;
+        let heap = text.heap;
+        text.agent.join(heap, agent);
     }
 
     /// The number of different lists of units in its history, by a session that has the whole
@@ -68,11 +71,13 @@ impl<'h> Session<'h> {
     pub fn count_interned(&mut self) -> u32
         requires whole { IsWhole (state_in self.old) }
         ensures count { result ≡ different (state_in self.old).history }
+        ensures used { result ≡ count_below (λ k. contains_key (view_in self.new).slots k) (view_in self.new).sizes.slots }
         ensures step { Step (state_in self.old) (state_in self.new) None 0 0 }
         ensures history { (state_in self.new).history ≡ (state_in self.old).history }
     {
-        let heap = self.text.heap;
-        count_interned(&mut self.text.agent, heap)
+        let text = &mut self.text;
+        let heap = text.heap;
+        count_interned(&mut text.agent, heap)
     }
 
     /// The ids and the content words that were ever claimed, by a session that has the whole
@@ -83,8 +88,9 @@ impl<'h> Session<'h> {
         ensures words { result.1 ≡ (state_in self.old).used_words }
         ensures state { state_in self.new ≡ total_by (state_in self.old) }
     {
-        let heap = self.text.heap;
-        self.text.agent.totals(heap)
+        let text = &mut self.text;
+        let heap = text.heap;
+        text.agent.totals(heap)
     }
 
     /// Its agent.
@@ -93,7 +99,7 @@ impl<'h> Session<'h> {
         ensures belongs { BelongsAs (state_in self.entry) result }
     {
         let Session { text, .. } = self;
-        let Text { heap: _, agent } = text;
+        let Text { agent, .. } = text;
         agent
     }
 }

@@ -56,11 +56,6 @@ impl<'h> Strings for Session<'h> {
     }
 
     fn concat(&mut self, a: JsStr, b: JsStr) -> Result<JsStr, ConcatFault> {
-        let left = self.text.len(a);
-        let right = self.text.len(b);
-        if left + right > self.limit.units() {
-            return Err(ConcatFault::TooLong { left, right });
-        }
         match self.text.concat(a, b) {
             Ok(s) => Ok(s),
             Err(fault) => Err(join_fault(fault)),

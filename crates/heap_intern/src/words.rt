@@ -42,6 +42,7 @@ fn units_with(text: &mut Text, s: JsStr, i: u32) -> (Kept, u16)
     requires within { (us : List ℕ) × Has (view_of text.old.agent).units s.id us × (i < length us) }
     ensures text { Belongs text.new.agent text.new.heap.now }
     ensures heap { text.new.heap ≡ text.old.heap }
+    ensures limit { text.new.limit ≡ text.old.limit }
     ensures reads { Reads (view_of text.old.agent) (view_of text.new.agent) }
     ensures kept { IsKept (view_of text.new.agent) result.0 }
     ensures unit { (us : List ℕ) → Has (view_of text.old.agent).units s.id us → result.1 ≡ slice_index us i }
@@ -57,6 +58,7 @@ fn units_in(text: &mut Text, w: Window, s: JsStr, i: u32) -> (Kept, u16)
     requires within { i < w.len }
     ensures text { Belongs text.new.agent text.new.heap.now }
     ensures heap { text.new.heap ≡ text.old.heap }
+    ensures limit { text.new.limit ≡ text.old.limit }
     ensures reads { Reads (view_of text.old.agent) (view_of text.new.agent) }
     ensures of { result.0.id ≡ s.id }
     ensures holds { (us : List ℕ) → IsWindow (view_of text.old.agent) w us → HoldsUnits us result.0 }

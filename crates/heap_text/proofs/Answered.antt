@@ -8,7 +8,6 @@ use Rattle.js_header.specs.declared.form.Form.TheVariants.{Flat, Sliced}
 use Rattle.heap_rule.specs.declared.size.HeapSize.{HeapSize}
 use Rattle.heap_rule.specs.declared.view.View.{View}
 use Rattle.heap_rule.specs.Births.{part}
-use Rattle.heap_rule.specs.Layout.{MAX}
 use Rattle.heap_rule.specs.Maps.{Has}
 use Rattle.heap_rule.specs.Views.{IsSettled}
 use Rattle.heap_text.specs.declared.faults.TextFull.{TextFull}
@@ -17,21 +16,24 @@ use Rattle.heap_text.specs.Joins.{IsCopied, IsCopy, IsCut, IsJoined, IsNoId, IsP
 use Rattle.heap_text.specs.Texts.{is_wide}
 
 module _ (v w : View) (z : HeapSize) where
-  pub joined_units : (a b t : JsStr) (us vs : List ℕ) → IsJoined v w z a b us vs (Ok t) → Has w.units a.id us → Has w.units b.id vs → Has w.units t.id (us ++ vs)
-  joined_units a b t [] vs h k l = let e = h.left_empty refl in let is : t ≡ b = (let same : t ≡ e.0 = (let o = e.1 in cc) in same ∙ e.2.0) in subst (λ (x : JsStr). Has w.units x.id vs) (sym is) l
-  joined_units a b t (x ∷ us) [] h k l = let e = h.right_empty (omega arith) refl in let is : t ≡ a = (let same : t ≡ e.0 = (let o = e.1 in cc) in same ∙ e.2.0) in
-      subst (λ (y : JsStr). Has w.units y.id ((x ∷ us) ++ [])) (sym is) (subst (Has w.units a.id) (sym (append-nil (x ∷ us))) k)
-  joined_units a b t (x ∷ us) (y ∷ vs) h k l = dite (dec_le (length (x ∷ us) + length (y ∷ vs)) MAX)
-      (λ m. dite (dec_le MIN_CONS (length (x ∷ us) + length (y ∷ vs)))
-      (λ n. ⊎_elim
-      (λ (c : (s : JsStr) × (Ok t ≡ Ok s) × IsRope v w a b s ((x ∷ us) ++ y ∷ vs)). let same : t ≡ c.0 = (let o = c.1 in cc) in subst (λ (q : JsStr). Has w.units q.id ((x ∷ us) ++ y ∷ vs)) (sym same) c.2.0)
-      (λ c. let o = c.1 in absurd (cc))
-      (h.rope (omega arith) (omega arith) n m))
-      (λ n. ⊎_elim
-      (λ (c : (s : JsStr) × (Ok t ≡ Ok s) × IsCopy v w s ((x ∷ us) ++ y ∷ vs)). let same : t ≡ c.0 = (let o = c.1 in cc) in subst (λ (q : JsStr). Has w.units q.id ((x ∷ us) ++ y ∷ vs)) (sym same) c.2.0)
-      (λ c. let o = c.1 in absurd (cc))
-      (h.short (omega arith) (omega arith) (omega arith))))
+  pub joined_units : (most : ℕ) (a b t : JsStr) (us vs : List ℕ) → IsJoined v w z most a b us vs (Ok t) → Has w.units a.id us → Has w.units b.id vs → Has w.units t.id (us ++ vs)
+  joined_units most a b t us vs h k l = dite (dec_le (length us + length vs) most)
+      (λ m. fitting us vs h k l m)
       (λ m. let o = (h.long (omega arith)).0 in absurd (cc))
+    where
+      fitting : (us vs : List ℕ) → IsJoined v w z most a b us vs (Ok t) → Has w.units a.id us → Has w.units b.id vs → length us + length vs ≤ most → Has w.units t.id (us ++ vs)
+      fitting [] vs h k l m = let e = h.left_empty m refl in let is : t ≡ b = (let same : t ≡ e.0 = (let o = e.1 in cc) in same ∙ e.2.0) in subst (λ (x : JsStr). Has w.units x.id vs) (sym is) l
+      fitting (x ∷ us) [] h k l m = let e = h.right_empty m (omega arith) refl in let is : t ≡ a = (let same : t ≡ e.0 = (let o = e.1 in cc) in same ∙ e.2.0) in
+          subst (λ (y : JsStr). Has w.units y.id ((x ∷ us) ++ [])) (sym is) (subst (Has w.units a.id) (sym (append-nil (x ∷ us))) k)
+      fitting (x ∷ us) (y ∷ vs) h k l m = dite (dec_le MIN_CONS (length (x ∷ us) + length (y ∷ vs)))
+          (λ n. ⊎_elim
+          (λ (c : (s : JsStr) × (Ok t ≡ Ok s) × IsRope v w a b s ((x ∷ us) ++ y ∷ vs)). let same : t ≡ c.0 = (let o = c.1 in cc) in subst (λ (q : JsStr). Has w.units q.id ((x ∷ us) ++ y ∷ vs)) (sym same) c.2.0)
+          (λ c. let o = c.1 in absurd (cc))
+          (h.rope m (omega arith) (omega arith) n))
+          (λ n. ⊎_elim
+          (λ (c : (s : JsStr) × (Ok t ≡ Ok s) × IsCopy v w s ((x ∷ us) ++ y ∷ vs)). let same : t ≡ c.0 = (let o = c.1 in cc) in subst (λ (q : JsStr). Has w.units q.id ((x ∷ us) ++ y ∷ vs)) (sym same) c.2.0)
+          (λ c. let o = c.1 in absurd (cc))
+          (h.short m (omega arith) (omega arith) (omega arith)))
 
   copied_units : (t : JsStr) (us : List ℕ) (r : Result JsStr TextFull) → r ≡ Ok t → IsCopied v w z us r → Has w.units t.id us × IsSettled w t.id
   copied_units t us r is h = ⊎_elim

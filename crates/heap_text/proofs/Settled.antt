@@ -1,11 +1,14 @@
 -- What settling answers after a load.
-use Rattle.std.proofs.Common.{ℕ, Bool, List, length, sym, refl, subst, ◌∙◌}
+use Rattle.std.proofs.Common.{◌≡◌, ◌⊎◌, ⊎_elim, ℕ, Bool, List, length, sym, refl, subst, ◌∙◌}
 use Rattle.std.specs.Prelude.{Result, Ok, Err, IfOk, IfErr}
 use Rattle.std.specs.FinMap.{FinMap}
 use Rattle.std.specs.Ordering.{nat_cmp}
 use Rattle.js_units.specs.Lanes.{words_over}
+use Rattle.js_header.specs.declared.form.Form.{Form}
+use Rattle.js_header.specs.declared.form.Form.TheVariants.{Cons}
 use Rattle.heap_rule.specs.declared.size.HeapSize.{HeapSize}
 use Rattle.heap_rule.specs.declared.view.View.{View}
+use Rattle.heap_rule.specs.Forms.{IsLater}
 use Rattle.heap_rule.specs.Maps.{HasKey}
 use Rattle.heap_text.specs.declared.faults.TextFull.{TextFull}
 use Rattle.heap_text.specs.Settling.{IsFlattened, IsNoRoom}
@@ -20,6 +23,12 @@ module _ {A E : Type 0} where
   pub err_then : (r : Result A E) (P Q : E → Type 0) → ((e : E) → P e → Q e) → IfErr r P → IfErr r Q
   err_then (Ok a) P Q f h = tt
   err_then (Err e) P Q f h = f e h
+
+-- a Cons comes after no form, so one that is found where a Cons was seen is that one
+pub same_bit : (seen wide : Bool) (l r left right : ℕ) (f : Form) → f ≡ Cons wide left right → (Cons seen l r ≡ f) ⊎ IsLater (Cons seen l r) f → wide ≡ seen
+same_bit seen wide l r left right f is h = ⊎_elim
+    (λ (e : Cons seen l r ≡ f). let same : Cons seen l r ≡ Cons wide left right = e ∙ is in cc)
+    (λ (k : IsLater (Cons seen l r) f). let never : IsLater (Cons seen l r) (Cons wide left right) = subst (IsLater (Cons seen l r)) is k in absurd (cc)) h
 
 module _ (v u w : View) (read : Reads v u) where
   pub flattened_after : (i : ℕ) (us : List ℕ) (wide : Bool) → IsFlattened u w i us wide → IsFlattened v w i us wide

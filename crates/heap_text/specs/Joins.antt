@@ -5,7 +5,6 @@ use Rattle.js_header.specs.declared.form.Form.{Form}
 use Rattle.js_header.specs.declared.form.Form.TheVariants.{Flat, Cons, Sliced, Thin}
 use Rattle.heap_rule.specs.declared.size.HeapSize.{HeapSize}
 use Rattle.heap_rule.specs.declared.view.View.{View}
-use Rattle.heap_rule.specs.Layout.{MAX}
 use Rattle.heap_rule.specs.Births.{part}
 use Rattle.heap_rule.specs.Maps.{Has}
 use Rattle.heap_text.specs.declared.faults.JoinFault.{JoinFault}
@@ -87,15 +86,15 @@ abbrev pub IsItself : View → View → JsStr → JsStr → Type 0
 IsItself v w s t = (t ≡ s) × (w.used ≡ v.used)
 
 module _ (v w : View) (z : HeapSize) where
-  -- Joining strings a with the units us and b with the units vs. An empty side gives the other side; a sum over the greatest length is
-  -- refused, and no other. Fewer than 13 units are copied, more become a Cons.
-  pub record IsJoined (a b : JsStr) (us vs : List ℕ) (answer : Result JsStr JoinFault) : Type 0 where
-    pub left_empty : length us ≡ 0 → (t : JsStr) × (answer ≡ Ok t) × IsItself v w b t
-    pub right_empty : 0 < length us → length vs ≡ 0 → (t : JsStr) × (answer ≡ Ok t) × IsItself v w a t
-    pub long : MAX < length us + length vs → (answer ≡ Err (TooLong (length us) (length vs))) × (w.used ≡ v.used)
-    pub short : 0 < length us → 0 < length vs → length us + length vs < MIN_CONS
+  -- Joining strings a with the units us and b with the units vs, where a result has at most `most` units. A sum over that is refused, and no
+  -- other. An empty side gives the other side. Fewer than 13 units are copied, more become a Cons.
+  pub record IsJoined (most : ℕ) (a b : JsStr) (us vs : List ℕ) (answer : Result JsStr JoinFault) : Type 0 where
+    pub long : most < length us + length vs → (answer ≡ Err (TooLong (length us) (length vs))) × (w.used ≡ v.used)
+    pub left_empty : length us + length vs ≤ most → length us ≡ 0 → (t : JsStr) × (answer ≡ Ok t) × IsItself v w b t
+    pub right_empty : length us + length vs ≤ most → 0 < length us → length vs ≡ 0 → (t : JsStr) × (answer ≡ Ok t) × IsItself v w a t
+    pub short : length us + length vs ≤ most → 0 < length us → 0 < length vs → length us + length vs < MIN_CONS
         → ((t : JsStr) × (answer ≡ Ok t) × IsCopy v w t (us ++ vs)) ⊎ ((f : TextFull) × (answer ≡ Err (Full f)) × IsRefused v w z (us ++ vs) f)
-    pub rope : 0 < length us → 0 < length vs → MIN_CONS ≤ length us + length vs → length us + length vs ≤ MAX
+    pub rope : length us + length vs ≤ most → 0 < length us → 0 < length vs → MIN_CONS ≤ length us + length vs
         → ((t : JsStr) × (answer ≡ Ok t) × IsRope v w a b t (us ++ vs)) ⊎ ((f : TextFull) × (answer ≡ Err (Full f)) × IsNoId v w z f)
 
   -- Cutting the part from unit `from` up to unit `to` out of the string s with the units us. The whole is s itself. Fewer than 13 units are copied,

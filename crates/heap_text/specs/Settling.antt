@@ -34,9 +34,13 @@ pub record IsFlattened (v w : View) (i : ℕ) (us : List ℕ) (wide : Bool) : Ty
   pub own_words : (c : ℕ) → HasKey v.own_words c → HasKey w.own_words c
   pub words : (start : ℕ) × (Has w.forms i (Flat wide start false) ⊎ ((q : ℕ) → q < words_over wide (length us) → HasKey w.own_words (start + q)))
 
--- no Cons was loaded, and nothing used; or a Cons was, and became flat
+-- the wide bit is that of the Cons, where the string was seen as one
+abbrev pub IsBitOf : View → ℕ → Bool → Type 0
+IsBitOf v i wide = (seen : Bool) (left right : ℕ) → Has v.forms i (Cons seen left right) → wide ≡ seen
+
+-- no Cons was loaded, and nothing used; or a Cons was, and became flat with its wide bit
 abbrev pub IsSettling : View → View → ℕ → List ℕ → Type 0
-IsSettling v w i us = Reads v w ⊎ ((wide : Bool) × IsFlattened v w i us wide)
+IsSettling v w i us = Reads v w ⊎ ((wide : Bool) × IsBitOf v i wide × IsFlattened v w i us wide)
 
 -- a Cons with this wide bit was to become flat, and the content words for it were refused
 pub record IsNoRoom (v w : View) (z : HeapSize) (us : List ℕ) (f : TextFull) (wide : Bool) : Type 0 where

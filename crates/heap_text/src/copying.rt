@@ -26,6 +26,7 @@ impl<'h> Text<'h> {
         requires count { length (listed (view_of self.old.agent) source.now) ≡ n }
         ensures text { Belongs self.new.agent self.new.heap.now }
         ensures heap { self.new.heap ≡ self.old.heap }
+        ensures limit { self.new.limit ≡ self.old.limit }
         ensures reads { Reads (view_of self.old.agent) (view_of self.new.agent) }
         ensures shows { Shows (view_of self.new.agent) source.now }
         ensures listed { listed (view_of self.new.agent) source.now ≡ listed (view_of self.old.agent) source.now }
@@ -53,6 +54,7 @@ impl<'h> Text<'h> {
         requires holds { Holds (listed (view_of self.old.agent) source.now) held.old }
         ensures text { Belongs self.new.agent self.new.heap.now }
         ensures heap { self.new.heap ≡ self.old.heap }
+        ensures limit { self.new.limit ≡ self.old.limit }
         ensures reads { Reads (view_of self.old.agent) (view_of self.new.agent) }
         ensures shows { Shows (view_of self.new.agent) source.now }
         ensures listed { listed (view_of self.new.agent) source.now ≡ listed (view_of self.old.agent) source.now }
@@ -81,6 +83,7 @@ impl<'h> Text<'h> {
         requires short { n ≤ MAX }
         ensures text { Belongs self.new.agent self.new.heap.now }
         ensures heap { self.new.heap ≡ self.old.heap }
+        ensures limit { self.new.limit ≡ self.old.limit }
         ensures continues { Continues (view_of self.old.agent) (view_of self.new.agent) }
         ensures ids { (view_of self.new.agent).used.ids ≡ (view_of self.old.agent).used.ids }
         ensures own_ids { (view_of self.new.agent).own_ids ≡ (view_of self.old.agent).own_ids }
@@ -110,6 +113,7 @@ impl<'h> Text<'h> {
         requires short { n ≤ MAX }
         ensures text { Belongs self.new.agent self.new.heap.now }
         ensures heap { self.new.heap ≡ self.old.heap }
+        ensures limit { self.new.limit ≡ self.old.limit }
         ensures continues { Continues (view_of self.old.agent) (view_of self.new.agent) }
         ensures units { IfOk result (λ s. Has (view_of self.new.agent).units s.id (listed (view_of self.old.agent) source.now)) }
         ensures form { IfOk result (λ s. (start : ℕ) × Has (view_of self.new.agent).forms s.id (Flat (is_wide (listed (view_of self.old.agent) source.now)) start false)) }

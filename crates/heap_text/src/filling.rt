@@ -31,6 +31,7 @@ impl<'h> Text<'h> {
         requires met { IsKnown (view_of self.old.agent) left }
         ensures text { Belongs self.new.agent self.new.heap.now }
         ensures heap { self.new.heap ≡ self.old.heap }
+        ensures limit { self.new.limit ≡ self.old.limit }
         ensures reads { Reads (view_of self.old.agent) (view_of self.new.agent) }
         ensures forms { KeepsForms (view_of self.old.agent) (view_of self.new.agent) }
         ensures below { (left < id) × (right < id) }
@@ -51,6 +52,7 @@ impl<'h> Text<'h> {
         requires side { KnowsSide (view_of self.old.agent) form }
         ensures text { Belongs self.new.agent self.new.heap.now }
         ensures heap { self.new.heap ≡ self.old.heap }
+        ensures limit { self.new.limit ≡ self.old.limit }
         ensures reads { Reads (view_of self.old.agent) (view_of self.new.agent) }
         ensures above { HoldsAbove (view_of self.old.agent) (view_of self.new.agent) of.id }
         ensures shows { (us : List ℕ) → Has (view_of self.old.agent).units of.id us → IsWindow (view_of self.new.agent) result us × (result.len ≡ length us) }
@@ -80,6 +82,7 @@ impl<'h> Text<'h> {
         requires fits { to.wide ≡ false → (k : ℕ) → k < n → slice_index (units_at (view_of self.old.agent) of.id) k < 256 }
         ensures text { Belongs self.new.agent self.new.heap.now }
         ensures heap { self.new.heap ≡ self.old.heap }
+        ensures limit { self.new.limit ≡ self.old.limit }
         ensures writes { Writes (view_of self.old.agent) (view_of self.new.agent) }
         ensures forms { KeepsForms (view_of self.old.agent) (view_of self.new.agent) }
         ensures filled { IsFilled to.wide to.start (own_word (view_of self.old.agent).own_words) (own_word (view_of self.new.agent).own_words) at n (slice_index (units_at (view_of self.old.agent) of.id)) }
@@ -111,6 +114,7 @@ impl<'h> Text<'h> {
         requires fits { to.wide ≡ false → (k : ℕ) → k < n → slice_index (units_at (view_of self.old.agent) id) k < 256 }
         ensures text { Belongs self.new.agent self.new.heap.now }
         ensures heap { self.new.heap ≡ self.old.heap }
+        ensures limit { self.new.limit ≡ self.old.limit }
         ensures writes { Writes (view_of self.old.agent) (view_of self.new.agent) }
         ensures above { HoldsAbove (view_of self.old.agent) (view_of self.new.agent) id }
         ensures filled { IsFilled to.wide to.start (own_word (view_of self.old.agent).own_words) (own_word (view_of self.new.agent).own_words) at n (slice_index (units_at (view_of self.old.agent) id)) }

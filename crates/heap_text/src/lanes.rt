@@ -41,6 +41,7 @@ impl<'h> Text<'h> {
         requires holds { Holds (listed (view_of self.old.agent) source.now) held.old }
         ensures text { Belongs self.new.agent self.new.heap.now }
         ensures heap { self.new.heap ≡ self.old.heap }
+        ensures limit { self.new.limit ≡ self.old.limit }
         ensures reads { Reads (view_of self.old.agent) (view_of self.new.agent) }
         ensures forms { KeepsForms (view_of self.old.agent) (view_of self.new.agent) }
         ensures shows { Shows (view_of self.new.agent) source.now }
@@ -69,6 +70,7 @@ impl<'h> Text<'h> {
         requires holds { Holds (listed (view_of self.old.agent) source.now) held.old }
         ensures text { Belongs self.new.agent self.new.heap.now }
         ensures heap { self.new.heap ≡ self.old.heap }
+        ensures limit { self.new.limit ≡ self.old.limit }
         ensures reads { Reads (view_of self.old.agent) (view_of self.new.agent) }
         ensures forms { KeepsForms (view_of self.old.agent) (view_of self.new.agent) }
         ensures shows { Shows (view_of self.new.agent) source.now }
@@ -96,6 +98,7 @@ impl<'h> Text<'h> {
         requires holds { Holds (listed (view_of self.old.agent) source.now) held.old }
         ensures text { Belongs self.new.agent self.new.heap.now }
         ensures heap { self.new.heap ≡ self.old.heap }
+        ensures limit { self.new.limit ≡ self.old.limit }
         ensures reads { Reads (view_of self.old.agent) (view_of self.new.agent) }
         ensures forms { KeepsForms (view_of self.old.agent) (view_of self.new.agent) }
         ensures shows { Shows (view_of self.new.agent) source.now }
@@ -120,6 +123,7 @@ impl<'h> Text<'h> {
         requires fits { to.wide ≡ false → (k : ℕ) → k < n → slice_index (listed (view_of self.old.agent) source.now) k < 256 }
         ensures text { Belongs self.new.agent self.new.heap.now }
         ensures heap { self.new.heap ≡ self.old.heap }
+        ensures limit { self.new.limit ≡ self.old.limit }
         ensures writes { Writes (view_of self.old.agent) (view_of self.new.agent) }
         ensures forms { KeepsForms (view_of self.old.agent) (view_of self.new.agent) }
         ensures filled { IsFilled to.wide to.start (own_word (view_of self.old.agent).own_words) (own_word (view_of self.new.agent).own_words) at n (slice_index (listed (view_of self.old.agent) source.now)) }

@@ -18,9 +18,6 @@ use crate::string::{JsStr, Window};
 use crate::text::Text;
 use js_header::Form;
 
-// The greatest length of a string, in units.
-const MAX_LENGTH: u32 = 536870888;
-
 // The fewest units of a Cons, and of a Sliced.
 const MIN_CONS: u32 = 13;
 
@@ -32,6 +29,7 @@ impl<'h> Text<'h> {
         requires short { length units.now ≤ MAX }
         ensures text { Belongs self.new.agent self.new.heap.now }
         ensures heap { self.new.heap ≡ self.old.heap }
+        ensures limit { self.new.limit ≡ self.old.limit }
         ensures continues { Continues (view_of self.old.agent) (view_of self.new.agent) }
         ensures units { IfOk result (λ s. Has (view_of self.new.agent).units s.id units.now) }
         ensures form { IfOk result (λ s. (start : ℕ) × Has (view_of self.new.agent).forms s.id (Flat (is_wide units.now) start false)) }
@@ -49,6 +47,7 @@ impl<'h> Text<'h> {
         requires short { n < MIN_CONS }
         ensures text { Belongs self.new.agent self.new.heap.now }
         ensures heap { self.new.heap ≡ self.old.heap }
+        ensures limit { self.new.limit ≡ self.old.limit }
         ensures continues { Continues (view_of self.old.agent) (view_of self.new.agent) }
         ensures copied { (us vs : List ℕ) → Has (view_of self.old.agent).units a.id us → Has (view_of self.old.agent).units b.id vs → IsCopied (view_of self.old.agent) (view_of self.new.agent) (size_of self.old.heap.now) (us ++ vs) result }
     {
@@ -76,6 +75,7 @@ impl<'h> Text<'h> {
         requires known { HasKey (view_of self.old.agent).units a.id × HasKey (view_of self.old.agent).units b.id }
         ensures text { Belongs self.new.agent self.new.heap.now }
         ensures heap { self.new.heap ≡ self.old.heap }
+        ensures limit { self.new.limit ≡ self.old.limit }
         ensures reads { Reads (view_of self.old.agent) (view_of self.new.agent) }
         ensures seen { Has (view_of self.new.agent).forms a.id result.0 × Has (view_of self.new.agent).forms b.id result.1 }
         ensures born { (result.0 ≢ Unborn) × (result.1 ≢ Unborn) }
@@ -95,6 +95,7 @@ impl<'h> Text<'h> {
         requires side { KnowsSide (view_of self.old.agent) form }
         ensures text { Belongs self.new.agent self.new.heap.now }
         ensures heap { self.new.heap ≡ self.old.heap }
+        ensures limit { self.new.limit ≡ self.old.limit }
         ensures reads { Reads (view_of self.old.agent) (view_of self.new.agent) }
         ensures held { HoldsForms (view_of self.old.agent) (view_of self.new.agent) }
         ensures wide { IsWideIn (view_of self.new.agent) form result }
@@ -112,6 +113,7 @@ impl<'h> Text<'h> {
         requires long { (MIN_CONS ≤ n) × (n ≤ MAX) }
         ensures text { Belongs self.new.agent self.new.heap.now }
         ensures heap { self.new.heap ≡ self.old.heap }
+        ensures limit { self.new.limit ≡ self.old.limit }
         ensures continues { Continues (view_of self.old.agent) (view_of self.new.agent) }
         ensures linked { (us vs : List ℕ) → Has (view_of self.old.agent).units a.id us → Has (view_of self.old.agent).units b.id vs → IsLinked (view_of self.old.agent) (view_of self.new.agent) (size_of self.old.heap.now) a b (us ++ vs) result }
     {
@@ -140,6 +142,7 @@ impl<'h> Text<'h> {
         requires most { n ≤ MAX }
         ensures text { Belongs self.new.agent self.new.heap.now }
         ensures heap { self.new.heap ≡ self.old.heap }
+        ensures limit { self.new.limit ≡ self.old.limit }
         ensures continues { Continues (view_of self.old.agent) (view_of self.new.agent) }
         ensures copied { n < MIN_CONS → (us vs : List ℕ) → Has (view_of self.old.agent).units a.id us → Has (view_of self.old.agent).units b.id vs → IsCopied (view_of self.old.agent) (view_of self.new.agent) (size_of self.old.heap.now) (us ++ vs) result }
         ensures linked { MIN_CONS ≤ n → (us vs : List ℕ) → Has (view_of self.old.agent).units a.id us → Has (view_of self.old.agent).units b.id vs → IsLinked (view_of self.old.agent) (view_of self.new.agent) (size_of self.old.heap.now) a b (us ++ vs) result }
@@ -150,28 +153,30 @@ impl<'h> Text<'h> {
         self.link(a, b, n)
     }
 
-    /// The units of one string followed by those of another. Where one side is empty, the answer
-    /// is the other side. Fewer than 13 units make a new flat string, wide exactly where a unit
-    /// is over 255; from 13 on the answer is a rope, which takes one id and no content word.
+    /// The units of one string followed by those of another. It is refused as too long exactly
+    /// where that is longer than the limit. Where one side is empty, the answer is the other side.
+    /// Fewer than 13 units make a new flat string, wide exactly where a unit is over 255; from 13
+    /// on the answer is a rope, which takes one id and no content word.
     pub fn concat(&mut self, a: JsStr, b: JsStr) -> Result<JsStr, JoinFault>
         requires text { Belongs self.old.agent self.old.heap.now }
         requires known { HasKey (view_of self.old.agent).units a.id × HasKey (view_of self.old.agent).units b.id }
         ensures text { Belongs self.new.agent self.new.heap.now }
         ensures heap { self.new.heap ≡ self.old.heap }
+        ensures limit { self.new.limit ≡ self.old.limit }
         ensures continues { Continues (view_of self.old.agent) (view_of self.new.agent) }
         ensures units { IfOk result (λ s. (us vs : List ℕ) → Has (view_of self.old.agent).units a.id us → Has (view_of self.old.agent).units b.id vs → Has (view_of self.new.agent).units s.id (us ++ vs)) }
-        ensures joined { (us vs : List ℕ) → Has (view_of self.old.agent).units a.id us → Has (view_of self.old.agent).units b.id vs → IsJoined (view_of self.old.agent) (view_of self.new.agent) (size_of self.old.heap.now) a b us vs result }
+        ensures joined { (us vs : List ℕ) → Has (view_of self.old.agent).units a.id us → Has (view_of self.old.agent).units b.id vs → IsJoined (view_of self.old.agent) (view_of self.new.agent) (size_of self.old.heap.now) self.old.limit a b us vs result }
     {
         let left = self.len(a);
         let right = self.len(b);
+        if left + right > self.limit {
+            return Err(JoinFault::TooLong { left, right });
+        }
         if left == 0 {
             return Ok(b);
         }
         if right == 0 {
             return Ok(a);
-        }
-        if left + right > MAX_LENGTH {
-            return Err(JoinFault::TooLong { left, right });
         }
         match self.join(a, b, left + right) {
             Ok(s) => Ok(s),
@@ -186,6 +191,7 @@ impl<'h> Text<'h> {
         requires within { (us : List ℕ) × Has (view_of self.old.agent).units s.id us × (from + n ≤ length us) }
         ensures text { Belongs self.new.agent self.new.heap.now }
         ensures heap { self.new.heap ≡ self.old.heap }
+        ensures limit { self.new.limit ≡ self.old.limit }
         ensures continues { Continues (view_of self.old.agent) (view_of self.new.agent) }
         ensures copied { (us : List ℕ) → Has (view_of self.old.agent).units s.id us → IsCopied (view_of self.old.agent) (view_of self.new.agent) (size_of self.old.heap.now) (part from n us) result }
     {
@@ -212,6 +218,7 @@ impl<'h> Text<'h> {
         requires long { MIN_CONS ≤ n }
         ensures text { Belongs self.new.agent self.new.heap.now }
         ensures heap { self.new.heap ≡ self.old.heap }
+        ensures limit { self.new.limit ≡ self.old.limit }
         ensures continues { Continues (view_of self.old.agent) (view_of self.new.agent) }
         ensures linked { (us : List ℕ) → Has (view_of self.old.agent).units s.id us → IsPartCut (view_of self.old.agent) (view_of self.new.agent) (size_of self.old.heap.now) s from (part from n us) result }
     {
@@ -240,6 +247,7 @@ impl<'h> Text<'h> {
         requires within { (us : List ℕ) × Has (view_of self.old.agent).units s.id us × (from + n ≤ length us) }
         ensures text { Belongs self.new.agent self.new.heap.now }
         ensures heap { self.new.heap ≡ self.old.heap }
+        ensures limit { self.new.limit ≡ self.old.limit }
         ensures continues { Continues (view_of self.old.agent) (view_of self.new.agent) }
         ensures copied { n < MIN_CONS → (us : List ℕ) → Has (view_of self.old.agent).units s.id us → IsCopied (view_of self.old.agent) (view_of self.new.agent) (size_of self.old.heap.now) (part from n us) result }
         ensures linked { MIN_CONS ≤ n → (us : List ℕ) → Has (view_of self.old.agent).units s.id us → IsPartCut (view_of self.old.agent) (view_of self.new.agent) (size_of self.old.heap.now) s from (part from n us) result }
@@ -260,6 +268,7 @@ impl<'h> Text<'h> {
         requires within { (us : List ℕ) × Has (view_of self.old.agent).units s.id us × (from ≤ to) × (to ≤ length us) }
         ensures text { Belongs self.new.agent self.new.heap.now }
         ensures heap { self.new.heap ≡ self.old.heap }
+        ensures limit { self.new.limit ≡ self.old.limit }
         ensures continues { Continues (view_of self.old.agent) (view_of self.new.agent) }
         ensures units { IfOk result (λ t. (us : List ℕ) → Has (view_of self.old.agent).units s.id us → Has (view_of self.new.agent).units t.id (part from (to - from) us)) }
         ensures settled { IfOk result (λ t. IsSettled (view_of self.new.agent) t.id) }

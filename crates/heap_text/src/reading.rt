@@ -20,6 +20,7 @@ impl<'h> Text<'h> {
         requires known { HasKey (view_of self.old.agent).units s.id }
         ensures text { Belongs self.new.agent self.new.heap.now }
         ensures heap { self.new.heap ≡ self.old.heap }
+        ensures limit { self.new.limit ≡ self.old.limit }
         ensures reads { Reads (view_of self.old.agent) (view_of self.new.agent) }
         ensures forms { KeepsForms (view_of self.old.agent) (view_of self.new.agent) }
         ensures length { (us : List ℕ) → Has (view_of self.old.agent).units s.id us → result ≡ length us }
@@ -34,6 +35,7 @@ impl<'h> Text<'h> {
         requires settled { IsSettled (view_of self.old.agent) s.id }
         ensures text { Belongs self.new.agent self.new.heap.now }
         ensures heap { self.new.heap ≡ self.old.heap }
+        ensures limit { self.new.limit ≡ self.old.limit }
         ensures reads { Reads (view_of self.old.agent) (view_of self.new.agent) }
         ensures shows { (us : List ℕ) → Has (view_of self.old.agent).units s.id us → IsWindow (view_of self.new.agent) result us × (result.len ≡ length us) }
         ensures frozen { IsFrozenWindow (view_of self.new.agent) result }
@@ -48,6 +50,7 @@ impl<'h> Text<'h> {
         requires within { i < w.len }
         ensures text { Belongs self.new.agent self.new.heap.now }
         ensures heap { self.new.heap ≡ self.old.heap }
+        ensures limit { self.new.limit ≡ self.old.limit }
         ensures reads { Reads (view_of self.old.agent) (view_of self.new.agent) }
         ensures forms { KeepsForms (view_of self.old.agent) (view_of self.new.agent) }
         ensures lane { result ≡ lane_in (shown (view_of self.new.agent)) w.wide w.start (w.offset + i) }
@@ -70,6 +73,7 @@ impl<'h> Text<'h> {
         requires within { (us : List ℕ) × Has (view_of self.old.agent).units s.id us × (i < length us) }
         ensures text { Belongs self.new.agent self.new.heap.now }
         ensures heap { self.new.heap ≡ self.old.heap }
+        ensures limit { self.new.limit ≡ self.old.limit }
         ensures reads { Reads (view_of self.old.agent) (view_of self.new.agent) }
         ensures unit { (us : List ℕ) → Has (view_of self.old.agent).units s.id us → result ≡ slice_index us i }
     {

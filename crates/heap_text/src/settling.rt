@@ -3,12 +3,13 @@ ghost use Rattle.std.specs.Prelude.{◌≡◌, ◌≢◌, ℕ, List, Bool, ◌+�
 ghost use Rattle.std.specs.FinMap.{get};
 ghost use Rattle.js_header.specs.Form.{IsInRange};
 ghost use Rattle.js_header.specs.declared.form.Form.TheVariants.{Cons, Sliced, Unborn};
-ghost use Rattle.heap_rule.specs.Forms.{IsCons, IsSolid};
+ghost use Rattle.js_header.specs.declared.form.Form as form;
+ghost use Rattle.heap_rule.specs.Forms.{IsCons, IsLater, IsSolid};
 ghost use Rattle.heap_rule.specs.Loads.{added_loads};
 ghost use Rattle.heap_rule.specs.Maps.{Has, HasKey};
 ghost use Rattle.heap_rule.specs.Views.{IsKnown, IsSettled};
 ghost use Rattle.heap_table.specs.Agents.{Belongs, size_of, view_of};
-ghost use Rattle.heap_text.specs.Settling.{IsFlattened, IsNoRoom, IsSettling, KnowsSide};
+ghost use Rattle.heap_text.specs.Settling.{IsBitOf, IsFlattened, IsNoRoom, IsSettling, KnowsSide};
 ghost use Rattle.heap_text.specs.Texts.{Continues, Reads};
 
 use crate::faults::TextFull;
@@ -28,6 +29,7 @@ impl<'h> Text<'h> {
         requires known { IsKnown (view_of self.old.agent) id }
         ensures text { Belongs self.new.agent self.new.heap.now }
         ensures heap { self.new.heap ≡ self.old.heap }
+        ensures limit { self.new.limit ≡ self.old.limit }
         ensures reads { Reads (view_of self.old.agent) (view_of self.new.agent) }
         ensures seen { Has (view_of self.new.agent).forms id result }
         ensures others { (i : ℕ) → i ≢ id → get (view_of self.new.agent).forms i ≡ get (view_of self.old.agent).forms i }
@@ -36,6 +38,7 @@ impl<'h> Text<'h> {
         ensures born { result ≢ Unborn }
         ensures range { IsInRange result }
         ensures settled { IsSettled (view_of self.old.agent) id → ¬ IsCons result }
+        ensures later { (f : form.Form) → Has (view_of self.old.agent).forms id f → (f ≡ result) ⊎ IsLater f result }
         ensures solid { (j : ℕ) (wide : Bool) (offset : ℕ) → Has (view_of self.old.agent).forms j (Sliced wide id offset) → IsSolid result }
     {
         self.agent.load_form(self.heap, id)
@@ -56,6 +59,7 @@ impl<'h> Text<'h> {
         requires side { IsKnown (view_of self.old.agent) left }
         ensures text { Belongs self.new.agent self.new.heap.now }
         ensures heap { self.new.heap ≡ self.old.heap }
+        ensures limit { self.new.limit ≡ self.old.limit }
         ensures continues { Continues (view_of self.old.agent) (view_of self.new.agent) }
         ensures settled { IfOk result (λ u. IsSettled (view_of self.new.agent) s.id) }
         ensures flat { IfOk result (λ u. (us : List ℕ) → Has (view_of self.old.agent).units s.id us → IsFlattened (view_of self.old.agent) (view_of self.new.agent) s.id us wide) }
@@ -95,10 +99,11 @@ impl<'h> Text<'h> {
         requires known { HasKey (view_of self.old.agent).units s.id }
         ensures text { Belongs self.new.agent self.new.heap.now }
         ensures heap { self.new.heap ≡ self.old.heap }
+        ensures limit { self.new.limit ≡ self.old.limit }
         ensures continues { Continues (view_of self.old.agent) (view_of self.new.agent) }
         ensures settled { IfOk result (λ u. IsSettled (view_of self.new.agent) s.id) }
         ensures used { IfOk result (λ u. (us : List ℕ) → Has (view_of self.old.agent).units s.id us → IsSettling (view_of self.old.agent) (view_of self.new.agent) s.id us) }
-        ensures refused { IfErr result (λ f. (us : List ℕ) → Has (view_of self.old.agent).units s.id us → (wide : Bool) × IsNoRoom (view_of self.old.agent) (view_of self.new.agent) (size_of self.old.heap.now) us f wide) }
+        ensures refused { IfErr result (λ f. (us : List ℕ) → Has (view_of self.old.agent).units s.id us → (wide : Bool) × IsBitOf (view_of self.old.agent) s.id wide × IsNoRoom (view_of self.old.agent) (view_of self.new.agent) (size_of self.old.heap.now) us f wide) }
         ensures again { IsSettled (view_of self.old.agent) s.id → IsOk result × Reads (view_of self.old.agent) (view_of self.new.agent) }
         ensures loads { (view_of self.new.agent).form_loads ≡ added_loads (view_of self.old.agent).form_loads (steps.new - steps.old) }
         ensures more { steps.old ≤ steps.new }
@@ -121,10 +126,11 @@ impl<'h> Text<'h> {
         requires known { HasKey (view_of self.old.agent).units s.id }
         ensures text { Belongs self.new.agent self.new.heap.now }
         ensures heap { self.new.heap ≡ self.old.heap }
+        ensures limit { self.new.limit ≡ self.old.limit }
         ensures continues { Continues (view_of self.old.agent) (view_of self.new.agent) }
         ensures settled { IfOk result (λ u. IsSettled (view_of self.new.agent) s.id) }
         ensures used { IfOk result (λ u. (us : List ℕ) → Has (view_of self.old.agent).units s.id us → IsSettling (view_of self.old.agent) (view_of self.new.agent) s.id us) }
-        ensures refused { IfErr result (λ f. (us : List ℕ) → Has (view_of self.old.agent).units s.id us → (wide : Bool) × IsNoRoom (view_of self.old.agent) (view_of self.new.agent) (size_of self.old.heap.now) us f wide) }
+        ensures refused { IfErr result (λ f. (us : List ℕ) → Has (view_of self.old.agent).units s.id us → (wide : Bool) × IsBitOf (view_of self.old.agent) s.id wide × IsNoRoom (view_of self.old.agent) (view_of self.new.agent) (size_of self.old.heap.now) us f wide) }
         ensures again { IsSettled (view_of self.old.agent) s.id → IsOk result × Reads (view_of self.old.agent) (view_of self.new.agent) }
         ensures loads { (us : List ℕ) → Has (view_of self.old.agent).units s.id us → 0 < length us → (view_of self.new.agent).form_loads ≤ (view_of self.old.agent).form_loads + 8 * length us }
     {
@@ -138,10 +144,11 @@ impl<'h> Text<'h> {
         requires known { HasKey (view_of self.old.agent).units s.id }
         ensures text { Belongs self.new.agent self.new.heap.now }
         ensures heap { self.new.heap ≡ self.old.heap }
+        ensures limit { self.new.limit ≡ self.old.limit }
         ensures continues { Continues (view_of self.old.agent) (view_of self.new.agent) }
         ensures settled { IfOk result (λ u. IsSettled (view_of self.new.agent) s.id) }
         ensures used { IfOk result (λ u. (us : List ℕ) → Has (view_of self.old.agent).units s.id us → IsSettling (view_of self.old.agent) (view_of self.new.agent) s.id us) }
-        ensures refused { IfErr result (λ f. (us : List ℕ) → Has (view_of self.old.agent).units s.id us → (wide : Bool) × IsNoRoom (view_of self.old.agent) (view_of self.new.agent) (size_of self.old.heap.now) us f wide) }
+        ensures refused { IfErr result (λ f. (us : List ℕ) → Has (view_of self.old.agent).units s.id us → (wide : Bool) × IsBitOf (view_of self.old.agent) s.id wide × IsNoRoom (view_of self.old.agent) (view_of self.new.agent) (size_of self.old.heap.now) us f wide) }
         ensures again { IsSettled (view_of self.old.agent) s.id → IsOk result × Reads (view_of self.old.agent) (view_of self.new.agent) }
         ensures loads { (us : List ℕ) → Has (view_of self.old.agent).units s.id us → 0 < length us → (view_of self.new.agent).form_loads ≤ (view_of self.old.agent).form_loads + 8 * length us }
     {

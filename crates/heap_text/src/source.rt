@@ -77,6 +77,7 @@ impl<'h> Text<'h> {
         requires within { i < w.len }
         ensures text { Belongs self.new.agent self.new.heap.now }
         ensures heap { self.new.heap ≡ self.old.heap }
+        ensures limit { self.new.limit ≡ self.old.limit }
         ensures reads { Reads (view_of self.old.agent) (view_of self.new.agent) }
         ensures forms { KeepsForms (view_of self.old.agent) (view_of self.new.agent) }
         ensures has { (result.from ≤ i) × (i < result.from + result.count) }
@@ -103,6 +104,7 @@ impl<'h> Text<'h> {
         requires within { i < length (listed (view_of self.old.agent) source.now) }
         ensures text { Belongs self.new.agent self.new.heap.now }
         ensures heap { self.new.heap ≡ self.old.heap }
+        ensures limit { self.new.limit ≡ self.old.limit }
         ensures reads { Reads (view_of self.old.agent) (view_of self.new.agent) }
         ensures forms { KeepsForms (view_of self.old.agent) (view_of self.new.agent) }
         ensures shows { Shows (view_of self.new.agent) source.now }
@@ -144,6 +146,7 @@ impl<'h> Text<'h> {
         requires holds { Holds (listed (view_of self.old.agent) source.now) held.old }
         ensures text { Belongs self.new.agent self.new.heap.now }
         ensures heap { self.new.heap ≡ self.old.heap }
+        ensures limit { self.new.limit ≡ self.old.limit }
         ensures reads { Reads (view_of self.old.agent) (view_of self.new.agent) }
         ensures forms { KeepsForms (view_of self.old.agent) (view_of self.new.agent) }
         ensures shows { Shows (view_of self.new.agent) source.now }
@@ -168,6 +171,7 @@ impl<'h> Text<'h> {
         requires holds { Holds (listed (view_of self.old.agent) source.now) held.old }
         ensures text { Belongs self.new.agent self.new.heap.now }
         ensures heap { self.new.heap ≡ self.old.heap }
+        ensures limit { self.new.limit ≡ self.old.limit }
         ensures reads { Reads (view_of self.old.agent) (view_of self.new.agent) }
         ensures shows { Shows (view_of self.new.agent) source.now }
         ensures listed { listed (view_of self.new.agent) source.now ≡ listed (view_of self.old.agent) source.now }

@@ -1,24 +1,31 @@
 // A heap with the agent that uses it.
-ghost use Rattle.std.specs.Prelude.{◌≡◌};
+ghost use Rattle.std.specs.Prelude.{◌≡◌, ◌≤◌};
+ghost use Rattle.heap_rule.specs.Layout.{MAX};
 ghost use Rattle.heap_table.specs.Agents.{Belongs};
 
 use heap_table::{Agent, Heap};
 
-/// A heap, and the agent by which one thread makes and reads strings on it.
+/// A heap, the agent by which one thread makes and reads strings on it, and the limit of length:
+/// no two strings are joined to one of more units.
 #[derive(Drop)]
 pub struct Text<'h> {
     pub heap: &'h Heap,
     pub agent: Agent,
+    pub limit: u32,
+    pub ghost within: { limit ≤ MAX },
 }
 
 impl<'h> Text<'h> {
-    /// The agent is one of this heap.
-    pub fn new(heap: &'h Heap, agent: Agent) -> Text<'h>
-        requires { Belongs agent heap.now }
+    /// The agent is one of this heap. The limit is at most 536,870,888, the greatest length of a
+    /// string; no call changes it.
+    pub fn new(heap: &'h Heap, agent: Agent, limit: u32) -> Text<'h>
+        requires belongs { Belongs agent heap.now }
+        requires most { limit ≤ MAX }
         ensures heap { result.heap.now ≡ heap.now }
         ensures agent { result.agent ≡ agent }
+        ensures limit { result.limit ≡ limit }
         ensures belongs { Belongs result.agent result.heap.now }
     {
-        Text { heap, agent }
+        Text { heap, agent, limit }
     }
 }

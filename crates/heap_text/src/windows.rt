@@ -26,6 +26,7 @@ impl<'h> Text<'h> {
         requires led { IsLed (view_of self.old.agent) of.id by run.wide run.start before }
         ensures text { Belongs self.new.agent self.new.heap.now }
         ensures heap { self.new.heap ≡ self.old.heap }
+        ensures limit { self.new.limit ≡ self.old.limit }
         ensures reads { Reads (view_of self.old.agent) (view_of self.new.agent) }
         ensures forms { KeepsForms (view_of self.old.agent) (view_of self.new.agent) }
         ensures shows { (us : List ℕ) → Has (view_of self.old.agent).units of.id us → IsWindow (view_of self.new.agent) result us × (result.len ≡ length us) }
@@ -46,6 +47,7 @@ impl<'h> Text<'h> {
         requires met { IsKnown (view_of self.old.agent) target }
         ensures text { Belongs self.new.agent self.new.heap.now }
         ensures heap { self.new.heap ≡ self.old.heap }
+        ensures limit { self.new.limit ≡ self.old.limit }
         ensures reads { Reads (view_of self.old.agent) (view_of self.new.agent) }
         ensures held { HoldsForms (view_of self.old.agent) (view_of self.new.agent) }
         ensures flat { Has (view_of self.new.agent).forms target (Flat result.wide result.start true) }
@@ -65,6 +67,7 @@ impl<'h> Text<'h> {
         requires side { KnowsSide (view_of self.old.agent) form }
         ensures text { Belongs self.new.agent self.new.heap.now }
         ensures heap { self.new.heap ≡ self.old.heap }
+        ensures limit { self.new.limit ≡ self.old.limit }
         ensures reads { Reads (view_of self.old.agent) (view_of self.new.agent) }
         ensures held { HoldsForms (view_of self.old.agent) (view_of self.new.agent) }
         ensures flat { (i : ℕ) × (fixed : Bool) × StandsFor (view_of self.new.agent) id i × Has (view_of self.new.agent).forms i (Flat result.wide result.start fixed) }
@@ -86,6 +89,7 @@ impl<'h> Text<'h> {
         requires side { KnowsSide (view_of self.old.agent) form }
         ensures text { Belongs self.new.agent self.new.heap.now }
         ensures heap { self.new.heap ≡ self.old.heap }
+        ensures limit { self.new.limit ≡ self.old.limit }
         ensures reads { Reads (view_of self.old.agent) (view_of self.new.agent) }
         ensures held { HoldsForms (view_of self.old.agent) (view_of self.new.agent) }
         ensures shows { (us : List ℕ) → Has (view_of self.old.agent).units of.id us → IsWindow (view_of self.new.agent) result us × (result.len ≡ length us) }
@@ -114,6 +118,7 @@ impl<'h> Text<'h> {
         requires side { KnowsSide (view_of self.old.agent) under }
         ensures text { Belongs self.new.agent self.new.heap.now }
         ensures heap { self.new.heap ≡ self.old.heap }
+        ensures limit { self.new.limit ≡ self.old.limit }
         ensures reads { Reads (view_of self.old.agent) (view_of self.new.agent) }
         ensures held { HoldsForms (view_of self.old.agent) (view_of self.new.agent) }
         ensures shows { (us : List ℕ) → Has (view_of self.old.agent).units of.id us → IsWindow (view_of self.new.agent) result us × (result.len ≡ length us) }
@@ -130,6 +135,7 @@ impl<'h> Text<'h> {
         requires settled { IsSettled (view_of self.old.agent) of.id }
         ensures text { Belongs self.new.agent self.new.heap.now }
         ensures heap { self.new.heap ≡ self.old.heap }
+        ensures limit { self.new.limit ≡ self.old.limit }
         ensures reads { Reads (view_of self.old.agent) (view_of self.new.agent) }
         ensures shows { (us : List ℕ) → Has (view_of self.old.agent).units of.id us → IsWindow (view_of self.new.agent) result us × (result.len ≡ length us) }
     {

@@ -9,7 +9,7 @@ ghost use Rattle.heap_text.specs.Texts.{Continues};
 use crate::ropes::header;
 use crate::slices::cut;
 use crate::strings::reads;
-use heap_rule::HeapSize;
+use heap_rule::{HeapSize, MAX};
 use heap_table::{Heap, Step};
 use heap_text::{JsStr, Text};
 use js_header::Form;
@@ -131,7 +131,7 @@ fn reads_forwarded(alloc: Global) -> bool {
     let Ok((heap, agent)) = Heap::make(alloc, size(), 1) else {
         return false;
     };
-    let mut text = Text::new(&heap, agent);
+    let mut text = Text::new(&heap, agent, MAX);
     let Some((s, part)) = forwarded(&mut text) else {
         return false;
     };
@@ -168,7 +168,7 @@ fn cut_header(alloc: Global, of_part: bool) -> Option<Form> {
     let Ok((heap, agent)) = Heap::make(alloc, size(), 1) else {
         return None;
     };
-    let mut text = Text::new(&heap, agent);
+    let mut text = Text::new(&heap, agent, MAX);
     let (s, part) = forwarded(&mut text)?;
     let t = cut_one(&mut text, s, part, of_part)?;
     Some(header(&mut text, t))
@@ -191,7 +191,7 @@ fn joins_forwarded(alloc: Global) -> bool {
     let Ok((heap, agent)) = Heap::make(alloc, size(), 1) else {
         return false;
     };
-    let mut text = Text::new(&heap, agent);
+    let mut text = Text::new(&heap, agent, MAX);
     let Some((s, part)) = forwarded(&mut text) else {
         return false;
     };

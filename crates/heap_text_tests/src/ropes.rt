@@ -8,7 +8,7 @@ ghost use Rattle.heap_text.specs.Texts.{Continues};
 ghost use Rattle.heap_text.specs.Turns.{GoesOn};
 
 use crate::strings::reads;
-use heap_rule::HeapSize;
+use heap_rule::{HeapSize, MAX};
 use heap_steps::Steps;
 use heap_table::{CounterFull, Heap};
 use heap_text::{JoinFault, JsStr, Text, TextFull};
@@ -66,7 +66,7 @@ fn joined_header(alloc: Global, left: &[u16], right: &[u16]) -> Option<Form>
     let Ok((heap, agent)) = Heap::make(alloc, size, 1) else {
         return None;
     };
-    let mut text = Text::new(&heap, agent);
+    let mut text = Text::new(&heap, agent, MAX);
     let s = joined(&mut text, left, right)?;
     Some(header(&mut text, s))
 }
@@ -114,7 +114,7 @@ fn no_room_to_settle(rt: HostRuntime) {
     let Ok((heap, agent)) = Heap::make(rt.alloc(), size, 1) else {
         panic!(rt; "no heap");
     };
-    let mut text = Text::new(&heap, agent);
+    let mut text = Text::new(&heap, agent, MAX);
     let Some(s) = joined(&mut text, &LETTERS[..12], &LETTERS[12..]) else {
         panic!(rt; "no rope");
     };
@@ -184,9 +184,9 @@ fn split_and_joined(
     ensures known { KeepsKnown (view_of left.old.agent) (view_of left.new.agent) }
 {
     let agent = left.agent.split(left.heap, 1);
-    let mut right = Text::new(left.heap, agent);
+    let mut right = Text::new(left.heap, agent, left.limit);
     let both = both_at_once(rt, left, &mut right, first, second);
-    let Text { heap: _, agent } = right;
+    let Text { agent, .. } = right;
     left.agent.join(left.heap, agent);
     both
 }
@@ -202,7 +202,7 @@ fn shares_a_rope(rt: &impl Threads, alloc: Global) -> bool {
     let Ok((heap, agent)) = Heap::make(alloc, size, 2) else {
         return false;
     };
-    let mut text = Text::new(&heap, agent);
+    let mut text = Text::new(&heap, agent, MAX);
     let Some(s) = joined(&mut text, &LETTERS[..12], &LETTERS[12..]) else {
         return false;
     };
@@ -285,7 +285,7 @@ fn doubled_past_the_greatest_length(rt: HostRuntime) {
     let Ok((heap, agent)) = Heap::make(rt.alloc(), size, 1) else {
         panic!(rt; "no heap");
     };
-    let mut text = Text::new(&heap, agent);
+    let mut text = Text::new(&heap, agent, MAX);
     let Ok(s) = text.make_flat(&LETTERS[..1]) else {
         panic!(rt; "no string");
     };
@@ -368,7 +368,7 @@ fn deep_ropes(rt: HostRuntime) {
         let Ok((heap, agent)) = Heap::make(rt.alloc(), DEEP, 1) else {
             panic!(rt; "no heap");
         };
-        let mut text = Text::new(&heap, agent);
+        let mut text = Text::new(&heap, agent, MAX);
         let Some(s) = deep(&mut text, 1000000, front) else {
             panic!(rt; "no rope");
         };
@@ -405,7 +405,7 @@ fn a_rope_of_itself(rt: HostRuntime) {
     let Ok((heap, agent)) = Heap::make(rt.alloc(), size, 1) else {
         panic!(rt; "no heap");
     };
-    let mut text = Text::new(&heap, agent);
+    let mut text = Text::new(&heap, agent, MAX);
     let Some(s) = doubled_often(&mut text, 14) else {
         panic!(rt; "no rope");
     };
@@ -422,7 +422,7 @@ fn settles_a_side(rt: &impl Threads, alloc: Global) -> bool {
     let Ok((heap, agent)) = Heap::make(alloc, size, 2) else {
         return false;
     };
-    let mut text = Text::new(&heap, agent);
+    let mut text = Text::new(&heap, agent, MAX);
     let Some(side) = joined(&mut text, &LETTERS[..12], &LETTERS[12..]) else {
         return false;
     };

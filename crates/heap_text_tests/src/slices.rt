@@ -6,7 +6,7 @@ ghost use Rattle.heap_text.specs.Texts.{Continues};
 
 use crate::ropes::{header, joined};
 use crate::strings::reads;
-use heap_rule::HeapSize;
+use heap_rule::{HeapSize, MAX};
 use heap_table::Heap;
 use heap_text::{JsStr, Text};
 use js_header::{Form, encode};
@@ -53,7 +53,7 @@ fn cut_header(alloc: Global, from: u32, to: u32) -> Option<Form> {
     let Ok((heap, agent)) = Heap::make(alloc, size(), 1) else {
         return None;
     };
-    let mut text = Text::new(&heap, agent);
+    let mut text = Text::new(&heap, agent, MAX);
     let Ok(s) = text.make_flat(&LETTERS) else {
         return None;
     };
@@ -96,7 +96,7 @@ fn cut_twice(alloc: Global) -> bool {
     let Ok((heap, agent)) = Heap::make(alloc, size(), 1) else {
         return false;
     };
-    let mut text = Text::new(&heap, agent);
+    let mut text = Text::new(&heap, agent, MAX);
     let Ok(s) = text.make_flat(&LETTERS) else {
         return false;
     };
@@ -133,7 +133,7 @@ fn cut_rope(alloc: Global) -> bool {
     let Ok((heap, agent)) = Heap::make(alloc, size(), 1) else {
         return false;
     };
-    let mut text = Text::new(&heap, agent);
+    let mut text = Text::new(&heap, agent, MAX);
     let Some(s) = joined(&mut text, &LETTERS[..12], &LETTERS[12..]) else {
         return false;
     };

@@ -5,7 +5,7 @@ ghost use Rattle.heap_table.specs.Agents.{Belongs, share_of, view_of};
 ghost use Rattle.heap_text.specs.Texts.{Continues};
 ghost use Rattle.heap_text.specs.Turns.{GoesOn};
 
-use heap_rule::HeapSize;
+use heap_rule::{HeapSize, MAX};
 use heap_table::{CounterFull, Heap, MakeFault};
 use heap_text::{JoinFault, JsStr, Text, TextFull};
 use std::alloc::Global;
@@ -81,7 +81,7 @@ fn strings_of_each_length(rt: HostRuntime) {
     let Ok((heap, agent)) = Heap::make(rt.alloc(), size, 1) else {
         panic!(rt; "no heap");
     };
-    let mut text = Text::new(&heap, agent);
+    let mut text = Text::new(&heap, agent, MAX);
     let narrow = [97, 98, 99, 100, 101, 102, 103, 104, 105, 106, 107, 108, 255];
     let wide = [
         256, 98, 99, 65535, 101, 102, 103, 104, 105, 106, 107, 108, 0,
@@ -183,9 +183,9 @@ fn split_and_joined(rt: &impl Threads, left: &mut Text, s: JsStr, want: &[u16]) 
     ensures agents { (view_of left.new.agent).agents ≡ (view_of left.old.agent).agents }
 {
     let agent = left.agent.split(left.heap, 1);
-    let mut right = Text::new(left.heap, agent);
+    let mut right = Text::new(left.heap, agent, left.limit);
     let both = twice_at_once(rt, left, &mut right, s, want);
-    let Text { heap: _, agent } = right;
+    let Text { agent, .. } = right;
     left.agent.join(left.heap, agent);
     reads_both(left, both, want)
 }
@@ -201,7 +201,7 @@ fn shares_a_heap(rt: &impl Threads, alloc: Global) -> bool {
     let Ok((heap, agent)) = Heap::make(alloc, size, 2) else {
         return false;
     };
-    let mut text = Text::new(&heap, agent);
+    let mut text = Text::new(&heap, agent, MAX);
     let Ok(abc) = text.make_flat([97, 98, 99].as_slice()) else {
         return false;
     };
@@ -303,7 +303,7 @@ fn refusals(rt: HostRuntime) {
         let Ok((heap, agent)) = Heap::make(rt.alloc(), size, 1) else {
             panic!(rt; "no heap");
         };
-        let mut text = Text::new(&heap, agent);
+        let mut text = Text::new(&heap, agent, MAX);
         assert!(rt;
             refusal(&mut text, units, call) == Some(want),
             "{ids} ids, {words} words"

@@ -1,4 +1,8 @@
+use Rattle.std.proofs.Common.{◌∙◌, ap, sym}
+use Rattle.std.specs.FinMap.{contains_key}
 use Rattle.js_store.specs.Limits.{limit_units}
+use Rattle.heap_rule.specs.declared.size.HeapSize.{HeapSize}
+use Rattle.heap_slots.specs.Counting.{count_below}
 use Rattle.heap_intern.specs.Sessions.{table_of}
 use Rattle.heap_intern.proofs.States.{step_looks}
 use Rattle.heap_rule.specs.declared.view.View.{View}
@@ -14,3 +18,7 @@ invariant_of-self-clause-last_kept c = let s = c.args.self.now in let v : View =
 
 pub invariant_of-self-clause-older_kept : goal.invariant_of-self-clause-older_kept
 invariant_of-self-clause-older_kept c = let s = c.args.self.now in let v : View = s.text.agent.seat.me.0 in let w : View = c.count_interned.new.agent.seat.me.0 in kept_by v w (c.count_interned.ensures.looks.goes.known) s.older s.older_kept
+
+pub returns-clause-used : goal.returns-clause-used
+returns-clause-used c = let w : View = c.count_interned.new.agent.seat.me.0 in
+    c.count_interned.ensures.used ∙ ap (λ (z : HeapSize). count_below (λ k. contains_key w.slots k) z.slots) (sym c.count_interned.ensures.belongs.1)

@@ -11,7 +11,7 @@ use Rattle.heap_rule.specs.declared.view.View.{View}
 use Rattle.heap_rule.specs.Maps.{Has}
 use Rattle.heap_rule.proofs.MapLemmas.{has_key}
 use Rattle.heap_table.specs.Agents.{size_of}
-use Rattle.heap_text.specs.Settling.{IsNoRoom}
+use Rattle.heap_text.specs.Settling.{IsBitOf, IsNoRoom}
 use Rattle.heap_slots.proofs.Loading.{slots_few, slots_from, slots_most, slots_none}
 use Rattle.heap_intern.specs.Faults.{fault_in_table, fault_in_text}
 use Rattle.heap_intern.specs.Sessions.{is_settled, state_by, table_of}
@@ -33,16 +33,16 @@ returns-in-Ok-intern_counted-clause-ok g c = let v : View = c.args.self.now.text
 pub returns-in-Ok-intern_counted-clause-step : goal.returns-in-Ok-intern_counted-clause-step
 returns-in-Ok-intern_counted-clause-step g c = let s = c.args.self.now in let v : View = s.text.agent.seat.me.0 in let x : View = c.settle.new.self.agent.seat.me.0 in let w : View = c.intern_counted.new.agent.seat.me.0 in
     let u = has_key v.units c.args.s.id c.requires in let e = c.settle.ensures in let l = limit_units s.limit in let t = table_of s.text.heap.now in
-    let found = c.in-Ok-intern_counted.ensures.interns u.0 (e.continues.known.units c.args.s.id u.0 u.1) in let i = found.2 in let most = header_most x c.args.s.id u.0 found.0 found.1 in
+    let found = c.in-Ok-intern_counted.ensures.interns u.0 (e.continues.known.units c.args.s.id u.0 u.1) in let i = found.2 in let most = header_most x w c.args.s.id u.0 found.0 found.1 in
     let settling = subst (λ (us : List ℕ). Step (state_by v l t) (state_by x l t) None 0 (settle_words (is_settled (get v.forms c.args.s.id)) (length us))) (sym (text_is v.units c.args.s.id u.0 u.1)) (settled_step v x l t c.args.s.id u.0 s.belongs.5 e.continues (λ h. (e.again h).1) (c.in-Ok.ensures.used u.0 u.1)) in
-    let interning = subst (λ (us : List ℕ). Step (state_by x l t) (state_by w l t) None 1 (wide_words (length us))) (sym (text_is v.units c.args.s.id u.0 u.1)) (interned_ok x w l t ((u.0, c.in-Ok-intern_counted.id) ∷ []) found.0 (wide_words (length u.0)) most e.text.5 i.0 i.1 i.2) in
+    let interning = subst (λ (us : List ℕ). Step (state_by x l t) (state_by w l t) None 1 (wide_words (length us))) (sym (text_is v.units c.args.s.id u.0 u.1)) (interned_ok x w l t ((u.0, c.in-Ok-intern_counted.id) ∷ []) found.0.words (wide_words (length u.0)) most e.text.5 i.0 i.1 i.2) in
     step_at v w l t (table_of c.settle.new.self.heap.now) None 1 (intern_words (is_settled (get v.forms c.args.s.id)) (length (unwrap_or (get v.units c.args.s.id) []))) (ap (λ y. table_of y.now) e.heap)
     (step_after settling interning (omega arith) (settle_part (is_settled (get v.forms c.args.s.id)) (length (unwrap_or (get v.units c.args.s.id) []))))
 
 pub returns-in-Err-intern_counted-clause-step : goal.returns-in-Err-intern_counted-clause-step
 returns-in-Err-intern_counted-clause-step g c = let s = c.args.self.now in let v : View = s.text.agent.seat.me.0 in let x : View = c.settle.new.self.agent.seat.me.0 in let w : View = c.intern_counted.new.agent.seat.me.0 in
     let u = has_key v.units c.args.s.id c.requires in let e = c.settle.ensures in let l = limit_units s.limit in let t = table_of s.text.heap.now in let f = c.in-Err-intern_counted.full in
-    let found = c.in-Err-intern_counted.ensures.interns u.0 (e.continues.known.units c.args.s.id u.0 u.1) in let i = found.2 in let most = header_most x c.args.s.id u.0 found.0 found.1 in
+    let found = c.in-Err-intern_counted.ensures.interns u.0 (e.continues.known.units c.args.s.id u.0 u.1) in let i = found.2 in let most = header_most x w c.args.s.id u.0 found.0 found.1 in
     let settling = subst (λ (us : List ℕ). Step (state_by v l t) (state_by x l t) None 0 (settle_words (is_settled (get v.forms c.args.s.id)) (length us))) (sym (text_is v.units c.args.s.id u.0 u.1)) (settled_step v x l t c.args.s.id u.0 s.belongs.5 e.continues (λ h. (e.again h).1) (c.in-Ok.ensures.used u.0 u.1)) in
     let interning = subst (λ (us : List ℕ). Step (state_by x l t) (state_by w l t) (Some (fault_in_table f)) 1 (wide_words (length us))) (sym (text_is v.units c.args.s.id u.0 u.1)) (interned_err x w u.0 found.0 l t f (wide_words (length u.0)) most e.text.5 i.0 i.1) in
     rw c.table_fault.ensures (step_at v w l t (table_of c.settle.new.self.heap.now) (Some (fault_in_table f)) 1 (intern_words (is_settled (get v.forms c.args.s.id)) (length (unwrap_or (get v.units c.args.s.id) []))) (ap (λ y. table_of y.now) e.heap)
@@ -53,7 +53,7 @@ pub returns-in-Err-clause-step : goal.returns-in-Err-clause-step
 returns-in-Err-clause-step g c = let s = c.args.self.now in let v : View = s.text.agent.seat.me.0 in let w : View = c.settle.new.self.agent.seat.me.0 in let i = c.args.s.id in let l = limit_units s.limit in let t = table_of s.text.heap.now in
     let p = has_key v.units i c.requires in let e = c.settle.ensures in let f = c.in-Err.full in
     let sizes : w.sizes ≡ size_of s.text.heap.now = e.text.1 ∙ ap (λ x. size_of x.now) e.heap in
-    let room : (wide : Bool) × IsNoRoom v w w.sizes p.0 f wide = subst (λ (z : HeapSize). (wide : Bool) × IsNoRoom v w z p.0 f wide) (sym sizes) (c.in-Err.ensures.refused p.0 p.1) in
+    let room : (wide : Bool) × IsBitOf v c.args.s.id wide × IsNoRoom v w w.sizes p.0 f wide = subst (λ (z : HeapSize). (wide : Bool) × IsBitOf v c.args.s.id wide × IsNoRoom v w z p.0 f wide) (sym sizes) (c.in-Err.ensures.refused p.0 p.1) in
     let part = settle_part (is_settled (get v.forms i)) (length p.0) in
     rw c.text_fault.ensures (subst (λ (us : List ℕ). Step (state_by v l t) (state_by w l (table_of c.settle.new.self.heap.now)) (Some (fault_in_text f)) 1 (intern_words (is_settled (get v.forms i)) (length us))) (sym (text_is v.units i p.0 p.1))
     (step_at v w l t (table_of c.settle.new.self.heap.now) (Some (fault_in_text f)) 1 (intern_words (is_settled (get v.forms i)) (length p.0)) (ap (λ x. table_of x.now) e.heap)
@@ -69,8 +69,8 @@ pub returns-in-Err-clause-free : goal.returns-in-Err-clause-free
 returns-in-Err-clause-free g c = let s = c.args.self.now in let v : View = s.text.agent.seat.me.0 in let w : View = c.settle.new.self.agent.seat.me.0 in
     let p = has_key v.units c.args.s.id c.requires in let e = c.settle.ensures in
     let sizes : w.sizes ≡ size_of s.text.heap.now = e.text.1 ∙ ap (λ x. size_of x.now) e.heap in
-    let room : (wide : Bool) × IsNoRoom v w w.sizes p.0 c.in-Err.full wide = subst (λ (z : HeapSize). (wide : Bool) × IsNoRoom v w z p.0 c.in-Err.full wide) (sym sizes) (c.in-Err.ensures.refused p.0 p.1) in
-    rw c.text_fault.ensures (settle_free v w p.0 room.0 c.in-Err.full room.1 e.continues.slot_loads)
+    let room : (wide : Bool) × IsBitOf v c.args.s.id wide × IsNoRoom v w w.sizes p.0 c.in-Err.full wide = subst (λ (z : HeapSize). (wide : Bool) × IsBitOf v c.args.s.id wide × IsNoRoom v w z p.0 c.in-Err.full wide) (sym sizes) (c.in-Err.ensures.refused p.0 p.1) in
+    rw c.text_fault.ensures (settle_free v w p.0 room.0 c.in-Err.full room.2 e.continues.slot_loads)
 
 pub returns-in-Err-intern_counted-clause-free : goal.returns-in-Err-intern_counted-clause-free
 returns-in-Err-intern_counted-clause-free g c = let v : View = c.args.self.now.text.agent.seat.me.0 in let x : View = c.settle.new.self.agent.seat.me.0 in let w : View = c.intern_counted.new.agent.seat.me.0 in

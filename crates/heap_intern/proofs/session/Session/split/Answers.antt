@@ -1,9 +1,10 @@
-use Rattle.std.proofs.Common.{◌∙◌, ap, subst, sym}
+use Rattle.std.proofs.Common.{◌∙◌, ap, subst, sym, arith}
 use Rattle.js_store.specs.Limits.{limit_units}
 use Rattle.heap_rule.specs.declared.view.View.{View}
 use Rattle.heap_table.specs.declared.agent.Agent.{Agent}
 use Rattle.heap_table.specs.declared.heap.Heap.{Heap}
 use Rattle.heap_table.specs.Agents.{Belongs, view_of}
+use Rattle.heap_intern.specs.Sound.{limit_high}
 use Rattle.heap_intern.specs.Sessions.{state_by, table_of}
 use Rattle.heap_intern.proofs.Shares.{state_left, state_right}
 use Rattle.heap_intern.proofs.Lately.{kept_none}
@@ -12,6 +13,7 @@ use Rattle.heap_intern.proofs.session.Session.split.Goals as goal
 
 pub invariant_of-result : goal.invariant_of-result
 invariant_of-result c = record {
+  one_limit = c.new.ensures.limit ∙ c.units.ensures;
   belongs = subst (λ (a : Agent). Belongs a c.new.result.heap.now) (sym c.new.ensures.agent) (subst (λ (h : Heap). Belongs c.split-agent.result h) (sym c.new.ensures.heap) c.split-agent.ensures.belongs.1);
   last_kept = kept_none c.new.result.agent.seat.me.0 c.none.result c.none.ensures;
   older_kept = kept_none c.new.result.agent.seat.me.0 c.none-2.result c.none-2.ensures;
@@ -31,3 +33,6 @@ invariant_of-self-clause-last_kept c = let s = c.args.self.now in subst (λ (w :
 
 pub invariant_of-self-clause-older_kept : goal.invariant_of-self-clause-older_kept
 invariant_of-self-clause-older_kept c = let s = c.args.self.now in subst (λ (w : View). IsKept w s.older) (sym c.split-agent.ensures.left) s.older_kept
+
+pub new-requires-clause-most : goal.new-requires-clause-most
+new-requires-clause-most c = let a = limit_high c.args.self.now.limit in let e = c.units.ensures in omega arith

@@ -4,7 +4,7 @@ use Rattle.heap_rule.specs.declared.size.HeapSize.{HeapSize}
 use Rattle.heap_rule.specs.declared.view.View.{View}
 use Rattle.heap_rule.proofs.MapLemmas.{has_key}
 use Rattle.heap_table.specs.Agents.{size_of}
-use Rattle.heap_text.specs.Settling.{IsNoRoom}
+use Rattle.heap_text.specs.Settling.{IsBitOf, IsNoRoom}
 use Rattle.js_store.specs.Faults.{Step}
 use Rattle.js_store.specs.Limits.{limit_units}
 use Rattle.js_store.specs.Rows.{settle_words}
@@ -32,7 +32,7 @@ pub returns-in-Err-clause-step : goal.returns-in-Err-clause-step
 returns-in-Err-clause-step c = let s = c.args.self.now in let v : View = s.text.agent.seat.me.0 in let w : View = c.settle.new.self.agent.seat.me.0 in let i = c.args.s.id in let l = limit_units s.limit in let t = table_of s.text.heap.now in
     let p = has_key v.units i c.requires in let e = c.settle.ensures in let f = c.in-Err.full in
     let sizes : w.sizes ≡ size_of s.text.heap.now = e.text.1 ∙ ap (λ x. size_of x.now) e.heap in
-    let room : (wide : Bool) × IsNoRoom v w w.sizes p.0 f wide = subst (λ (z : HeapSize). (wide : Bool) × IsNoRoom v w z p.0 f wide) (sym sizes) (c.in-Err.ensures.refused p.0 p.1) in
+    let room : (wide : Bool) × IsBitOf v c.args.s.id wide × IsNoRoom v w w.sizes p.0 f wide = subst (λ (z : HeapSize). (wide : Bool) × IsBitOf v c.args.s.id wide × IsNoRoom v w z p.0 f wide) (sym sizes) (c.in-Err.ensures.refused p.0 p.1) in
     rw c.text_fault.ensures (subst (λ (us : List ℕ). Step (state_by v l t) (state_by w l (table_of c.settle.new.self.heap.now)) (Some (fault_in_text f)) 0 (settle_words (is_settled (get v.forms i)) (length us))) (sym (text_is v.units i p.0 p.1))
     (step_at v w l t (table_of c.settle.new.self.heap.now) (Some (fault_in_text f)) 0 (settle_words (is_settled (get v.forms i)) (length p.0)) (ap (λ x. table_of x.now) e.heap)
     (settle_refused v w l t i p.0 s.belongs.5 e.continues f (λ h. let bad = (c.in-Err.ensures.again h).0 in absurd (cc)) room)))

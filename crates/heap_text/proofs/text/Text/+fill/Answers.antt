@@ -20,6 +20,7 @@ pub loop-left-init : goal.loop-left-init
 loop-left-init g t c = let v : View = c.args.self.now.agent.seat.me.0 in record {
   text = c.requires.text;
   heap = refl;
+  limit = refl;
   writes = writes_refl v;
   above = λ i b l r less h. h;
   lower = omega arith;
@@ -228,6 +229,7 @@ loop-left-preserved-then-m-n g t c = let v : View = c.args.self.now.agent.seat.m
     let hh : View = c.fill.new.self.agent.seat.me.0 in let r = c.fill.ensures in record {
       text = r.text;
       heap = r.heap ∙ (d.heap ∙ (e.heap ∙ i.heap));
+      limit = r.limit ∙ (d.limit ∙ (e.limit ∙ i.limit));
       writes = writes_trans v uu hh i.writes (writes_trans uu gg hh (writes_trans uu ff gg (writes_reads uu ff e.reads) (writes_reads ff gg d.reads)) r.writes);
       above = λ q b l o less h. r.above q b l o (omega (arith, less, i.lower, d.below.0, d.below.1)) (subst (λ (m : FinMap nat_cmp Form). Has m q (Cons b l o)) (sym d.forms.0) (e.others q (λ is. absurd (omega (arith, is, less, i.lower))) ∙ i.above q b l o less h));
       lower = omega (arith, i.lower, d.below.0, d.below.1);
@@ -247,6 +249,7 @@ loop-left-preserved g t c = let v : View = c.args.self.now.agent.seat.me.0 in le
     let hh : View = c.fill-else-m-n.new.self.agent.seat.me.0 in let r = c.fill-else-m-n.ensures in record {
       text = r.text;
       heap = r.heap ∙ (d.heap ∙ (e.heap ∙ i.heap));
+      limit = r.limit ∙ (d.limit ∙ (e.limit ∙ i.limit));
       writes = writes_trans v uu hh i.writes (writes_trans uu gg hh (writes_trans uu ff gg (writes_reads uu ff e.reads) (writes_reads ff gg d.reads)) r.writes);
       above = λ q b l o less h. r.above q b l o (omega (arith, less, i.lower, d.below.0, d.below.1)) (subst (λ (m : FinMap nat_cmp Form). Has m q (Cons b l o)) (sym d.forms.0) (e.others q (λ is. absurd (omega (arith, is, less, i.lower))) ∙ i.above q b l o less h));
       lower = omega (arith, i.lower, d.below.0, d.below.1);

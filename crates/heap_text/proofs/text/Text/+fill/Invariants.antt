@@ -13,6 +13,7 @@ abbrev pub invariant-loop-left : goal.invariant-loop-left
 invariant-loop-left g l = record {
   text : Belongs l.self.agent l.self.heap.now;
   heap : l.self.heap ≡ l.fn.self.heap;
+  limit : l.self.limit ≡ l.fn.self.limit;
   writes : Writes (view_of l.fn.self.agent) (view_of l.self.agent);
   above : HoldsAbove (view_of l.fn.self.agent) (view_of l.self.agent) l.fn.id;
   lower : l.id ≤ l.fn.id;

@@ -17,6 +17,7 @@ loop-k-preserved c = let k = c.loop-k.k in let p = c.args.patch in let v : View 
     let room : p.low + k < lane_count p.wide = omega (arith, c.requires.lanes) in record {
       text = e.text;
       heap = e.heap ∙ i.heap;
+      limit = e.limit ∙ i.limit;
       reads = reads_trans v c.loop-k.self.agent.seat.me.0 c.unit_held-unit.new.self.agent.seat.me.0 i.reads e.reads;
       forms = (e.forms.0 ∙ i.forms.0, e.forms.1 ∙ i.forms.1);
       shows = e.shows;

@@ -10,6 +10,7 @@ abbrev pub invariant-loop-k : goal.invariant-loop-k
 invariant-loop-k l = record {
   text : Belongs l.self.agent l.self.heap.now;
   heap : l.self.heap ≡ l.fn.self.heap;
+  limit : l.self.limit ≡ l.fn.self.limit;
   reads : Reads (view_of l.fn.self.agent) (view_of l.self.agent);
   forms : KeepsForms (view_of l.fn.self.agent) (view_of l.self.agent);
   shows : Shows (view_of l.self.agent) l.source;

@@ -4,6 +4,7 @@ use Rattle.heap_rule.specs.declared.view.View.{View}
 use Rattle.heap_rule.proofs.MapLemmas.{has_key}
 use Rattle.heap_rule.proofs.Possible.{possible_short}
 use Rattle.heap_table.specs.Agents.{size_of}
+use Rattle.heap_text.specs.declared.faults.JoinFault.TheVariants.{TooLong}
 use Rattle.heap_text.specs.Joins.{IsCopied, IsLinked}
 use Rattle.heap_text.proofs.Answered.{joined_units}
 use Rattle.heap_text.proofs.Going.{continues_reads, continues_trans}
@@ -12,24 +13,25 @@ use Rattle.heap_text.proofs.Loaded.{known_trans, reads_trans}
 use Rattle.heap_text.proofs.text.Text.concat.Goals as goal
 
 pub returns-then-left-eq0-clause-joined : goal.returns-then-left-eq0-clause-joined
-returns-then-left-eq0-clause-joined c us vs h k = let v : View = c.args.self.now.agent.seat.me.0 in let u : View = c.len-left.new.self.agent.seat.me.0 in
-    let left = c.len-left.ensures.length us h in let none = c.if-left-eq0.true in let short = possible_short v c.requires.text.5 c.args.b.id vs k in record {
-      left_empty = λ e. (c.args.b, refl, (refl, c.len-right.ensures.reads.used ∙ c.len-left.ensures.reads.used));
-      right_empty = λ l e. absurd (omega arith);
+returns-then-left-eq0-clause-joined c us vs h k =
+    let left = c.len-left.ensures.length us h in let none = c.if-left-eq0.true in let right = c.len-right.ensures.length vs (c.len-left.ensures.reads.known.units c.args.b.id vs k) in
+    let room = c.if-left-right.false in let same_limit = c.len-right.ensures.limit ∙ c.len-left.ensures.limit in record {
       long = λ l. absurd (omega arith);
-      short = λ l m n. absurd (omega arith);
-      rope = λ l m n o. absurd (omega arith);
+      left_empty = λ _ e. (c.args.b, refl, (refl, c.len-right.ensures.reads.used ∙ c.len-left.ensures.reads.used));
+      right_empty = λ _ l e. absurd (omega arith);
+      short = λ _ l m n. absurd (omega arith);
+      rope = λ _ l m n. absurd (omega arith);
     }
 
 pub returns-then-right-eq0-clause-joined : goal.returns-then-right-eq0-clause-joined
-returns-then-right-eq0-clause-joined c us vs h k = let v : View = c.args.self.now.agent.seat.me.0 in
+returns-then-right-eq0-clause-joined c us vs h k =
     let left = c.len-left.ensures.length us h in let some = c.if-left-eq0.false in let right = c.len-right.ensures.length vs (c.len-left.ensures.reads.known.units c.args.b.id vs k) in let none = c.if-right-eq0.true in
-    let short = possible_short v c.requires.text.5 c.args.a.id us h in record {
-      left_empty = λ e. absurd (some (left ∙ e));
-      right_empty = λ l e. (c.args.a, refl, (refl, c.len-right.ensures.reads.used ∙ c.len-left.ensures.reads.used));
+    let room = c.if-left-right.false in let same_limit = c.len-right.ensures.limit ∙ c.len-left.ensures.limit in record {
       long = λ l. absurd (omega arith);
-      short = λ l m n. absurd (omega arith);
-      rope = λ l m n o. absurd (omega arith);
+      left_empty = λ _ e. absurd (some (left ∙ e));
+      right_empty = λ _ l e. (c.args.a, refl, (refl, c.len-right.ensures.reads.used ∙ c.len-left.ensures.reads.used));
+      short = λ _ l m n. absurd (omega arith);
+      rope = λ _ l m n. absurd (omega arith);
     }
 
 pub overflow_add-left : goal.overflow_add-left
@@ -51,15 +53,15 @@ returns-in-Ok-clause-continues c = let v : View = c.args.self.now.agent.seat.me.
 pub returns-in-Ok-clause-joined : goal.returns-in-Ok-clause-joined
 returns-in-Ok-clause-joined c us vs h k = let v : View = c.args.self.now.agent.seat.me.0 in let w1 : View = c.len-left.new.self.agent.seat.me.0 in let w2 : View = c.len-right.new.self.agent.seat.me.0 in let w : View = c.join.new.self.agent.seat.me.0 in let r2 = reads_trans v w1 w2 c.len-left.ensures.reads c.len-right.ensures.reads in
     let left = c.len-left.ensures.length us h in let right = c.len-right.ensures.length vs (c.len-left.ensures.reads.known.units c.args.b.id vs k) in
-    let some = c.if-left-eq0.false in let more = c.if-right-eq0.false in let room = c.if-left-right-gt-MAX_LENGTH.false in
+    let some = c.if-left-eq0.false in let more = c.if-right-eq0.false in let room = c.if-left-right.false in let same_limit = c.len-right.ensures.limit ∙ c.len-left.ensures.limit in
     let z : HeapSize = size_of c.args.self.now.heap.now in
     let same : size_of c.len-right.new.self.heap.now ≡ z = ap (λ x. size_of x.now) (c.len-right.ensures.heap ∙ c.len-left.ensures.heap) in
     let a = c.args.a in let b = c.args.b in let hl = r2.known.units a.id us h in let hr = r2.known.units b.id vs k in record {
-      left_empty = λ e. absurd (some (left ∙ e));
-      right_empty = λ _ e. absurd (more (right ∙ e));
       long = λ l. absurd (omega arith);
-      short = λ _ _ l. copied_lifted v w z (us ++ vs) (Ok c.in-Ok.s) (copied_after v w2 w z r2 (us ++ vs) (Ok c.in-Ok.s) (subst (λ (y : HeapSize). IsCopied w2 w y (us ++ vs) (Ok c.in-Ok.s)) same (c.in-Ok.ensures.copied (omega arith) us vs hl hr)));
-      rope = λ _ _ l _. linked_lifted v w z a b (us ++ vs) (Ok c.in-Ok.s) (linked_after v w2 w z r2 a b (us ++ vs) (Ok c.in-Ok.s) (subst (λ (y : HeapSize). IsLinked w2 w y a b (us ++ vs) (Ok c.in-Ok.s)) same (c.in-Ok.ensures.linked (omega arith) us vs hl hr)));
+      left_empty = λ _ e. absurd (some (left ∙ e));
+      right_empty = λ _ _ e. absurd (more (right ∙ e));
+      short = λ _ _ _ l. copied_lifted v w z (us ++ vs) (Ok c.in-Ok.s) (copied_after v w2 w z r2 (us ++ vs) (Ok c.in-Ok.s) (subst (λ (y : HeapSize). IsCopied w2 w y (us ++ vs) (Ok c.in-Ok.s)) same (c.in-Ok.ensures.copied (omega arith) us vs hl hr)));
+      rope = λ _ _ _ l. linked_lifted v w z a b (us ++ vs) (Ok c.in-Ok.s) (linked_after v w2 w z r2 a b (us ++ vs) (Ok c.in-Ok.s) (subst (λ (y : HeapSize). IsLinked w2 w y a b (us ++ vs) (Ok c.in-Ok.s)) same (c.in-Ok.ensures.linked (omega arith) us vs hl hr)));
     }
 
 pub returns-in-Err-clause-continues : goal.returns-in-Err-clause-continues
@@ -69,31 +71,44 @@ returns-in-Err-clause-continues c = let v : View = c.args.self.now.agent.seat.me
 pub returns-in-Err-clause-joined : goal.returns-in-Err-clause-joined
 returns-in-Err-clause-joined c us vs h k = let v : View = c.args.self.now.agent.seat.me.0 in let w1 : View = c.len-left.new.self.agent.seat.me.0 in let w2 : View = c.len-right.new.self.agent.seat.me.0 in let w : View = c.join.new.self.agent.seat.me.0 in let r2 = reads_trans v w1 w2 c.len-left.ensures.reads c.len-right.ensures.reads in
     let left = c.len-left.ensures.length us h in let right = c.len-right.ensures.length vs (c.len-left.ensures.reads.known.units c.args.b.id vs k) in
-    let some = c.if-left-eq0.false in let more = c.if-right-eq0.false in let room = c.if-left-right-gt-MAX_LENGTH.false in
+    let some = c.if-left-eq0.false in let more = c.if-right-eq0.false in let room = c.if-left-right.false in let same_limit = c.len-right.ensures.limit ∙ c.len-left.ensures.limit in
     let z : HeapSize = size_of c.args.self.now.heap.now in
     let same : size_of c.len-right.new.self.heap.now ≡ z = ap (λ x. size_of x.now) (c.len-right.ensures.heap ∙ c.len-left.ensures.heap) in
     let a = c.args.a in let b = c.args.b in let hl = r2.known.units a.id us h in let hr = r2.known.units b.id vs k in record {
-      left_empty = λ e. absurd (some (left ∙ e));
-      right_empty = λ _ e. absurd (more (right ∙ e));
       long = λ l. absurd (omega arith);
-      short = λ _ _ l. copied_lifted v w z (us ++ vs) (Err c.in-Err.full) (copied_after v w2 w z r2 (us ++ vs) (Err c.in-Err.full) (subst (λ (y : HeapSize). IsCopied w2 w y (us ++ vs) (Err c.in-Err.full)) same (c.in-Err.ensures.copied (omega arith) us vs hl hr)));
-      rope = λ _ _ l _. linked_lifted v w z a b (us ++ vs) (Err c.in-Err.full) (linked_after v w2 w z r2 a b (us ++ vs) (Err c.in-Err.full) (subst (λ (y : HeapSize). IsLinked w2 w y a b (us ++ vs) (Err c.in-Err.full)) same (c.in-Err.ensures.linked (omega arith) us vs hl hr)));
+      left_empty = λ _ e. absurd (some (left ∙ e));
+      right_empty = λ _ _ e. absurd (more (right ∙ e));
+      short = λ _ _ _ l. copied_lifted v w z (us ++ vs) (Err c.in-Err.full) (copied_after v w2 w z r2 (us ++ vs) (Err c.in-Err.full) (subst (λ (y : HeapSize). IsCopied w2 w y (us ++ vs) (Err c.in-Err.full)) same (c.in-Err.ensures.copied (omega arith) us vs hl hr)));
+      rope = λ _ _ _ l. linked_lifted v w z a b (us ++ vs) (Err c.in-Err.full) (linked_after v w2 w z r2 a b (us ++ vs) (Err c.in-Err.full) (subst (λ (y : HeapSize). IsLinked w2 w y a b (us ++ vs) (Err c.in-Err.full)) same (c.in-Err.ensures.linked (omega arith) us vs hl hr)));
     }
 
 pub returns-then-left-eq0-clause-units : goal.returns-then-left-eq0-clause-units
 returns-then-left-eq0-clause-units c us vs h k = let v : View = c.args.self.now.agent.seat.me.0 in let w1 : View = c.len-left.new.self.agent.seat.me.0 in let w2 : View = c.len-right.new.self.agent.seat.me.0 in let w : View = c.len-right.new.self.agent.seat.me.0 in
-    let known = known_trans v w1 w2 c.len-left.ensures.reads.known c.len-right.ensures.reads.known in joined_units v w (size_of c.args.self.now.heap.now) c.args.a c.args.b c.args.b us vs (returns-then-left-eq0-clause-joined c us vs h k) (known.units c.args.a.id us h) (known.units c.args.b.id vs k)
+    let known = known_trans v w1 w2 c.len-left.ensures.reads.known c.len-right.ensures.reads.known in joined_units v w (size_of c.args.self.now.heap.now) c.args.self.now.limit c.args.a c.args.b c.args.b us vs (returns-then-left-eq0-clause-joined c us vs h k) (known.units c.args.a.id us h) (known.units c.args.b.id vs k)
 
 pub returns-then-right-eq0-clause-units : goal.returns-then-right-eq0-clause-units
 returns-then-right-eq0-clause-units c us vs h k = let v : View = c.args.self.now.agent.seat.me.0 in let w1 : View = c.len-left.new.self.agent.seat.me.0 in let w2 : View = c.len-right.new.self.agent.seat.me.0 in let w : View = c.len-right.new.self.agent.seat.me.0 in
-    let known = known_trans v w1 w2 c.len-left.ensures.reads.known c.len-right.ensures.reads.known in joined_units v w (size_of c.args.self.now.heap.now) c.args.a c.args.b c.args.a us vs (returns-then-right-eq0-clause-joined c us vs h k) (known.units c.args.a.id us h) (known.units c.args.b.id vs k)
+    let known = known_trans v w1 w2 c.len-left.ensures.reads.known c.len-right.ensures.reads.known in joined_units v w (size_of c.args.self.now.heap.now) c.args.self.now.limit c.args.a c.args.b c.args.a us vs (returns-then-right-eq0-clause-joined c us vs h k) (known.units c.args.a.id us h) (known.units c.args.b.id vs k)
 
 pub returns-in-Ok-clause-units : goal.returns-in-Ok-clause-units
 returns-in-Ok-clause-units c us vs h k = let v : View = c.args.self.now.agent.seat.me.0 in let w1 : View = c.len-left.new.self.agent.seat.me.0 in let w2 : View = c.len-right.new.self.agent.seat.me.0 in let w : View = c.join.new.self.agent.seat.me.0 in let r2 = reads_trans v w1 w2 c.len-left.ensures.reads c.len-right.ensures.reads in
     let known = known_trans v w2 w r2.known c.join.ensures.continues.known in
-    joined_units v w (size_of c.args.self.now.heap.now) c.args.a c.args.b c.in-Ok.s us vs (returns-in-Ok-clause-joined c us vs h k) (known.units c.args.a.id us h) (known.units c.args.b.id vs k)
+    joined_units v w (size_of c.args.self.now.heap.now) c.args.self.now.limit c.args.a c.args.b c.in-Ok.s us vs (returns-in-Ok-clause-joined c us vs h k) (known.units c.args.a.id us h) (known.units c.args.b.id vs k)
 
-pub returns-then-left-right-gt-MAX_LENGTH-clause-continues :
-    goal.returns-then-left-right-gt-MAX_LENGTH-clause-continues
-returns-then-left-right-gt-MAX_LENGTH-clause-continues c = let v : View = c.args.self.now.agent.seat.me.0 in let w1 : View = c.len-left.new.self.agent.seat.me.0 in let w2 : View = c.len-right.new.self.agent.seat.me.0 in
+pub returns-then-left-right-clause-continues : goal.returns-then-left-right-clause-continues
+returns-then-left-right-clause-continues c = let v : View = c.args.self.now.agent.seat.me.0 in let w1 : View = c.len-left.new.self.agent.seat.me.0 in let w2 : View = c.len-right.new.self.agent.seat.me.0 in
     continues_reads v w2 (reads_trans v w1 w2 c.len-left.ensures.reads c.len-right.ensures.reads)
+
+pub returns-then-left-right-clause-joined : goal.returns-then-left-right-clause-joined
+returns-then-left-right-clause-joined c us vs h k =
+    let left = c.len-left.ensures.length us h in let right = c.len-right.ensures.length vs (c.len-left.ensures.reads.known.units c.args.b.id vs k) in
+    let over = c.if-left-right.true in let same_limit = c.len-right.ensures.limit ∙ c.len-left.ensures.limit in record {
+      long = λ _. (λ i. Err (TooLong (left i) (right i)), c.len-right.ensures.reads.used ∙ c.len-left.ensures.reads.used);
+      left_empty = λ l _. absurd (omega arith);
+      right_empty = λ l _ _. absurd (omega arith);
+      short = λ l _ _ _. absurd (omega arith);
+      rope = λ l _ _ _. absurd (omega arith);
+    }
+
+pub join-requires-clause-most : goal.join-requires-clause-most
+join-requires-clause-most c = let room = c.if-left-right.false in let most = c.args.self.now.within in let same_limit = c.len-right.ensures.limit ∙ c.len-left.ensures.limit in omega arith

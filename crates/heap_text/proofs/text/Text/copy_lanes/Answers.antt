@@ -21,6 +21,7 @@ pub loop-done-init : goal.loop-done-init
 loop-done-init c = let v : View = c.args.self.now.agent.seat.me.0 in let us : List ℕ = listed v c.args.source.now in record {
   text = c.requires.text;
   heap = refl;
+  limit = refl;
   writes = writes_refl v;
   forms = (refl, refl);
   shows = c.requires.shows;
@@ -69,6 +70,7 @@ loop-done-preserved c = let v : View = c.args.self.now.agent.seat.me.0 in let u 
     let next : IsFilled wide start (own_word u.own_words) (own_word w.own_words) o count (λ k. get_or us (done + k) 0) = placed_filled wide start (own_word u.own_words) (own_word w.own_words) o count x (λ k. get_or us (done + k) 0) room stored here in record {
       text = f.belongs;
       heap = e.heap ∙ i.heap;
+      limit = e.limit ∙ i.limit;
       writes = writes_trans v u w i.writes (writes_trans u p w (writes_reads u p e.reads) (subst (Writes p) (sym f.view) (writes_stored p (start + number) x)));
       forms = (ap (λ (y : View). y.forms) f.view ∙ (e.forms.0 ∙ i.forms.0), ap (λ (y : View). y.form_loads) f.view ∙ (e.forms.1 ∙ i.forms.1));
       shows = shows_kept p w c.args.source.now known (forms_held p w (ap (λ (y : View). y.forms) f.view)) e.shows;

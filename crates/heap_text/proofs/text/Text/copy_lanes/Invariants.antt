@@ -9,6 +9,7 @@ abbrev pub invariant-loop-done : goal.invariant-loop-done
 invariant-loop-done l = record {
   text : Belongs l.self.agent l.self.heap.now;
   heap : l.self.heap ≡ l.fn.self.heap;
+  limit : l.self.limit ≡ l.fn.self.limit;
   writes : Writes (view_of l.fn.self.agent) (view_of l.self.agent);
   forms : KeepsForms (view_of l.fn.self.agent) (view_of l.self.agent);
   shows : Shows (view_of l.self.agent) l.source;

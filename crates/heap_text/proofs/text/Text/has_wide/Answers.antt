@@ -11,6 +11,7 @@ returns-then-unit_or_zero-gt255 c = let v : View = c.args.self.now.agent.seat.me
     let is : c.unit_or_zero.result ≡ get_or us c.loop-i.i 0 = e.unit ∙ ap (λ (xs : List ℕ). get_or xs c.loop-i.i 0) i.same in let n = c.requires.count in let l = c.loop-i-test.true in let t = c.if-unit_or_zero-gt255.true in record {
       text = e.text;
       heap = e.heap ∙ i.heap;
+      limit = e.limit ∙ i.limit;
       reads = reads_trans v c.loop-i.self.agent.seat.me.0 c.unit_or_zero.new.self.agent.seat.me.0 i.reads e.reads;
       shows = e.shows;
       listed = e.listed ∙ i.same;
@@ -22,6 +23,7 @@ loop-i-preserved c = let v : View = c.args.self.now.agent.seat.me.0 in let us : 
     let is : c.unit_or_zero.result ≡ get_or us c.loop-i.i 0 = e.unit ∙ ap (λ (xs : List ℕ). get_or xs c.loop-i.i 0) i.same in let t = c.if-unit_or_zero-gt255.false in let here : get_or us c.loop-i.i 0 ≤ 255 = omega arith in record {
       text = e.text;
       heap = e.heap ∙ i.heap;
+      limit = e.limit ∙ i.limit;
       reads = reads_trans v c.loop-i.self.agent.seat.me.0 c.unit_or_zero.new.self.agent.seat.me.0 i.reads e.reads;
       shows = e.shows;
       holds = subst (λ (xs : List ℕ). Holds xs c.unit_or_zero.new.held) i.same e.holds;

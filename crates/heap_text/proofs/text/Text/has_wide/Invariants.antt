@@ -9,6 +9,7 @@ abbrev pub invariant-loop-i : goal.invariant-loop-i
 invariant-loop-i l = record {
   text : Belongs l.self.agent l.self.heap.now;
   heap : l.self.heap ≡ l.fn.self.heap;
+  limit : l.self.limit ≡ l.fn.self.limit;
   reads : Reads (view_of l.fn.self.agent) (view_of l.self.agent);
   shows : Shows (view_of l.self.agent) l.source;
   holds : Holds (listed (view_of l.fn.self.agent) l.source) l.held;

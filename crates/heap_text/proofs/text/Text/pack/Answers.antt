@@ -28,6 +28,7 @@ loop-k-preserved c = let k = c.loop-k.k in let wide = c.args.wide in let v : Vie
     let next : suc k ≡ k + 1 = omega arith in let before : suc o ≡ c.args.at * lane_count wide + (lane_count wide - k) = omega arith in let after : o ≡ c.args.at * lane_count wide + (lane_count wide - (k + 1)) = omega arith in record {
       text = e.text;
       heap = e.heap ∙ c.loop-k.invariant.heap;
+      limit = e.limit ∙ c.loop-k.invariant.limit;
       reads = reads_trans v c.loop-k.self.agent.seat.me.0 c.unit_or_zero-unit.new.self.agent.seat.me.0 c.loop-k.invariant.reads e.reads;
       shows = e.shows;
       holds = subst (λ (xs : List ℕ). Holds xs c.unit_or_zero-unit.new.held) c.loop-k.invariant.same e.holds;

@@ -29,6 +29,7 @@ loop-k-preserved c = let k = c.loop-k.k in let wide = c.args.wide in let v : Vie
     let next : suc k ≡ k + 1 = omega arith in let before : suc o ≡ c.args.first + (lane_count wide - k) = omega arith in let after : o ≡ c.args.first + (lane_count wide - (k + 1)) = omega arith in record {
       text = e.text;
       heap = e.heap ∙ i.heap;
+      limit = e.limit ∙ i.limit;
       reads = reads_trans v c.loop-k.self.agent.seat.me.0 c.unit_held-unit.new.self.agent.seat.me.0 i.reads e.reads;
       forms = (e.forms.0 ∙ i.forms.0, e.forms.1 ∙ i.forms.1);
       shows = e.shows;

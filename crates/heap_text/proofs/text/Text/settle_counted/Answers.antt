@@ -1,12 +1,13 @@
 use Rattle.std.proofs.Common.{◌≡◌, ℕ, Bool, List, inr, ap, subst}
+use Rattle.js_header.specs.declared.form.Form.TheVariants.{Cons}
 use Rattle.std.specs.Prelude.{IfErr}
 use Rattle.heap_rule.specs.declared.size.HeapSize.{HeapSize}
 use Rattle.heap_rule.specs.declared.view.View.{View}
 use Rattle.heap_rule.specs.Maps.{Has}
 use Rattle.heap_table.specs.Agents.{size_of}
-use Rattle.heap_text.specs.Settling.{IsFlattened, IsNoRoom, IsSettling}
+use Rattle.heap_text.specs.Settling.{IsBitOf, IsFlattened, IsNoRoom, IsSettling}
 use Rattle.heap_text.proofs.Going.{continues_reads, continues_trans}
-use Rattle.heap_text.proofs.Settled.{err_then, flattened_after, no_room_after, ok_then}
+use Rattle.heap_text.proofs.Settled.{err_then, flattened_after, no_room_after, ok_then, same_bit}
 use Rattle.heap_text.proofs.text.Text.settle_counted.Goals as goal
 
 pub returns-in-Cons-clause-continues : goal.returns-in-Cons-clause-continues
@@ -15,12 +16,14 @@ returns-in-Cons-clause-continues g c = let v : View = c.args.self.now.agent.seat
 
 pub returns-in-Cons-clause-used : goal.returns-in-Cons-clause-used
 returns-in-Cons-clause-used g c = let v : View = c.args.self.now.agent.seat.me.0 in let u : View = c.form_now-form.new.self.agent.seat.me.0 in let w : View = c.flatten.new.self.agent.seat.me.0 in let i = c.args.s.id in let wide = c.in-Cons.wide in let r = c.form_now-form.ensures.reads in
+    let bit : IsBitOf v i wide = λ seen l m k. same_bit seen wide l m c.in-Cons.left c.in-Cons.right c.form_now-form.result c.in-Cons.is (c.form_now-form.ensures.later (Cons seen l m) k) in
     ok_then c.flatten.result (λ _. (us : List ℕ) → Has u.units i us → IsFlattened u w i us wide) (λ _. (us : List ℕ) → Has v.units i us → IsSettling v w i us)
-    (λ _ h us k. inr (wide, flattened_after v u w r i us wide (h us (r.known.units i us k)))) c.flatten.ensures.flat
+    (λ _ h us k. inr (wide, bit, flattened_after v u w r i us wide (h us (r.known.units i us k)))) c.flatten.ensures.flat
 
 pub returns-in-Cons-clause-refused : goal.returns-in-Cons-clause-refused
 returns-in-Cons-clause-refused g c = let v : View = c.args.self.now.agent.seat.me.0 in let u : View = c.form_now-form.new.self.agent.seat.me.0 in let w : View = c.flatten.new.self.agent.seat.me.0 in let i = c.args.s.id in let wide = c.in-Cons.wide in let r = c.form_now-form.ensures.reads in
+    let bit : IsBitOf v i wide = λ seen l m k. same_bit seen wide l m c.in-Cons.left c.in-Cons.right c.form_now-form.result c.in-Cons.is (c.form_now-form.ensures.later (Cons seen l m) k) in
     let same : size_of c.form_now-form.new.self.heap.now ≡ size_of c.args.self.now.heap.now = ap (λ y. size_of y.now) c.form_now-form.ensures.heap in
-    subst (λ (z : HeapSize). IfErr c.flatten.result (λ f. (us : List ℕ) → Has v.units i us → (b : Bool) × IsNoRoom v w z us f b)) same
-    (err_then c.flatten.result (λ f. (us : List ℕ) → Has u.units i us → IsNoRoom u w (size_of c.form_now-form.new.self.heap.now) us f wide) (λ f. (us : List ℕ) → Has v.units i us → (b : Bool) × IsNoRoom v w (size_of c.form_now-form.new.self.heap.now) us f b)
-    (λ f h us k. (wide, no_room_after v u w r (size_of c.form_now-form.new.self.heap.now) us f wide (h us (r.known.units i us k)))) c.flatten.ensures.refused)
+    subst (λ (z : HeapSize). IfErr c.flatten.result (λ f. (us : List ℕ) → Has v.units i us → (b : Bool) × IsBitOf v i b × IsNoRoom v w z us f b)) same
+    (err_then c.flatten.result (λ f. (us : List ℕ) → Has u.units i us → IsNoRoom u w (size_of c.form_now-form.new.self.heap.now) us f wide) (λ f. (us : List ℕ) → Has v.units i us → (b : Bool) × IsBitOf v i b × IsNoRoom v w (size_of c.form_now-form.new.self.heap.now) us f b)
+    (λ f h us k. (wide, bit, no_room_after v u w r (size_of c.form_now-form.new.self.heap.now) us f wide (h us (r.known.units i us k)))) c.flatten.ensures.refused)

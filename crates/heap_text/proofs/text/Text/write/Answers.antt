@@ -19,6 +19,7 @@ loop-at-init c = let v : View = c.args.self.now.agent.seat.me.0 in let w : View 
     let known : KeepsKnown v w = subst (KeepsKnown v) (sym e.view) (known_words v start want) in record {
       text = e.belongs;
       heap = refl;
+      limit = refl;
       continues = continues_words v w start want e.view e.low;
       shows = shows_kept v w c.args.source.now known (forms_held v w (ap (λ (x : View). x.forms) e.view)) c.requires.shows;
       holds = c.none-held.ensures (listed v c.args.source.now);
@@ -39,6 +40,7 @@ loop-at-preserved c = let v : View = c.args.self.now.agent.seat.me.0 in let u : 
     let next : suc at ≡ at + 1 = omega arith in let is : IsWordOf c.args.wide us at word = subst (λ (xs : List ℕ). IsWordOf c.args.wide xs at word) i.same e.word in record {
       text = f.belongs;
       heap = e.heap ∙ i.heap;
+      limit = e.limit ∙ i.limit;
       continues = continues_trans v u w i.continues (continues_trans u p w (continues_reads u p e.reads) (subst (Continues p) (sym f.view) (continues_stored p (start + at) word)));
       shows = shows_kept p w c.args.source.now known (forms_held p w (ap (λ (x : View). x.forms) f.view)) e.shows;
       holds = subst (λ (xs : List ℕ). Holds xs c.pack-word.new.held) i.same e.holds;

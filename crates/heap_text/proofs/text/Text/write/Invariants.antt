@@ -10,6 +10,7 @@ abbrev pub invariant-loop-at : goal.invariant-loop-at
 invariant-loop-at l = record {
   text : Belongs l.self.agent l.self.heap.now;
   heap : l.self.heap ≡ l.fn.self.heap;
+  limit : l.self.limit ≡ l.fn.self.limit;
   continues : Continues (view_of l.fn.self.agent) (view_of l.self.agent);
   shows : Shows (view_of l.self.agent) l.source;
   holds : Holds (listed (view_of l.fn.self.agent) l.source) l.held;
