@@ -25,9 +25,8 @@ use Rattle.heap_rule.proofs.Possible.{possible_frozen, possible_lawful, possible
 use Rattle.heap_rule.proofs.UnitLemmas.{lane_word}
 use Rattle.heap_table.specs.Known.{KeepsKnown}
 use Rattle.heap_slots.specs.declared.sought.Sought.{Sought}
-use Rattle.heap_slots.specs.Answers.{IsFixed}
 use Rattle.heap_slots.specs.Goes.{Goes, KeepsForms}
-use Rattle.heap_slots.specs.Headers.{MayBeOver, header_words}
+use Rattle.heap_slots.specs.Headers.{IsFlat, MayBeOver}
 use Rattle.heap_slots.specs.Stretches.{AreFrozen, IsSought}
 use Rattle.heap_slots.proofs.Going.{known_trans}
 use Rattle.heap_slots.proofs.Possibly.{possible_unborn, possible_zeros}
@@ -83,9 +82,9 @@ module _ (v : View) (wide : Bool) (start n : ℕ) (us : List ℕ) (h : MayBeOver
       (λ k l. let l' : k < n = omega arith in let plain : 0 + k ≡ k = omega arith in
       span_lane (shown v) wide start 0 n k l' ∙ (ap (λ (o : ℕ). lane_in (shown v) wide start o) plain ∙ h.lanes k (lane_there wide n k l')))
 
-  pub header_fixed : (w : View) → w ≡ born ready id (Flat wide start true) → IsFixed w us id
-  header_fixed w e = let f = Flat wide start true in subst (λ (u : View). IsFixed u us id) (sym e) (
-    (wide, start, insert_same ready.forms id f),
+  pub header_fixed : (w : View) → w ≡ born ready id (Flat wide start true) → IsFlat w wide start us id
+  header_fixed w e = let f = Flat wide start true in subst (λ (u : View). IsFlat u wide start us id) (sym e) (
+    insert_same ready.forms id f,
     insert_same ready.units id (units_for ready (unwrap_or (get ready.own_ids id) 0) f)
         ∙ (ap (λ (o : Option ℕ). Some (span (shown v) wide start 0 (unwrap_or o 0))) (insert_same (won_claim v Ids id 1).own_ids id n) ∙ ap Some shown_span),
   )
@@ -169,10 +168,3 @@ no_part Unborn never h = h
 no_part (Flat wide start fixed) never h = h
 no_part (Cons wide left right) never h = h
 no_part (Thin t) never h = h
-
-pub no_words : (f : Form) (us : List ℕ) → (IsSliced f → ⊥) → header_words f us ≡ 0
-no_words (Sliced wide parent offset) us never = absurd (never tt)
-no_words Unborn us never = refl
-no_words (Flat wide start fixed) us never = refl
-no_words (Cons wide left right) us never = refl
-no_words (Thin t) us never = refl

@@ -17,6 +17,7 @@ use Rattle.heap_rule.specs.Views.{shown}
 use Rattle.heap_rule.proofs.MapLemmas.{has_key, insert_other, insert_same, key_of}
 use Rattle.heap_table.specs.Known.{KeepsKnown}
 use Rattle.heap_slots.specs.declared.sought.Sought.{Sought}
+use Rattle.heap_slots.specs.Answers.{HasSpared}
 use Rattle.heap_slots.specs.Goes.{Goes, KeepsForms, Looks}
 use Rattle.heap_slots.specs.Headers.{AreWords, IsWordOf, MayBeOver}
 use Rattle.heap_slots.specs.Stretches.{IsSought}
@@ -178,6 +179,13 @@ copies_next a v p w s wide start want at word c l f is inside e = let keep : (q 
 
 pub copies_all : (a v : View) (s : Sought) (wide : Bool) (start want at : ℕ) → Copies a v s wide start want at → at ≡ want → (us : List ℕ) → Has a.units s.id us → AreWords v wide start us want
 copies_all a v s wide start want at c e us u = subst (AreWords v wide start us) e (c.done us u)
+
+-- the words of a copy are own, for a later view that has the same own words too; and none are where none are wanted
+pub spared_as : (w x : View) (wide : Bool) (start : ℕ) (us : List ℕ) (n m : ℕ) → AreWords w wide start us n → x.own_words ≡ w.own_words → n ≡ m → HasSpared x m
+spared_as w x wide start us n m h own e = (start, λ q l. let t = h.each q (omega arith) in subst (λ (y : FinMap nat_cmp ℕ). HasKey y (start + q)) (sym own) (key_of w.own_words (start + q) t.0 t.1))
+
+pub spared_none : (w : View) (n : ℕ) → n ≡ 0 → HasSpared w n
+spared_none w n e = (0, λ q l. absurd (omega arith))
 
 -- the word and the lane of a unit
 word_of_lane : (wide : Bool) (n o : ℕ) → o < words_over wide n * lane_count wide → o / lane_count wide < words_over wide n

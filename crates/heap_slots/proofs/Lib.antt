@@ -5,6 +5,7 @@ pub mod Possibly
 pub mod Stretching
 pub mod Packing
 pub mod Reading
+pub mod Planning
 pub mod Bearing
 pub mod Copies
 pub mod Moving

@@ -7,10 +7,9 @@ use Rattle.std.specs.FinMap.{FinMap, get}
 use Rattle.std.specs.Ordering.{nat_cmp}
 use Rattle.js_units.specs.Lanes.{hash_of}
 use Rattle.js_header.specs.declared.form.Form.{Form}
-use Rattle.js_header.specs.declared.form.Form.TheVariants.{Unborn, Flat, Cons, Sliced, Thin}
+use Rattle.js_header.specs.declared.form.Form.TheVariants.{Flat}
 use Rattle.heap_rule.specs.declared.view.View.{View}
 use Rattle.heap_rule.specs.declared.size.HeapSize.{HeapSize}
-use Rattle.heap_rule.specs.Forms.{IsSliced}
 use Rattle.heap_rule.specs.Maps.{Has, HasKey}
 use Rattle.heap_rule.specs.Paths.{rank, place}
 use Rattle.heap_rule.specs.Slots.{IsShutAt, entered, entry_in, units_by}
@@ -25,9 +24,9 @@ use Rattle.heap_slots.specs.declared.faults.TableFull.TheVariants.{Ids, Words, S
 use Rattle.heap_slots.specs.declared.probing.Visit.{Visit}
 use Rattle.heap_slots.specs.declared.probing.Visit.TheVariants.{Answer, Next}
 use Rattle.heap_slots.specs.declared.sought.Sought.{Sought}
-use Rattle.heap_slots.specs.Answers.{AreHeaderWords, HasLeft, Interns, IsFixed, IsRefused}
+use Rattle.heap_slots.specs.Answers.{HasLeft, Interns, IsFixed, IsHeader, IsRefused, Plan}
 use Rattle.heap_slots.specs.Goes.{Goes, KeepsForms, Looks}
-use Rattle.heap_slots.specs.Headers.{IsNoHeader, header_words, ids_of, words_of}
+use Rattle.heap_slots.specs.Headers.{IsNoHeader, ids_of, words_of}
 use Rattle.heap_slots.specs.SlotLoads.{IsFirst}
 use Rattle.heap_slots.specs.Stretches.{AreFrozen, IsSought}
 use Rattle.heap_slots.specs.Visits.{IsAnswer, IsBehind, IsMade, IsNext, IsUnmade, Visited, Visits}
@@ -55,14 +54,18 @@ module _ (v w : View) (p : IsPossible v) (k : KeepsKnown v w) (us : List ℕ) wh
   pub fixed_kept : (i : ℕ) → IsFixed v us i → IsFixed w us i
   fixed_kept i h = ((h.0.0, h.0.1, k.flats i h.0.0 h.0.1 h.0.2), k.units i us h.1)
 
-  pub made_kept : (header : Option ℕ) → IsMade v us header → IsMade w us header
-  made_kept None h = tt
-  made_kept (Some i) h = fixed_kept i h
+  pub header_kept : (plan : Plan) (i : ℕ) → IsHeader v plan us i → IsHeader w plan us i
+  header_kept plan i h = ((h.0.0, h.0.1, k.flats i plan.wide h.0.0 h.0.2), k.units i us h.1)
+
+  pub made_kept : (plan : Plan) (header : Option ℕ) → IsMade v plan us header → IsMade w plan us header
+  made_kept plan None h = tt
+  made_kept plan (Some i) h = header_kept plan i h
 
 -- all that a list of units is told by: the same for a later view
-pub each_made : (v w : View) → IsPossible v → KeepsKnown v w → (id : ℕ) (header : Option ℕ) → HasKey v.units id → ((us : List ℕ) → Has v.units id us → IsMade v us header) → (us : List ℕ) → Has w.units id us → IsMade w us header
-each_made v w p k id header key h us u = let q = has_key v.units id key in let same : Some q.0 ≡ Some us = sym (k.units id q.0 q.1) ∙ u in let is : q.0 ≡ us = cc in
-    subst (λ (xs : List ℕ). IsMade w xs header) is (made_kept v w p k q.0 header (h q.0 q.1))
+pub each_made : (v w : View) → IsPossible v → KeepsKnown v w → (id : ℕ) (header : Option ℕ) (plan : List ℕ → Plan) → HasKey v.units id → ((us : List ℕ) → Has v.units id us → IsMade v (plan us) us header) → (us : List ℕ) → Has w.units id us
+    → IsMade w (plan us) us header
+each_made v w p k id header plan key h us u = let q = has_key v.units id key in let same : Some q.0 ≡ Some us = sym (k.units id q.0 q.1) ∙ u in let is : q.0 ≡ us = cc in
+    subst (λ (xs : List ℕ). IsMade w (plan xs) xs header) is (made_kept v w p k q.0 (plan q.0) header (h q.0 q.1))
 
 pub each_behind : (v w : View) → IsPossible v → KeepsKnown v w → w.sizes ≡ v.sizes → (id l : ℕ) → HasKey v.units id → ((us : List ℕ) → Has v.units id us → IsBehind v us l) → (us : List ℕ) → Has w.units id us → IsBehind w us l
 each_behind v w p k z id l key h us u = let q = has_key v.units id key in let same : Some q.0 ≡ Some us = sym (k.units id q.0 q.1) ∙ u in let is : q.0 ≡ us = cc in
@@ -73,45 +76,67 @@ pub entered_is : (v : View) (k i : ℕ) (us : List ℕ) → Has v.slots k i → 
 entered_is v k i us h u = ap (λ (o : Option ℕ). entered v k (units_by v o)) h ∙ (ap (λ (o : Option (List ℕ)). entered v k o) u ∙ ap (λ (o : Option ℕ). v.mine ++ (us, unwrap_or o 0) ∷ []) h)
 
 -- a step before a visit, which used the ids and the words of a header that wasn't there before
-module _ (a v w : View) (us : List ℕ) (words k : ℕ) (g : Goes a v []) (forms : KeepsForms a v) where
-  pub answer_after : (header made : Option ℕ) (i : ℕ) → v.used.ids + ids_of header ≡ a.used.ids + ids_of made → v.used.words + words_of words header ≡ a.used.words + words_of words made → IsAnswer v w us words k made i → IsAnswer a w us words k header i
-  answer_after header made i e d h = let u = h.used in let x = h.used_words in
-      record { goes = goes_trans a v w [] ((us, i) ∷ []) g h.goes; forms = forms_trans a v w forms h.forms; used = omega arith; used_words = omega arith; fixed = h.fixed; stands = h.stands }
+module _ (a v w : View) (us : List ℕ) (plan : Plan) (k : ℕ) (g : Goes a v []) (forms : KeepsForms a v) where
+  pub answer_after : (header made : Option ℕ) (i : ℕ) → v.used.ids + ids_of header ≡ a.used.ids + ids_of made → v.used.words + words_of plan.words header ≡ a.used.words + words_of plan.words made → IsAnswer v w us plan k made i → IsAnswer a w us plan k header i
+  answer_after header made i e d h = let u = h.used in let x = h.used_words in record {
+    goes = goes_trans a v w [] ((us, i) ∷ []) g h.goes;
+    forms = forms_trans a v w forms h.forms;
+    made = h.made;
+    used = omega arith;
+    used_words = omega arith;
+    made_is = h.made_is;
+    fixed = h.fixed;
+    stands = h.stands;
+  }
 
-  pub next_after : (header made next : Option ℕ) → v.used.ids + ids_of header ≡ a.used.ids + ids_of made → v.used.words + words_of words header ≡ a.used.words + words_of words made → IsNext v w us words k made next → IsNext a w us words k header next
+  pub next_after : (header made next : Option ℕ) → v.used.ids + ids_of header ≡ a.used.ids + ids_of made → v.used.words + words_of plan.words header ≡ a.used.words + words_of plan.words made → IsNext v w us plan k made next → IsNext a w us plan k header next
   next_after header made next e d h = let u = h.used in let x = h.used_words in
       record { goes = goes_trans a v w [] [] g h.goes; forms = forms_trans a v w forms h.forms; used = omega arith; used_words = omega arith; shut = h.shut; made_is = h.made_is }
 
-  pub visited_after : (header made : Option ℕ) (r : Visit) → v.used.ids + ids_of header ≡ a.used.ids + ids_of made → v.used.words + words_of words header ≡ a.used.words + words_of words made → Visited v w us words k made r → Visited a w us words k header r
+  pub visited_after : (header made : Option ℕ) (r : Visit) → v.used.ids + ids_of header ≡ a.used.ids + ids_of made → v.used.words + words_of plan.words header ≡ a.used.words + words_of plan.words made → Visited v w us plan k made r → Visited a w us plan k header r
   visited_after header made (Answer i) e d h = answer_after header made i e d h
   visited_after header made (Next next) e d h = next_after header made next e d h
 
 told_after : (a v w : View) (words : ℕ) (f : TableFull) → v.used.ids ≡ a.used.ids → v.used.words ≡ a.used.words → IsNoHeader v w words f → IsNoHeader a w words f
-told_after a v w words (Ids f) e d h = (h.0, h.1, h.2 ∙ e, h.3 ∙ ap (λ (n : ℕ). n + words) d)
+told_after a v w words (Ids f) e d h = (h.0, h.1, h.2 ∙ e, h.3 ∙ ap (λ (n : ℕ). n + words) d, h.4)
 told_after a v w words (Words f) e d h = (h.0, h.1, h.2 ∙ e, h.3 ∙ d)
 told_after a v w words (Slots n) e d h = h
 
-pub visits_after : (a v w : View) (us : List ℕ) (words k : ℕ) (header : Option ℕ) (r : Result Visit TableFull) → Looks a v → KeepsForms a v → Visits v w us words k header r → Visits a w us words k header r
-visits_after a v w us words k header (Ok r) l forms h = visited_after a v w us words k l.goes forms header header r (ap (λ (n : ℕ). n + ids_of header) l.used) (ap (λ (n : ℕ). n + words_of words header) l.words) h
-visits_after a v w us words k header (Err f) l forms h =
-    record { goes = goes_trans a v w [] [] l.goes h.goes; forms = forms_trans a v w forms h.forms; none = h.none; told = told_after a v w words f l.used l.words h.told; free = h.free }
+pub visits_after : (a v w : View) (us : List ℕ) (plan : Plan) (k : ℕ) (header : Option ℕ) (r : Result Visit TableFull) → Looks a v → KeepsForms a v → Visits v w us plan k header r → Visits a w us plan k header r
+visits_after a v w us plan k header (Ok r) l forms h = visited_after a v w us plan k l.goes forms header header r (ap (λ (n : ℕ). n + ids_of header) l.used) (ap (λ (n : ℕ). n + words_of plan.words header) l.words) h
+visits_after a v w us plan k header (Err f) l forms h =
+    record { goes = goes_trans a v w [] [] l.goes h.goes; forms = forms_trans a v w forms h.forms; none = h.none; told = told_after a v w plan.words f l.used l.words h.told; free = h.free }
+
+-- at most one id goes for a header
+ids_most : (header : Option ℕ) → ids_of header ≤ 1
+ids_most None = omega arith
+ids_most (Some i) = omega arith
+
+words_most : (words : ℕ) (header : Option ℕ) → words_of words header ≤ words
+words_most words None = omega arith
+words_most words (Some i) = omega arith
+
+-- what was used went for the header that was made, if any
+left_by : (a w : View) (us : List ℕ) (plan : Plan) (made : Option ℕ) → w.used.ids ≡ a.used.ids + ids_of made → w.used.words ≡ a.used.words + words_of plan.words made → IsMade w plan us made → HasLeft a w us plan
+left_by a w us plan None u x m = inl (omega arith, omega arith)
+left_by a w us plan (Some i) u x m = inr (i, u, x, m)
 
 -- the walk: behind r slots that differ, with what was made so far
-pub record Probing (a v : View) (s : Sought) (us : List ℕ) (words r : ℕ) (header : Option ℕ) : Type 0 where
+pub record Probing (a v : View) (s : Sought) (us : List ℕ) (plan : Plan) (r : ℕ) (header : Option ℕ) : Type 0 where
   pub goes : Goes a v []
   pub forms : KeepsForms a v
   pub used : v.used.ids ≡ a.used.ids + ids_of header
-  pub used_words : v.used.words ≡ a.used.words + words_of words header
+  pub used_words : v.used.words ≡ a.used.words + words_of plan.words header
   pub lies : IsSought v s
   pub frozen : s.offset ≡ 0 → AreFrozen v s.wide s.start s.len
   pub units : Has v.units s.id us
   pub passed : (j : ℕ) → j < a.sizes.slots → rank us a.sizes.slots j < r → IsShutAt v us j
-  pub made : IsMade v us header
+  pub made : IsMade v plan us header
 
-pub probing_none : (a : View) (s : Sought) (us : List ℕ) (words : ℕ) → IsSought a s → (s.offset ≡ 0 → AreFrozen a s.wide s.start s.len) → Has a.units s.id us → Probing a a s us words 0 None
-probing_none a s us words l f u = record { goes = goes_self a; forms = forms_self a; used = omega arith; used_words = omega arith; lies = l; frozen = f; units = u; passed = ranks_none (IsShutAt a us) us a.sizes.slots; made = tt }
+pub probing_none : (a : View) (s : Sought) (us : List ℕ) (plan : Plan) → IsSought a s → (s.offset ≡ 0 → AreFrozen a s.wide s.start s.len) → Has a.units s.id us → Probing a a s us plan 0 None
+probing_none a s us plan l f u = record { goes = goes_self a; forms = forms_self a; used = omega arith; used_words = omega arith; lies = l; frozen = f; units = u; passed = ranks_none (IsShutAt a us) us a.sizes.slots; made = tt }
 
-module _ (a v : View) (s : Sought) (us : List ℕ) (words r : ℕ) (header : Option ℕ) (p : Probing a v s us words r header) (n h : ℕ) (slots : n ≡ a.sizes.slots) (hash : h ≡ hash_of us) where
+module _ (a v : View) (s : Sought) (us : List ℕ) (plan : Plan) (r : ℕ) (header : Option ℕ) (p : Probing a v s us plan r header) (n h : ℕ) (slots : n ≡ a.sizes.slots) (hash : h ≡ hash_of us) where
   -- the slot that the code visits
   at_place : (P : ℕ → Type 0) → P (place us a.sizes.slots r) → P ((h % n + r) % n)
   at_place P x = subst (λ (m : ℕ). P ((h % m + r) % m)) (sym slots) (subst (λ (y : ℕ). P ((y % a.sizes.slots + r) % a.sizes.slots)) (sym hash) x)
@@ -139,7 +164,7 @@ module _ (a v : View) (s : Sought) (us : List ℕ) (words r : ℕ) (header : Opt
   next_behind l = at_place (IsBehind v us) (subst (λ (z : HeapSize). (j : ℕ) → j < z.slots → rank us z.slots j < rank us z.slots (place us a.sizes.slots r) → IsShutAt v us j) (sym p.goes.sizes)
       (ranks_before (IsShutAt v us) us a.sizes.slots r (subst (λ (m : ℕ). r < m) slots l) p.passed))
 
-  pub next_probing : (w : View) (made : Option ℕ) → IsPossible v → IsNext v w us words ((h % n + r) % n) header made → Probing a w s us words (r + 1) made
+  pub next_probing : (w : View) (made : Option ℕ) → IsPossible v → IsNext v w us plan ((h % n + r) % n) header made → Probing a w s us plan (r + 1) made
   next_probing w made possible g = let u = g.used in let u' = p.used in let x = g.used_words in let x' = p.used_words in let k = g.goes.known in record {
     goes = goes_trans a v w [] [] p.goes g.goes;
     forms = forms_trans a v w p.forms g.forms;
@@ -152,29 +177,27 @@ module _ (a v : View) (s : Sought) (us : List ℕ) (words r : ℕ) (header : Opt
     made = g.made_is;
   }
 
-  pub probed_to : (w : View) (k i : ℕ) → IsAnswer v w us words k header i → Interns a w us words (Ok i)
-  probed_to w k i g = let u = g.used in let u' = p.used in let x = g.used_words in let x' = p.used_words in (goes_trans a v w [] ((us, i) ∷ []) p.goes g.goes, omega arith, omega arith, g.fixed, (k, g.stands))
+  pub probed_to : (w : View) (k i : ℕ) → IsAnswer v w us plan k header i → Interns a w us plan (Ok i)
+  probed_to w k i g = let u = g.used in let u' = p.used in let x = g.used_words in let x' = p.used_words in
+      let ids : w.used.ids ≡ a.used.ids + ids_of g.made = omega arith in let words : w.used.words ≡ a.used.words + words_of plan.words g.made = omega arith in let one = ids_most g.made in let most = words_most plan.words g.made in
+      (goes_trans a v w [] ((us, i) ∷ []) p.goes g.goes, omega arith, omega arith, g.fixed, (k, g.stands), left_by a w us plan g.made ids words g.made_is)
 
-  free_slot : (w : View) (f : TableFull) → r < n → IsUnmade v w words ((h % n + r) % n) header f → (k : ℕ) × (k < w.sizes.slots) × (get w.slots k ≡ None)
+  free_slot : (w : View) (f : TableFull) → r < n → IsUnmade v w plan.words ((h % n + r) % n) header f → (k : ℕ) × (k < w.sizes.slots) × (get w.slots k ≡ None)
   free_slot w f l g = let go = goes_trans a v w [] [] p.goes g.goes in ((h % n + r) % n, subst (λ (z : HeapSize). (h % n + r) % n < z.slots) (sym go.sizes) (next_inside l), g.free)
 
-  refused_by : (w : View) (f : TableFull) → r < n → IsUnmade v w words ((h % n + r) % n) header f → IsNoHeader v w words f → IsRefused a w us words f
-  refused_by w (Ids f) l g t = let none : ids_of header ≡ 0 = ap ids_of g.none in let none' : words_of words header ≡ 0 = ap (words_of words) g.none in let u' = p.used in let x' = p.used_words in let t2 = t.2 in let t3 = t.3 in
-      (omega arith, omega arith, t.0, t.1, free_slot w (Ids f) l g)
-  refused_by w (Words f) l g t = let none : ids_of header ≡ 0 = ap ids_of g.none in let none' : words_of words header ≡ 0 = ap (words_of words) g.none in let u' = p.used in let x' = p.used_words in let t2 = t.2 in let t3 = t.3 in
+  refused_by : (w : View) (f : TableFull) → r < n → IsUnmade v w plan.words ((h % n + r) % n) header f → IsNoHeader v w plan.words f → IsRefused a w us plan f
+  refused_by w (Ids f) l g t = let none : ids_of header ≡ 0 = ap ids_of g.none in let none' : words_of plan.words header ≡ 0 = ap (words_of plan.words) g.none in let u' = p.used in let x' = p.used_words in let t2 = t.2 in let t3 = t.3 in
+      (omega arith, omega arith, t.0, t.1, free_slot w (Ids f) l g, t.4)
+  refused_by w (Words f) l g t = let none : ids_of header ≡ 0 = ap ids_of g.none in let none' : words_of plan.words header ≡ 0 = ap (words_of plan.words) g.none in let u' = p.used in let x' = p.used_words in let t2 = t.2 in let t3 = t.3 in
       (omega arith, omega arith, t.0, t.1, free_slot w (Words f) l g)
   refused_by w (Slots m) l g t = absurd t
 
-  pub probed_unmade : (w : View) (f : TableFull) → r < n → IsUnmade v w words ((h % n + r) % n) header f → Interns a w us words (Err f)
+  pub probed_unmade : (w : View) (f : TableFull) → r < n → IsUnmade v w plan.words ((h % n + r) % n) header f → Interns a w us plan (Err f)
   probed_unmade w f l g = (goes_trans a v w [] [] p.goes g.goes, refused_by w f l g g.told)
 
-  pub probed_all : r ≡ n → Interns a v us words (Err (Slots n))
+  pub probed_all : r ≡ n → Interns a v us plan (Err (Slots n))
   probed_all e = let all : (j : ℕ) → j < a.sizes.slots → IsShutAt v us j = ranks_all (IsShutAt v us) us a.sizes.slots (subst (λ (m : ℕ). (j : ℕ) → j < a.sizes.slots → rank us a.sizes.slots j < m → IsShutAt v us j) (e ∙ slots) p.passed) in
-      (p.goes, (slots ∙ ap (λ (z : HeapSize). z.slots) (sym p.goes.sizes), (shut_exactly v us v.sizes.slots).1 (subst (λ (z : HeapSize). (j : ℕ) → j < z.slots → IsShutAt v us j) (sym p.goes.sizes) all), left_by header p.used p.used_words p.made))
-    where
-      left_by : (header : Option ℕ) → v.used.ids ≡ a.used.ids + ids_of header → v.used.words ≡ a.used.words + words_of words header → IsMade v us header → HasLeft a v us words
-      left_by None u x m = inl (omega arith, omega arith)
-      left_by (Some i) u x m = inr (i, u, x, m)
+      (p.goes, (slots ∙ ap (λ (z : HeapSize). z.slots) (sym p.goes.sizes), (shut_exactly v us v.sizes.slots).1 (subst (λ (z : HeapSize). (j : ℕ) → j < z.slots → IsShutAt v us j) (sym p.goes.sizes) all), left_by a v us plan header p.used p.used_words p.made))
 
 -- a slot that is found free was not known to be used
 pub none_there : (m : FinMap nat_cmp ℕ) (k x : ℕ) → x ≡ 0 → ((i : ℕ) → Has m k i → x ≡ i + 1) → get m k ≡ None
@@ -184,47 +207,39 @@ none_there m k x e again = none_by (get m k) (λ i h. let t = again i h in omega
     none_by None never = refl
     none_by (Some i) never = absurd (never i refl)
 
-pub each_fixed : (v w : View) → KeepsKnown v w → (id i : ℕ) → HasKey v.units id → ((us : List ℕ) → Has v.units id us → IsFixed w us i) → (us : List ℕ) → Has w.units id us → IsMade w us (Some i)
-each_fixed v w k id i key h us u = let q = has_key v.units id key in let same : Some q.0 ≡ Some us = sym (k.units id q.0 q.1) ∙ u in let is : q.0 ≡ us = cc in subst (λ (xs : List ℕ). IsFixed w xs i) is (h q.0 q.1)
+pub each_header : (v w : View) → KeepsKnown v w → (id i : ℕ) (plan : List ℕ → Plan) → HasKey v.units id → ((us : List ℕ) → Has v.units id us → IsHeader w (plan us) us i) → (us : List ℕ) → Has w.units id us → IsMade w (plan us) us (Some i)
+each_header v w k id i plan key h us u = let q = has_key v.units id key in let same : Some q.0 ≡ Some us = sym (k.units id q.0 q.1) ∙ u in let is : q.0 ≡ us = cc in subst (λ (xs : List ℕ). IsHeader w (plan xs) xs i) is (h q.0 q.1)
 
 -- what was seen of the first slot stays known
 pub first_kept : (v w : View) (us : List ℕ) → KeepsKnown v w → w.sizes ≡ v.sizes → IsFirst v us → IsFirst w us
 first_kept v w us k z f = (f.0, subst (λ (y : HeapSize). Has w.slots (place us y.slots 0) f.0) (sym z) (k.slots _ f.0 f.1), k.units f.0 us f.2)
-
--- at most one id goes for a header
-pub ids_most : (header : Option ℕ) → ids_of header ≤ 1
-ids_most None = omega arith
-ids_most (Some i) = omega arith
-
-pub words_most : (words : ℕ) (header : Option ℕ) → words_of words header ≤ words
-words_most words None = omega arith
-words_most words (Some i) = omega arith
 
 -- what holds of the units that are known of a string
 pub only_units : (m : FinMap nat_cmp (List ℕ)) (id : ℕ) (us ws : List ℕ) (P : List ℕ → Type 0) → Has m id ws → Has m id us → P ws → P us
 only_units m id us ws P h g p = let same : Some ws ≡ Some us = sym h ∙ g in let is : ws ≡ us = cc in subst P is p
 
 -- loads before it, and loads after it
-refused_after : (a v w : View) (us : List ℕ) (words : ℕ) (f : TableFull) → v.used.ids ≡ a.used.ids → v.used.words ≡ a.used.words → IsRefused v w us words f → IsRefused a w us words f
-refused_after a v w us words (Ids f) e d h = (h.0 ∙ e, h.1 ∙ ap (λ (n : ℕ). n + words) d, h.2, h.3, h.4)
-refused_after a v w us words (Words f) e d h = (h.0 ∙ e, h.1 ∙ d, h.2, h.3, h.4)
-refused_after a v w us words (Slots n) e d h = (h.0, h.1, ⊎_elim (λ t. inl (t.0 ∙ e, t.1 ∙ d)) (λ t. inr (t.0, t.1 ∙ ap (λ (x : ℕ). x + 1) e, t.2 ∙ ap (λ (x : ℕ). x + words) d, t.3)) h.2)
+left_after : (a v w : View) (us : List ℕ) (plan : Plan) → v.used.ids ≡ a.used.ids → v.used.words ≡ a.used.words → HasLeft v w us plan → HasLeft a w us plan
+left_after a v w us plan e d h = ⊎_elim (λ t. inl (t.0 ∙ e, t.1 ∙ d)) (λ t. inr (t.0, t.1 ∙ ap (λ (x : ℕ). x + 1) e, t.2 ∙ ap (λ (x : ℕ). x + plan.words) d, t.3)) h
 
-pub interns_after : (a v w : View) (us : List ℕ) (words : ℕ) (r : Result ℕ TableFull) → Looks a v → Interns v w us words r → Interns a w us words r
-interns_after a v w us words (Ok i) l h = let u = h.1 in let x = h.2 in let e = l.used in let d = l.words in (goes_trans a v w [] ((us, i) ∷ []) l.goes h.0, omega arith, omega arith, h.3, h.4)
-interns_after a v w us words (Err f) l h = (goes_trans a v w [] [] l.goes h.0, refused_after a v w us words f l.used l.words h.1)
+refused_after : (a v w : View) (us : List ℕ) (plan : Plan) (f : TableFull) → v.used.ids ≡ a.used.ids → v.used.words ≡ a.used.words → IsRefused v w us plan f → IsRefused a w us plan f
+refused_after a v w us plan (Ids f) e d h = (h.0 ∙ e, h.1 ∙ ap (λ (n : ℕ). n + plan.words) d, h.2, h.3, h.4, h.5)
+refused_after a v w us plan (Words f) e d h = (h.0 ∙ e, h.1 ∙ d, h.2, h.3, h.4)
+refused_after a v w us plan (Slots n) e d h = (h.0, h.1, left_after a v w us plan e d h.2)
 
-pub interned_then : (v w x : View) (us : List ℕ) (words i : ℕ) → Interns v w us words (Ok i) → Looks w x → Interns v x us words (Ok i)
-interned_then v w x us words i h l = let u = h.1 in let m = h.2 in let e = l.used in let d = l.words in let f = h.3 in let k = l.goes.known in
-    (goes_trans v w x ((us, i) ∷ []) [] h.0 l.goes, omega arith, omega arith, fixed_later f, (h.4.0, k.slots h.4.0 i h.4.1))
+pub interns_after : (a v w : View) (us : List ℕ) (plan : Plan) (r : Result ℕ TableFull) → Looks a v → Interns v w us plan r → Interns a w us plan r
+interns_after a v w us plan (Ok i) l h = let u = h.1 in let x = h.2 in let e = l.used in let d = l.words in (goes_trans a v w [] ((us, i) ∷ []) l.goes h.0, omega arith, omega arith, h.3, h.4, left_after a v w us plan e d h.5)
+interns_after a v w us plan (Err f) l h = (goes_trans a v w [] [] l.goes h.0, refused_after a v w us plan f l.used l.words h.1)
+
+left_then : (v w x : View) (us : List ℕ) (plan : Plan) → Looks w x → HasLeft v w us plan → HasLeft v x us plan
+left_then v w x us plan l h = ⊎_elim (λ t. inl (l.used ∙ t.0, l.words ∙ t.1)) (λ t. inr (t.0, l.used ∙ t.1, l.words ∙ t.2, later t.0 t.3)) h
+  where
+    later : (i : ℕ) → IsHeader w plan us i → IsHeader x plan us i
+    later i f = ((f.0.0, f.0.1, l.goes.known.flats i plan.wide f.0.0 f.0.2), l.goes.known.units i us f.1)
+
+pub interned_then : (v w x : View) (us : List ℕ) (plan : Plan) (i : ℕ) → Interns v w us plan (Ok i) → Looks w x → Interns v x us plan (Ok i)
+interned_then v w x us plan i h l = let u = h.1 in let m = h.2 in let e = l.used in let d = l.words in let f = h.3 in let k = l.goes.known in
+    (goes_trans v w x ((us, i) ∷ []) [] h.0 l.goes, omega arith, omega arith, fixed_later f, (h.4.0, k.slots h.4.0 i h.4.1), left_then v w x us plan l h.5)
   where
     fixed_later : IsFixed w us i → IsFixed x us i
     fixed_later f = ((f.0.0, f.0.1, l.goes.known.flats i f.0.0 f.0.1 f.0.2), l.goes.known.units i us f.1)
-
--- the words that a header takes, as the caller sees them
-pub header_words_are : (v : View) (id : ℕ) (f : Form) (us : List ℕ) → ((wide : Bool) (start : ℕ) (fixed : Bool) → Has v.forms id (Flat wide start fixed) → IsSliced f → ⊥) → AreHeaderWords v id us (header_words f us)
-header_words_are v id (Sliced wide parent offset) us never = inr (refl, λ x y z h. never x y z h tt)
-header_words_are v id Unborn us never = inl refl
-header_words_are v id (Flat wide start fixed) us never = inl refl
-header_words_are v id (Cons wide left right) us never = inl refl
-header_words_are v id (Thin t) us never = inl refl

@@ -1,8 +1,8 @@
 -- A header for the units of a string, as the crate's own functions see it. No public contract cites these.
-use Rattle.std.specs.Prelude.{◌≡◌, ℕ, ◌+◌, ◌*◌, ◌<◌, ◌≤◌, ◌^◌, ◌⊎◌, Bool, List, length, slice_index, Option, Some, None}
+use Rattle.std.specs.Prelude.{◌≡◌, ℕ, zero, suc, ◌+◌, ◌*◌, ◌<◌, ◌≤◌, ◌^◌, ◌⊎◌, Bool, true, List, length, slice_index, Option, Some, None}
 use Rattle.js_units.specs.Lanes.{lane_count, lane_of, words_over}
 use Rattle.js_header.specs.declared.form.Form.{Form}
-use Rattle.js_header.specs.declared.form.Form.TheVariants.{Sliced}
+use Rattle.js_header.specs.declared.form.Form.TheVariants.{Flat, Sliced}
 use Rattle.heap_rule.specs.declared.view.View.{View}
 use Rattle.heap_rule.specs.Contents.{lane_in}
 use Rattle.heap_rule.specs.Layout.{MAX}
@@ -11,12 +11,33 @@ use Rattle.heap_rule.specs.Views.{shown}
 use Rattle.heap_table.specs.Full.{IsFull}
 use Rattle.heap_slots.specs.declared.faults.TableFull.{TableFull}
 use Rattle.heap_slots.specs.declared.faults.TableFull.TheVariants.{Ids, Words, Slots}
-use Rattle.heap_slots.specs.Answers.{copy_words}
+use Rattle.heap_slots.specs.declared.sought.Sought.{Sought}
+use Rattle.heap_slots.specs.Answers.{HasSpared, Plan, copy_words, is_wide}
 
--- the content words that a header takes: those of a copy for a part of a string, else none
-abbrev pub header_words : Form → List ℕ → ℕ
-header_words (Sliced wide parent offset) us = copy_words us
-header_words _ us = 0
+-- a header over a copy of the units
+abbrev pub copy_plan : List ℕ → Plan
+copy_plan us = record { words = copy_words us; wide = is_wide us; start = None }
+
+-- where n units begin that lie from a word on, if there are any
+abbrev pub begins : ℕ → ℕ → Option ℕ
+begins zero start = None
+begins (suc n) start = Some start
+
+-- a header over the words of the string
+abbrev pub plain_plan : Sought → Plan
+plain_plan s = record { words = 0; wide = s.wide; start = begins s.len s.start }
+
+-- the plan of the header for a string: a copy for a part of another, by the form that was loaded
+abbrev pub plan_by : Form → Sought → List ℕ → Plan
+plan_by (Sliced wide parent offset) s us = copy_plan us
+plan_by _ s us = plain_plan s
+
+abbrev pub header_plan : Sought → List ℕ → Plan
+header_plan s us = plan_by s.form s us
+
+-- a fixed Flat with these units, from this word on
+abbrev pub IsFlat : View → Bool → ℕ → List ℕ → ℕ → Type 0
+IsFlat v wide start us i = Has v.forms i (Flat wide start true) × Has v.units i us
 
 -- A Flat of n units over the words from `start` on would have the units: the words are own or frozen, and show the units, and 0 past them.
 pub record MayBeOver (v : View) (wide : Bool) (start n : ℕ) (us : List ℕ) : Type 0 where
@@ -35,9 +56,9 @@ IsWordOf wide us q word = (k : ℕ) → k < lane_count wide → lane_of wide wor
 pub record AreWords (v : View) (wide : Bool) (start : ℕ) (us : List ℕ) (done : ℕ) : Type 0 where
   pub each : (q : ℕ) → q < done → (x : ℕ) × Has v.own_words (start + q) x × IsWordOf wide us q x
 
--- why no header was made: no id is left, after the words were claimed; or there are no words
+-- why no header was made: no id is left, after the words were claimed, which stay the agent's own; or there are no words
 abbrev pub IsNoHeader : View → View → ℕ → TableFull → Type 0
-IsNoHeader v w words (Ids f) = IsFull f 1 w.sizes.ids × (w.low.ids ≡ f.at) × (w.used.ids ≡ v.used.ids) × (w.used.words ≡ v.used.words + words)
+IsNoHeader v w words (Ids f) = IsFull f 1 w.sizes.ids × (w.low.ids ≡ f.at) × (w.used.ids ≡ v.used.ids) × (w.used.words ≡ v.used.words + words) × HasSpared w words
 IsNoHeader v w words (Words f) = IsFull f words w.sizes.words × (w.low.words ≡ f.at) × (w.used.ids ≡ v.used.ids) × (w.used.words ≡ v.used.words)
 IsNoHeader v w words (Slots n) = ⊥
 

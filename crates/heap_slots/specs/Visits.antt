@@ -8,7 +8,7 @@ use Rattle.heap_rule.specs.Slots.{IsShutAt}
 use Rattle.heap_slots.specs.declared.faults.TableFull.{TableFull}
 use Rattle.heap_slots.specs.declared.probing.Visit.{Visit}
 use Rattle.heap_slots.specs.declared.probing.Visit.TheVariants.{Answer, Next}
-use Rattle.heap_slots.specs.Answers.{IsFixed}
+use Rattle.heap_slots.specs.Answers.{IsFixed, IsHeader, Plan}
 use Rattle.heap_slots.specs.Counting.{count_below}
 use Rattle.heap_slots.specs.Goes.{Goes, KeepsForms, Looks}
 use Rattle.heap_slots.specs.Headers.{IsNoHeader, ids_of, words_of}
@@ -18,26 +18,28 @@ use Rattle.heap_slots.specs.SlotLoads.{counted_on, loads_at}
 abbrev pub IsBehind : View → List ℕ → ℕ → Type 0
 IsBehind v us k = (j : ℕ) → j < v.sizes.slots → rank us v.sizes.slots j < rank us v.sizes.slots k → IsShutAt v us j
 
-abbrev pub IsMade : View → List ℕ → Option ℕ → Type 0
-IsMade v us header = IfSome header (IsFixed v us)
+abbrev pub IsMade : View → Plan → List ℕ → Option ℕ → Type 0
+IsMade v plan us header = IfSome header (IsHeader v plan us)
 
--- An answer to a call that had a header, or none, when it came to slot k. A header takes so many words.
-pub record IsAnswer (v w : View) (us : List ℕ) (words k : ℕ) (header : Option ℕ) (i : ℕ) : Type 0 where
+-- An answer to a call that had a header, or none, when it came to slot k; and the header that it had or made, if any.
+pub record IsAnswer (v w : View) (us : List ℕ) (plan : Plan) (k : ℕ) (header : Option ℕ) (i : ℕ) : Type 0 where
   pub goes : Goes v w ((us, i) ∷ [])
   pub forms : KeepsForms v w
-  pub used : w.used.ids + ids_of header ≤ v.used.ids + 1
-  pub used_words : w.used.words + words_of words header ≤ v.used.words + words
+  pub made : Option ℕ
+  pub used : w.used.ids + ids_of header ≡ v.used.ids + ids_of made
+  pub used_words : w.used.words + words_of plan.words header ≡ v.used.words + words_of plan.words made
+  pub made_is : IsMade w plan us made
   pub fixed : IsFixed w us i
   pub stands : Has w.slots k i
 
 -- the slot was found used by a string that differs, and the header is the one for the next slot
-pub record IsNext (v w : View) (us : List ℕ) (words k : ℕ) (header made : Option ℕ) : Type 0 where
+pub record IsNext (v w : View) (us : List ℕ) (plan : Plan) (k : ℕ) (header made : Option ℕ) : Type 0 where
   pub goes : Goes v w []
   pub forms : KeepsForms v w
   pub used : w.used.ids + ids_of header ≡ v.used.ids + ids_of made
-  pub used_words : w.used.words + words_of words header ≡ v.used.words + words_of words made
+  pub used_words : w.used.words + words_of plan.words header ≡ v.used.words + words_of plan.words made
   pub shut : IsShutAt w us k
-  pub made_is : IsMade w us made
+  pub made_is : IsMade w plan us made
 
 -- the slot was found free, and no header could be made
 pub record IsUnmade (v w : View) (words k : ℕ) (header : Option ℕ) (f : TableFull) : Type 0 where
@@ -47,9 +49,9 @@ pub record IsUnmade (v w : View) (words k : ℕ) (header : Option ℕ) (f : Tabl
   pub told : IsNoHeader v w words f
   pub free : get w.slots k ≡ None
 
-abbrev pub Visited : View → View → List ℕ → ℕ → ℕ → Option ℕ → Visit → Type 0
-Visited v w us words k header (Answer i) = IsAnswer v w us words k header i
-Visited v w us words k header (Next made) = IsNext v w us words k header made
+abbrev pub Visited : View → View → List ℕ → Plan → ℕ → Option ℕ → Visit → Type 0
+Visited v w us plan k header (Answer i) = IsAnswer v w us plan k header i
+Visited v w us plan k header (Next made) = IsNext v w us plan k header made
 
 -- slot k was loaded at most so often between two views, and no other slot was; a count went on by these loads.
 pub record LoadsOne (v w : View) (k most before after : ℕ) : Type 0 where
@@ -68,9 +70,9 @@ abbrev pub entries_in : Result Visit TableFull → ℕ
 entries_in (Ok visit) = entries visit
 entries_in (Err f) = 0
 
-abbrev pub Visits : View → View → List ℕ → ℕ → ℕ → Option ℕ → Result Visit TableFull → Type 0
-Visits v w us words k header (Ok visit) = Visited v w us words k header visit
-Visits v w us words k header (Err f) = IsUnmade v w words k header f
+abbrev pub Visits : View → View → List ℕ → Plan → ℕ → Option ℕ → Result Visit TableFull → Type 0
+Visits v w us plan k header (Ok visit) = Visited v w us plan k header visit
+Visits v w us plan k header (Err f) = IsUnmade v w plan.words k header f
 
 -- of the slots below r so many are used, each by a string of the agent's own calls
 pub record Counted (a v : View) (r count : ℕ) : Type 0 where

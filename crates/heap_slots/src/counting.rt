@@ -1,9 +1,10 @@
 // How many strings are interned.
 ghost use Rattle.std.specs.Prelude.{◌≡◌, ℕ, ◌+◌, ◌≤◌, ◌<◌, ◌^◌};
+ghost use Rattle.std.specs.FinMap.{contains_key};
 ghost use Rattle.heap_rule.specs.declared.view.View.{View};
 ghost use Rattle.heap_rule.specs.Views.{history};
 ghost use Rattle.heap_table.specs.Agents.{Belongs, view_of, size_of};
-ghost use Rattle.heap_slots.specs.Counting.{different};
+ghost use Rattle.heap_slots.specs.Counting.{count_below, different};
 ghost use Rattle.heap_slots.specs.Goes.{Looks};
 ghost use Rattle.heap_slots.specs.Visits.{Counted};
 
@@ -33,6 +34,7 @@ pub fn count_interned(agent: &mut Agent, heap: &Heap) -> u32
     ensures belongs { Belongs agent.new heap.now }
     ensures looks { Looks (view_of agent.old) (view_of agent.new) }
     ensures count { result ≡ different (history (view_of agent.old)) }
+    ensures used { result ≡ count_below (λ k. contains_key (view_of agent.new).slots k) (size_of heap.now).slots }
 {
     let n = heap.size().slots;
     let mut count = 0;

@@ -6,9 +6,9 @@ ghost use Rattle.heap_rule.specs.declared.view.View.{View};
 ghost use Rattle.heap_rule.specs.Maps.{Has, HasKey};
 ghost use Rattle.heap_table.specs.Agents.{Belongs, view_of};
 ghost use Rattle.heap_table.specs.Full.{IsFull};
-ghost use Rattle.heap_slots.specs.Answers.{IsFixed, copy_words};
+ghost use Rattle.heap_slots.specs.Answers.{IsHeader, copy_words};
 ghost use Rattle.heap_slots.specs.Goes.{Goes, KeepsForms};
-ghost use Rattle.heap_slots.specs.Headers.{IsNoHeader, MayBeOver, header_words};
+ghost use Rattle.heap_slots.specs.Headers.{IsFlat, IsNoHeader, MayBeOver, copy_plan, header_plan};
 ghost use Rattle.heap_slots.specs.Stretches.{AreFrozen, IsSought};
 
 use crate::copying::copy_units;
@@ -33,9 +33,9 @@ fn bear(
     ensures slots { (view_of agent.new).slots ≡ (view_of agent.old).slots }
     ensures loads { (view_of agent.new).slot_loads ≡ (view_of agent.old).slot_loads }
     ensures words { (view_of agent.new).used.words ≡ (view_of agent.old).used.words }
-    ensures ok { IfOk result (λ i. (us : List ℕ) → MayBeOver (view_of agent.old) wide start len us → IsFixed (view_of agent.new) us i) }
+    ensures ok { IfOk result (λ i. (us : List ℕ) → MayBeOver (view_of agent.old) wide start len us → IsFlat (view_of agent.new) wide start us i) }
     ensures used { IfOk result (λ i. (view_of agent.new).used.ids ≡ (view_of agent.old).used.ids + 1) }
-    ensures err { IfErr result (λ f. IsFull f 1 (view_of agent.new).sizes.ids × ((view_of agent.new).low.ids ≡ f.at) × ((view_of agent.new).used.ids ≡ (view_of agent.old).used.ids)) }
+    ensures err { IfErr result (λ f. IsFull f 1 (view_of agent.new).sizes.ids × ((view_of agent.new).low.ids ≡ f.at) × ((view_of agent.new).used.ids ≡ (view_of agent.old).used.ids) × ((view_of agent.new).own_words ≡ (view_of agent.old).own_words)) }
 {
     let id = match agent.claim_id(heap) {
         Ok(id) => id,
@@ -62,7 +62,7 @@ fn copied_header(agent: &mut Agent, heap: &Heap, s: Sought) -> Result<u32, Table
     ensures forms { KeepsForms (view_of agent.old) (view_of agent.new) }
     ensures slots { (view_of agent.new).slots ≡ (view_of agent.old).slots }
     ensures loads { (view_of agent.new).slot_loads ≡ (view_of agent.old).slot_loads }
-    ensures ok { IfOk result (λ i. (us : List ℕ) → Has (view_of agent.old).units s.id us → IsFixed (view_of agent.new) us i × ((view_of agent.new).used.words ≡ (view_of agent.old).used.words + copy_words us)) }
+    ensures ok { IfOk result (λ i. (us : List ℕ) → Has (view_of agent.old).units s.id us → IsHeader (view_of agent.new) (copy_plan us) us i × ((view_of agent.new).used.words ≡ (view_of agent.old).used.words + copy_words us)) }
     ensures used { IfOk result (λ i. (view_of agent.new).used.ids ≡ (view_of agent.old).used.ids + 1) }
     ensures err { IfErr result (λ f. (us : List ℕ) → Has (view_of agent.old).units s.id us → IsNoHeader (view_of agent.old) (view_of agent.new) (copy_words us) f) }
 {
@@ -88,9 +88,9 @@ pub(crate) fn make_header(agent: &mut Agent, heap: &Heap, s: Sought) -> Result<u
     ensures forms { KeepsForms (view_of agent.old) (view_of agent.new) }
     ensures slots { (view_of agent.new).slots ≡ (view_of agent.old).slots }
     ensures loads { (view_of agent.new).slot_loads ≡ (view_of agent.old).slot_loads }
-    ensures ok { IfOk result (λ i. (us : List ℕ) → Has (view_of agent.old).units s.id us → IsFixed (view_of agent.new) us i × ((view_of agent.new).used.words ≡ (view_of agent.old).used.words + header_words s.form us)) }
+    ensures ok { IfOk result (λ i. (us : List ℕ) → Has (view_of agent.old).units s.id us → IsHeader (view_of agent.new) (header_plan s us) us i × ((view_of agent.new).used.words ≡ (view_of agent.old).used.words + (header_plan s us).words)) }
     ensures used { IfOk result (λ i. (view_of agent.new).used.ids ≡ (view_of agent.old).used.ids + 1) }
-    ensures err { IfErr result (λ f. (us : List ℕ) → Has (view_of agent.old).units s.id us → IsNoHeader (view_of agent.old) (view_of agent.new) (header_words s.form us) f) }
+    ensures err { IfErr result (λ f. (us : List ℕ) → Has (view_of agent.old).units s.id us → IsNoHeader (view_of agent.old) (view_of agent.new) (header_plan s us).words f) }
 {
     if let Form::Sliced { .. } = s.form {
         return copied_header(agent, heap, s);

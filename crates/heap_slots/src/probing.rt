@@ -5,11 +5,11 @@ ghost use Rattle.js_units.specs.Lanes.{hash_of};
 ghost use Rattle.heap_rule.specs.Maps.{Has, HasKey};
 ghost use Rattle.heap_rule.specs.Views.{IsKnown, IsSettled};
 ghost use Rattle.heap_table.specs.Agents.{Belongs, view_of, size_of};
-ghost use Rattle.heap_slots.specs.Answers.{AreHeaderWords, Interns, IsForwarded};
+ghost use Rattle.heap_slots.specs.Answers.{Interns, IsForwarded, IsPlan, Plan};
 ghost use Rattle.heap_slots.specs.Goes.{KeepsForms};
 ghost use Rattle.heap_slots.specs.SlotLoads.{IsFirst, LoadsSlots, answered, loads_at};
 ghost use Rattle.heap_slots.specs.Stretches.{AreFrozen, IsSought};
-ghost use Rattle.heap_slots.specs.Headers.{header_words};
+ghost use Rattle.heap_slots.specs.Headers.{header_plan};
 ghost use Rattle.heap_slots.specs.Visits.{IsBehind, IsMade, LoadsOne, Visited, Visits, entries, entries_in};
 
 use crate::faults::TableFull;
@@ -44,9 +44,9 @@ fn visit_used<L: Ledger>(
     requires known { HasKey (view_of agent.old).units s.id }
     requires inside { k < (size_of heap.now).slots }
     requires used { Has (view_of agent.old).slots k t × IsKnown (view_of agent.old) t }
-    requires header { (us : List ℕ) → Has (view_of agent.old).units s.id us → IsMade (view_of agent.old) us header }
+    requires header { (us : List ℕ) → Has (view_of agent.old).units s.id us → IsMade (view_of agent.old) (header_plan s us) us header }
     ensures belongs { Belongs agent.new heap.now }
-    ensures visited { (us : List ℕ) → Has (view_of agent.old).units s.id us → Visited (view_of agent.old) (view_of agent.new) us (header_words s.form us) k header result }
+    ensures visited { (us : List ℕ) → Has (view_of agent.old).units s.id us → Visited (view_of agent.old) (view_of agent.new) us (header_plan s us) k header result }
     ensures loads { LoadsOne (view_of agent.old) (view_of agent.new) k (entries result) steps.old steps.new }
     ensures count { steps.new ≡ steps.old + entries result }
 {
@@ -72,9 +72,9 @@ fn put<L: Ledger>(
     requires known { HasKey (view_of agent.old).units s.id }
     requires inside { k < (size_of heap.now).slots }
     requires behind { (us : List ℕ) → Has (view_of agent.old).units s.id us → IsBehind (view_of agent.old) us k }
-    requires header { (us : List ℕ) → Has (view_of agent.old).units s.id us → IsMade (view_of agent.old) us (Some id) }
+    requires header { (us : List ℕ) → Has (view_of agent.old).units s.id us → IsMade (view_of agent.old) (header_plan s us) us (Some id) }
     ensures belongs { Belongs agent.new heap.now }
-    ensures visited { (us : List ℕ) → Has (view_of agent.old).units s.id us → Visited (view_of agent.old) (view_of agent.new) us (header_words s.form us) k (Some id) result }
+    ensures visited { (us : List ℕ) → Has (view_of agent.old).units s.id us → Visited (view_of agent.old) (view_of agent.new) us (header_plan s us) k (Some id) result }
     ensures loads { LoadsOne (view_of agent.old) (view_of agent.new) k (entries result) steps.old steps.new }
 {
     match agent.claim_slot(heap, k, id) {
@@ -102,9 +102,9 @@ fn take<L: Ledger>(
     requires inside { k < (size_of heap.now).slots }
     requires free { get (view_of agent.old).slots k ≡ None }
     requires behind { (us : List ℕ) → Has (view_of agent.old).units s.id us → IsBehind (view_of agent.old) us k }
-    requires header { (us : List ℕ) → Has (view_of agent.old).units s.id us → IsMade (view_of agent.old) us header }
+    requires header { (us : List ℕ) → Has (view_of agent.old).units s.id us → IsMade (view_of agent.old) (header_plan s us) us header }
     ensures belongs { Belongs agent.new heap.now }
-    ensures visits { (us : List ℕ) → Has (view_of agent.old).units s.id us → Visits (view_of agent.old) (view_of agent.new) us (header_words s.form us) k header result }
+    ensures visits { (us : List ℕ) → Has (view_of agent.old).units s.id us → Visits (view_of agent.old) (view_of agent.new) us (header_plan s us) k header result }
     ensures loads { LoadsOne (view_of agent.old) (view_of agent.new) k (entries_in result) steps.old steps.new }
 {
     if let Some(id) = header {
@@ -132,9 +132,9 @@ fn visit_slot<L: Ledger>(
     requires frozen { s.offset ≡ 0 → AreFrozen (view_of agent.old) s.wide s.start s.len }
     requires inside { k < (size_of heap.now).slots }
     requires behind { (us : List ℕ) → Has (view_of agent.old).units s.id us → IsBehind (view_of agent.old) us k }
-    requires header { (us : List ℕ) → Has (view_of agent.old).units s.id us → IsMade (view_of agent.old) us header }
+    requires header { (us : List ℕ) → Has (view_of agent.old).units s.id us → IsMade (view_of agent.old) (header_plan s us) us header }
     ensures belongs { Belongs agent.new heap.now }
-    ensures visits { (us : List ℕ) → Has (view_of agent.old).units s.id us → Visits (view_of agent.old) (view_of agent.new) us (header_words s.form us) k header result }
+    ensures visits { (us : List ℕ) → Has (view_of agent.old).units s.id us → Visits (view_of agent.old) (view_of agent.new) us (header_plan s us) k header result }
     ensures loads { LoadsOne (view_of agent.old) (view_of agent.new) k (entries_in result + 1) steps.old steps.new }
     ensures again { HasKey (view_of agent.old).slots k → steps.new ≡ steps.old + (entries_in result + 1) }
 {
@@ -160,7 +160,7 @@ fn probe<L: Ledger>(
     requires hash { (us : List ℕ) → Has (view_of agent.old).units s.id us → hash ≡ hash_of us }
     ensures belongs { Belongs agent.new heap.now }
     ensures forms { KeepsForms (view_of agent.old) (view_of agent.new) }
-    ensures interns { (us : List ℕ) → Has (view_of agent.old).units s.id us → Interns (view_of agent.old) (view_of agent.new) us (header_words s.form us) result }
+    ensures interns { (us : List ℕ) → Has (view_of agent.old).units s.id us → Interns (view_of agent.old) (view_of agent.new) us (header_plan s us) result }
     ensures loads { LoadsSlots (view_of agent.old) (view_of agent.new) (answered result) steps.old steps.new }
     ensures first { (us : List ℕ) → Has (view_of agent.old).units s.id us → IsFirst (view_of agent.old) us → steps.new ≡ steps.old + 2 }
 {
@@ -195,7 +195,7 @@ pub fn intern_counted<L: Ledger>(
     requires known { HasKey (view_of agent.old).units id }
     requires settled { IsSettled (view_of agent.old) id }
     ensures belongs { Belongs agent.new heap.now }
-    ensures interns { (us : List ℕ) → Has (view_of agent.old).units id us → (words : ℕ) × AreHeaderWords (view_of agent.old) id us words × Interns (view_of agent.old) (view_of agent.new) us words result }
+    ensures interns { (us : List ℕ) → Has (view_of agent.old).units id us → (plan : Plan) × IsPlan (view_of agent.old) (view_of agent.new) id us plan × Interns (view_of agent.old) (view_of agent.new) us plan result }
     ensures forwards { IfOk result (λ i. IsForwarded (view_of agent.new) id i) }
     ensures loads { LoadsSlots (view_of agent.old) (view_of agent.new) (answered result) steps.old steps.new }
     ensures first { (us : List ℕ) → Has (view_of agent.old).units id us → IsFirst (view_of agent.old) us → steps.new ≡ steps.old + 2 }
@@ -226,7 +226,7 @@ fn intern_by<L: Ledger>(
     requires known { HasKey (view_of agent.old).units id }
     requires settled { IsSettled (view_of agent.old) id }
     ensures belongs { Belongs agent.new heap.now }
-    ensures interns { (us : List ℕ) → Has (view_of agent.old).units id us → (words : ℕ) × AreHeaderWords (view_of agent.old) id us words × Interns (view_of agent.old) (view_of agent.new) us words result }
+    ensures interns { (us : List ℕ) → Has (view_of agent.old).units id us → (plan : Plan) × IsPlan (view_of agent.old) (view_of agent.new) id us plan × Interns (view_of agent.old) (view_of agent.new) us plan result }
     ensures forwards { IfOk result (λ i. IsForwarded (view_of agent.new) id i) }
     ensures few { (k : ℕ) → loads_at (view_of agent.new) k ≤ loads_at (view_of agent.old) k + 2 }
 {
@@ -236,15 +236,16 @@ fn intern_by<L: Ledger>(
 
 /// The interned string of the units of `id`, by its number: of all strings with these units the
 /// one that stands in the table. Where none stands there yet, a fixed Flat is put there, which takes
-/// one id: over the words of `id`, or over a copy of its units where `id` is a part of another
-/// string. No slot is loaded more than twice. The header of `id` then forwards to the answer, unless
-/// it is a fixed Flat, which stays for good.
+/// one id: over the words of `id`, and as wide as these; or, where `id` is a part of another string,
+/// over a copy of its units, which is wide exactly where one is over 255. No slot is loaded more
+/// than twice. The header of `id` then forwards to the answer, unless it is a fixed Flat, which
+/// stays for good.
 pub fn intern(agent: &mut Agent, heap: &Heap, id: u32) -> Result<u32, TableFull>
     requires belongs { Belongs agent.old heap.now }
     requires known { HasKey (view_of agent.old).units id }
     requires settled { IsSettled (view_of agent.old) id }
     ensures belongs { Belongs agent.new heap.now }
-    ensures interns { (us : List ℕ) → Has (view_of agent.old).units id us → (words : ℕ) × AreHeaderWords (view_of agent.old) id us words × Interns (view_of agent.old) (view_of agent.new) us words result }
+    ensures interns { (us : List ℕ) → Has (view_of agent.old).units id us → (plan : Plan) × IsPlan (view_of agent.old) (view_of agent.new) id us plan × Interns (view_of agent.old) (view_of agent.new) us plan result }
     ensures forwards { IfOk result (λ i. IsForwarded (view_of agent.new) id i) }
     ensures few { (k : ℕ) → loads_at (view_of agent.new) k ≤ loads_at (view_of agent.old) k + 2 }
 {

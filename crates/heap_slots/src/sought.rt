@@ -5,12 +5,11 @@ ghost use Rattle.std.specs.Bool.{MatchBool};
 ghost use Rattle.js_units.specs.Lanes.{hash_of, lane_count, words_over};
 ghost use Rattle.js_header.specs.Form.{IsInRange};
 ghost use Rattle.js_header.specs.declared.form.Form.TheVariants.{Flat, Sliced};
-ghost use Rattle.heap_rule.specs.Forms.{IsSliced};
 ghost use Rattle.heap_rule.specs.Maps.{Has, HasKey};
 ghost use Rattle.heap_rule.specs.Slots.{Differs};
 ghost use Rattle.heap_rule.specs.Views.{IsKnown, IsSettled};
 ghost use Rattle.heap_table.specs.Agents.{Belongs, view_of};
-ghost use Rattle.heap_slots.specs.Answers.{is_wide};
+ghost use Rattle.heap_slots.specs.Answers.{IsFound, is_wide};
 ghost use Rattle.heap_slots.specs.Goes.{KeepsForms, Looks};
 ghost use Rattle.heap_slots.specs.Stretches.{AreFrozen, HasLane, HasWords, IsLearned, IsSought, LiesIn};
 
@@ -60,7 +59,7 @@ pub(crate) fn seek(agent: &mut Agent, heap: &Heap, id: u32) -> Sought
     ensures id { result.id ≡ id }
     ensures lies { IsSought (view_of agent.new) result }
     ensures range { IsInRange result.form }
-    ensures flat { (wide : Bool) (start : ℕ) (fixed : Bool) → Has (view_of agent.old).forms id (Flat wide start fixed) → ¬ IsSliced result.form }
+    ensures found { IsFound (view_of agent.old) id result.form }
 {
     let form = agent.load_form(heap, id);
     match form {

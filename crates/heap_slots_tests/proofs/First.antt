@@ -1,5 +1,5 @@
 -- A string in the only slot stands in the first one of its path.
-use Rattle.std.proofs.Common.{◌≡◌, ◌<◌, ℕ, List, subst, arith}
+use Rattle.std.proofs.Common.{◌≡◌, ℕ, List, subst, arith}
 use Rattle.heap_rule.specs.declared.view.View.{View}
 use Rattle.heap_rule.specs.Maps.{Has}
 use Rattle.heap_rule.specs.Paths.{place}

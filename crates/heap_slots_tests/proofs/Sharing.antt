@@ -9,7 +9,7 @@ use Rattle.heap_table.specs.Agents.{Belongs, view_of}
 use Rattle.heap_table.specs.Known.{KeepsKnown}
 use Rattle.heap_text.specs.Texts.{Continues}
 use Rattle.heap_slots.specs.declared.faults.TableFull.{TableFull}
-use Rattle.heap_slots.specs.Answers.{Interns}
+use Rattle.heap_slots.specs.Answers.{Interns, Plan}
 use Rattle.heap_slots.specs.Goes.{Goes}
 use Rattle.heap_slots_tests.specs.Turns.{GoesOn, KnowsOn, Turns}
 
@@ -24,9 +24,9 @@ turns_goes v u w calls c g = record {
   mine = g.mine ∙ ap (λ (m : Calls). m ++ calls) c.mine;
 }
 
-pub turns_interned : (v u w : View) (us : List ℕ) (words : ℕ) (r : Result ℕ TableFull) → Continues v u → Interns u w us words r → Turns v w
-turns_interned v u w us words (Ok i) c h = turns_goes v u w ((us, i) ∷ []) c h.0
-turns_interned v u w us words (Err f) c h = turns_goes v u w [] c h.0
+pub turns_interned : (v u w : View) (us : List ℕ) (plan : Plan) (r : Result ℕ TableFull) → Continues v u → Interns u w us plan r → Turns v w
+turns_interned v u w us plan (Ok i) c h = turns_goes v u w ((us, i) ∷ []) c h.0
+turns_interned v u w us plan (Err f) c h = turns_goes v u w [] c h.0
 
 -- who had the whole share has it still
 pub still_whole : (v w : View) → Turns v w → v.share ≡ v.agents → w.share ≡ w.agents
@@ -63,9 +63,9 @@ module _ (v l r a b : View) (give : ℕ) (left : l ≡ left_after_split v give) 
       let q : b.share ≡ give = tb.share ∙ ap (λ (x : View). x.share) right in omega arith
 
 -- interning keeps what is known
-pub interns_known : (v w : View) (us : List ℕ) (words : ℕ) (r : Result ℕ TableFull) → Interns v w us words r → KeepsKnown v w
-interns_known v w us words (Ok i) h = h.0.known
-interns_known v w us words (Err f) h = h.0.known
+pub interns_known : (v w : View) (us : List ℕ) (plan : Plan) (r : Result ℕ TableFull) → Interns v w us plan r → KeepsKnown v w
+interns_known v w us plan (Ok i) h = h.0.known
+interns_known v w us plan (Err f) h = h.0.known
 
 pub knows_on : (v : View) (a : Agent) (h : Heap) → Belongs a h → KeepsKnown v (view_of a) → KnowsOn v a h
 unfolding KnowsOn

@@ -2,7 +2,7 @@
 ghost use Rattle.std.specs.Prelude.{◌≡◌, ℕ, ◌+◌, ◌*◌, ◌≤◌, ◌<◌, IfSome, length};
 ghost use Rattle.heap_table.specs.Agents.{Belongs, size_of, view_of};
 
-use heap_rule::HeapSize;
+use heap_rule::{HeapSize, MAX};
 use heap_slots::{TableFull, intern, intern_counted};
 use heap_steps::Steps;
 use heap_table::Heap;
@@ -69,7 +69,7 @@ fn on_slots<L: Ledger>(
     let Ok((heap, agent)) = Heap::make(alloc, size, 1) else {
         return None;
     };
-    let mut text = Text::new(&heap, agent);
+    let mut text = Text::new(&heap, agent, MAX);
     let mut steps = Steps::<L>::start(blank);
     Some(answers(&mut text, first, second, &mut steps))
 }
@@ -143,7 +143,7 @@ fn found_on<L: Ledger>(alloc: Global, units: &[u16], blank: Blank) -> Option<(u3
     let Ok((heap, agent)) = Heap::make(alloc, size, 1) else {
         return None;
     };
-    let mut text = Text::new(&heap, agent);
+    let mut text = Text::new(&heap, agent, MAX);
     let mut steps = Steps::<L>::start(blank);
     found_again(&mut text, units, &mut steps)
 }

@@ -6,7 +6,8 @@ ghost use Rattle.heap_table.specs.Agents.{Belongs, share_of, view_of};
 ghost use Rattle.heap_table.specs.Known.{KeepsKnown};
 ghost use Rattle.heap_slots_tests.specs.Turns.{KnowsOn};
 
-use heap_rule::HeapSize;
+use crate::slots::wide;
+use heap_rule::{HeapSize, MAX};
 use heap_slots::{TableFull, intern};
 use heap_table::{Agent, Heap};
 use heap_text::{JsStr, Text};
@@ -69,7 +70,7 @@ fn of_new(alloc: Global, units: &[u16]) -> Option<(u32, u64, u64, Option<u64>)>
     let Ok((heap, agent)) = Heap::make(alloc, size, 1) else {
         return None;
     };
-    let mut text = Text::new(&heap, agent);
+    let mut text = Text::new(&heap, agent, MAX);
     let Ok(s) = text.make_flat(units) else {
         return None;
     };
@@ -83,22 +84,45 @@ fn a_flat_string_forwards(rt: HostRuntime) {
     assert!(rt; of_new(rt.alloc(), &[97, 98, 99]) == want);
     let want = Some((1, 36, 17, None));
     assert!(rt; of_new(rt.alloc(), &[]) == want, "the empty string");
+    let want = Some((1, 36, 25, Some(0x0062_3042)));
+    assert!(rt; of_new(rt.alloc(), &[0x3042, 98]) == want, "two-byte lanes");
+}
+
+// The same of `abcd` in two-byte lanes.
+fn of_wide(alloc: Global) -> Option<(u32, u64, u64, Option<u64>)> {
+    let size = HeapSize {
+        ids: 2,
+        words: 1,
+        slots: 1,
+    };
+    let Ok((heap, agent)) = Heap::make(alloc, size, 1) else {
+        return None;
+    };
+    let mut text = Text::new(&heap, agent, MAX);
+    let id = wide(&mut text.agent, &heap, 0x0064_0063_0062_0061)?;
+    after(&mut text, JsStr { id })
+}
+
+// The header has the words of the string, so it is wide as the string is: 25 and not 17.
+#[test]
+fn a_header_is_as_wide_as_its_words(rt: HostRuntime) {
+    assert!(rt; of_wide(rt.alloc()) == Some((1, 36, 25, Some(0x0064_0063_0062_0061))));
 }
 
 // The same of the part from unit 2 up to unit 17 of a string of 18 units.
-fn of_part(alloc: Global) -> Option<(u32, u64, u64, Option<u64>)> {
+fn of_part(alloc: Global, first: u16, third: u16) -> Option<(u32, u64, u64, Option<u64>)> {
     let size = HeapSize {
         ids: 4,
-        words: 8,
+        words: 9,
         slots: 2,
     };
     let units = [
-        97, 98, 99, 100, 101, 102, 103, 104, 105, 106, 107, 108, 109, 110, 111, 112, 113, 114,
+        first, 98, third, 100, 101, 102, 103, 104, 105, 106, 107, 108, 109, 110, 111, 112, 113, 114,
     ];
     let Ok((heap, agent)) = Heap::make(alloc, size, 1) else {
         return None;
     };
-    let mut text = Text::new(&heap, agent);
+    let mut text = Text::new(&heap, agent, MAX);
     let Ok(whole) = text.make_flat(&units) else {
         return None;
     };
@@ -112,7 +136,21 @@ fn of_part(alloc: Global) -> Option<(u32, u64, u64, Option<u64>)> {
 // first three words are those of the whole string. Its first word has the units `cdefghij`.
 #[test]
 fn a_part_forwards_to_a_copy(rt: HostRuntime) {
-    assert!(rt; of_part(rt.alloc()) == Some((2, 68, 113, Some(0x6a69_6867_6665_6463))));
+    let want = Some((2, 68, 113, Some(0x6a69_6867_6665_6463)));
+    assert!(rt; of_part(rt.alloc(), 97, 99) == want);
+}
+
+// The copy is wide where a unit of the part is over 255, and not where one of the whole is. The
+// whole string has five words then, so the copy begins at word 5: 177 is narrow, and 185 wide.
+#[test]
+fn a_copy_is_as_wide_as_its_units(rt: HostRuntime) {
+    let want = Some((2, 68, 177, Some(0x6a69_6867_6665_6463)));
+    assert!(rt;
+        of_part(rt.alloc(), 256, 99) == want,
+        "a wide string, a narrow part"
+    );
+    let want = Some((2, 68, 185, Some(0x0066_0065_0064_3042)));
+    assert!(rt; of_part(rt.alloc(), 97, 0x3042) == want, "a wide part");
 }
 
 // A string that is interned twice, and its form word then.
@@ -137,7 +175,7 @@ fn twice_on(alloc: Global) -> Option<(Result<u32, TableFull>, Result<u32, TableF
     let Ok((heap, agent)) = Heap::make(alloc, size, 1) else {
         return None;
     };
-    let mut text = Text::new(&heap, agent);
+    let mut text = Text::new(&heap, agent, MAX);
     let Ok(s) = text.make_flat(&[97]) else {
         return None;
     };
@@ -211,7 +249,7 @@ fn agree(rt: &impl Threads, alloc: Global) -> bool {
     let Ok((heap, agent)) = Heap::make(alloc, size, 2) else {
         return false;
     };
-    let mut text = Text::new(&heap, agent);
+    let mut text = Text::new(&heap, agent, MAX);
     let Ok(s) = text.make_flat(&[107, 101, 121]) else {
         return false;
     };

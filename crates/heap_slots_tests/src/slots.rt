@@ -5,7 +5,7 @@ ghost use Rattle.heap_rule.specs.Views.{IsSettled};
 ghost use Rattle.heap_table.specs.Agents.{Belongs, share_of, view_of};
 ghost use Rattle.heap_slots_tests.specs.Turns.{GoesOn, Turns};
 
-use heap_rule::HeapSize;
+use heap_rule::{HeapSize, MAX};
 use heap_slots::{TableFull, count_interned, intern};
 use heap_table::{Agent, CounterFull, Heap};
 use heap_text::Text;
@@ -59,7 +59,7 @@ fn row(
     let Ok((heap, agent)) = Heap::make(alloc, size, 1) else {
         return None;
     };
-    let mut text = Text::new(&heap, agent);
+    let mut text = Text::new(&heap, agent, MAX);
     Some(answers(&mut text, first, second))
 }
 
@@ -152,7 +152,7 @@ fn long_strings(rt: HostRuntime) -> Result<(), Fail> {
 }
 
 // A string of four units in two-byte lanes, whatever its units are: they fill one word.
-fn wide(agent: &mut Agent, heap: &Heap, word: u64) -> Option<u32>
+pub(crate) fn wide(agent: &mut Agent, heap: &Heap, word: u64) -> Option<u32>
     requires belongs { Belongs agent.old heap.now }
     ensures belongs { Belongs agent.new heap.now }
     ensures known { IfSome result (λ i. HasKey (view_of agent.new).units i) }
@@ -182,7 +182,7 @@ fn in_both_widths(
     let Ok((heap, agent)) = Heap::make(alloc, sized(2, 2), 1) else {
         return None;
     };
-    let mut text = Text::new(&heap, agent);
+    let mut text = Text::new(&heap, agent, MAX);
     let narrow = interned(&mut text, &[97, 98, 99, 100]);
     let id = wide(&mut text.agent, &heap, 0x0064_0063_0062_0061)?;
     Some((narrow, intern(&mut text.agent, &heap, id)))
@@ -245,9 +245,9 @@ fn split_and_joined(
     ensures agents { (view_of left.new.agent).agents ≡ (view_of left.old.agent).agents }
 {
     let agent = left.agent.split(left.heap, 1);
-    let mut right = Text::new(left.heap, agent);
+    let mut right = Text::new(left.heap, agent, left.limit);
     let both = interned_at_once(rt, left, &mut right, units);
-    let Text { heap: _, agent } = right;
+    let Text { agent, .. } = right;
     left.agent.join(left.heap, agent);
     both
 }
@@ -262,7 +262,7 @@ fn agree(rt: &impl Threads, alloc: Global) -> bool {
     let Ok((heap, agent)) = Heap::make(alloc, size, 2) else {
         return false;
     };
-    let mut text = Text::new(&heap, agent);
+    let mut text = Text::new(&heap, agent, MAX);
     let key = [107, 101, 121];
     let (Some(Ok(a)), Some(Ok(b))) = split_and_joined(rt, &mut text, key.as_slice()) else {
         return false;

@@ -27,6 +27,7 @@ returns-in-Err-clause-err c = let e = c.in-Err.ensures.refused in (
   subst (λ (z : HeapSize). IsFull c.in-Err.full 1 z.ids) (sym (ap (λ (x : View). x.sizes) e.0 ∙ c.requires.belongs.1)) e.1,
   ap (λ (x : View). x.low.ids) e.0,
   ap (λ (x : View). x.used.ids) e.0,
+  ap (λ (x : View). x.own_words) e.0,
 )
 
 pub store_length-requires-clause-may : goal.store_length-requires-clause-may

@@ -5,9 +5,10 @@ use Rattle.heap_rule.proofs.MapLemmas.{has_key}
 use Rattle.heap_rule.proofs.Possible.{possible_lawful, possible_short}
 use Rattle.heap_table.specs.Full.{IsFull}
 use Rattle.heap_slots.specs.Answers.{copy_words, is_wide}
-use Rattle.heap_slots.specs.Headers.{MayBeOver}
-use Rattle.heap_slots.proofs.Copies.{copied_over, some_words}
+use Rattle.heap_slots.specs.Headers.{MayBeOver, copy_plan}
+use Rattle.heap_slots.proofs.Copies.{copied_over, some_words, spared_as}
 use Rattle.heap_slots.proofs.Going.{forms_trans, goes_trans}
+use Rattle.heap_slots.proofs.Planning.{header_of}
 use Rattle.heap_slots.proofs.Stretching.{key_kept, sought_kept, sought_length}
 use Rattle.heap_slots.proofs.Visiting.{only_units}
 use Rattle.heap_slots.proofs.header.copied_header.Goals as goal
@@ -83,7 +84,7 @@ returns-in-Ok-bear-clause-ok c us h = let v : View = c.args.agent.now.seat.me.0 
     let room = c.in-Ok.ensures.room in let lawful = (possible_lawful w c.in-Ok.ensures.belongs.5).3 in let one = some_words c.has_wide-wide.result c.args.s.len c.requires.some in
     let over : MayBeOver w c.has_wide-wide.result c.in-Ok.start c.args.s.len us = copied_over w c.has_wide-wide.result c.in-Ok.start c.args.s.len us (c.in-Ok.ensures.ok us (l.goes.known.units c.args.s.id us h)) n (omega arith) c.requires.some (omega arith) in
     let wide = c.has_wide-wide.ensures.wide us h in let is : words_over c.has_wide-wide.result c.args.s.len ≡ copy_words us = (λ j. words_over (wide j) (n j)) in
-    (c.in-Ok-bear.ensures.ok us over, c.bear.ensures.words ∙ (c.in-Ok.ensures.used ∙ (λ j. l.words j + is j)))
+    (header_of c.bear.new.agent.seat.me.0 (copy_plan us) c.has_wide-wide.result c.in-Ok.start us c.in-Ok-bear.id (c.in-Ok-bear.ensures.ok us over) wide tt, c.bear.ensures.words ∙ (c.in-Ok.ensures.used ∙ (λ j. l.words j + is j)))
 
 pub returns-in-Ok-bear-clause-used : goal.returns-in-Ok-bear-clause-used
 returns-in-Ok-bear-clause-used c = c.in-Ok-bear.ensures.used ∙ ap (λ (n : ℕ). n + 1) (c.copy_units.ensures.ids ∙ c.has_wide-wide.ensures.looks.used)
@@ -91,4 +92,10 @@ returns-in-Ok-bear-clause-used c = c.in-Ok-bear.ensures.used ∙ ap (λ (n : ℕ
 pub returns-in-Err-bear-clause-err : goal.returns-in-Err-bear-clause-err
 returns-in-Err-bear-clause-err c us h = let v : View = c.args.agent.now.seat.me.0 in let l = c.has_wide-wide.ensures.looks in let f = c.in-Err-bear.ensures.err in
     let n = sought_length v c.requires.belongs.5 c.args.s us c.requires.lies h in let wide = c.has_wide-wide.ensures.wide us h in let is : words_over c.has_wide-wide.result c.args.s.len ≡ copy_words us = (λ j. words_over (wide j) (n j)) in
-    (f.0, f.1, f.2 ∙ (c.copy_units.ensures.ids ∙ l.used), c.bear.ensures.words ∙ (c.in-Ok.ensures.used ∙ (λ j. l.words j + is j)))
+    let w : View = c.copy_units.new.agent.seat.me.0 in let x : View = c.bear.new.agent.seat.me.0 in (
+      f.0,
+      f.1,
+      f.2 ∙ (c.copy_units.ensures.ids ∙ l.used),
+      c.bear.ensures.words ∙ (c.in-Ok.ensures.used ∙ (λ j. l.words j + is j)),
+      spared_as w x c.has_wide-wide.result c.in-Ok.start us _ _ (c.in-Ok.ensures.ok us (l.goes.known.units c.args.s.id us h)) f.3 is,
+    )

@@ -3,12 +3,13 @@ use Rattle.heap_rule.specs.declared.size.HeapSize.{HeapSize}
 use Rattle.heap_rule.specs.declared.view.View.{View}
 use Rattle.heap_rule.specs.Maps.{Has}
 use Rattle.heap_rule.proofs.MapLemmas.{has_key}
-use Rattle.heap_slots.specs.Answers.{IsForwarded}
-use Rattle.heap_slots.specs.Headers.{header_words}
-use Rattle.heap_slots.proofs.Going.{looks_trans}
+use Rattle.heap_slots.specs.Answers.{IsForwarded, Plan}
+use Rattle.heap_slots.specs.Headers.{header_plan}
+use Rattle.heap_slots.proofs.Going.{known_trans, looks_trans}
 use Rattle.heap_slots.proofs.Loading.{slots_few, slots_from, slots_most, slots_then}
+use Rattle.heap_slots.proofs.Planning.{plan_is}
 use Rattle.heap_slots.proofs.Stretching.{sought_kept}
-use Rattle.heap_slots.proofs.Visiting.{first_kept, header_words_are, interned_then, interns_after}
+use Rattle.heap_slots.proofs.Visiting.{first_kept, interned_then, interns_after}
 use Rattle.heap_slots.proofs.probing.intern_counted.Goals as goal
 
 pub probe-requires-clause-lies : goal.probe-requires-clause-lies
@@ -34,12 +35,14 @@ forward-requires-clause-units g c = let v : View = c.seek-s.new.agent.seat.me.0 
 pub returns-in-Err-clause-interns : goal.returns-in-Err-clause-interns
 returns-in-Err-clause-interns g c us h = let a : View = c.args.agent.now.seat.me.0 in let v : View = c.seek-s.new.agent.seat.me.0 in let u : View = c.hash_units-hash.new.agent.seat.me.0 in let w : View = c.probe.new.agent.seat.me.0 in let s = c.seek-s.result in
     let l = looks_trans a v u c.seek-s.ensures.looks c.hash_units-hash.ensures.looks in let here : Has u.units s.id us = subst (λ (i : ℕ). Has u.units i us) (sym c.seek-s.ensures.id) (l.goes.known.units c.args.id us h) in
-    (header_words s.form us, header_words_are a c.args.id s.form us c.seek-s.ensures.flat, interns_after a u w us (header_words s.form us) (Err c.in-Err.full) l (c.in-Err.ensures.interns us here))
+    let plan : Plan = header_plan s us in let found = c.in-Err.ensures.interns us here in let e = c.hash_units-hash.ensures in let lies = sought_kept v u e.looks.goes.known e.forms s c.seek-s.ensures.lies in
+    (plan, (s.form, c.seek-s.ensures.found, plan_is u e.belongs.5 s us lies here w found.0.known), interns_after a u w us plan (Err c.in-Err.full) l found)
 
 pub returns-clause-interns : goal.returns-clause-interns
 returns-clause-interns g c us h = let a : View = c.args.agent.now.seat.me.0 in let v : View = c.seek-s.new.agent.seat.me.0 in let u : View = c.hash_units-hash.new.agent.seat.me.0 in let w : View = c.probe.new.agent.seat.me.0 in let x : View = c.forward.new.agent.seat.me.0 in let s = c.seek-s.result in
-    let l = looks_trans a v u c.seek-s.ensures.looks c.hash_units-hash.ensures.looks in let here : Has u.units s.id us = subst (λ (i : ℕ). Has u.units i us) (sym c.seek-s.ensures.id) (l.goes.known.units c.args.id us h) in let words = header_words s.form us in
-    (words, header_words_are a c.args.id s.form us c.seek-s.ensures.flat, interned_then a w x us words c.in-Ok.answer (interns_after a u w us words (Ok c.in-Ok.answer) l (c.in-Ok.ensures.interns us here)) c.forward.ensures.looks)
+    let l = looks_trans a v u c.seek-s.ensures.looks c.hash_units-hash.ensures.looks in let here : Has u.units s.id us = subst (λ (i : ℕ). Has u.units i us) (sym c.seek-s.ensures.id) (l.goes.known.units c.args.id us h) in
+    let plan : Plan = header_plan s us in let found = c.in-Ok.ensures.interns us here in let e = c.hash_units-hash.ensures in let lies = sought_kept v u e.looks.goes.known e.forms s c.seek-s.ensures.lies in let k = c.forward.ensures.looks.goes.known in
+    (plan, (s.form, c.seek-s.ensures.found, plan_is u e.belongs.5 s us lies here x (known_trans u w x found.0.known k)), interned_then a w x us plan c.in-Ok.answer (interns_after a u w us plan (Ok c.in-Ok.answer) l found) c.forward.ensures.looks)
 
 pub returns-clause-forwards : goal.returns-clause-forwards
 returns-clause-forwards g c = subst (λ (i : ℕ). IsForwarded c.forward.new.agent.seat.me.0 i c.in-Ok.answer) c.seek-s.ensures.id c.forward.ensures.forwards

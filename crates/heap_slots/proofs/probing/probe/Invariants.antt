@@ -1,11 +1,11 @@
 use Rattle.std.proofs.Common.{ℕ, List}
 use Rattle.heap_rule.specs.Maps.{Has}
 use Rattle.heap_table.specs.Agents.{Belongs}
-use Rattle.heap_slots.specs.Headers.{header_words}
+use Rattle.heap_slots.specs.Headers.{header_plan}
 use Rattle.heap_slots.proofs.Loading.{Walking}
 use Rattle.heap_slots.proofs.Visiting.{Probing}
 use Rattle.heap_slots.proofs.probing.probe.Given as goal
 
 abbrev pub invariant-loop-r : goal.invariant-loop-r
-invariant-loop-r g l = Belongs l.agent l.heap × ((us : List ℕ) → Has l.fn.agent.seat.me.0.units l.s.id us → Probing l.fn.agent.seat.me.0 l.agent.seat.me.0 l.s us (header_words l.s.form us) l.r l.header)
+invariant-loop-r g l = Belongs l.agent l.heap × ((us : List ℕ) → Has l.fn.agent.seat.me.0.units l.s.id us → Probing l.fn.agent.seat.me.0 l.agent.seat.me.0 l.s us (header_plan l.s us) l.r l.header)
     × ((us : List ℕ) → Has l.fn.agent.seat.me.0.units l.s.id us → Walking l.fn.agent.seat.me.0 l.agent.seat.me.0 us l.r l.fn.steps l.steps)

@@ -4,7 +4,7 @@ use Rattle.std.specs.Ordering.{nat_cmp}
 use Rattle.heap_rule.specs.declared.view.View.{View}
 use Rattle.heap_rule.proofs.MapLemmas.{has_key}
 use Rattle.heap_slots.proofs.Going.{forms_same, free_there, looks_slot, stands_there}
-use Rattle.heap_slots.specs.Headers.{header_words}
+use Rattle.heap_slots.specs.Headers.{header_plan}
 use Rattle.heap_slots.specs.Visits.{entries, entries_in}
 use Rattle.heap_slots.proofs.Loading.{loads_after, loads_once}
 use Rattle.heap_slots.proofs.Stretching.{frozen_kept, key_kept, sought_kept}
@@ -21,11 +21,11 @@ pub visit_used-requires-clause-used : goal.visit_used-requires-clause-used
 visit_used-requires-clause-used g c = stands_there c.args.agent.now.seat.me.0 c.load_slot.new.self.seat.me.0 c.args.k c.in-Some.t _ None refl c.in-Some.ensures.view
 
 pub visit_used-requires-clause-header : goal.visit_used-requires-clause-header
-visit_used-requires-clause-header g c = each_made c.args.agent.now.seat.me.0 c.load_slot.new.self.seat.me.0 c.requires.belongs.5 c.load_slot.ensures.known c.args.s.id c.args.header c.requires.known c.requires.header
+visit_used-requires-clause-header g c = each_made c.args.agent.now.seat.me.0 c.load_slot.new.self.seat.me.0 c.requires.belongs.5 c.load_slot.ensures.known c.args.s.id c.args.header (header_plan c.args.s) c.requires.known c.requires.header
 
 pub returns-in-Some-clause-visits : goal.returns-in-Some-clause-visits
 returns-in-Some-clause-visits g c us h = let v : View = c.args.agent.now.seat.me.0 in let u : View = c.load_slot.new.self.seat.me.0 in let w : View = c.visit_used.new.agent.seat.me.0 in let k = c.load_slot.ensures.known in
-    visits_after v u w us (header_words c.args.s.form us) c.args.k c.args.header (Ok c.visit_used.result) (looks_slot v u c.args.k _ k c.in-Some.ensures.view) (forms_same v u c.load_slot.ensures.forms) (c.visit_used.ensures.visited us (k.units c.args.s.id us h))
+    visits_after v u w us (header_plan c.args.s us) c.args.k c.args.header (Ok c.visit_used.result) (looks_slot v u c.args.k _ k c.in-Some.ensures.view) (forms_same v u c.load_slot.ensures.forms) (c.visit_used.ensures.visited us (k.units c.args.s.id us h))
 
 pub take-requires-clause-lies : goal.take-requires-clause-lies
 take-requires-clause-lies g c = let v : View = c.args.agent.now.seat.me.0 in let u : View = c.load_slot.new.self.seat.me.0 in sought_kept v u c.load_slot.ensures.known (forms_same v u c.load_slot.ensures.forms) c.args.s c.requires.lies
@@ -45,11 +45,11 @@ take-requires-clause-behind g c = let v : View = c.args.agent.now.seat.me.0 in l
     each_behind v u c.requires.belongs.5 c.load_slot.ensures.known (looks_slot v u c.args.k _ c.load_slot.ensures.known c.load_slot.ensures.view).goes.sizes c.args.s.id c.args.k c.requires.known c.requires.behind
 
 pub take-requires-clause-header : goal.take-requires-clause-header
-take-requires-clause-header g c = each_made c.args.agent.now.seat.me.0 c.load_slot.new.self.seat.me.0 c.requires.belongs.5 c.load_slot.ensures.known c.args.s.id c.args.header c.requires.known c.requires.header
+take-requires-clause-header g c = each_made c.args.agent.now.seat.me.0 c.load_slot.new.self.seat.me.0 c.requires.belongs.5 c.load_slot.ensures.known c.args.s.id c.args.header (header_plan c.args.s) c.requires.known c.requires.header
 
 pub returns-in-None-clause-visits : goal.returns-in-None-clause-visits
 returns-in-None-clause-visits g c us h = let v : View = c.args.agent.now.seat.me.0 in let u : View = c.load_slot.new.self.seat.me.0 in let w : View = c.take.new.agent.seat.me.0 in let k = c.load_slot.ensures.known in
-    visits_after v u w us (header_words c.args.s.form us) c.args.k c.args.header c.take.result (looks_slot v u c.args.k _ k c.load_slot.ensures.view) (forms_same v u c.load_slot.ensures.forms) (c.take.ensures.visits us (k.units c.args.s.id us h))
+    visits_after v u w us (header_plan c.args.s us) c.args.k c.args.header c.take.result (looks_slot v u c.args.k _ k c.load_slot.ensures.view) (forms_same v u c.load_slot.ensures.forms) (c.take.ensures.visits us (k.units c.args.s.id us h))
 
 pub returns-in-Some-clause-loads : goal.returns-in-Some-clause-loads
 returns-in-Some-clause-loads g c = let v : View = c.args.agent.now.seat.me.0 in let u : View = c.load_slot.new.self.seat.me.0 in let w : View = c.visit_used.new.agent.seat.me.0 in let n : ℕ = entries c.visit_used.result in

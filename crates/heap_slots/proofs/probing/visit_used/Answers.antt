@@ -5,10 +5,10 @@ use Rattle.heap_rule.specs.Maps.{Has}
 use Rattle.heap_rule.specs.Slots.{entry_in}
 use Rattle.heap_rule.proofs.MapLemmas.{has_key, key_of}
 use Rattle.heap_slots.specs.Answers.{IsFixed}
-use Rattle.heap_slots.specs.Headers.{header_words}
-use Rattle.heap_slots.proofs.Going.{forms_same, forms_trans, goes_slot, goes_trans}
+use Rattle.heap_slots.specs.Headers.{header_plan}
+use Rattle.heap_slots.proofs.Going.{forms_same, forms_trans, goes_slot, goes_trans, known_trans}
 use Rattle.heap_slots.proofs.Loading.{loads_from, loads_none, loads_once}
-use Rattle.heap_slots.proofs.Visiting.{each_made, entered_is, fixed_kept, ids_most, words_most}
+use Rattle.heap_slots.proofs.Visiting.{each_made, entered_is, fixed_kept, made_kept}
 use Rattle.heap_slots.proofs.probing.visit_used.Goals as goal
 
 pub load_slot-requires-clause-enter : goal.load_slot-requires-clause-enter
@@ -22,8 +22,10 @@ returns-then-is_same-clause-visited g c us h = let v : View = c.args.agent.now.s
     let fixed : IsFixed w us t = (e.form, units) in record {
       goes = goes_trans v w x _ _ e.looks.goes go.0;
       forms = forms_trans v w x e.forms (forms_same w x f.forms);
-      used = omega (arith, ap (λ (n : Counters). n.ids) go.1, e.looks.used, ids_most c.args.header);
-      used_words = omega (arith, ap (λ (n : Counters). n.words) go.1, e.looks.words, words_most (header_words c.args.s.form us) c.args.header);
+      made = c.args.header;
+      used = omega (arith, ap (λ (n : Counters). n.ids) go.1, e.looks.used);
+      used_words = omega (arith, ap (λ (n : Counters). n.words) go.1, e.looks.words);
+      made_is = made_kept v x c.requires.belongs.5 (known_trans v w x known f.known) us (header_plan c.args.s us) c.args.header (c.requires.header us h);
       fixed = fixed_kept w x e.belongs.5 f.known us t fixed;
       stands = f.known.slots k t there;
     }
@@ -35,7 +37,7 @@ returns-clause-visited g c us h = let v : View = c.args.agent.now.seat.me.0 in l
   used = omega (arith, e.looks.used);
   used_words = omega (arith, e.looks.words);
   shut = (c.args.t, known.slots c.args.k c.args.t c.requires.used.0, rw c.if-is_same.false at same);
-  made_is = each_made v w c.requires.belongs.5 known c.args.s.id c.args.header c.requires.known c.requires.header us (known.units c.args.s.id us h);
+  made_is = each_made v w c.requires.belongs.5 known c.args.s.id c.args.header (header_plan c.args.s) c.requires.known c.requires.header us (known.units c.args.s.id us h);
 }
 
 pub returns-then-is_same-clause-loads : goal.returns-then-is_same-clause-loads

@@ -2,10 +2,10 @@ use Rattle.std.proofs.Common.{◌≡◌, ◌+◌, ◌⊎◌, ℕ, true, inl, inr
 use Rattle.js_header.specs.declared.form.Form.{Form}
 use Rattle.js_header.specs.declared.form.Form.TheVariants.{Flat, Sliced, Thin}
 use Rattle.heap_rule.specs.declared.view.View.{View}
-use Rattle.heap_rule.specs.Forms.{IsSliced}
 use Rattle.heap_rule.specs.Maps.{Has}
 use Rattle.heap_rule.proofs.MapLemmas.{insert_same}
-use Rattle.heap_slots.proofs.Going.{KnowsNamed, forms_same, looks_form, looks_length, looks_trans, named_met, no_slice}
+use Rattle.heap_slots.specs.Answers.{IsFound}
+use Rattle.heap_slots.proofs.Going.{KnowsNamed, forms_same, looks_form, looks_length, looks_trans, named_met}
 use Rattle.heap_slots.proofs.Stretching.{form_there, way_kept}
 use Rattle.heap_slots.proofs.sought.seek.Goals as goal
 
@@ -93,5 +93,11 @@ returns-in-Sliced-clause-lies c = let v : View = c.args.agent.now.seat.me.0 in l
       whole = λ never. absurd (never tt);
     }
 
-pub returns-in-Sliced-clause-flat : goal.returns-in-Sliced-clause-flat
-returns-in-Sliced-clause-flat c wide start fixed h one = no_slice wide start fixed c.load_form-form.result (c.load_form-form.ensures.later (Flat wide start fixed) h) (subst IsSliced (sym c.in-Sliced.is) tt)
+pub returns-in-Flat-clause-found : goal.returns-in-Flat-clause-found
+returns-in-Flat-clause-found c = subst (IsFound c.args.agent.now.seat.me.0 c.args.id) c.in-Flat.is c.load_form-form.ensures.later
+
+pub returns-in-Thin-clause-found : goal.returns-in-Thin-clause-found
+returns-in-Thin-clause-found c = subst (IsFound c.args.agent.now.seat.me.0 c.args.id) c.in-Thin.is c.load_form-form.ensures.later
+
+pub returns-in-Sliced-clause-found : goal.returns-in-Sliced-clause-found
+returns-in-Sliced-clause-found c = subst (IsFound c.args.agent.now.seat.me.0 c.args.id) c.in-Sliced.is c.load_form-form.ensures.later
