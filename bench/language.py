@@ -39,6 +39,11 @@ def top_names(count):
     return "".join(f"let name{number} = {number};\n" for number in range(count)) + "let n = 0;\n" + "".join(f"n = n + name{number};\n" for number in range(count)) + "print(n);\n"
 
 
+def block_names(count):
+    """So many names in one block, each read once."""
+    return "{\n" + top_names(count) + "}\n"
+
+
 def statements(size):
     """About so many bytes of statements of every kind that are read and not run."""
     made, number, length = ["if (false) {\n"], 0, 30
@@ -55,13 +60,15 @@ def statements(size):
         number += 1
 
 
+# The name of a script, the sizes of its heap where they are not the usual ones, and its text.
 SCRIPTS = [
-    ("an empty loop of 1,000,000 turns", "for (let i = 0; i < 1000000; i++) { } print('done');"),
-    ("1,000,000 turns of n = n + i", "let n = 0; for (let i = 0; i < 1000000; i++) { n = n + i; } print(n);"),
-    ("1,000,000 units looked at by s[i] === 'x'", UNITS),
-    ("100,000 parts of a split, by list[i]", PARTS),
-    ("1,000 names, each read 1,000 times", many_names(1000, 1000)),
-    ("10,000 names at the top, each read once", top_names(10000)),
+    ("an empty loop of 1,000,000 turns", [], "for (let i = 0; i < 1000000; i++) { } print('done');"),
+    ("1,000,000 turns of n = n + i", [], "let n = 0; for (let i = 0; i < 1000000; i++) { n = n + i; } print(n);"),
+    ("1,000,000 units looked at by s[i] === 'x'", ["--ids", "1100000", "--heap-words", "1300000"], UNITS),
+    ("100,000 parts of a split, by list[i]", [], PARTS),
+    ("1,000 names, each read 1,000 times", [], many_names(1000, 1000)),
+    ("10,000 names at the top, each read once", [], top_names(10000)),
+    ("10,000 names in a block, each read once", [], block_names(10000)),
 ]
 
 
@@ -101,9 +108,9 @@ def main():
     with tempfile.TemporaryDirectory() as folder:
         others = engines(folder)
         start = measure(folder, "start-up", "", program, others)
-        for name, text in SCRIPTS:
+        for name, sizes, text in SCRIPTS:
             if wanted in name:
-                measure(folder, name, text, program, others)
+                measure(folder, name, text, program + sizes, others)
         if wanted in "reading statements":
             times = {size: measure(folder, f"reading {size // 1024} KiB of statements", statements(size), program, others) - start for size in SIZES}
             print(f"reading statements: {SIZES[-1] / times[SIZES[-1]] / 1e6:.1f} MB a second beyond start-up, 16 times the bytes take {times[SIZES[-1]] / times[SIZES[0]]:.1f} times as long")

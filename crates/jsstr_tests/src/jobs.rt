@@ -1,11 +1,10 @@
 // The program with many jobs: texts that are made from a number, and two scripts at once.
 ghost use Rattle.std.specs.Prelude.{◌≤◌};
 
-use crate::program::owned;
+use crate::running::code_of;
 use js_evaluator::{End, Env, Lines, eval};
 use js_generate::texts_from;
 use js_io::{FreeGate, Gate, MemFiles, MemSink};
-use js_run::run_words;
 use js_script::{Role, parse};
 use js_store::Limit;
 use js_syntax::{Names, Script};
@@ -67,9 +66,8 @@ fn run<R: Threads + Sync, G: Gate + Sync>(
     files.put("b.js", b"print('second');")?;
     let mut out = MemSink::new(alloc, ROOM, ROOM)?;
     let mut err = MemSink::new(alloc, ROOM, ROOM)?;
-    let words = owned(alloc, words)?;
-    let status = run_words(rt, alloc, &words, &mut files, &mut out, &mut err, gate);
-    Ok((status.code, out))
+    let code = code_of(rt, alloc, words, &mut files, &mut out, &mut err, gate)?;
+    Ok((code, out))
 }
 
 // Whatever the number of jobs, each text prints what it prints by itself, and a number is told.

@@ -11,4 +11,8 @@ mod jobs;
 #[cfg(test)]
 mod program;
 #[cfg(test)]
+mod report;
+#[cfg(test)]
+mod running;
+#[cfg(test)]
 mod strings;

@@ -1,9 +1,9 @@
 // The program over files and sinks in memory: sinks that fail, the longest file, and no words.
 ghost use Rattle.std.specs.Prelude.{◌≤◌};
 
+use crate::running::code_of;
 use js_io::{FILE_MAX, FreeGate, MemFiles, MemSink, NullSink};
-use js_run::run_words;
-use std::alloc::{AllocError, Global};
+use std::alloc::Global;
 use std::test::Fail;
 use std::thread::Threads;
 
@@ -21,22 +21,14 @@ const WORDS: [&str; 8] = [
 
 // The status, and what both sinks took.
 #[derive(Drop)]
-struct Ran {
-    code: u8,
-    out: MemSink,
-    err: MemSink,
-}
-
-pub(crate) fn owned(alloc: Global, words: &[&str]) -> Result<Vec<String>, AllocError> {
-    let mut owned = Vec::new(alloc);
-    for word in words {
-        owned.push(String::from_str(alloc, word)?)?;
-    }
-    Ok(owned)
+pub(crate) struct Ran {
+    pub(crate) code: u8,
+    pub(crate) out: MemSink,
+    pub(crate) err: MemSink,
 }
 
 // Runs the program over a file `a.js`, with sinks that take `most` bytes a write.
-fn run<R: Threads + Sync>(
+pub(crate) fn run<R: Threads + Sync>(
     rt: &R,
     alloc: Global,
     words: &[&str],
@@ -50,13 +42,8 @@ fn run<R: Threads + Sync>(
     files.put("a.js", text)?;
     let mut out = MemSink::new(alloc, most, room)?;
     let mut err = MemSink::new(alloc, most, room)?;
-    let words = owned(alloc, words)?;
-    let status = run_words(rt, alloc, &words, &mut files, &mut out, &mut err, &FreeGate);
-    Ok(Ran {
-        code: status.code,
-        out,
-        err,
-    })
+    let code = code_of(rt, alloc, words, &mut files, &mut out, &mut err, &FreeGate)?;
+    Ok(Ran { code, out, err })
 }
 
 #[test]
@@ -83,30 +70,34 @@ fn a_sink_fails_at_any_place(rt: HostRuntime) -> Result<(), Fail> {
     Ok(())
 }
 
+// A line breaks off where there is no more room.
+#[test]
+fn a_line_breaks_off(rt: HostRuntime) -> Result<(), Fail> {
+    let ran = run(&rt, rt.alloc(), &WORDS, b"print('abcdefgh');", 3, 5)?;
+    assert_eq!(rt; ran.code, 7);
+    assert_eq!(rt; ran.out.taken(), b"abcde".as_slice());
+    Ok(())
+}
+
 // A line on `err` that isn't taken to its end, behind a whole `out`.
 #[test]
 fn a_line_on_err_fails_behind_the_lines(rt: HostRuntime) -> Result<(), Fail> {
     let told = b"a.js: uncaught TypeError\n";
-    let words = owned(rt.alloc(), &WORDS)?;
     for room in 0..26 {
         let mut files = MemFiles::new(rt.alloc());
         files.put("a.js", b"print('x'); print(undefined.length);")?;
         let mut out = MemSink::new(rt.alloc(), 7, 100)?;
         let mut err = MemSink::new(rt.alloc(), 7, room)?;
-        let status = run_words(
+        let code = code_of(
             &rt,
             rt.alloc(),
-            &words,
+            &WORDS,
             &mut files,
             &mut out,
             &mut err,
             &FreeGate,
-        );
-        assert_eq!(rt;
-            status.code,
-            if room < 25 { 7 } else { 1 },
-            "room for {room}"
-        );
+        )?;
+        assert_eq!(rt; code, if room < 25 { 7 } else { 1 }, "room for {room}");
         assert_eq!(rt; out.taken(), b"x\n".as_slice(), "room for {room}");
         assert_eq!(rt; err.taken(), &told[..room as usize], "room for {room}");
     }
@@ -131,22 +122,21 @@ fn a_file_has_at_most_so_many_bytes(rt: HostRuntime) -> Result<(), Fail> {
 // The first read fails, and the second, of another run, doesn't.
 #[test]
 fn a_read_fails(rt: HostRuntime) -> Result<(), Fail> {
-    let words = owned(rt.alloc(), &WORDS)?;
     let mut files = MemFiles::new(rt.alloc());
     files.put("a.js", b"print('x');")?;
     files.fail_at(0)?;
     let mut err = MemSink::new(rt.alloc(), 7, 100)?;
-    for code in [3, 0] {
-        let status = run_words(
+    for wanted in [3, 0] {
+        let code = code_of(
             &rt,
             rt.alloc(),
-            &words,
+            &WORDS,
             &mut files,
             &mut NullSink::new(),
             &mut err,
             &FreeGate,
-        );
-        assert_eq!(rt; status.code, code);
+        )?;
+        assert_eq!(rt; code, wanted);
         assert_eq!(rt; err.taken(), b"a.js: cannot be read\n".as_slice());
     }
     Ok(())
@@ -155,7 +145,7 @@ fn a_read_fails(rt: HostRuntime) -> Result<(), Fail> {
 // One of three reads fails: its file is named, and nothing is printed.
 #[test]
 fn a_read_fails_among_several(rt: HostRuntime) -> Result<(), Fail> {
-    let words = owned(rt.alloc(), &["jsstr", "a.js", "b.js", "c.js"])?;
+    let words = ["jsstr", "a.js", "b.js", "c.js"];
     for (call, told) in [
         (0, "a.js: cannot be read\n"),
         (1, "b.js: cannot be read\n"),
@@ -168,7 +158,7 @@ fn a_read_fails_among_several(rt: HostRuntime) -> Result<(), Fail> {
         files.fail_at(call)?;
         let mut out = MemSink::new(rt.alloc(), 7, 100)?;
         let mut err = MemSink::new(rt.alloc(), 7, 100)?;
-        let status = run_words(
+        let code = code_of(
             &rt,
             rt.alloc(),
             &words,
@@ -176,8 +166,8 @@ fn a_read_fails_among_several(rt: HostRuntime) -> Result<(), Fail> {
             &mut out,
             &mut err,
             &FreeGate,
-        );
-        assert_eq!(rt; status.code, 3, "at {call}");
+        )?;
+        assert_eq!(rt; code, 3, "at {call}");
         assert_eq!(rt; out.taken(), b"".as_slice(), "at {call}");
         assert_eq!(rt; err.taken(), told.as_bytes(), "at {call}");
     }
