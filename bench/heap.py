@@ -44,7 +44,7 @@ TEN_TIMES = [
     ("behind", "units of a rope grown to the right, settled", 1_000_000, "grow"),
     ("front", "units of a rope grown to the left, made and settled", 1_000_000, None),
     ("reader", "units of a rope, settled and read by one agent", 1_000_000, "grow"),
-    ("readers", "units of a rope, settled and read by four agents at once", 1_000_000, "grow"),
+    ("readers", "units of a rope, settled and read by eight agents at once", 1_000_000, "grow"),
 ]
 
 
@@ -70,7 +70,7 @@ def beside(what, took, other, than, most):
 
 
 def ropes():
-    """Joins and slices beside a flat string of 13 units, settling beside copying a list, and four readers beside one."""
+    """Joins and slices beside a flat string of 13 units, settling beside copying a list, and eight readers beside one."""
     short = turn("short", 1_000, 1_001_000)
     join = {word: turn(word, 1_000, 1_001_000) for word in ["right", "left"]}
     for word in ["right", "left"]:
@@ -84,7 +84,7 @@ def ropes():
     for word in ["behind", "front"]:
         beside(f"a rope of {units} units settled, one unit joined {word} each time", spent(word, units) - grow, copied, "a list of as many copied", 10)
     one = spent("reader", units) - grow
-    print(f"a rope of {units} units settled and read: {one * 1e3:.1f} ms, by four agents at once each: {(spent('readers', units) - grow) / one:.2f} times that")
+    print(f"a rope of {units} units settled and read: {one * 1e3:.1f} ms, by eight agents at once each: {(spent('readers', units) - grow) / one:.2f} times that")
     for word, what, count, less in TEN_TIMES:
         few, many = (spent(word, n, 5) - (spent(less, n, 5) if less else spent(word, 1, 5)) for n in [count, 10 * count])
         print(f"{10 * count} {what}: {many / few:.1f} times the time of {count}, to be {LINEAR[0]} to {LINEAR[1]}", flush=True)

@@ -10,7 +10,7 @@
 //! Ropes and slices: `right` joins a rope of 13 units COUNT times behind a rope, `left` in front of
 //! it; `grow` joins a unit COUNT times behind a string of 12, and `behind` and `front` settle what
 //! was joined so; `slice` cuts 1,000,000 units out of one more; `reader` reads a rope that `grow`
-//! makes, `readers` does so by four agents in four threads at once, each of which settles it.
+//! makes, `readers` does so by eight agents in eight threads at once, each of which settles it.
 //!
 //! Anything else ends with 3, and want of room or memory with 6.
 #![tactic(auto)]

@@ -1,6 +1,6 @@
 //! A large input that is made from a number: a prelude and 32 scripts, the same on every machine.
 //!
-//! [`texts`] makes them. What they are stands in `specs/Texts.antt`.
+//! [`texts_from`] makes them. What they are stands in `specs/Texts.antt`.
 #![tactic(auto)]
 
 mod draws;
