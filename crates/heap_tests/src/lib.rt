@@ -5,6 +5,10 @@
 #[cfg(test)]
 mod machine;
 #[cfg(test)]
+mod plays;
+#[cfg(test)]
+mod reading;
+#[cfg(test)]
 mod ropes;
 #[cfg(test)]
 mod table;
