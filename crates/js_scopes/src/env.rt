@@ -1,10 +1,12 @@
-// The bindings of a script's top, and of a block.
-ghost use Rattle.std.specs.Prelude.{◌≡◌, ◌<◌, ◌≤◌, ◌∷◌, ◌++◌, [], None, length, MatchOption, IfOk, OnOk, OnErr};
+// The bindings of a script's top.
+ghost use Rattle.std.specs.Prelude.{◌≡◌, ◌<◌, ◌∷◌, ◌++◌, [], ℕ, List, None, length, MatchOption, IfOk, OnOk, OnErr, IsSome};
+ghost use Rattle.std.specs.Ordering.{nat_cmp};
+ghost use Rattle.std.specs.Map.{lookup};
+ghost use Rattle.std.specs.BTreeMap.{is_at};
 ghost use Rattle.js_scopes.specs.Index.{IsIndex, NoneNamed};
 ghost use Rattle.js_scopes.specs.Bindings.{bound_in};
 ghost use Rattle.js_scopes.specs.Seen.{bound_of, bounds_of, put, IsAt};
 
-use crate::index::{FEW, index_key};
 use js_syntax::Name;
 use js_units::NoMemory;
 use std::alloc::Global;
@@ -19,13 +21,12 @@ pub struct Binding<T> {
     pub value: T,
 }
 
-/// Bindings in the order of their declarations. Contracts see them as a list. The first few are looked
-/// at one after another; behind them a name is sought from the first one on that has its key, so that
-/// thousands of names cost little.
+/// The bindings of a script's top, in the order of their declarations. Contracts see them as a list.
+/// A name is sought from the first one on that has its key, so that thousands of names cost little.
 #[derive(Drop)]
 pub struct Env<T> {
     bindings: Vec<Binding<T>>,
-    // behind the first few, the place from which the names of a key stand
+    // the place from which the names of a key stand
     first: BTreeMap<u32, usize>,
 }
 
@@ -64,13 +65,9 @@ impl<T: Drop> Env<T> {
         ensures { MatchOption result (bound_in (bounds_of self.now) name.now ≡ None)
             (λ i. IsAt (bounds_of self.now) name.now i) }
     {
-        let all = self.bindings.len();
-        match position_in(&self.bindings, 0, FEW.min(all), name) {
-            Some(index) => Some(index),
-            None => match self.first.get(&name.key()) {
-                Some(start) => position_in(&self.bindings, *start, all, name),
-                None => None,
-            },
+        match self.first.get(&name.key()) {
+            Some(start) => position_from(&self.bindings, *start, name),
+            None => None,
         }
     }
 
@@ -81,10 +78,7 @@ impl<T: Drop> Env<T> {
     {
         let place = self.bindings.len();
         index_key(&mut self.first, binding.name.key(), place)?;
-        match self.bindings.push(binding) {
-            Ok(()) => Ok(()),
-            Err(_) => Err(NoMemory),
-        }
+        push(&mut self.bindings, binding)
     }
 
     /// Another value for one binding.
@@ -96,14 +90,21 @@ impl<T: Drop> Env<T> {
     }
 }
 
-// The first binding of a name, which no binding before `start` has, among those before `end`.
-fn position_in<T>(bound: &[Binding<T>], start: usize, end: usize, name: &Name) -> Option<usize>
-    requires within { end ≤ length bound.now }
-    requires before { NoneNamed bound.now name.now start }
-    ensures { MatchOption result (NoneNamed bound.now name.now end)
+/// The first binding of a name in a list.
+pub(crate) fn position<T>(bound: &[Binding<T>], name: &Name) -> Option<usize>
+    ensures { MatchOption result (bound_in (bounds_of bound.now) name.now ≡ None)
         (λ i. IsAt (bounds_of bound.now) name.now i) }
 {
-    for i in start..end {
+    position_from(bound, 0, name)
+}
+
+// The same where no binding before `start` has the name.
+fn position_from<T>(bound: &[Binding<T>], start: usize, name: &Name) -> Option<usize>
+    requires { NoneNamed bound.now name.now start }
+    ensures { MatchOption result (bound_in (bounds_of bound.now) name.now ≡ None)
+        (λ i. IsAt (bounds_of bound.now) name.now i) }
+{
+    for i in start..bound.len() {
         if bound[i].name.is(name) {
             return Some(i);
         }
@@ -111,11 +112,40 @@ fn position_in<T>(bound: &[Binding<T>], start: usize, end: usize, name: &Name) -
     None
 }
 
-fn set_value<T: Drop>(bound: &mut Vec<Binding<T>>, index: usize, value: T)
+// A key that is new gets the place behind all names.
+fn index_key(first: &mut BTreeMap<u32, usize>, key: u32, place: usize) -> Result<(), NoMemory>
+    ensures indexed { (ns : List (List ℕ)) → place ≡ length ns → IsIndex first.old.entries ns → IsIndex first.new.entries ns }
+    ensures found { OnOk result (IsSome (lookup (is_at (nat_cmp key)) first.new.entries)) }
+{
+    if first.contains_key(&key) {
+        return Ok(());
+    }
+    match first.insert(key, place) {
+        Ok(_) => Ok(()),
+        Err(_) => Err(NoMemory),
+    }
+}
+
+/// Another value for one binding of a list.
+pub(crate) fn set_value<T: Drop>(bound: &mut Vec<Binding<T>>, index: usize, value: T)
     requires { index < length bound.old.items }
     ensures { bounds_of bound.new.items ≡ put (bounds_of bound.old.items) index value }
 {
     bound[index].value = value;
+}
+
+/// One more binding of a list.
+pub(crate) fn push<T: Drop>(
+    bound: &mut Vec<Binding<T>>,
+    binding: Binding<T>,
+) -> Result<(), NoMemory>
+    ensures added { OnOk result (bound.new.items ≡ bound.old.items ++ binding ∷ []) }
+    ensures refused { OnErr result (bound.new.items ≡ bound.old.items) }
+{
+    match bound.push(binding) {
+        Ok(()) => Ok(()),
+        Err(_) => Err(NoMemory),
+    }
 }
 
 /// A binding of a name.
