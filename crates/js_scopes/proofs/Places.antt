@@ -39,14 +39,14 @@ in_block [] k i h = absurd h
 in_block (f ∷ fs) zero i h = omega arith
 in_block (f ∷ fs) (suc k) i h = omega (arith, in_block fs k i h)
 
-pub at_block : {T : Type 0} (fs : List (CodeFrame T)) (k i : ℕ) (f : CodeFrame T) → InBlock fs k i → f ≡ get_or fs k f → i < length f.bound.items
+pub at_block : {T : Type 0} (fs : List (CodeFrame T)) (k i : ℕ) (f : CodeFrame T) → InBlock fs k i → f ≡ get_or fs k f → i < length f.bound
 at_block {T} [] k i f h p = absurd h
-at_block {T} (g ∷ fs) zero i f h p = subst (λ (q : CodeFrame T). i < length q.bound.items) (sym p) h
+at_block {T} (g ∷ fs) zero i f h p = subst (λ (q : CodeFrame T). i < length q.bound) (sym p) h
 at_block {T} (g ∷ fs) (suc k) i f h p = at_block fs k i f h p
 
-pub block_has : {T : Type 0} (fs : List (CodeFrame T)) (k i : ℕ) (f : CodeFrame T) → k < length fs → f ≡ get_or fs k f → i < length f.bound.items → InBlock fs k i
+pub block_has : {T : Type 0} (fs : List (CodeFrame T)) (k i : ℕ) (f : CodeFrame T) → k < length fs → f ≡ get_or fs k f → i < length f.bound → InBlock fs k i
 block_has {T} [] k i f l p h = absurd (omega (arith, l))
-block_has {T} (g ∷ fs) zero i f l p h = subst (λ (q : CodeFrame T). i < length q.bound.items) p h
+block_has {T} (g ∷ fs) zero i f l p h = subst (λ (q : CodeFrame T). i < length q.bound) p h
 block_has {T} (g ∷ fs) (suc k) i f l p h = block_has fs k i f (omega (arith, l)) p h
 
 pub bound_get : {T : Type 0} (bs : List (Binding T)) (i : ℕ) (b : Binding T) → i < length bs → b ≡ get_or bs i b → slice_get (bounds_of bs) i ≡ Some (bound_of b)
@@ -59,20 +59,20 @@ frame_get [] k f l p = absurd (omega (arith, l))
 frame_get (g ∷ fs) zero f l p = cc p
 frame_get (g ∷ fs) (suc k) f l p = frame_get fs k f (omega (arith, l)) p
 
-pub got_block : {T : Type 0} (fs : List (CodeFrame T)) (k i : ℕ) (f : CodeFrame T) (b : Binding T) → InBlock fs k i → f ≡ get_or fs k f → b ≡ get_or f.bound.items i b → Some (bound_of b) ≡ got (slice_get (map frame_of fs) k) i
-got_block fs k i f b h p q = sym (ap (λ o. got o i) (frame_get fs k f (in_block fs k i h) p) ∙ bound_get f.bound.items i b (at_block fs k i f h p) q)
+pub got_block : {T : Type 0} (fs : List (CodeFrame T)) (k i : ℕ) (f : CodeFrame T) (b : Binding T) → InBlock fs k i → f ≡ get_or fs k f → b ≡ get_or f.bound i b → Some (bound_of b) ≡ got (slice_get (map frame_of fs) k) i
+got_block fs k i f b h p q = sym (ap (λ o. got o i) (frame_get fs k f (in_block fs k i h) p) ∙ bound_get f.bound i b (at_block fs k i f h p) q)
 
 -- a list around one of its elements
-pub put_in_set : {T : Type 0} (fs : List (CodeFrame T)) (k i : ℕ) (v : T) (f g : CodeFrame T) → k < length fs → f ≡ get_or fs k f → g.names ≡ f.names → bounds_of g.bound.items ≡ put (bounds_of f.bound.items) i v → map frame_of (set fs k g) ≡ put_in (map frame_of fs) k i v
+pub put_in_set : {T : Type 0} (fs : List (CodeFrame T)) (k i : ℕ) (v : T) (f g : CodeFrame T) → k < length fs → f ≡ get_or fs k f → g.names ≡ f.names → bounds_of g.bound ≡ put (bounds_of f.bound) i v → map frame_of (set fs k g) ≡ put_in (map frame_of fs) k i v
 put_in_set {T} [] k i v f g l p m e = absurd (omega (arith, l))
 put_in_set {T} (h ∷ fs) zero i v f g l p m e =
-    let a : frame_of g ≡ with_bound (frame_of f) (put (bounds_of f.bound.items) i v) = cc (m, e) in
-    ap (λ q. q ∷ map frame_of fs) (a ∙ ap (λ (q : CodeFrame T). with_bound (frame_of q) (put (bounds_of q.bound.items) i v)) p)
+    let a : frame_of g ≡ with_bound (frame_of f) (put (bounds_of f.bound) i v) = cc (m, e) in
+    ap (λ q. q ∷ map frame_of fs) (a ∙ ap (λ (q : CodeFrame T). with_bound (frame_of q) (put (bounds_of q.bound) i v)) p)
 put_in_set {T} (h ∷ fs) (suc k) i v f g l p m e = ap (λ q. frame_of h ∷ q) (put_in_set fs k i v f g (omega (arith, l)) p m e)
 
-put_in_split : {T : Type 0} (fs : List (CodeFrame T)) (k i : ℕ) (v : T) (f : CodeFrame T) → k < length fs → f ≡ get_or fs k f → put_in (map frame_of fs) k i v ≡ map frame_of (take k fs) ++ with_bound (frame_of f) (put (bounds_of f.bound.items) i v) ∷ map frame_of (drop (suc k) fs)
+put_in_split : {T : Type 0} (fs : List (CodeFrame T)) (k i : ℕ) (v : T) (f : CodeFrame T) → k < length fs → f ≡ get_or fs k f → put_in (map frame_of fs) k i v ≡ map frame_of (take k fs) ++ with_bound (frame_of f) (put (bounds_of f.bound) i v) ∷ map frame_of (drop (suc k) fs)
 put_in_split {T} [] k i v f l p = absurd (omega (arith, l))
-put_in_split {T} (h ∷ fs) zero i v f l p = ap (λ (q : CodeFrame T). with_bound (frame_of q) (put (bounds_of q.bound.items) i v) ∷ map frame_of fs) (sym p)
+put_in_split {T} (h ∷ fs) zero i v f l p = ap (λ (q : CodeFrame T). with_bound (frame_of q) (put (bounds_of q.bound) i v) ∷ map frame_of fs) (sym p)
 put_in_split {T} (h ∷ fs) (suc k) i v f l p = ap (λ q. frame_of h ∷ q) (put_in_split fs k i v f (omega (arith, l)) p)
 
 set_split : {X : Type 0} (xs : List X) (k : ℕ) (y : X) → k < length xs → set xs k y ≡ take k xs ++ y ∷ drop (suc k) xs
@@ -105,13 +105,13 @@ pub frames_split : {T : Type 0} (fs gs : List (CodeFrame T)) (f : CodeFrame T) �
 frames_split fs gs f = ap (λ q. reverse q) (map-append frame_of fs (f ∷ gs)) ∙ reverse_split (map frame_of fs) (map frame_of gs) (frame_of f)
 
 -- a declaration in the innermost block
-pub declare_last : {T : Type 0} (fs : List (CodeFrame T)) (k : ℕ) (f g : CodeFrame T) (top : List (Bound T)) (b : Binding T) → length fs ≡ suc k → f ≡ get_or fs k f → g.names ≡ f.names → g.bound.items ≡ f.bound.items ++ b ∷ [] → record { blocks = frames_of (set fs k g); top = top } ≡ declare (frames_of fs) top (bound_of b)
+pub declare_last : {T : Type 0} (fs : List (CodeFrame T)) (k : ℕ) (f g : CodeFrame T) (top : List (Bound T)) (b : Binding T) → length fs ≡ suc k → f ≡ get_or fs k f → g.names ≡ f.names → g.bound ≡ f.bound ++ b ∷ [] → record { blocks = frames_of (set fs k g); top = top } ≡ declare (frames_of fs) top (bound_of b)
 declare_last fs k f g top b l p m e =
     let h : k < length fs = omega arith in
     let last : drop (suc k) fs ≡ [] = drop_of_length-le fs {i = suc k} (omega arith) in
     let old : frames_of fs ≡ frame_of f ∷ frames_of (take k fs) = ap frames_of (whole_split fs k f h p) ∙ (ap (λ q. frames_of (take k fs ++ f ∷ q)) last ∙ frames_split (take k fs) [] f) in
     let new : frames_of (set fs k g) ≡ frame_of g ∷ frames_of (take k fs) = ap frames_of (set_split fs k g h) ∙ (ap (λ q. frames_of (take k fs ++ g ∷ q)) last ∙ frames_split (take k fs) [] g) in
-    let one : frame_of g ≡ with_bound (frame_of f) (bounds_of f.bound.items ++ bound_of b ∷ []) = cc (m, ap bounds_of e ∙ map-append bound_of f.bound.items (b ∷ [])) in
+    let one : frame_of g ≡ with_bound (frame_of f) (bounds_of f.bound ++ bound_of b ∷ []) = cc (m, ap bounds_of e ∙ map-append bound_of f.bound (b ∷ [])) in
     ap (λ q. record { blocks = q; top = top }) (new ∙ ap (λ q. q ∷ frames_of (take k fs)) one) ∙ ap (λ q. declare q top (bound_of b)) (sym old)
 
 -- blocks in front of a scope
@@ -145,7 +145,7 @@ module _ {T : Type 0} (fs : List (CodeFrame T)) (top : List (Bound T)) (x : List
   dropped = ap frames_of (drop_split fs k f l p) ∙ frames_split [] (drop (suc k) fs) f
 
   -- the block says nothing of the name
-  pub sought_on : Sought fs top x (suc k) → bound_in (bounds_of f.bound.items) x ≡ None → is_among (names_of f) x ≡ false → Sought fs top x k
+  pub sought_on : Sought fs top x (suc k) → bound_in (bounds_of f.bound) x ≡ None → is_among (names_of f) x ≡ false → Sought fs top x k
   sought_on h e d =
       let one : look (frame_of f ∷ frames_of (take k fs)) top x ≡ look (frames_of (take k fs)) top x = rw (e, d) refl in
       record {
@@ -159,33 +159,33 @@ module _ {T : Type 0} (fs : List (CodeFrame T)) (top : List (Bound T)) (x : List
       }
 
   -- the block declares the name, which was not evaluated
-  pub sought_unset : Sought fs top x (suc k) → bound_in (bounds_of f.bound.items) x ≡ None → is_among (names_of f) x ≡ true → look (frames_of fs) top x ≡ None
+  pub sought_unset : Sought fs top x (suc k) → bound_in (bounds_of f.bound) x ≡ None → is_among (names_of f) x ≡ true → look (frames_of fs) top x ≡ None
   sought_unset h e d =
       let one : look (frame_of f ∷ frames_of (take k fs)) top x ≡ None = rw (e, d) refl in
       sym h.looks ∙ (ap (λ q. look q top x) taken ∙ one)
 
   -- the block has it
-  sought_block : (i : ℕ) → Sought fs top x (suc k) → IsAt (bounds_of f.bound.items) x i → (look (frames_of fs) top x ≡ got (slice_get (map frame_of fs) k) i) × ((v : T) → write (frames_of fs) top x v ≡ record { blocks = reverse (put_in (map frame_of fs) k i v); top = top })
+  sought_block : (i : ℕ) → Sought fs top x (suc k) → IsAt (bounds_of f.bound) x i → (look (frames_of fs) top x ≡ got (slice_get (map frame_of fs) k) i) × ((v : T) → write (frames_of fs) top x v ≡ record { blocks = reverse (put_in (map frame_of fs) k i v); top = top })
   sought_block i h a =
-      let t = some_at (bounds_of f.bound.items) i a.within in
-      let e : bound_in (bounds_of f.bound.items) x ≡ Some t.0 = a.reads ∙ t.1 in
+      let t = some_at (bounds_of f.bound) i a.within in
+      let e : bound_in (bounds_of f.bound) x ≡ Some t.0 = a.reads ∙ t.1 in
       let one : look (frame_of f ∷ frames_of (take k fs)) top x ≡ Some t.0 = rw e refl in
       let there : got (slice_get (map frame_of fs) k) i ≡ Some t.0 = ap (λ o. got o i) (frame_get fs k f l p) ∙ t.1 in (
         sym h.looks ∙ (ap (λ q. look q top x) taken ∙ (one ∙ sym there)),
         λ v.
-            let two : write (frame_of f ∷ frames_of (take k fs)) top x v ≡ record { blocks = with_bound (frame_of f) (changed (bounds_of f.bound.items) x v) ∷ frames_of (take k fs); top = top } = rw e refl in
-            let three : reverse (put_in (map frame_of fs) k i v) ≡ frames_of (drop (suc k) fs) ++ with_bound (frame_of f) (put (bounds_of f.bound.items) i v) ∷ frames_of (take k fs) = ap (λ q. reverse q) (put_in_split fs k i v f l p) ∙ reverse_split (map frame_of (take k fs)) (map frame_of (drop (suc k) fs)) (with_bound (frame_of f) (put (bounds_of f.bound.items) i v)) in
+            let two : write (frame_of f ∷ frames_of (take k fs)) top x v ≡ record { blocks = with_bound (frame_of f) (changed (bounds_of f.bound) x v) ∷ frames_of (take k fs); top = top } = rw e refl in
+            let three : reverse (put_in (map frame_of fs) k i v) ≡ frames_of (drop (suc k) fs) ++ with_bound (frame_of f) (put (bounds_of f.bound) i v) ∷ frames_of (take k fs) = ap (λ q. reverse q) (put_in_split fs k i v f l p) ∙ reverse_split (map frame_of (take k fs)) (map frame_of (drop (suc k) fs)) (with_bound (frame_of f) (put (bounds_of f.bound) i v)) in
             sym (h.writes v)
             ∙ (ap (λ q. with_front (frames_of (drop (suc k) fs)) q) (ap (λ q. write q top x v) taken ∙ two)
             ∙ (ap (λ q. record { blocks = frames_of (drop (suc k) fs) ++ with_bound (frame_of f) q ∷ frames_of (take k fs); top = top }) (a.writes v)
             ∙ ap (λ q. record { blocks = q; top = top }) (sym three))),
       )
 
-pub block_place : {T : Type 0} (s : Scope T) (x : List ℕ) (n k i : ℕ) (f : CodeFrame T) → n ≡ suc k → k < length s.blocks.items → f ≡ get_or s.blocks.items k f → Sought s.blocks.items (bounds_of s.env) x n → IsAt (bounds_of f.bound.items) x i → IsPlace s x (Block k i)
+pub block_place : {T : Type 0} (s : Scope T) (x : List ℕ) (n k i : ℕ) (f : CodeFrame T) → n ≡ suc k → k < length s.blocks.items → f ≡ get_or s.blocks.items k f → Sought s.blocks.items (bounds_of s.env) x n → IsAt (bounds_of f.bound) x i → IsPlace s x (Block k i)
 block_place s x n k i f e l p h a =
     let h' : Sought s.blocks.items (bounds_of s.env) x (suc k) = subst (λ q. Sought s.blocks.items (bounds_of s.env) x q) e h in
     let t = sought_block s.blocks.items (bounds_of s.env) x k f l p i h' a in
-    let w : i < length f.bound.items = subst (λ q. i < q) (length-map f.bound.items bound_of) a.within in
+    let w : i < length f.bound = subst (λ q. i < q) (length-map f.bound bound_of) a.within in
     record { within = block_has s.blocks.items k i f l p w; reads = t.0; writes = t.1 }
 
 sought_top : {T : Type 0} (fs : List (CodeFrame T)) (top : List (Bound T)) (x : List ℕ) (n : ℕ) → n ≡ 0 → Sought fs top x n → (look (frames_of fs) top x ≡ bound_in top x) × ((v : T) → write (frames_of fs) top x v ≡ record { blocks = frames_of fs; top = changed top x v })
@@ -216,12 +216,12 @@ frame_kept [] k f g l p e = absurd (omega (arith, l))
 frame_kept (h ∷ fs) zero f g l p e = cc (p, e)
 frame_kept (h ∷ fs) (suc k) f g l p e = ap (λ q. frame_of h ∷ q) (frame_kept fs k f g (omega (arith, l)) p e)
 
-pub declare_kept : {T E : Type 0} (r : Result (Unit {0}) E) (fs : List (CodeFrame T)) (k : ℕ) (f g : CodeFrame T) → length fs ≡ k + 1 → f ≡ get_or fs k f → g.names ≡ f.names → OnErr r (g.bound.items ≡ f.bound.items) → OnErr r (frames_of (set fs k g) ≡ frames_of fs)
+pub declare_kept : {T E : Type 0} (r : Result (Unit {0}) E) (fs : List (CodeFrame T)) (k : ℕ) (f g : CodeFrame T) → length fs ≡ k + 1 → f ≡ get_or fs k f → g.names ≡ f.names → OnErr r (g.bound ≡ f.bound) → OnErr r (frames_of (set fs k g) ≡ frames_of fs)
 declare_kept (Ok v) fs k f g l p m e = tt
 declare_kept (Err s) fs k f g l p m e =
     let same : frame_of g ≡ frame_of f = cc (m, e) in
     ap (λ q. reverse q) (frame_kept fs k f g (omega (arith, l)) p same)
 
-pub declare_on : {T : Type 0} {E : Type 0} (r : Result (Unit {0}) E) (fs : List (CodeFrame T)) (k : ℕ) (f g : CodeFrame T) (b : Binding T) → length fs ≡ k + 1 → f ≡ get_or fs k f → g.names ≡ f.names → OnOk r (g.bound.items ≡ f.bound.items ++ b ∷ []) → OnOk r ((top : List (Bound T)) → record { blocks = frames_of (set fs k g); top = top } ≡ declare (frames_of fs) top (bound_of b))
+pub declare_on : {T : Type 0} {E : Type 0} (r : Result (Unit {0}) E) (fs : List (CodeFrame T)) (k : ℕ) (f g : CodeFrame T) (b : Binding T) → length fs ≡ k + 1 → f ≡ get_or fs k f → g.names ≡ f.names → OnOk r (g.bound ≡ f.bound ++ b ∷ []) → OnOk r ((top : List (Bound T)) → record { blocks = frames_of (set fs k g); top = top } ≡ declare (frames_of fs) top (bound_of b))
 declare_on (Ok v) fs k f g b l p m e = λ top. declare_last fs k f g top b (omega (arith, l)) p m e
 declare_on (Err s) fs k f g b l p m e = tt

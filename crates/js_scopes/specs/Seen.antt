@@ -1,5 +1,5 @@
 -- What the scope of the code stands for.
-use Rattle.std.specs.Prelude.{◌≡◌, ℕ, zero, suc, ◌<◌, length, List, [], ◌∷◌, map, reverse, Option, slice_get, option_and_then, option_map, unwrap_or}
+use Rattle.std.specs.Prelude.{◌≡◌, ℕ, zero, suc, ◌<◌, length, List, [], ◌∷◌, map, reverse, Option, slice_get, option_and_then, unwrap_or}
 use Rattle.js_scopes.specs.declared.env.Binding.{Binding}
 use Rattle.js_scopes.specs.declared.scope.Frame.{Frame as CodeFrame}
 use Rattle.js_scopes.specs.declared.scope.Scope.{Scope}
@@ -14,10 +14,10 @@ abbrev pub bounds_of : {T : Type 0} → List (Binding T) → List (Bound T)
 bounds_of bs = map bound_of bs
 
 abbrev pub names_of : {T : Type 0} → CodeFrame T → List (List ℕ)
-names_of f = unwrap_or (option_map (λ n. n.now) f.names) []
+names_of f = unwrap_or f.names []
 
 abbrev pub frame_of : {T : Type 0} → CodeFrame T → Frame T
-frame_of f = record { names = names_of f; bound = bounds_of f.bound.items }
+frame_of f = record { names = names_of f; bound = bounds_of f.bound }
 
 -- the vector has the innermost block at its end
 abbrev pub frames_of : {T : Type 0} → List (CodeFrame T) → List (Frame T)
@@ -56,7 +56,7 @@ put_at s (Block k i) v = record { blocks = reverse (put_in (map frame_of s.block
 
 abbrev pub InBlock : {T : Type 0} → List (CodeFrame T) → ℕ → ℕ → Type 0
 InBlock [] k i = ⊥
-InBlock (f ∷ fs) zero i = i < length f.bound.items
+InBlock (f ∷ fs) zero i = i < length f.bound
 InBlock (f ∷ fs) (suc k) i = InBlock fs k i
 
 abbrev pub Within : {T : Type 0} → Scope T → Place → Type 0

@@ -1,16 +1,13 @@
-// The bindings of a script's top.
-ghost use Rattle.std.specs.Prelude.{◌≡◌, ◌<◌, ◌∷◌, ◌++◌, [], ℕ, List, None, length, MatchOption, IfOk, OnOk, OnErr, IsSome};
-ghost use Rattle.std.specs.Ordering.{nat_cmp};
-ghost use Rattle.std.specs.Map.{lookup};
-ghost use Rattle.std.specs.BTreeMap.{is_at};
+// The bindings of a script's top, and of a block.
+ghost use Rattle.std.specs.Prelude.{◌≡◌, ◌<◌, ◌≤◌, ◌∷◌, ◌++◌, [], None, length, MatchOption, IfOk, OnOk, OnErr};
 ghost use Rattle.js_scopes.specs.Index.{IsIndex, NoneNamed};
 ghost use Rattle.js_scopes.specs.Bindings.{bound_in};
 ghost use Rattle.js_scopes.specs.Seen.{bound_of, bounds_of, put, IsAt};
 
+use crate::index::{FEW, Index};
 use js_syntax::Name;
 use js_units::NoMemory;
 use std::alloc::Global;
-use std::collections::BTreeMap;
 use std::marker::Model;
 
 /// A name that was declared and evaluated, whether by `const`, and its value.
@@ -21,13 +18,14 @@ pub struct Binding<T> {
     pub value: T,
 }
 
-/// The bindings of a script's top, in the order of their declarations. Contracts see them as a list.
-/// A name is sought from the first one on that has its key, so that thousands of names cost little.
+/// Bindings in the order of their declarations. Contracts see them as a list. The first few are looked
+/// at one after another; behind them a name is sought from the first one on that has its key, so that
+/// thousands of names cost little.
 #[derive(Drop)]
 pub struct Env<T> {
     bindings: Vec<Binding<T>>,
-    // the place from which the names of a key stand
-    first: BTreeMap<u32, usize>,
+    // behind the first few, the place from which the names of a key stand
+    first: Index,
 }
 
 impl<T> Model for Env<T> {
@@ -39,7 +37,7 @@ impl<T> Model for Env<T> {
 
     ghost view = { λ e. e.bindings.items };
 
-    ghost invariant = { λ e. IsIndex e.first.entries (names_in e.bindings.items) };
+    ghost invariant = { λ e. IsIndex e.first (names_in e.bindings.items) };
 }
 
 impl<T: Drop> Env<T> {
@@ -49,7 +47,7 @@ impl<T: Drop> Env<T> {
     {
         Env {
             bindings: Vec::new(alloc),
-            first: BTreeMap::new(alloc),
+            first: Index::new(),
         }
     }
 
@@ -65,9 +63,13 @@ impl<T: Drop> Env<T> {
         ensures { MatchOption result (bound_in (bounds_of self.now) name.now ≡ None)
             (λ i. IsAt (bounds_of self.now) name.now i) }
     {
-        match self.first.get(&name.key()) {
-            Some(start) => position_from(&self.bindings, *start, name),
-            None => None,
+        let all = self.bindings.len();
+        match position_in(&self.bindings, 0, FEW.min(all), name) {
+            Some(index) => Some(index),
+            None => match self.first.start(name.key()) {
+                Some(start) => position_in(&self.bindings, start, all, name),
+                None => None,
+            },
         }
     }
 
@@ -77,8 +79,12 @@ impl<T: Drop> Env<T> {
         ensures refused { OnErr result (self.new ≡ self.old) }
     {
         let place = self.bindings.len();
-        index_key(&mut self.first, binding.name.key(), place)?;
-        push(&mut self.bindings, binding)
+        let alloc = *self.bindings.allocator();
+        self.first.note(alloc, binding.name.key(), place)?;
+        match self.bindings.push(binding) {
+            Ok(()) => Ok(()),
+            Err(_) => Err(NoMemory),
+        }
     }
 
     /// Another value for one binding.
@@ -90,21 +96,14 @@ impl<T: Drop> Env<T> {
     }
 }
 
-/// The first binding of a name in a list.
-pub(crate) fn position<T>(bound: &[Binding<T>], name: &Name) -> Option<usize>
-    ensures { MatchOption result (bound_in (bounds_of bound.now) name.now ≡ None)
+// The first binding of a name, which no binding before `start` has, among those before `end`.
+fn position_in<T>(bound: &[Binding<T>], start: usize, end: usize, name: &Name) -> Option<usize>
+    requires within { end ≤ length bound.now }
+    requires before { NoneNamed bound.now name.now start }
+    ensures { MatchOption result (NoneNamed bound.now name.now end)
         (λ i. IsAt (bounds_of bound.now) name.now i) }
 {
-    position_from(bound, 0, name)
-}
-
-// The same where no binding before `start` has the name.
-fn position_from<T>(bound: &[Binding<T>], start: usize, name: &Name) -> Option<usize>
-    requires { NoneNamed bound.now name.now start }
-    ensures { MatchOption result (bound_in (bounds_of bound.now) name.now ≡ None)
-        (λ i. IsAt (bounds_of bound.now) name.now i) }
-{
-    for i in start..bound.len() {
+    for i in start..end {
         if bound[i].name.is(name) {
             return Some(i);
         }
@@ -112,40 +111,11 @@ fn position_from<T>(bound: &[Binding<T>], start: usize, name: &Name) -> Option<u
     None
 }
 
-// A key that is new gets the place behind all names.
-fn index_key(first: &mut BTreeMap<u32, usize>, key: u32, place: usize) -> Result<(), NoMemory>
-    ensures indexed { (ns : List (List ℕ)) → place ≡ length ns → IsIndex first.old.entries ns → IsIndex first.new.entries ns }
-    ensures found { OnOk result (IsSome (lookup (is_at (nat_cmp key)) first.new.entries)) }
-{
-    if first.contains_key(&key) {
-        return Ok(());
-    }
-    match first.insert(key, place) {
-        Ok(_) => Ok(()),
-        Err(_) => Err(NoMemory),
-    }
-}
-
-/// Another value for one binding of a list.
-pub(crate) fn set_value<T: Drop>(bound: &mut Vec<Binding<T>>, index: usize, value: T)
+fn set_value<T: Drop>(bound: &mut Vec<Binding<T>>, index: usize, value: T)
     requires { index < length bound.old.items }
     ensures { bounds_of bound.new.items ≡ put (bounds_of bound.old.items) index value }
 {
     bound[index].value = value;
-}
-
-/// One more binding of a list.
-pub(crate) fn push<T: Drop>(
-    bound: &mut Vec<Binding<T>>,
-    binding: Binding<T>,
-) -> Result<(), NoMemory>
-    ensures added { OnOk result (bound.new.items ≡ bound.old.items ++ binding ∷ []) }
-    ensures refused { OnErr result (bound.new.items ≡ bound.old.items) }
-{
-    match bound.push(binding) {
-        Ok(()) => Ok(()),
-        Err(_) => Err(NoMemory),
-    }
 }
 
 /// A binding of a name.

@@ -5,7 +5,9 @@
 #![tactic(auto)]
 
 mod env;
+mod index;
 mod scope;
 
 pub use env::{Binding, Env};
+pub use index::Declared;
 pub use scope::{Frame, Place, Scope};

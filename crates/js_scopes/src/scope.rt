@@ -3,7 +3,8 @@ ghost use Rattle.std.specs.Prelude.{◌≡◌, ◌∷◌, ◌+◌, [], ℕ, Some
 ghost use Rattle.js_scopes.specs.Bindings.{is_among, Bound, meant, declare, declared, entered, turned, inside, outer};
 ghost use Rattle.js_scopes.specs.Seen.{bound_of, bounds_of, names_of, frame_of, frames_of, bindings_of, put_in, InBlock, bound_at, put_at, Within, IsPlace};
 
-use crate::env::{Binding, Env, bind_name, position, push, set_value};
+use crate::env::{Binding, Env, bind_name};
+use crate::index::Declared;
 use js_syntax::{Name, Names};
 use js_units::NoMemory;
 use std::alloc::Global;
@@ -12,8 +13,8 @@ use std::alloc::Global;
 /// `for` has no names beside the one that is bound.
 #[derive(Drop)]
 pub struct Frame<'a, T> {
-    pub names: Option<&'a Names>,
-    pub bound: Vec<Binding<T>>,
+    pub names: Option<Declared<'a>>,
+    pub bound: Env<T>,
 }
 
 /// The blocks that were entered, the innermost at the end, and the top.
@@ -39,7 +40,7 @@ impl<'a, T: Drop> Scope<'a, T> {
     {
         for block in (0..self.blocks.len()).rev() {
             let frame = &self.blocks[block];
-            if let Some(index) = position(&frame.bound, name) {
+            if let Some(index) = frame.bound.position(name) {
                 return Some(Place::Block { block, index });
             }
             if declares(frame, name) {
@@ -59,7 +60,7 @@ impl<'a, T: Drop> Scope<'a, T> {
     {
         match place {
             Place::Top { index } => &self.env.list()[index],
-            Place::Block { block, index } => &self.blocks[block].bound[index],
+            Place::Block { block, index } => &self.blocks[block].bound.list()[index],
         }
     }
 
@@ -94,13 +95,9 @@ impl<'a, T: Drop> Scope<'a, T> {
         ensures entered { OnOk result (bindings_of self.new ≡ entered names.now (bindings_of self.old)) }
         ensures refused { OnErr result (bindings_of self.new ≡ bindings_of self.old) }
     {
-        push_frame(
-            self,
-            Frame {
-                names: Some(names),
-                bound: Vec::new(alloc),
-            },
-        )
+        let names = Some(Declared::new(alloc, names)?);
+        let bound = Env::new(alloc);
+        push_frame(self, Frame { names, bound })
     }
 
     /// Enters a turn of a `for`, with its name bound; unchanged on refusal.
@@ -109,8 +106,8 @@ impl<'a, T: Drop> Scope<'a, T> {
         ensures refused { OnErr result (bindings_of self.new ≡ bindings_of self.old) }
     {
         let binding = bind_name(name, false, value)?;
-        let mut bound = Vec::new(alloc);
-        push(&mut bound, binding)?;
+        let mut bound = Env::new(alloc);
+        bound.push(binding)?;
         push_frame(self, Frame { names: None, bound })
     }
 
@@ -127,7 +124,7 @@ fn set_in_block<T: Drop>(blocks: &mut Vec<Frame<T>>, block: usize, index: usize,
     requires { InBlock blocks.old.items block index }
     ensures { map frame_of blocks.new.items ≡ put_in (map frame_of blocks.old.items) block index value }
 {
-    set_value(&mut blocks[block].bound, index, value)
+    blocks[block].bound.set(index, value)
 }
 
 // One more binding of the last block.
@@ -142,7 +139,7 @@ fn declare_in_block<T: Drop>(
         (frames_of blocks.old.items) top (bound_of binding)) }
     ensures refused { OnErr result (frames_of blocks.new.items ≡ frames_of blocks.old.items) }
 {
-    push(&mut blocks[last].bound, binding)
+    blocks[last].bound.push(binding)
 }
 
 fn push_frame<'a, T: Drop>(scope: &mut Scope<'a, T>, frame: Frame<'a, T>) -> Result<(), NoMemory>
@@ -160,19 +157,8 @@ fn push_frame<'a, T: Drop>(scope: &mut Scope<'a, T>, frame: Frame<'a, T>) -> Res
 fn declares<T>(frame: &Frame<T>, name: &Name) -> bool
     ensures { result ≡ is_among (names_of frame.now) name.now }
 {
-    match frame.names {
-        Some(names) => is_one_of(names.as_slice(), name),
+    match &frame.names {
+        Some(names) => names.has(name),
         None => false,
     }
-}
-
-fn is_one_of(names: &[Name], name: &Name) -> bool
-    ensures { result ≡ is_among names.now name.now }
-{
-    for n in names {
-        if n.is(name) {
-            return true;
-        }
-    }
-    false
 }

@@ -1,4 +1,4 @@
-use Rattle.std.proofs.Common.{sym, arith}
+use Rattle.std.proofs.Common.{ap, length, sym, arith}
 use Rattle.js_scopes.proofs.Places.{in_block, at_block, bound_get, got_block}
 use Rattle.js_scopes.proofs.scope.Scope.at.Goals as goal
 
@@ -7,10 +7,15 @@ index-requires g c =
     let h = rw c.in-Block.is at c.requires in
     omega (arith, in_block c.args.self.now.blocks.items c.in-Block.block c.in-Block.index h)
 
-pub index-requires-in-Block : goal.index-requires-in-Block
-index-requires-in-Block g c =
+pub bounds-list-index-in-Block : goal.bounds-list-index-in-Block
+bounds-list-index-in-Block g c =
     let h = rw c.in-Block.is at c.requires in
-    omega (arith, at_block c.args.self.now.blocks.items c.in-Block.block c.in-Block.index c.index.result.now h c.index.ensures)
+    omega (arith, ap length c.list-in-Block.ensures, at_block c.args.self.now.blocks.items c.in-Block.block c.in-Block.index c.index.result.now h c.index.ensures)
+
+pub offset_bounds-list-index-in-Block : goal.offset_bounds-list-index-in-Block
+offset_bounds-list-index-in-Block g c =
+    let h = rw c.in-Block.is at c.requires in
+    omega (arith, ap length c.list-in-Block.ensures, at_block c.args.self.now.blocks.items c.in-Block.block c.in-Block.index c.index.result.now h c.index.ensures)
 
 pub returns-in-Top : goal.returns-in-Top
 returns-in-Top g c =
@@ -20,4 +25,4 @@ returns-in-Top g c =
 pub returns-in-Block : goal.returns-in-Block
 returns-in-Block g c =
     let h = rw c.in-Block.is at c.requires in
-    rw (c.in-Block.is) (got_block c.args.self.now.blocks.items c.in-Block.block c.in-Block.index c.index.result.now c.index-in-Block.result.now h c.index.ensures c.index-in-Block.ensures)
+    rw (c.in-Block.is) (got_block c.args.self.now.blocks.items c.in-Block.block c.in-Block.index c.index.result.now c.index-list-index-in-Block.result h c.index.ensures (rw c.list-in-Block.ensures at c.index-list-index-in-Block.is))

@@ -9,7 +9,7 @@ loop-block-init g c = sought_all c.args.self.now.blocks.items (bounds_of c.args.
 pub returns-in-Some : goal.returns-in-Some
 returns-in-Some g c =
     let k = c.loop-block.block - 1 in
-    block_place c.args.self.now c.args.name.now c.loop-block.block k c.in-Some.index c.index-frame.result.now (omega arith) (omega arith) c.index-frame.ensures c.loop-block.invariant (rw c.deref.ensures.value at c.in-Some.ensures)
+    block_place c.args.self.now c.args.name.now c.loop-block.block k c.in-Some.index c.index-frame.result.now (omega arith) (omega arith) c.index-frame.ensures c.loop-block.invariant c.in-Some.ensures
 
 pub returns-then-declares : goal.returns-then-declares
 returns-then-declares g c =
@@ -18,7 +18,7 @@ returns-then-declares g c =
     let top = bounds_of c.args.self.now.env in
     let e : c.loop-block.block ≡ suc k = omega arith in
     let l : k < length fs = omega arith in
-    sought_unset fs top c.args.name.now k c.index-frame.result.now l c.index-frame.ensures (subst (λ q. Sought fs top c.args.name.now q) e c.loop-block.invariant) (rw c.deref.ensures.value at c.in_default.ensures) (sym c.declares.ensures ∙ c.if-declares.true)
+    sought_unset fs top c.args.name.now k c.index-frame.result.now l c.index-frame.ensures (subst (λ q. Sought fs top c.args.name.now q) e c.loop-block.invariant) c.in_default.ensures (sym c.declares.ensures ∙ c.if-declares.true)
 
 pub loop-block-preserved : goal.loop-block-preserved
 loop-block-preserved g c =
@@ -27,7 +27,7 @@ loop-block-preserved g c =
     let top = bounds_of c.args.self.now.env in
     let e : c.loop-block.block ≡ suc k = omega arith in
     let l : k < length fs = omega arith in
-    sought_on fs top c.args.name.now k c.index-frame.result.now l c.index-frame.ensures (subst (λ q. Sought fs top c.args.name.now q) e c.loop-block.invariant) (rw c.deref.ensures.value at c.in_default.ensures) (sym c.declares.ensures ∙ c.if-declares.false)
+    sought_on fs top c.args.name.now k c.index-frame.result.now l c.index-frame.ensures (subst (λ q. Sought fs top c.args.name.now q) e c.loop-block.invariant) c.in_default.ensures (sym c.declares.ensures ∙ c.if-declares.false)
 
 pub returns-in-Some-position : goal.returns-in-Some-position
 returns-in-Some-position g c =
