@@ -1,25 +1,20 @@
--- A reserved word is one of its length.
-use Rattle.std.proofs.Common.{◌≡◌, ℕ, ◌<◌, Bool, true, false, cond, List, [], ◌∷◌, ◌++◌, length, refl, sym, ap, ◌∙◌, eq-eqb}
-use Rattle.std.specs.Prelude.{nat_lt, nat_eq}
+-- Reserved words by their length, and words that stand one behind the other.
+use Rattle.std.proofs.Common.{◌≡◌, ℕ, suc, ◌+◌, ◌<◌, ◌≤◌, Bool, true, false, cond, List, [], ◌∷◌, ◌++◌, length, take, drop, refl, sym, ap, ◌∙◌, arith, eq-eqb, eqb-true, take_at, drop_at, length-append, ◌-◌, take_all, length-drop, le_of_eq}
+use Rattle.std.specs.Prelude.{nat_eq, filter}
 use Rattle.std.specs.Str.{bytes_eq}
-use Rattle.std.proofs.lemmas.Bool.{lt-ltb}
 use Rattle.std.proofs.lemmas.Slice.Eq.{bytes_eq-Decides}
 use Rattle.js_token.specs.Words.{reserved_words, kept_words, is_in, is_reserved}
-use Rattle.js_token.specs.Lengths.{short, of_five, of_six, of_seven, of_eight, of_nine, long}
+use Rattle.js_token.specs.Lengths.{of_length, spaced, all_have}
 
-abbrev keep : (List ℕ → Bool) → List (List ℕ) → List (List ℕ)
-keep p [] = []
-keep p (w ∷ ws) = cond (p w) (w ∷ keep p ws) (keep p ws)
-
-in_kept : (p : List ℕ → Bool) (letters : List ℕ) → p letters ≡ true → (ws : List (List ℕ)) → is_in letters ws ≡ is_in letters (keep p ws)
+in_kept : (p : List ℕ → Bool) (letters : List ℕ) → p letters ≡ true → (ws : List (List ℕ)) → is_in letters ws ≡ is_in letters (filter p ws)
 in_kept p letters h [] = refl
 in_kept p letters h (w ∷ ws) = go (in_kept p letters h ws) (p w) refl
   where
-    other : is_in letters ws ≡ is_in letters (keep p ws) → p w ≡ false → (b : Bool) → bytes_eq letters w ≡ b → cond b true (is_in letters ws) ≡ is_in letters (keep p ws)
+    other : is_in letters ws ≡ is_in letters (filter p ws) → p w ≡ false → (b : Bool) → bytes_eq letters w ≡ b → cond b true (is_in letters ws) ≡ is_in letters (filter p ws)
     other ih e true same = let k : letters ≡ w = (bytes_eq-Decides letters w).0 same in let f : true ≡ false = sym h ∙ (ap p k ∙ e) in absurd (cc)
     other ih e false same = ih
 
-    go : is_in letters ws ≡ is_in letters (keep p ws) → (b : Bool) → p w ≡ b → is_in letters (w ∷ ws) ≡ is_in letters (cond b (w ∷ keep p ws) (keep p ws))
+    go : is_in letters ws ≡ is_in letters (filter p ws) → (b : Bool) → p w ≡ b → is_in letters (w ∷ ws) ≡ is_in letters (cond b (w ∷ filter p ws) (filter p ws))
     go ih true e = ap (λ r. cond (bytes_eq letters w) true r) ih
     go ih false e = other ih e (bytes_eq letters w) refl
 
@@ -31,26 +26,74 @@ in_both letters (w ∷ ws) more = go (in_both letters ws more) (bytes_eq letters
     go ih true = refl
     go ih false = ih
 
-in_group : (p : List ℕ → Bool) (letters : List ℕ) (group : List (List ℕ)) → keep p (reserved_words ++ kept_words) ≡ group → p letters ≡ true → is_in letters group ≡ is_reserved letters
-in_group p letters group e h = sym (in_both letters reserved_words kept_words ∙ (in_kept p letters h (reserved_words ++ kept_words) ∙ ap (is_in letters) e))
+pub in_of_length : (letters : List ℕ) → is_in letters (of_length (length letters)) ≡ is_reserved letters
+in_of_length letters = sym (in_both letters reserved_words kept_words ∙ in_kept (λ w. nat_eq (length w) (length letters)) letters (eq-eqb (length letters) (length letters) refl) (reserved_words ++ kept_words))
 
-pub in_short : (letters : List ℕ) → length letters < 5 → is_in letters short ≡ is_reserved letters
-in_short letters h = in_group (λ w. nat_lt (length w) 5) letters short refl (lt-ltb (length letters) 5 h)
+have_length : (n : ℕ) (ws : List (List ℕ)) → all_have n (filter (λ w. nat_eq (length w) n) ws) ≡ true
+have_length n [] = refl
+have_length n (w ∷ ws) = go (have_length n ws) (nat_eq (length w) n) refl
+  where
+    kept : List (List ℕ)
+    kept = filter (λ v. nat_eq (length v) n) ws
 
-pub in_five : (letters : List ℕ) → length letters ≡ 5 → is_in letters of_five ≡ is_reserved letters
-in_five letters h = in_group (λ w. nat_eq (length w) 5) letters of_five refl (eq-eqb (length letters) 5 h)
+    go : all_have n kept ≡ true → (b : Bool) → nat_eq (length w) n ≡ b → all_have n (cond b (w ∷ kept) kept) ≡ true
+    go ih true e = ap (λ c. cond c (all_have n kept) false) e ∙ ih
+    go ih false e = ih
 
-pub in_six : (letters : List ℕ) → length letters ≡ 6 → is_in letters of_six ≡ is_reserved letters
-in_six letters h = in_group (λ w. nat_eq (length w) 6) letters of_six refl (eq-eqb (length letters) 6 h)
+pub all_of_length : (n : ℕ) → all_have n (of_length n) ≡ true
+all_of_length n = have_length n (reserved_words ++ kept_words)
 
-pub in_seven : (letters : List ℕ) → length letters ≡ 7 → is_in letters of_seven ≡ is_reserved letters
-in_seven letters h = in_group (λ w. nat_eq (length w) 7) letters of_seven refl (eq-eqb (length letters) 7 h)
+-- the first of some words, with what stands behind its blank
+pub record First (n : ℕ) (text : List ℕ) (ws : List (List ℕ)) : Type 0 where
+  word : List ℕ
+  rest : List (List ℕ)
+  whole : ws ≡ word ∷ rest
+  stands : take n text ≡ word
+  behind : drop 1 (drop n text) ≡ spaced rest
+  all : all_have n rest ≡ true
 
-pub in_eight : (letters : List ℕ) → length letters ≡ 8 → is_in letters of_eight ≡ is_reserved letters
-in_eight letters h = in_group (λ w. nat_eq (length w) 8) letters of_eight refl (eq-eqb (length letters) 8 h)
+split_first : (n : ℕ) (w : List ℕ) (ws : List (List ℕ)) → all_have n (w ∷ ws) ≡ true → (length w ≡ n) × (all_have n ws ≡ true)
+split_first n w ws h = go (nat_eq (length w) n) refl h
+  where
+    go : (b : Bool) → nat_eq (length w) n ≡ b → cond b (all_have n ws) false ≡ true → (length w ≡ n) × (all_have n ws ≡ true)
+    go true e h = (eqb-true (length w) n e, h)
+    go false e h = absurd (cc)
 
-pub in_nine : (letters : List ℕ) → length letters ≡ 9 → is_in letters of_nine ≡ is_reserved letters
-in_nine letters h = in_group (λ w. nat_eq (length w) 9) letters of_nine refl (eq-eqb (length letters) 9 h)
+pub first_of : (n : ℕ) (text : List ℕ) (ws : List (List ℕ)) → n < length text → all_have n ws ≡ true → text ≡ spaced ws → First n text ws
+first_of n text [] more h e = absurd (let k : length text ≡ 0 = ap length e in omega arith)
+first_of n text (w ∷ ws) more h e =
+    let s = split_first n w ws h in
+    record {
+      word = w;
+      rest = ws;
+      whole = refl;
+      stands = ap (take n) e ∙ take_at w (32 ∷ spaced ws) n s.0;
+      behind = ap (λ t. drop 1 (drop n t)) e ∙ ap (drop 1) (drop_at w (32 ∷ spaced ws) n s.0);
+      all = s.1;
+    }
 
-pub in_long : (letters : List ℕ) → 9 < length letters → is_in letters long ≡ is_reserved letters
-in_long letters h = in_group (λ w. nat_lt 9 (length w)) letters long refl (lt-ltb 9 (length letters) h)
+pub none_left : (letters text : List ℕ) (ws : List (List ℕ)) → length text ≤ length letters → all_have (length letters) ws ≡ true → text ≡ spaced ws → false ≡ is_in letters ws
+none_left letters text [] less h e = refl
+none_left letters text (w ∷ ws) less h e = absurd (
+    let s = split_first (length letters) w ws h in
+    let k : length text ≡ length w + length (32 ∷ spaced ws) = ap length e ∙ length-append w (32 ∷ spaced ws) in
+    let m : length (32 ∷ spaced ws) ≡ suc (length (spaced ws)) = refl in
+    omega arith)
+
+pub is_first : (letters text word : List ℕ) (found : Bool) → length letters < length text → word ≡ take (length letters) text → found ≡ bytes_eq letters word → found ≡ true
+    → (ws : List (List ℕ)) → all_have (length letters) ws ≡ true → text ≡ spaced ws → found ≡ is_in letters ws
+is_first letters text word found more w f t ws h e =
+    let s = first_of (length letters) text ws more h e in
+    let same : bytes_eq letters s.word ≡ true = ap (bytes_eq letters) (sym s.stands ∙ sym w) ∙ (sym f ∙ t) in
+    t ∙ sym (ap (is_in letters) s.whole ∙ ap (λ b. cond b true (is_in letters s.rest)) same)
+
+pub is_behind : (letters text word behind rest : List ℕ) (found result : Bool) → length letters < length text → word ≡ take (length letters) text → behind ≡ drop (length letters) text
+    → rest ≡ take (length behind - 1) (drop 1 behind) → found ≡ bytes_eq letters word → found ≡ false
+    → ((ws : List (List ℕ)) → all_have (length letters) ws ≡ true → rest ≡ spaced ws → result ≡ is_in letters ws)
+    → (ws : List (List ℕ)) → all_have (length letters) ws ≡ true → text ≡ spaced ws → result ≡ is_in letters ws
+is_behind letters text word behind rest found result more w b r f t others ws h e =
+    let s = first_of (length letters) text ws more h e in
+    let other : bytes_eq letters s.word ≡ false = ap (bytes_eq letters) (sym s.stands ∙ sym w) ∙ (sym f ∙ t) in
+    let all : take (length behind - 1) (drop 1 behind) ≡ drop 1 behind = take_all (length behind - 1) (drop 1 behind) (le_of_eq (length-drop 1 behind)) in
+    let left : rest ≡ spaced s.rest = r ∙ (all ∙ (ap (drop 1) b ∙ s.behind)) in
+    others s.rest s.all left ∙ sym (ap (is_in letters) s.whole ∙ ap (λ b. cond b true (is_in letters s.rest)) other)

@@ -1,6 +1,7 @@
 -- Words (ECMA-262, "Keywords and Reserved Words"), and the names that mean something behind a point.
 use Rattle.std.specs.Prelude.{ℕ, List, [], ◌∷◌, codes, Bool, true, false, Option, Some, None, if◌then◌else◌}
 use Rattle.std.specs.Str.{bytes_eq}
+use Rattle.js_syntax.specs.declared.tree.Method.{Method}
 use Rattle.js_syntax.specs.declared.tree.Method.TheVariants as method
 use Rattle.js_syntax.specs.declared.token.Word.{Word}
 use Rattle.js_syntax.specs.declared.token.Word.TheVariants as word
@@ -47,16 +48,26 @@ is_in letters (w ∷ ws) = if bytes_eq letters w then true else is_in letters ws
 abbrev pub is_reserved : List ℕ → Bool
 is_reserved letters = if is_in letters reserved_words then true else is_in letters kept_words
 
--- a word with a meaning of its own
-abbrev pub keyword_of : List ℕ → Option Word
-keyword_of letters =
+-- the first of two that is there
+abbrev pub first_there : {A : Type 0} → Option A → Option A → Option A
+first_there (Some x) other = Some x
+first_there None other = other
+
+-- a word by which a statement begins or goes on
+abbrev pub statement_word : List ℕ → Option Word
+statement_word letters =
     if bytes_eq letters (codes "let") then Some word.Let
     else if bytes_eq letters (codes "const") then Some word.Const
     else if bytes_eq letters (codes "print") then Some word.Print
     else if bytes_eq letters (codes "if") then Some word.If
     else if bytes_eq letters (codes "else") then Some word.Else
     else if bytes_eq letters (codes "for") then Some word.For
-    else if bytes_eq letters (codes "undefined") then Some word.Undefined
+    else None
+
+-- a word by which an operand begins
+abbrev pub operand_word : List ℕ → Option Word
+operand_word letters =
+    if bytes_eq letters (codes "undefined") then Some word.Undefined
     else if bytes_eq letters (codes "null") then Some word.Null
     else if bytes_eq letters (codes "true") then Some word.True
     else if bytes_eq letters (codes "false") then Some word.False
@@ -67,6 +78,10 @@ keyword_of letters =
     else if bytes_eq letters (codes "JSON") then Some word.Json
     else None
 
+-- a word with a meaning of its own
+abbrev pub keyword_of : List ℕ → Option Word
+keyword_of letters = first_there (statement_word letters) (operand_word letters)
+
 -- one that has a meaning, one that has none, or a name
 abbrev pub word_or : Option Word → Bool → Option Word
 word_or (Some w) reserved = Some w
@@ -76,38 +91,70 @@ word_or None false = None
 abbrev pub word_of : List ℕ → Option Word
 word_of letters = word_or (keyword_of letters) (is_reserved letters)
 
+-- a name behind a point that is no method of strings or arrays
+abbrev pub other_property : List ℕ → Option Property
+other_property letters =
+    if bytes_eq letters (codes "length") then Some property.Length
+    else if bytes_eq letters (codes "description") then Some property.Description
+    else if bytes_eq letters (codes "fromCharCode") then Some property.FromCharCode
+    else if bytes_eq letters (codes "fromCodePoint") then Some property.FromCodePoint
+    else if bytes_eq letters (codes "keyFor") then Some property.KeyFor
+    else if bytes_eq letters (codes "stringify") then Some property.Stringify
+    else None
+
+-- a method that gives or looks at single units
+abbrev pub unit_method : List ℕ → Option Method
+unit_method letters =
+    if bytes_eq letters (codes "at") then Some method.At
+    else if bytes_eq letters (codes "charAt") then Some method.CharAt
+    else if bytes_eq letters (codes "charCodeAt") then Some method.CharCodeAt
+    else if bytes_eq letters (codes "codePointAt") then Some method.CodePointAt
+    else if bytes_eq letters (codes "isWellFormed") then Some method.IsWellFormed
+    else if bytes_eq letters (codes "toWellFormed") then Some method.ToWellFormed
+    else None
+
+-- a method that searches
+abbrev pub search_method : List ℕ → Option Method
+search_method letters =
+    if bytes_eq letters (codes "endsWith") then Some method.EndsWith
+    else if bytes_eq letters (codes "includes") then Some method.Includes
+    else if bytes_eq letters (codes "indexOf") then Some method.IndexOf
+    else if bytes_eq letters (codes "lastIndexOf") then Some method.LastIndexOf
+    else if bytes_eq letters (codes "startsWith") then Some method.StartsWith
+    else None
+
+-- a method that cuts
+abbrev pub part_method : List ℕ → Option Method
+part_method letters =
+    if bytes_eq letters (codes "slice") then Some method.Slice
+    else if bytes_eq letters (codes "split") then Some method.Split
+    else if bytes_eq letters (codes "substr") then Some method.Substr
+    else if bytes_eq letters (codes "substring") then Some method.Substring
+    else if bytes_eq letters (codes "trim") then Some method.Trim
+    else if bytes_eq letters (codes "trimEnd") then Some method.TrimEnd
+    else if bytes_eq letters (codes "trimStart") then Some method.TrimStart
+    else None
+
+-- a method that builds another string
+abbrev pub building_method : List ℕ → Option Method
+building_method letters =
+    if bytes_eq letters (codes "concat") then Some method.Concat
+    else if bytes_eq letters (codes "join") then Some method.Join
+    else if bytes_eq letters (codes "padEnd") then Some method.PadEnd
+    else if bytes_eq letters (codes "padStart") then Some method.PadStart
+    else if bytes_eq letters (codes "repeat") then Some method.Repeat
+    else if bytes_eq letters (codes "replace") then Some method.Replace
+    else if bytes_eq letters (codes "replaceAll") then Some method.ReplaceAll
+    else None
+
+abbrev pub method_of : List ℕ → Option Method
+method_of letters = first_there (unit_method letters) (first_there (search_method letters) (first_there (part_method letters) (building_method letters)))
+
+abbrev property_or : Option Property → Option Method → Property
+property_or (Some p) m = p
+property_or None (Some m) = property.Method m
+property_or None None = property.Nothing
+
 -- what a name means behind a point
 abbrev pub property_of : List ℕ → Property
-property_of letters =
-    if bytes_eq letters (codes "length") then property.Length
-    else if bytes_eq letters (codes "description") then property.Description
-    else if bytes_eq letters (codes "fromCharCode") then property.FromCharCode
-    else if bytes_eq letters (codes "fromCodePoint") then property.FromCodePoint
-    else if bytes_eq letters (codes "keyFor") then property.KeyFor
-    else if bytes_eq letters (codes "stringify") then property.Stringify
-    else if bytes_eq letters (codes "at") then property.Method method.At
-    else if bytes_eq letters (codes "charAt") then property.Method method.CharAt
-    else if bytes_eq letters (codes "charCodeAt") then property.Method method.CharCodeAt
-    else if bytes_eq letters (codes "codePointAt") then property.Method method.CodePointAt
-    else if bytes_eq letters (codes "concat") then property.Method method.Concat
-    else if bytes_eq letters (codes "endsWith") then property.Method method.EndsWith
-    else if bytes_eq letters (codes "includes") then property.Method method.Includes
-    else if bytes_eq letters (codes "indexOf") then property.Method method.IndexOf
-    else if bytes_eq letters (codes "isWellFormed") then property.Method method.IsWellFormed
-    else if bytes_eq letters (codes "join") then property.Method method.Join
-    else if bytes_eq letters (codes "lastIndexOf") then property.Method method.LastIndexOf
-    else if bytes_eq letters (codes "padEnd") then property.Method method.PadEnd
-    else if bytes_eq letters (codes "padStart") then property.Method method.PadStart
-    else if bytes_eq letters (codes "repeat") then property.Method method.Repeat
-    else if bytes_eq letters (codes "replace") then property.Method method.Replace
-    else if bytes_eq letters (codes "replaceAll") then property.Method method.ReplaceAll
-    else if bytes_eq letters (codes "slice") then property.Method method.Slice
-    else if bytes_eq letters (codes "split") then property.Method method.Split
-    else if bytes_eq letters (codes "startsWith") then property.Method method.StartsWith
-    else if bytes_eq letters (codes "substr") then property.Method method.Substr
-    else if bytes_eq letters (codes "substring") then property.Method method.Substring
-    else if bytes_eq letters (codes "toWellFormed") then property.Method method.ToWellFormed
-    else if bytes_eq letters (codes "trim") then property.Method method.Trim
-    else if bytes_eq letters (codes "trimEnd") then property.Method method.TrimEnd
-    else if bytes_eq letters (codes "trimStart") then property.Method method.TrimStart
-    else property.Nothing
+property_of letters = property_or (other_property letters) (method_of letters)
