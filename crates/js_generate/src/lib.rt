@@ -8,6 +8,3 @@ mod lines;
 mod texts;
 
 pub use crate::texts::{Text, texts_from};
-
-#[cfg(test)]
-mod tests;

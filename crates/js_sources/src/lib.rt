@@ -15,6 +15,3 @@ pub use parsing::parse_sources;
 pub use reading::read_sources;
 pub use sources::{Scripts, Source, Sources};
 pub use stop::Stop;
-
-#[cfg(test)]
-mod tests;

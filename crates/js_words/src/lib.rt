@@ -10,6 +10,3 @@ mod words;
 
 pub use plan::{Plan, Sizes, Source, WordsFault};
 pub use words::read_words;
-
-#[cfg(test)]
-mod tests;
