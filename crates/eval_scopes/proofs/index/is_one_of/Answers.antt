@@ -1,0 +1,11 @@
+use Rattle.std.proofs.Common.{arith, sym, ◌∙◌}
+use Rattle.eval_scopes.proofs.Indexes.{name_found, name_more}
+use Rattle.eval_scopes.proofs.index.is_one_of.Goals as goal
+
+pub returns-then-is-clause-found : goal.returns-then-is-clause-found
+returns-then-is-clause-found c =
+    λ t. name_found c.args.names.now c.args.name.now c.index-names-i.result c.loop-i.i (omega (arith, c.loop-i-test.true, c.requires.within)) c.index-names-i.is (sym c.is.ensures ∙ c.if-is.true)
+
+pub loop-i-preserved : goal.loop-i-preserved
+loop-i-preserved c =
+    name_more c.args.names.now c.args.name.now c.index-names-i.result c.loop-i.i (omega (arith, c.loop-i-test.true, c.requires.within)) c.index-names-i.is (sym c.is.ensures ∙ c.if-is.false) c.loop-i.invariant
