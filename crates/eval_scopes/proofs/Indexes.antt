@@ -12,7 +12,7 @@ use Rattle.eval_scopes.specs.declared.env.Binding.{Binding}
 use Rattle.eval_scopes.specs.Bindings.{Bound, bound_in, is_among}
 use Rattle.eval_scopes.specs.Seen.{bounds_of, put, IsAt}
 use Rattle.eval_scopes.specs.Index.{few, names_in, NoneBefore, StandFrom, IsIndexTo, IsIndex, NoneAmong, NoneNamed}
-use Rattle.eval_scopes.proofs.Places.{none_at}
+use Rattle.eval_scopes.proofs.Places.{none_at, get_at}
 
 -- a place that has a name
 got_within : {X : Type 0} (xs : List X) (j : ℕ) (x : X) → slice_get xs j ≡ Some x → j < length xs
@@ -96,23 +96,8 @@ decided true b t f = sym (t refl)
 decided false b t f = sym (f refl)
 
 -- a name that is looked at
-get_at : {X : Type 0} (xs : List X) (i : ℕ) (x : X) → i < length xs → x ≡ get_or xs i x → slice_get xs i ≡ Some x
-get_at [] i x l e = absurd (omega (arith, l))
-get_at (y ∷ xs) zero x l e = cc e
-get_at (y ∷ xs) (suc i) x l e = get_at xs i x (omega (arith, l)) e
-
 pub name_found : (ns : List (List ℕ)) (x n : List ℕ) (i : ℕ) → i < length ns → n ≡ get_or ns i n → bytes_eq n x ≡ true → is_among ns x ≡ true
 name_found ns x n i l p e = among_at ns x n i (get_at ns i n l p) e
-
-pub name_more : (ns : List (List ℕ)) (x n : List ℕ) (i : ℕ) → i < length ns → n ≡ get_or ns i n → bytes_eq n x ≡ false → NoneAmong ns x i → NoneAmong ns x (i + 1)
-name_more ns x n i l p e h = λ j m k g. elim (leb_tells i j) [
-  | inr q ↦ h j m q.1 g
-  | inl q ↦ (
-      let same : j ≡ i = omega (arith, k, q.1) in
-      let there : slice_get ns i ≡ Some m = subst (λ (a : ℕ). slice_get ns a ≡ Some m) same g in
-      let one : n ≡ m = cc (get_at ns i n l p, there) in
-      subst (λ (a : List ℕ). bytes_eq a x ≡ false) one e)
-]
 
 -- the names of bindings
 names_get : {T : Type 0} (bs : List (Binding T)) (j : ℕ) (c : Binding T) → slice_get bs j ≡ Some c → slice_get (names_in bs) j ≡ Some c.name

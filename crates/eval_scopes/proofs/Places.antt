@@ -1,7 +1,8 @@
 -- Where a name stands.
-use Rattle.std.proofs.Common.{arith, ◌≡◌, ℕ, ◌+◌, ◌<◌, zero, suc, true, false, List, [], ◌∷◌, length, map, refl, ap, sym, ◌∙◌, subst, Some, None, slice_get, get_or, set, take, drop, reverse, ◌++◌, append_assoc, bytes_eq}
+use Rattle.std.proofs.Common.{arith, ◌≡◌, ℕ, ◌+◌, ◌<◌, zero, suc, true, false, List, [], ◌∷◌, length, map, refl, ap, sym, ◌∙◌, subst, Some, None, slice_get, get_or, set, take, drop, reverse, ◌++◌, append_assoc, bytes_eq, ◌⊎◌, inl, inr}
 use Rattle.std.proofs.Math.ListN.{drop_of_length-le}
 use Rattle.std.proofs.Math.Seq.{take-length}
+use Rattle.std.proofs.lemmas.Bool.Decides.{leb_tells}
 use Rattle.std.proofs.lemmas.List.{map-append, reverse-append, append-nil, length-map}
 use Rattle.eval_scopes.specs.declared.env.Binding.{Binding}
 use Rattle.std.specs.Prelude.{OnOk, OnErr, Result, Ok, Err}
@@ -193,13 +194,22 @@ sought_top fs top x n e h =
     let h' : Sought fs top x 0 = subst (λ q. Sought fs top x q) e h in
     (sym h'.looks, λ v. sym (h'.writes v) ∙ ap (λ q. record { blocks = q; top = changed top x v }) (append-nil (frames_of fs)))
 
--- one more binding that has another name
-pub none_more : {T : Type 0} (bs : List (Binding T)) (x : List ℕ) (i : ℕ) (b : Binding T) → i < length bs → b ≡ get_or bs i b → bytes_eq b.name x ≡ false → ((k : ℕ) (c : Binding T) → k < i → slice_get bs k ≡ Some c → bytes_eq c.name x ≡ false) → (k : ℕ) (c : Binding T) → k < i + 1 → slice_get bs k ≡ Some c → bytes_eq c.name x ≡ false
-none_more {T} [] x i b l p e h k c m q = absurd (omega (arith, l))
-none_more {T} (d ∷ bs) x zero b l p e h zero c m q = let same : c ≡ b = cc (p, q) in subst (λ (r : Binding T). bytes_eq r.name x ≡ false) (sym same) e
-none_more {T} (d ∷ bs) x zero b l p e h (suc k) c m q = absurd (omega (arith, m))
-none_more {T} (d ∷ bs) x (suc i) b l p e h zero c m q = h 0 c (omega arith) q
-none_more {T} (d ∷ bs) x (suc i) b l p e h (suc k) c m q = none_more bs x i b (omega (arith, l)) p e (λ j r n s. h (suc j) r (omega (arith, n)) s) k c (omega (arith, m)) q
+-- what stands at a place
+pub get_at : {X : Type 0} (xs : List X) (i : ℕ) (x : X) → i < length xs → x ≡ get_or xs i x → slice_get xs i ≡ Some x
+get_at [] i x l e = absurd (omega (arith, l))
+get_at (y ∷ xs) zero x l e = cc e
+get_at (y ∷ xs) (suc i) x l e = get_at xs i x (omega (arith, l)) e
+
+-- what holds of all before a place, and of what stands there
+pub one_more : {X : Type 0} (P : X → Type 0) (xs : List X) (i : ℕ) (x : X) → i < length xs → x ≡ get_or xs i x → P x → ((j : ℕ) (y : X) → j < i → slice_get xs j ≡ Some y → P y) → (j : ℕ) (y : X) → j < i + 1 → slice_get xs j ≡ Some y → P y
+one_more P xs i x l p e h = λ j y k g. elim (leb_tells i j) [
+  | inr q ↦ h j y q.1 g
+  | inl q ↦ (
+      let same : j ≡ i = omega (arith, k, q.1) in
+      let there : slice_get xs i ≡ Some y = subst (λ (a : ℕ). slice_get xs a ≡ Some y) same g in
+      let one : x ≡ y = cc (get_at xs i x l p, there) in
+      subst P one e)
+]
 
 pub top_place : {T : Type 0} (s : Scope T) (x : List ℕ) (n i : ℕ) → n ≡ 0 → Sought s.blocks.items (bounds_of s.env) x n → IsAt (bounds_of s.env) x i → IsPlace s x (Top i)
 top_place s x n i e h a =

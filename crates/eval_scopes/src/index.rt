@@ -50,7 +50,8 @@ impl Index {
 
     /// A key that is new gets its place. The first few places get none.
     pub(crate) fn note(&mut self, alloc: Global, key: u32, place: usize) -> Result<(), NoMemory>
-        ensures indexed { (ns : List (List ℕ)) → place ≤ length ns → IsIndexTo self.old ns place → IsIndexTo self.new ns place }
+        ensures indexed { (ns : List (List ℕ)) → place ≤ length ns → IsIndexTo self.old ns place
+            → IsIndexTo self.new ns place }
         ensures found { OnOk result (IsSome (lookup (is_at (nat_cmp key)) self.new) ⊎ (place < few)) }
     {
         if place < FEW {
@@ -68,7 +69,8 @@ impl Index {
 
 // A map of one key.
 fn one_key(alloc: Global, key: u32, place: usize) -> Result<Box<BTreeMap<u32, usize>>, NoMemory>
-    ensures indexed { IfOk result (λ map. (ns : List (List ℕ)) → place ≤ length ns → IsIndexTo [] ns place → IsIndexTo map.value.entries ns place) }
+    ensures indexed { IfOk result (λ map. (ns : List (List ℕ)) → place ≤ length ns → IsIndexTo [] ns place
+        → IsIndexTo map.value.entries ns place) }
     ensures found { IfOk result (λ map. IsSome (lookup (is_at (nat_cmp key)) map.value.entries)) }
 {
     let mut map = BTreeMap::new(alloc);
@@ -80,7 +82,8 @@ fn one_key(alloc: Global, key: u32, place: usize) -> Result<Box<BTreeMap<u32, us
 }
 
 fn index_key(map: &mut BTreeMap<u32, usize>, key: u32, place: usize) -> Result<(), NoMemory>
-    ensures indexed { (ns : List (List ℕ)) → place ≤ length ns → IsIndexTo map.old.entries ns place → IsIndexTo map.new.entries ns place }
+    ensures indexed { (ns : List (List ℕ)) → place ≤ length ns → IsIndexTo map.old.entries ns place
+        → IsIndexTo map.new.entries ns place }
     ensures found { OnOk result (IsSome (lookup (is_at (nat_cmp key)) map.new.entries)) }
 {
     if map.contains_key(&key) {

@@ -51,7 +51,8 @@ impl<'a> NameSet<'a> {
 
     /// Takes a name out where it was new.
     pub fn leave(&mut self, letters: &[u8], new: bool)
-        ensures { walk.has self.new ≡ (if new then marked false letters.now (walk.has self.old) else walk.has self.old) }
+        ensures { walk.has self.new ≡ (if new then marked false letters.now (walk.has self.old)
+            else walk.has self.old) }
     {
         if new {
             self.remove(letters);
@@ -71,7 +72,8 @@ impl<'a> NameSet<'a> {
     /// Takes names out, and gives those that were in.
     pub fn hide(&mut self, alloc: Global, names: &'a [Name]) -> Result<Vec<&'a [u8]>, NoMemory>
         ensures without { OnOk result (walk.has self.new ≡ all_marked false names.now (walk.has self.old)) }
-        ensures again { IfOk result (λ hidden. all_marked true (letters_of hidden.items) (walk.has self.new) ≡ walk.has self.old) }
+        ensures again { IfOk result (λ hidden. all_marked true (letters_of hidden.items) (walk.has self.new)
+            ≡ walk.has self.old) }
     {
         let mut hidden = Vec::new(alloc);
         for name in names {
@@ -85,7 +87,8 @@ impl<'a> NameSet<'a> {
 
     /// Puts names in that were hidden.
     pub fn show(&mut self, hidden: &[&'a [u8]]) -> Result<(), NoMemory>
-        ensures { OnOk result (walk.has self.new ≡ all_marked true (letters_of hidden.now) (walk.has self.old)) }
+        ensures { OnOk result (walk.has self.new
+            ≡ all_marked true (letters_of hidden.now) (walk.has self.old)) }
     {
         for letters in hidden {
             self.insert(*letters)?;

@@ -35,7 +35,8 @@ fn declared<'a>(
     first: Option<NameFault>,
 ) -> Result<Option<NameFault>, NoMemory>
     ensures before { OnOk result (has before.new ≡ marked true name.now (has before.old)) }
-    ensures found { IfOk result (λ found. found_of found ≡ offers (found_of first) (again_at (has before.old name.now) at)) }
+    ensures found { IfOk result (λ found. found_of found
+        ≡ offers (found_of first) (again_at (has before.old name.now) at)) }
 {
     if before.insert(name.as_bytes())? {
         Ok(first)
@@ -51,7 +52,8 @@ fn declaration<'a>(
     first: Option<NameFault>,
 ) -> Result<Option<NameFault>, NoMemory>
     ensures before { OnOk result (has before.new ≡ with_own (stmt_tree s.now) (has before.old)) }
-    ensures found { IfOk result (λ found. found_of found ≡ offers (found_of first) (declared_again (stmt_tree s.now) (has before.old))) }
+    ensures found { IfOk result (λ found. found_of found
+        ≡ offers (found_of first) (declared_again (stmt_tree s.now) (has before.old))) }
 {
     match s {
         Stmt::Let { at, name, .. } => declared(before, name, *at, first),
@@ -72,7 +74,8 @@ fn statement<'a>(
     s: &'a Stmt,
     first: Option<NameFault>,
 ) -> Result<Option<NameFault>, NoMemory>
-    ensures { IfOk result (Walks (has loops.old) (has loops.new) first (faults_in (stmt_tree s.now) (has loops.old))) }
+    ensures { IfOk result (Walks (has loops.old) (has loops.new) first
+        (faults_in (stmt_tree s.now) (has loops.old))) }
 {
     match s {
         Stmt::Block { inner } => block(alloc, loops, inner, first),
@@ -96,7 +99,8 @@ fn turns<'a>(
     body: &'a Block,
     first: Option<NameFault>,
 ) -> Result<Option<NameFault>, NoMemory>
-    ensures { IfOk result (Walks (has loops.old) (has loops.new) first (faults_inside (block_tree body.now) (marked true name.now (has loops.old)))) }
+    ensures { IfOk result (Walks (has loops.old) (has loops.new) first
+        (faults_inside (block_tree body.now) (marked true name.now (has loops.old)))) }
 {
     let new = loops.insert(name.as_bytes())?;
     let first = block(alloc, loops, body, first)?;
@@ -112,7 +116,8 @@ fn block<'a>(
     b: &'a Block,
     first: Option<NameFault>,
 ) -> Result<Option<NameFault>, NoMemory>
-    ensures { IfOk result (Walks (has loops.old) (has loops.new) first (faults_inside (block_tree b.now) (has loops.old))) }
+    ensures { IfOk result (Walks (has loops.old) (has loops.new) first
+        (faults_inside (block_tree b.now) (has loops.old))) }
 {
     let hidden = loops.hide(alloc, b.names.as_slice())?;
     let first = among(alloc, loops, NameSet::new(alloc), &b.body, first)?;
@@ -127,7 +132,8 @@ fn arms<'a>(
     list: &'a [Arm],
     first: Option<NameFault>,
 ) -> Result<Option<NameFault>, NoMemory>
-    ensures { IfOk result (Walks (has loops.old) (has loops.new) first (faults_in_arms (arms_tree (map arm_tree list.now)) (has loops.old))) }
+    ensures { IfOk result (Walks (has loops.old) (has loops.new) first
+        (faults_in_arms (arms_tree (map arm_tree list.now)) (has loops.old))) }
 {
     let mut first = first;
     for arm in list {
@@ -145,7 +151,8 @@ fn among<'a>(
     body: &'a [Stmt],
     first: Option<NameFault>,
 ) -> Result<Option<NameFault>, NoMemory>
-    ensures { IfOk result (Walks (has loops.old) (has loops.new) first (faults_among (stmts_tree body.now) (has loops.old) (has before.entry))) }
+    ensures { IfOk result (Walks (has loops.old) (has loops.new) first
+        (faults_among (stmts_tree body.now) (has loops.old) (has before.entry))) }
 {
     let mut before = before;
     let mut first = first;

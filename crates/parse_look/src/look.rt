@@ -215,7 +215,8 @@ pub fn take(tokens: &[Token], fixed: Fixed) -> Result<&[Token], Fault<'_>>
 
 /// The rest behind this token, where it comes next.
 pub fn behind(tokens: &[Token], fixed: Fixed) -> Option<&[Token]>
-    ensures { MatchOption result (heads (terminal fixed) tokens.now ≡ false) (λ rest. one_of (terminal fixed) tokens.now ≡ Got tt rest.now) }
+    ensures { MatchOption result (heads (terminal fixed) tokens.now ≡ false)
+        (λ rest. one_of (terminal fixed) tokens.now ≡ Got tt rest.now) }
 {
     let (token, rest) = next(tokens)?;
     match is(fixed, token) {
@@ -241,7 +242,8 @@ pub fn begins_step(tokens: &[Token]) -> bool
 
 /// A sign: its offset, and whether it is a minus.
 pub fn sign(tokens: &[Token]) -> Option<((u32, bool), &[Token])>
-    ensures { MatchOption result (heads terminals.sign tokens.now ≡ false) (λ found. one_of terminals.sign tokens.now ≡ Got (found.0.0, found.0.1) found.1.now) }
+    ensures { MatchOption result (heads terminals.sign tokens.now ≡ false)
+        (λ found. one_of terminals.sign tokens.now ≡ Got (found.0.0, found.0.1) found.1.now) }
 {
     match next(tokens) {
         Some(
@@ -269,7 +271,8 @@ pub fn sign(tokens: &[Token]) -> Option<((u32, bool), &[Token])>
 }
 
 fn op(level: Level, token: Token) -> Option<(u32, Op)>
-    ensures { MatchOption result (operators level token ≡ None) (λ found. operators level token ≡ Some (found.0, found.1)) }
+    ensures { MatchOption result (operators level token ≡ None)
+        (λ found. operators level token ≡ Some (found.0, found.1)) }
 {
     let Token::Mark { at, mark, .. } = token else {
         return None;
@@ -291,7 +294,8 @@ fn op(level: Level, token: Token) -> Option<(u32, Op)>
 
 /// An operator of the level, with its offset.
 pub fn operator(level: Level, tokens: &[Token]) -> Option<((u32, Op), &[Token])>
-    ensures { MatchOption result (heads (operators level) tokens.now ≡ false) (λ found. one_of (operators level) tokens.now ≡ Got (found.0.0, found.0.1) found.1.now) }
+    ensures { MatchOption result (heads (operators level) tokens.now ≡ false)
+        (λ found. one_of (operators level) tokens.now ≡ Got (found.0.0, found.0.1) found.1.now) }
 {
     let (token, rest) = next(tokens)?;
     match op(level, token) {
@@ -311,7 +315,8 @@ pub fn letters(alloc: Global, names: &[Name], number: u32) -> Result<Name, NoMem
 }
 
 fn constant(word: Word) -> Option<Expr>
-    ensures { MatchOption result (terminals.constant word ≡ None) (λ found. terminals.constant word ≡ Some (expr_tree found)) }
+    ensures { MatchOption result (terminals.constant word ≡ None)
+        (λ found. terminals.constant word ≡ Some (expr_tree found)) }
 {
     match word {
         Word::Undefined => Some(Expr::Undefined),
@@ -330,7 +335,8 @@ pub fn simple<'a>(
     names: &[Name],
     tokens: &'a [Token],
 ) -> Result<Option<(Expr, &'a [Token])>, NoMemory>
-    ensures { IfOk result (λ found. MatchOption found (heads (terminals.simple names.now) tokens.now ≡ false) (λ one. one_of (terminals.simple names.now) tokens.now ≡ Got (expr_tree one.0) one.1.now)) }
+    ensures { IfOk result (λ found. MatchOption found (heads (terminals.simple names.now) tokens.now ≡ false)
+        (λ one. one_of (terminals.simple names.now) tokens.now ≡ Got (expr_tree one.0) one.1.now)) }
 {
     let Some((token, rest)) = next(tokens) else {
         return Ok(None);
@@ -385,7 +391,8 @@ pub fn next_opener(tokens: &[Token]) -> Option<Opener>
 
 /// The mark `[`: its offset.
 pub fn open_bracket(tokens: &[Token]) -> Option<(u32, &[Token])>
-    ensures { MatchOption result (heads terminals.open_bracket tokens.now ≡ false) (λ found. one_of terminals.open_bracket tokens.now ≡ Got found.0 found.1.now) }
+    ensures { MatchOption result (heads terminals.open_bracket tokens.now ≡ false)
+        (λ found. one_of terminals.open_bracket tokens.now ≡ Got found.0 found.1.now) }
 {
     match next(tokens) {
         Some(
@@ -404,7 +411,8 @@ pub fn open_bracket(tokens: &[Token]) -> Option<(u32, &[Token])>
 
 /// `length` or `description`.
 pub fn member(tokens: &[Token]) -> Option<(PostStep, &[Token])>
-    ensures { MatchOption result (heads terminals.member_word tokens.now ≡ false) (λ found. one_of terminals.member_word tokens.now ≡ Got (step_tree found.0) found.1.now) }
+    ensures { MatchOption result (heads terminals.member_word tokens.now ≡ false)
+        (λ found. one_of terminals.member_word tokens.now ≡ Got (step_tree found.0) found.1.now) }
 {
     match next(tokens) {
         Some(
@@ -431,7 +439,8 @@ pub fn member(tokens: &[Token]) -> Option<(PostStep, &[Token])>
 
 /// A method with its offset.
 pub fn method(tokens: &[Token]) -> Option<((u32, Method), &[Token])>
-    ensures { MatchOption result (heads terminals.method tokens.now ≡ false) (λ found. one_of terminals.method tokens.now ≡ Got (found.0.0, found.0.1) found.1.now) }
+    ensures { MatchOption result (heads terminals.method tokens.now ≡ false)
+        (λ found. one_of terminals.method tokens.now ≡ Got (found.0.0, found.0.1) found.1.now) }
 {
     match next(tokens) {
         Some(
@@ -475,7 +484,8 @@ fn string_function(tokens: &[Token]) -> Result<(Builtin, &[Token]), Fault<'_>>
 }
 
 fn symbol_function(tokens: &[Token]) -> Result<(Builtin, &[Token]), Fault<'_>>
-    ensures { Gives (λ found. found.0) (λ found. found.1.now) result (one_of terminals.symbol_function tokens.now) }
+    ensures { Gives (λ found. found.0) (λ found. found.1.now) result
+        (one_of terminals.symbol_function tokens.now) }
 {
     match next(tokens) {
         Some(
@@ -501,7 +511,8 @@ fn symbol_function(tokens: &[Token]) -> Result<(Builtin, &[Token]), Fault<'_>>
 }
 
 fn json_function(tokens: &[Token]) -> Result<(Builtin, &[Token]), Fault<'_>>
-    ensures { Gives (λ found. found.0) (λ found. found.1.now) result (one_of terminals.stringify_word tokens.now) }
+    ensures { Gives (λ found. found.0) (λ found. found.1.now) result
+        (one_of terminals.stringify_word tokens.now) }
 {
     match next(tokens) {
         Some(
@@ -596,7 +607,8 @@ pub struct Ident {
 
 /// A name, which has to come next.
 pub fn name(tokens: &[Token]) -> Result<(Ident, &[Token]), Fault<'_>>
-    ensures { Gives (λ found. ident found.0.at found.0.number) (λ found. found.1.now) result (one_of terminals.name tokens.now) }
+    ensures { Gives (λ found. ident found.0.at found.0.number) (λ found. found.1.now) result
+        (one_of terminals.name tokens.now) }
 {
     match next(tokens) {
         Some((Token::Name { at, number, .. }, rest)) => Ok((Ident { at, number }, rest)),
@@ -614,7 +626,8 @@ fn same_name(tokens: &[Token], name: Ident) -> Result<&[Token], Fault<'_>>
 }
 
 fn bound(tokens: &[Token]) -> Result<(u32, &[Token]), Fault<'_>>
-    ensures { Gives (λ found. found.0) (λ found. found.1.now) result (one_of terminals.bound_number tokens.now) }
+    ensures { Gives (λ found. found.0) (λ found. found.1.now) result
+        (one_of terminals.bound_number tokens.now) }
 {
     match next(tokens) {
         Some((Token::Number { value, .. }, rest)) if value <= 1_000_000 => {
@@ -626,7 +639,8 @@ fn bound(tokens: &[Token]) -> Result<(u32, &[Token]), Fault<'_>>
 
 /// `for ( let Name = 0 ; Name < Bound ; Name ++ )`
 pub fn header(tokens: &[Token]) -> Result<((Ident, u32), &[Token]), Fault<'_>>
-    ensures { Gives (λ found. (ident found.0.0.at found.0.0.number, found.0.1)) (λ found. found.1.now) result (read_header tokens.now) }
+    ensures { Gives (λ found. (ident found.0.0.at found.0.0.number, found.0.1)) (λ found. found.1.now) result
+        (read_header tokens.now) }
 {
     let rest = take(tokens, Fixed::For)?;
     let rest = take(rest, Fixed::OpenParen)?;
@@ -691,7 +705,9 @@ pub fn goes_on(tokens: &[Token]) -> bool
 
 /// The rest behind an `else` that an `if` follows.
 pub fn else_if(tokens: &[Token]) -> Option<&[Token]>
-    ensures { MatchOption result (heads_two terminals.else_word terminals.if_word tokens.now ≡ false) (λ rest. (one_of terminals.else_word tokens.now ≡ Got tt rest.now) × (heads_two terminals.else_word terminals.if_word tokens.now ≡ true)) }
+    ensures { MatchOption result (heads_two terminals.else_word terminals.if_word tokens.now ≡ false)
+        (λ rest. (one_of terminals.else_word tokens.now ≡ Got tt rest.now)
+        × (heads_two terminals.else_word terminals.if_word tokens.now ≡ true)) }
 {
     let Some(
         (

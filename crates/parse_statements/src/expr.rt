@@ -23,7 +23,8 @@ pub(crate) fn args<'a>(
     room: u32,
 ) -> Result<(Vec<Expr>, &'a [Token]), Fault<'a>>
     requires { 0 < room }
-    ensures { Gives (λ found. map expr_tree found.0.items) (λ found. found.1.now) result (args_at names.now room tokens.now) }
+    ensures { Gives (λ found. map expr_tree found.0.items) (λ found. found.1.now) result
+        (args_at names.now room tokens.now) }
 {
     let rest = take(tokens, Fixed::OpenParen)?;
     if let Some(after) = behind(rest, Fixed::CloseParen) {
@@ -51,7 +52,8 @@ pub(crate) fn parens<'a>(
     room: u32,
 ) -> Result<(Expr, &'a [Token]), Fault<'a>>
     requires { 0 < room }
-    ensures { Gives (λ found. expr_tree found.0) (λ found. found.1.now) result (parens_at names.now room tokens.now) }
+    ensures { Gives (λ found. expr_tree found.0) (λ found. found.1.now) result
+        (parens_at names.now room tokens.now) }
 {
     let rest = take(tokens, Fixed::OpenParen)?;
     let (inside, rest) = expression(alloc, names, rest, room - 1)?;
@@ -70,7 +72,8 @@ fn given<'a>(
     which: Builtin,
 ) -> Result<(Vec<Expr>, &'a [Token]), Fault<'a>>
     requires { 0 < room }
-    ensures { Gives (λ found. map expr_tree found.0.items) (λ found. found.1.now) result (given_at names.now room which tokens.now) }
+    ensures { Gives (λ found. map expr_tree found.0.items) (λ found. found.1.now) result
+        (given_at names.now room which tokens.now) }
 {
     if which != Builtin::Stringify {
         return args(alloc, names, tokens, room);
@@ -92,7 +95,8 @@ fn builtin_call<'a>(
     room: u32,
 ) -> Result<(Expr, &'a [Token]), Fault<'a>>
     requires { 0 < room }
-    ensures { Gives (λ found. expr_tree found.0) (λ found. found.1.now) result (builtin_at names.now room tokens.now) }
+    ensures { Gives (λ found. expr_tree found.0) (λ found. found.1.now) result
+        (builtin_at names.now room tokens.now) }
 {
     let (called, rest) = called(tokens)?;
     let (args, rest) = given(alloc, names, rest, room, called.1)?;
@@ -108,7 +112,8 @@ fn primary<'a>(
     tokens: &'a [Token],
     room: u32,
 ) -> Result<(Expr, &'a [Token]), Fault<'a>>
-    ensures { Gives (λ found. expr_tree found.0) (λ found. found.1.now) result (primary_at names.now room tokens.now) }
+    ensures { Gives (λ found. expr_tree found.0) (λ found. found.1.now) result
+        (primary_at names.now room tokens.now) }
 {
     if let Some(found) = simple(alloc, names, tokens)? {
         return Ok(found);
@@ -134,7 +139,8 @@ fn behind_point<'a>(
     tokens: &'a [Token],
     room: u32,
 ) -> Result<(PostStep, &'a [Token]), Fault<'a>>
-    ensures { Gives (λ found. step_tree found.0) (λ found. found.1.now) result (member_at names.now room tokens.now) }
+    ensures { Gives (λ found. step_tree found.0) (λ found. found.1.now) result
+        (member_at names.now room tokens.now) }
 {
     if let Some(found) = member(tokens) {
         return Ok(found);
@@ -158,7 +164,8 @@ fn step<'a>(
     tokens: &'a [Token],
     room: u32,
 ) -> Result<(PostStep, &'a [Token]), Fault<'a>>
-    ensures { Gives (λ found. step_tree found.0) (λ found. found.1.now) result (step_at names.now room tokens.now) }
+    ensures { Gives (λ found. step_tree found.0) (λ found. found.1.now) result
+        (step_at names.now room tokens.now) }
 {
     let Some((at, rest)) = open_bracket(tokens) else {
         let rest = take(tokens, Fixed::Point)?;
@@ -180,7 +187,8 @@ fn postfix<'a>(
     tokens: &'a [Token],
     room: u32,
 ) -> Result<(Expr, &'a [Token]), Fault<'a>>
-    ensures { Gives (λ found. expr_tree found.0) (λ found. found.1.now) result (post_at names.now room tokens.now) }
+    ensures { Gives (λ found. expr_tree found.0) (λ found. found.1.now) result
+        (post_at names.now room tokens.now) }
 {
     let (of, mut rest) = primary(alloc, names, tokens, room)?;
     let mut steps = Vec::new(alloc);
@@ -202,7 +210,8 @@ fn unary<'a>(
     tokens: &'a [Token],
     room: u32,
 ) -> Result<(Expr, &'a [Token]), Fault<'a>>
-    ensures { Gives (λ found. expr_tree found.0) (λ found. found.1.now) result (unary_at names.now room tokens.now) }
+    ensures { Gives (λ found. expr_tree found.0) (λ found. found.1.now) result
+        (unary_at names.now room tokens.now) }
 {
     let Some((sign, rest)) = sign(tokens) else {
         return postfix(alloc, names, tokens, room);
@@ -225,7 +234,8 @@ fn operand<'a>(
     room: u32,
     level: Level,
 ) -> Result<(Expr, &'a [Token]), Fault<'a>>
-    ensures { Gives (λ found. expr_tree found.0) (λ found. found.1.now) result (operand_at names.now room level tokens.now) }
+    ensures { Gives (λ found. expr_tree found.0) (λ found. found.1.now) result
+        (operand_at names.now room level tokens.now) }
 {
     match level {
         Level::Or => chained(alloc, names, tokens, room, Level::And),
@@ -245,7 +255,8 @@ fn chained<'a>(
     room: u32,
     level: Level,
 ) -> Result<(Expr, &'a [Token]), Fault<'a>>
-    ensures { Gives (λ found. expr_tree found.0) (λ found. found.1.now) result (chain_at names.now room level tokens.now) }
+    ensures { Gives (λ found. expr_tree found.0) (λ found. found.1.now) result
+        (chain_at names.now room level tokens.now) }
 {
     let (first, mut rest) = operand(alloc, names, tokens, room, level)?;
     let mut links = Vec::new(alloc);
@@ -268,7 +279,8 @@ fn branches<'a>(
     tokens: &'a [Token],
     room: u32,
 ) -> Result<(Expr, &'a [Token]), Fault<'a>>
-    ensures { Gives (λ found. expr_tree found.0) (λ found. found.1.now) result (branches_at names.now room (expr_tree test) tokens.now) }
+    ensures { Gives (λ found. expr_tree found.0) (λ found. found.1.now) result
+        (branches_at names.now room (expr_tree test) tokens.now) }
 {
     let Some(rest) = behind(tokens, Fixed::Question) else {
         return Ok((test, tokens));
@@ -292,7 +304,8 @@ pub(crate) fn expression<'a>(
     tokens: &'a [Token],
     room: u32,
 ) -> Result<(Expr, &'a [Token]), Fault<'a>>
-    ensures { Gives (λ found. expr_tree found.0) (λ found. found.1.now) result (expression_at names.now room tokens.now) }
+    ensures { Gives (λ found. expr_tree found.0) (λ found. found.1.now) result
+        (expression_at names.now room tokens.now) }
 {
     let (test, rest) = chained(alloc, names, tokens, room, Level::Or)?;
     branches(alloc, names, test, rest, room)

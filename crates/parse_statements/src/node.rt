@@ -75,7 +75,8 @@ pub(crate) fn conditional(
     yes: Expr,
     no: Expr,
 ) -> Result<Expr, AllocError>
-    ensures { IfOk result (λ e. expr_tree e ≡ tree.conditional (expr_tree test) (expr_tree yes) (expr_tree no)) }
+    ensures { IfOk result (λ e. expr_tree e
+        ≡ tree.conditional (expr_tree test) (expr_tree yes) (expr_tree no)) }
 {
     Ok(Expr::Cond {
         test: Box::new(alloc, test)?,
@@ -133,7 +134,8 @@ pub(crate) fn const_line(
     name: Ident,
     init: Expr,
 ) -> Result<Stmt, NoMemory>
-    ensures { IfOk result (λ s. stmt_tree s ≡ const_of names.now (ident name.at name.number) (expr_tree init)) }
+    ensures { IfOk result (λ s. stmt_tree s
+        ≡ const_of names.now (ident name.at name.number) (expr_tree init)) }
 {
     Ok(Stmt::Const {
         at: name.at,
@@ -150,7 +152,8 @@ pub(crate) fn assignment(
     append: Option<u32>,
     value: Expr,
 ) -> Result<Stmt, NoMemory>
-    ensures { IfOk result (λ s. stmt_tree s ≡ assign_of names.now (ident name.at name.number) (append, expr_tree value)) }
+    ensures { IfOk result (λ s. stmt_tree s
+        ≡ assign_of names.now (ident name.at name.number) (append, expr_tree value)) }
 {
     let letters = letters(alloc, names, name.number)?;
     match append {
@@ -192,7 +195,8 @@ pub(crate) fn for_line(
     header: (Ident, u32),
     body: Block,
 ) -> Result<Stmt, NoMemory>
-    ensures { IfOk result (λ s. stmt_tree s ≡ for_of names.now (ident header.0.at header.0.number, header.1) (block_tree body)) }
+    ensures { IfOk result (λ s. stmt_tree s
+        ≡ for_of names.now (ident header.0.at header.0.number, header.1) (block_tree body)) }
 {
     Ok(Stmt::For {
         name: letters(alloc, names, header.0.number)?,
@@ -219,7 +223,8 @@ pub(crate) fn no_block(alloc: Global) -> Block
 
 // The name that the statement declares, if it declares one.
 fn declares(stmt: &Stmt) -> Option<&Name>
-    ensures { MatchOption result (own_name (stmt_tree stmt.now) ≡ []) (λ name. own_name (stmt_tree stmt.now) ≡ name.now ∷ []) }
+    ensures { MatchOption result (own_name (stmt_tree stmt.now) ≡ [])
+        (λ name. own_name (stmt_tree stmt.now) ≡ name.now ∷ []) }
 {
     match stmt {
         Stmt::Let { name, .. } | Stmt::Const { name, .. } => Some(name),

@@ -29,7 +29,8 @@ fn init<'a>(
     tokens: &'a [Token],
     room: u32,
 ) -> Result<(Option<Expr>, &'a [Token]), Fault<'a>>
-    ensures { Gives (λ found. init_tree found.0) (λ found. found.1.now) result (init_at names.now room tokens.now) }
+    ensures { Gives (λ found. init_tree found.0) (λ found. found.1.now) result
+        (init_at names.now room tokens.now) }
 {
     match behind(tokens, Fixed::Assign) {
         None => Ok((None, tokens)),
@@ -48,7 +49,8 @@ fn declaration<'a>(
     tokens: &'a [Token],
     room: u32,
 ) -> Result<(Stmt, &'a [Token]), Fault<'a>>
-    ensures { Gives (λ found. stmt_tree found.0) (λ found. found.1.now) result (let_at names.now room tokens.now) }
+    ensures { Gives (λ found. stmt_tree found.0) (λ found. found.1.now) result
+        (let_at names.now room tokens.now) }
 {
     let rest = take(tokens, Fixed::Let)?;
     let (name, rest) = name(rest)?;
@@ -66,7 +68,8 @@ fn constant<'a>(
     tokens: &'a [Token],
     room: u32,
 ) -> Result<(Stmt, &'a [Token]), Fault<'a>>
-    ensures { Gives (λ found. stmt_tree found.0) (λ found. found.1.now) result (const_at names.now room tokens.now) }
+    ensures { Gives (λ found. stmt_tree found.0) (λ found. found.1.now) result
+        (const_at names.now room tokens.now) }
 {
     let rest = take(tokens, Fixed::Const)?;
     let (name, rest) = name(rest)?;
@@ -85,7 +88,8 @@ fn assign<'a>(
     tokens: &'a [Token],
     room: u32,
 ) -> Result<(Stmt, &'a [Token]), Fault<'a>>
-    ensures { Gives (λ found. stmt_tree found.0) (λ found. found.1.now) result (assign_at names.now room tokens.now) }
+    ensures { Gives (λ found. stmt_tree found.0) (λ found. found.1.now) result
+        (assign_at names.now room tokens.now) }
 {
     let (name, rest) = name(tokens)?;
     let (append, rest) = assign_op(rest)?;
@@ -104,7 +108,8 @@ fn print_line<'a>(
     room: u32,
 ) -> Result<(Stmt, &'a [Token]), Fault<'a>>
     requires { 0 < room }
-    ensures { Gives (λ found. stmt_tree found.0) (λ found. found.1.now) result (print_at names.now room tokens.now) }
+    ensures { Gives (λ found. stmt_tree found.0) (λ found. found.1.now) result
+        (print_at names.now room tokens.now) }
 {
     let rest = take(tokens, Fixed::Print)?;
     let (args, rest) = args(alloc, names, rest, room)?;
@@ -121,7 +126,8 @@ fn list<'a>(
     prints: bool,
     room: u32,
 ) -> Result<(Vec<Stmt>, &'a [Token]), Fault<'a>>
-    ensures { Gives (λ found. map stmt_tree found.0.items) (λ found. found.1.now) result (statements_at names.now prints room tokens.now) }
+    ensures { Gives (λ found. map stmt_tree found.0.items) (λ found. found.1.now) result
+        (statements_at names.now prints room tokens.now) }
 {
     let mut items = Vec::new(alloc);
     let mut rest = tokens;
@@ -144,7 +150,8 @@ fn inside<'a>(
     room: u32,
 ) -> Result<(Block, &'a [Token]), Fault<'a>>
     requires { 0 < room }
-    ensures { Gives (λ found. block_tree found.0) (λ found. found.1.now) result (block_at names.now prints room tokens.now) }
+    ensures { Gives (λ found. block_tree found.0) (λ found. found.1.now) result
+        (block_at names.now prints room tokens.now) }
 {
     let rest = take(tokens, Fixed::OpenBrace)?;
     let (body, rest) = list(alloc, names, rest, prints, room - 1)?;
@@ -164,7 +171,8 @@ fn condition<'a>(
     room: u32,
 ) -> Result<(Arm, &'a [Token]), Fault<'a>>
     requires { 0 < room }
-    ensures { Gives (λ found. arm_tree found.0) (λ found. found.1.now) result (arm_at names.now prints room tokens.now) }
+    ensures { Gives (λ found. arm_tree found.0) (λ found. found.1.now) result
+        (arm_at names.now prints room tokens.now) }
 {
     let rest = take(tokens, Fixed::If)?;
     let (test, rest) = parens(alloc, names, rest, room)?;
@@ -183,7 +191,8 @@ fn otherwise<'a>(
     room: u32,
 ) -> Result<(Block, &'a [Token]), Fault<'a>>
     requires { 0 < room }
-    ensures { Gives (λ found. block_tree found.0) (λ found. found.1.now) result (rest_at names.now prints room tokens.now) }
+    ensures { Gives (λ found. block_tree found.0) (λ found. found.1.now) result
+        (rest_at names.now prints room tokens.now) }
 {
     match behind(tokens, Fixed::Else) {
         Some(rest) => inside(alloc, names, rest, prints, room),
@@ -202,7 +211,8 @@ fn if_statement<'a>(
     room: u32,
 ) -> Result<(Stmt, &'a [Token]), Fault<'a>>
     requires { 0 < room }
-    ensures { Gives (λ found. stmt_tree found.0) (λ found. found.1.now) result (if_at names.now prints room tokens.now) }
+    ensures { Gives (λ found. stmt_tree found.0) (λ found. found.1.now) result
+        (if_at names.now prints room tokens.now) }
 {
     let (first, mut rest) = condition(alloc, names, tokens, prints, room)?;
     let mut arms = Vec::new(alloc);
@@ -227,7 +237,8 @@ fn for_statement<'a>(
     room: u32,
 ) -> Result<(Stmt, &'a [Token]), Fault<'a>>
     requires { 0 < room }
-    ensures { Gives (λ found. stmt_tree found.0) (λ found. found.1.now) result (for_at names.now prints room tokens.now) }
+    ensures { Gives (λ found. stmt_tree found.0) (λ found. found.1.now) result
+        (for_at names.now prints room tokens.now) }
 {
     let (header, rest) = header(tokens)?;
     let (body, rest) = inside(alloc, names, rest, prints, room)?;
@@ -244,7 +255,8 @@ fn statement<'a>(
     prints: bool,
     room: u32,
 ) -> Result<(Stmt, &'a [Token]), Fault<'a>>
-    ensures { Gives (λ found. stmt_tree found.0) (λ found. found.1.now) result (statement_at names.now prints room tokens.now) }
+    ensures { Gives (λ found. stmt_tree found.0) (λ found. found.1.now) result
+        (statement_at names.now prints room tokens.now) }
 {
     match next(tokens) {
         Some(
@@ -342,7 +354,8 @@ fn whole<'a>(
     prints: bool,
     room: u32,
 ) -> Result<Vec<Stmt>, Fault<'a>>
-    ensures { Gives (λ body. map stmt_tree body.items) (λ _. []) result (read_whole (read_statements names.now prints room) tokens.now) }
+    ensures { Gives (λ body. map stmt_tree body.items) (λ _. []) result
+        (read_whole (read_statements names.now prints room) tokens.now) }
 {
     let rest = strict(tokens)?;
     let (body, rest) = list(alloc, names, rest, prints, room)?;
@@ -365,8 +378,10 @@ pub fn statements<'a>(
     tokens: &'a [Token],
     prints: bool,
 ) -> Result<Vec<Stmt>, Fault<'a>>
-    ensures spells { IfOk result (λ body. Statements names.now prints most tokens.now (map stmt_tree body.items)) }
-    ensures found { (x : List StmtTree) → Statements names.now prints most tokens.now x → IsOrMemory (λ body. map stmt_tree body.items) result x }
+    ensures spells { IfOk result (λ body. Statements names.now prints most tokens.now
+        (map stmt_tree body.items)) }
+    ensures found { (x : List StmtTree) → Statements names.now prints most tokens.now x
+        → IsOrMemory (λ body. map stmt_tree body.items) result x }
     ensures refused { OnFault result (IsRefused (Statements names.now prints) most tokens.now) }
 {
     whole(alloc, names, tokens, prints, limit())

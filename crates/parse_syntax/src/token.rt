@@ -1,5 +1,5 @@
 // The tokens of the grammar.
-use crate::tree::Method;
+use eval_tree::Method;
 use js_lex::Mark;
 
 /// A word that is no name.

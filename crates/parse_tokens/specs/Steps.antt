@@ -1,4 +1,4 @@
--- What the private functions give. No public contract cites this file.
+-- What the functions give.
 use Rattle.std.specs.Prelude.{◌≡◌, ℕ, List, [], ◌∷◌, ◌++◌, Bool, true, false}
 use Rattle.std.specs.List.{position}
 use Rattle.std.specs.Str.{bytes_eq}
@@ -23,6 +23,10 @@ is_empty (x ∷ xs) = false
 abbrev pub before_at : List Token → List (List ℕ) → List (List ℕ) → ℕ → Before
 before_at tokens texts names end = record { first = is_empty tokens; end = end; names = names; texts = texts }
 
+-- the same behind what was read so far
+abbrev pub before_of : Source → ℕ → Before
+before_of source end = before_at source.tokens.items source.literals.items source.names.items end
+
 -- the text has these tokens, and this is what stands before its end
 pub record Whole (text : List ℕ) (tokens : List Token) (last : Before) : Type 0 where
   pub lexed : List Lexed
@@ -41,6 +45,10 @@ pub record Scanned (text : List ℕ) (tokens : List Token) (texts names : List (
   pub tokens_are : tokens ≡ tokens_from text nothing lexed
   pub texts_are : texts ≡ (after_all text nothing lexed).texts
   pub names_are : names ≡ (after_all text nothing lexed).names
+
+-- the text's tokens, literals and names are these
+abbrev pub ScannedTo : List ℕ → Source → Type 0
+ScannedTo text source = Scanned text source.tokens.items source.literals.items source.names.items
 
 -- these tokens, texts and names
 abbrev pub IsSource : Source → List Token → List (List ℕ) → List (List ℕ) → Type 0

@@ -11,14 +11,13 @@ ghost use Rattle.parse_tokens.specs.Tokens as definition;
 ghost use Rattle.parse_tokens.specs.Tokens.{Reads, place_in, with_name, has_line_end, token_at, after};
 ghost use Rattle.parse_tokens.specs.Words as words;
 ghost use Rattle.parse_syntax.specs.declared.token.Token.{Token};
-ghost use Rattle.parse_tokens.specs.Steps.{Agrees, IsSource, Scanned, before_at};
+ghost use Rattle.parse_tokens.specs.Steps.{Agrees, IsSource, ScannedTo, before_of};
 
 use crate::numbers::Numbers;
 use crate::word::{property_named, word_named};
 use eval_tree::Name;
 use js_lex::{LexFault, TokenKind};
-use js_literal::split_char;
-use js_units::{NoMemory, Units};
+use js_units::{NoMemory, Units, split_char};
 use parse_syntax::Token;
 use std::alloc::Global;
 
@@ -86,8 +85,10 @@ fn word_token(
 ) -> Result<Token, NoMemory>
     requires few { length names.old.items ≤ 1_048_576 }
     requires agrees { Agrees numbers.old names.old.items }
-    ensures token { IfOk result (λ token. token ≡ definition.word_token (words.word_of letters.now) names.old.items letters.now at) }
-    ensures names { OnOk result (names.new.items ≡ definition.names_after (words.word_of letters.now) names.old.items letters.now) }
+    ensures token { IfOk result (λ token. token
+        ≡ definition.word_token (words.word_of letters.now) names.old.items letters.now at) }
+    ensures names { OnOk result (names.new.items
+        ≡ definition.names_after (words.word_of letters.now) names.old.items letters.now) }
     ensures agrees { OnOk result (Agrees numbers.new names.new.items) }
 {
     match word_named(letters) {
@@ -126,8 +127,10 @@ fn text_token(
     units: Units,
 ) -> Result<Token, NoMemory>
     requires few { length literals.old.items ≤ 1_048_576 }
-    ensures token { IfOk result (λ token. token ≡ definition.text_token first literals.old.items source.now at) }
-    ensures literals { OnOk result (literals.new.items ≡ definition.texts_after first literals.old.items source.now units) }
+    ensures token { IfOk result (λ token. token
+        ≡ definition.text_token first literals.old.items source.now at) }
+    ensures literals { OnOk result (literals.new.items
+        ≡ definition.texts_after first literals.old.items source.now units) }
 {
     if first {
         if is_use_strict(source) {
@@ -157,9 +160,12 @@ fn next(
     requires last { IsCharBoundary text.now end }
     requires start { IsCharBoundary text.now token.from }
     ensures tokens { OnOk result (source.new.tokens ≡ source.old.tokens) }
-    ensures token { IfOk result (λ found. found ≡ token_at text.now (before_at source.old.tokens.items source.old.literals.items source.old.names.items end) token) }
-    ensures literals { OnOk result (source.new.literals.items ≡ definition.literals_after (before_at source.old.tokens.items source.old.literals.items source.old.names.items end) (slice text.now token.from token.to) token.kind) }
-    ensures names { OnOk result (source.new.names.items ≡ definition.table_after (before_at source.old.tokens.items source.old.literals.items source.old.names.items end) (slice text.now token.from token.to) token.kind) }
+    ensures token { IfOk result (λ found. found ≡ token_at text.now (before_of source.old end) token) }
+    ensures literals { OnOk result (source.new.literals.items
+        ≡ definition.literals_after (before_of source.old end)
+        (slice text.now token.from token.to) token.kind) }
+    ensures names { OnOk result (source.new.names.items
+        ≡ definition.table_after (before_of source.old end) (slice text.now token.from token.to) token.kind) }
     ensures agrees { OnOk result (Agrees numbers.new source.new.names.items) }
 {
     let js_lex::Token { kind, from, to } = token;
@@ -202,9 +208,12 @@ fn add(
     requires within { token.to ≤ length text.now }
     requires last { IsCharBoundary text.now end }
     requires start { IsCharBoundary text.now token.from }
-    ensures tokens { OnOk result (source.new.tokens.items ≡ source.old.tokens.items ++ token_at text.now (before_at source.old.tokens.items source.old.literals.items source.old.names.items end) token ∷ []) }
-    ensures literals { OnOk result (source.new.literals.items ≡ (after text.now (before_at source.old.tokens.items source.old.literals.items source.old.names.items end) token).texts) }
-    ensures names { OnOk result (source.new.names.items ≡ (after text.now (before_at source.old.tokens.items source.old.literals.items source.old.names.items end) token).names) }
+    ensures tokens { OnOk result (source.new.tokens.items
+        ≡ source.old.tokens.items ++ token_at text.now (before_of source.old end) token ∷ []) }
+    ensures literals { OnOk result (source.new.literals.items
+        ≡ (after text.now (before_of source.old end) token).texts) }
+    ensures names { OnOk result (source.new.names.items
+        ≡ (after text.now (before_of source.old end) token).names) }
     ensures agrees { OnOk result (Agrees numbers.new source.new.names.items) }
 {
     let token = next(alloc, source, numbers, text, end, token)?;
@@ -229,7 +238,7 @@ fn no_source(alloc: Global, bytes: usize) -> Result<Source, NoMemory>
 // The tokens of a text.
 fn scan(alloc: Global, text: &str) -> Result<Source, LexFault>
     requires { length text.now ≤ 1_048_576 }
-    ensures read { IfOk result (λ source. Scanned text.now source.tokens.items source.literals.items source.names.items) }
+    ensures read { IfOk result (ScannedTo text.now) }
     ensures refused { IfErr result (λ fault. (fault ≡ Memory) ⊎ Fails text.now 0 fault) }
 {
     let mut source = match no_source(alloc, text.len()) {
@@ -256,7 +265,8 @@ fn scan(alloc: Global, text: &str) -> Result<Source, LexFault>
 /// What `tokens` answers, against the relations alone.
 fn read(alloc: Global, bytes: &[u8]) -> Result<Source, LexFault>
     requires { length bytes.now ≤ 1_048_576 }
-    ensures read { IfOk result (λ source. Reads bytes.now source.tokens.items source.literals.items source.names.items) }
+    ensures read { IfOk result
+        (λ source. Reads bytes.now source.tokens.items source.literals.items source.names.items) }
     ensures refused { IfErr result (λ fault. (fault ≡ Memory) ⊎ LexFaultOf bytes.now fault) }
 {
     match js_lex::source_text(bytes) {
@@ -268,10 +278,13 @@ fn read(alloc: Global, bytes: &[u8]) -> Result<Source, LexFault>
 /// The tokens of the grammar of a script's bytes, or the first lexical fault.
 pub fn tokens(alloc: Global, bytes: &[u8]) -> Result<Source, LexFault>
     requires { length bytes.now ≤ 1_048_576 }
-    ensures read { IfOk result (λ source. Reads bytes.now source.tokens.items source.literals.items source.names.items) }
+    ensures read { IfOk result
+        (λ source. Reads bytes.now source.tokens.items source.literals.items source.names.items) }
     ensures refused { IfErr result (λ fault. (fault ≡ Memory) ⊎ LexFaultOf bytes.now fault) }
-    ensures found { (ts : List Token) (texts names : List (List ℕ)) → Reads bytes.now ts texts names → IfOk result (λ source. IsSource source ts texts names) × IfErr result (λ fault. fault ≡ Memory) }
-    ensures faults { (f : LexFault) → LexFaultOf bytes.now f → IfOk result (λ source. ⊥) × IfErr result (λ fault. (fault ≡ f) ⊎ (fault ≡ Memory)) }
+    ensures found { (ts : List Token) (texts names : List (List ℕ)) → Reads bytes.now ts texts names
+        → IfOk result (λ source. IsSource source ts texts names) × IfErr result (λ fault. fault ≡ Memory) }
+    ensures faults { (f : LexFault) → LexFaultOf bytes.now f
+        → IfOk result (λ source. ⊥) × IfErr result (λ fault. (fault ≡ f) ⊎ (fault ≡ Memory)) }
 {
     read(alloc, bytes)
 }

@@ -12,7 +12,8 @@ pub(crate) fn is_reserved(letters: &[u8]) -> bool
 
 // Whether the letters are one of the words, of which each has as many letters and a blank behind it.
 fn is_one_of(letters: &[u8], words: &[u8]) -> bool
-    ensures { (ws : List (List ℕ)) → all_have (length letters.now) ws ≡ true → words.now ≡ spaced ws → result ≡ is_in letters.now ws }
+    ensures { (ws : List (List ℕ)) → all_have (length letters.now) ws ≡ true → words.now ≡ spaced ws
+        → result ≡ is_in letters.now ws }
 {
     if words.len() <= letters.len() {
         return false;

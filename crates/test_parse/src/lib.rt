@@ -1,6 +1,6 @@
-//! Tests of reading scripts: lexical and grammatical tokens, which texts are scripts, and the kind and place of
-//! each fault. Wanted values come from the language's tables, the grammar (`parse_syntax/specs`) and the rules on
-//! names. They stand apart, since a crate with tests is proved twice.
+//! Tests of reading scripts by public calls that no script shows: lexical and grammatical tokens with their spans, and
+//! that texts made from a number are scripts. Wanted values come from the language's tables. Which texts are
+//! scripts, and the kind and place of each fault, are cases of `jsstr_cases`.
 #![tactic(auto)]
 
 #[cfg(test)]
@@ -9,7 +9,5 @@ mod generated;
 mod lexing;
 #[cfg(test)]
 mod names;
-#[cfg(test)]
-mod places;
 #[cfg(test)]
 mod tokens;
