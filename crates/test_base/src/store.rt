@@ -1,28 +1,28 @@
 // Every call on a plain store, with ample memory.
 ghost use Rattle.std.specs.Prelude.{◌≤◌, length};
 
+use crate::rows::{parted, units_of};
 use js_store::{Limit, StoreFault, Strings};
 use plain_store::PlainStore;
-use std::process::Abort;
+use std::alloc::Global;
 use std::test::Fail;
 
-// Each call but those of interned strings once, through the bound.
-fn parts_and_wholes<S: Strings>(rt: &impl Abort, store: &mut S) -> Result<(), Fail> {
+// Each call but those of interned strings once, through the bound: the limit, and of a string with a
+// part of it behind it the length and the last unit.
+fn parts_and_wholes<S: Strings>(store: &mut S) -> Result<(u32, u32, u16), Fail> {
     let limit = store.limit();
-    assert_eq!(rt; limit, 536870888);
     let abc = store.from_units(&[97, 98, 99])?;
     let b = store.slice(abc, 1, 2)?;
     let joined = store.concat(abc, b)?;
     store.settle(joined)?;
-    assert_eq!(rt; store.len(joined), 4);
-    assert_eq!(rt; store.unit_at(joined, 3), 98);
-    Ok(())
+    Ok((limit, store.len(joined), store.unit_at(joined, 3)))
 }
 
 #[test]
 fn the_calls_of_a_store(rt: HostRuntime) -> Result<(), Fail> {
     let mut store = PlainStore::new(rt.alloc(), Limit::Bits64);
-    parts_and_wholes(&rt, &mut store)
+    assert_eq!(rt; parts_and_wholes(&mut store)?, (536870888, 4, 98));
+    Ok(())
 }
 
 // What two strings are interned as, of which the later one is interned first, and whether that is
@@ -45,18 +45,28 @@ fn interned<S: Strings>(
 
 // Two strings of equal units have two numbers, and both are interned as one of them; lists that
 // differ in one unit, or of which one begins the other, have numbers of their own.
+const INTERNED: &str = "61 62 63 | 61 62 63 -> (1, 1, true)
+61 62 63 | 61 62 64 -> (0, 1, false)
+d83d | d83d de00 -> (0, 1, false)";
+
+fn told(alloc: Global, given: &str) -> Result<String, Fail> {
+    let (early, late) = parted(given, " | ")?;
+    let early = units_of(alloc, early)?;
+    let late = units_of(alloc, late)?;
+    let mut store = PlainStore::new(alloc, Limit::Bits64);
+    if early.len() > 100 || late.len() > 100 {
+        return Ok(String::from_str(alloc, "too long")?);
+    }
+    let found = interned(&mut store, early.as_slice(), late.as_slice())?;
+    Ok(format!(in alloc; "{found:?}")?)
+}
+
 #[test]
 fn equal_units_are_interned_once(rt: HostRuntime) -> Result<(), Fail> {
-    let table: [(&[u16], &[u16], (u32, u32, bool)); 3] = [
-        (&[97, 98, 99], &[97, 98, 99], (1, 1, true)),
-        (&[97, 98, 99], &[97, 98, 100], (0, 1, false)),
-        (&[55357], &[55357, 56832], (0, 1, false)),
-    ];
-    for (early, late, want) in table {
-        assert!(rt; early.len() <= 100 && late.len() <= 100);
-        let mut store = PlainStore::new(rt.alloc(), Limit::Bits64);
-        let found = interned(&mut store, early, late)?;
-        assert_eq!(rt; found, want, "{early:?} and {late:?}");
+    for row in INTERNED.lines() {
+        let (given, want) = parted(row, " -> ")?;
+        let found = told(rt.alloc(), given)?;
+        assert_eq!(rt; found.as_str(), want, "{row}");
     }
     Ok(())
 }

@@ -1,5 +1,6 @@
 //! Tests of the lowest crates by their public calls: units and words, forms of strings, files and
-//! sinks, numbers, and the plain store. They stand apart, since a crate with tests is proved twice.
+//! sinks in memory, numbers, and the plain store. A table is one text, a row a line: what is given, an
+//! arrow, and what is wanted. A proof then goes through a loop, and not through each row.
 #![tactic(auto)]
 
 #[cfg(test)]
@@ -8,6 +9,8 @@ mod files;
 mod header;
 #[cfg(test)]
 mod number;
+#[cfg(test)]
+mod rows;
 #[cfg(test)]
 mod store;
 #[cfg(test)]
