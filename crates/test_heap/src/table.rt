@@ -2,6 +2,7 @@ ghost use Rattle.std.specs.Prelude.{◌≡◌};
 
 use heap_rule::HeapSize;
 use heap_table::{Agent, CounterFull, Heap, MakeFault};
+use std::alloc::Global;
 use std::mem::size_of;
 use std::thread::join_mut;
 
@@ -11,34 +12,54 @@ fn size(ids: u32, words: u32, slots: u32) -> HeapSize
     HeapSize { ids, words, slots }
 }
 
+// What comes of the making of a heap: its share, where it is made of the sizes that it was given.
+fn made(alloc: Global, given: HeapSize, agents: u32) -> Option<u32> {
+    match Heap::make(alloc, given, agents) {
+        Ok((heap, agent)) if heap.size() == given => Some(agent.share()),
+        Ok(_) | Err(MakeFault::Memory) => None,
+        Err(MakeFault::Size) => Some(0),
+    }
+}
+
+// Ids, words, slots and agents, and the share; 0 where the sizes are refused.
+const SIZES: &str = "0 1 1 1 -> 0
+1 0 1 1 -> 0
+1 1 0 1 -> 0
+536870912 1 1 1 -> 0
+1 536870912 1 1 -> 0
+1 1 536870912 1 -> 0
+536870910 2 1 1 -> 0
+1 536870911 1 1 -> 0
+1 1 1 0 -> 0
+1 1 1 65 -> 0
+1 1 1 1 -> 1
+1 1 1 64 -> 64";
+
+// The share that a row wants, and the one that is found.
+fn shares(alloc: Global, row: &str) -> Option<(u32, u32)> {
+    let (given, want) = row.split_once(" -> ")?;
+    let (sizes, agents) = given.rsplit_once(' ')?;
+    let (ids, sizes) = sizes.split_once(' ')?;
+    let (words, slots) = sizes.split_once(' ')?;
+    let given = size(
+        ids.parse::<u32>().ok()?,
+        words.parse::<u32>().ok()?,
+        slots.parse::<u32>().ok()?,
+    );
+    Some((
+        want.parse::<u32>().ok()?,
+        made(alloc, given, agents.parse::<u32>().ok()?)?,
+    ))
+}
+
 #[test]
 fn refuses_sizes(rt: HostRuntime) {
-    let most = 536870911;
-    for (ids, words, slots, agents) in [
-        (0, 1, 1, 1),
-        (1, 0, 1, 1),
-        (1, 1, 0, 1),
-        (most + 1, 1, 1, 1),
-        (1, most + 1, 1, 1),
-        (1, 1, most + 1, 1),
-        (536870910, 2, 1, 1),
-        (1, 536870911, 1, 1),
-        (1, 1, 1, 0),
-        (1, 1, 1, 65),
-    ] {
-        match Heap::make(rt.alloc(), size(ids, words, slots), agents) {
-            Err(fault) => assert!(rt; fault == MakeFault::Size, "{ids} {words} {slots} {agents}"),
-            Ok(_) => panic!(rt; "{ids} {words} {slots} {agents} was made"),
-        }
-    }
-    for agents in [1, 64] {
-        match Heap::make(rt.alloc(), size(1, 1, 1), agents) {
-            Err(_) => panic!(rt; "refused"),
-            Ok((heap, agent)) => {
-                assert!(rt; heap.size() == size(1, 1, 1));
-                assert_eq!(rt; agent.share(), agents);
-            }
-        }
+    for row in SIZES.lines() {
+        let shares = shares(rt.alloc(), row);
+        assert!(rt;
+            matches!(shares, Some((want, found)) if want == found),
+            "{row}"
+        );
     }
 }
 

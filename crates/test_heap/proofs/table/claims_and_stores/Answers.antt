@@ -6,7 +6,7 @@ use Rattle.heap_rule.specs.Maps.{HasKey}
 use Rattle.heap_rule.specs.Layout.{MAX}
 use Rattle.heap_rule.specs.Loads.{MayLoadWord}
 use Rattle.heap_rule.proofs.MapLemmas.{key_of, insert_same}
-use Rattle.heap_tests.proofs.table.claims_and_stores.Goals as goal
+use Rattle.test_heap.proofs.table.claims_and_stores.Goals as goal
 
 pub store_word-requires-clause-own : goal.store_word-requires-clause-own
 store_word-requires-clause-own g c = let at = c.in-Ok-claim_words.at in let m : FinMap nat_cmp ℕ = c.in-Ok.agent.seat.me.0.own_words in

@@ -3,34 +3,19 @@ use heap_core::{Counter, Event, HeapSize};
 use js_header::Form;
 use std::alloc::Global;
 
+// In groups, since each word of a `match` makes all that come behind it dearer to prove.
 pub(crate) fn event_of(alloc: Global, text: &str) -> Option<Event> {
-    let mut fields = Fields { rest: text };
-    let event = match fields.word() {
-        "make" => fields.make()?,
-        "split" => Event::Split {
-            view: fields.number()?,
-            give: fields.number()?,
-        },
-        "join" => Event::Join {
-            view: fields.number()?,
-            other: fields.number()?,
-        },
-        "load-counter" => Event::LoadCounter {
-            view: fields.number()?,
-            counter: fields.counter()?,
-        },
-        "claim" => fields.claim()?,
-        "store-word" => fields.store_word()?,
-        "store-length" => fields.store_length()?,
-        "birth" => fields.birth()?,
+    let (word, rest) = text.split_once(' ')?;
+    let mut fields = Fields { rest };
+    let event = match word {
         "load-form" => fields.load_header(alloc, false)?,
         "load-length" => fields.load_header(alloc, true)?,
         "load-word" => fields.load_word(alloc)?,
-        "flatten" => fields.flatten(alloc)?,
-        "thin" => fields.thin(alloc)?,
         "load-slot" => fields.load_slot(alloc)?,
         "take-slot" => fields.take_slot(alloc)?,
-        _ => return None,
+        "flatten" => fields.flatten(alloc)?,
+        "thin" => fields.thin(alloc)?,
+        _ => fields.event(word)?,
     };
     if fields.rest.is_empty() {
         Some(event)
@@ -45,8 +30,8 @@ struct Fields<'a> {
     rest: &'a str,
 }
 
-impl Fields<'_> {
-    fn word(&mut self) -> &str {
+impl<'a> Fields<'a> {
+    fn word(&mut self) -> &'a str {
         let (word, rest) = self.rest.split_once(' ').unwrap_or((self.rest, ""));
         self.rest = rest;
         word
@@ -70,6 +55,13 @@ impl Fields<'_> {
             "flat" => self.flat(false, false),
             "wide-flat" => self.flat(true, false),
             "fixed" => self.flat(false, true),
+            word => self.rope(word),
+        }
+    }
+
+    // A form that leads to other strings.
+    fn rope(&mut self, word: &str) -> Option<Form> {
+        match word {
             "cons" => self.cons(false),
             "wide-cons" => self.cons(true),
             "sliced" => self.sliced(),
@@ -113,6 +105,42 @@ impl Fields<'_> {
         }
         self.rest = "";
         Some(ids)
+    }
+
+    // An event that learns nothing.
+    fn event(&mut self, word: &str) -> Option<Event> {
+        match word {
+            "make" => self.make(),
+            "split" => self.split(),
+            "join" => self.join(),
+            "load-counter" => self.load_counter(),
+            "claim" => self.claim(),
+            "store-word" => self.store_word(),
+            "store-length" => self.store_length(),
+            "birth" => self.birth(),
+            _ => None,
+        }
+    }
+
+    fn split(&mut self) -> Option<Event> {
+        Some(Event::Split {
+            view: self.number()?,
+            give: self.number()?,
+        })
+    }
+
+    fn join(&mut self) -> Option<Event> {
+        Some(Event::Join {
+            view: self.number()?,
+            other: self.number()?,
+        })
+    }
+
+    fn load_counter(&mut self) -> Option<Event> {
+        Some(Event::LoadCounter {
+            view: self.number()?,
+            counter: self.counter()?,
+        })
     }
 
     fn make(&mut self) -> Option<Event> {
