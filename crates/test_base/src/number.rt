@@ -4,8 +4,8 @@ ghost use Rattle.js_number.specs.Places.{IsLawful};
 
 use crate::rows::parted;
 use js_number::Num;
-use js_units::{NoMemory, Units, append_utf8};
-use std::alloc::{AllocError, Global};
+use js_units::{Units, append_utf8};
+use std::alloc::Global;
 use std::test::Fail;
 
 // A number as a row spells it.
@@ -147,20 +147,21 @@ Infinity
 -9007199254740991";
 
 // The text behind `=`.
-fn text_of(n: Num, units: &mut Units, bytes: &mut Vec<u8>) -> Result<(), NoMemory>
+fn text_of(alloc: Global, n: Num) -> Result<Vec<u8>, Fail>
     requires { IsLawful n }
 {
+    let mut units = Units::new(alloc);
     units.push(61)?;
-    n.to_text(units)?;
-    append_utf8(units.as_slice(), bytes)
+    n.to_text(&mut units)?;
+    let mut bytes = Vec::new(alloc);
+    append_utf8(units.as_slice(), &mut bytes)?;
+    Ok(bytes)
 }
 
 #[test]
 fn texts(rt: HostRuntime) -> Result<(), Fail> {
     for text in TEXTS.lines() {
-        let n = spelled(text).ok_or("no number")?;
-        let mut bytes = Vec::new(rt.alloc());
-        text_of(n, &mut Units::new(rt.alloc()), &mut bytes)?;
+        let bytes = text_of(rt.alloc(), spelled(text).ok_or("no number")?)?;
         assert_eq!(rt; bytes.strip_prefix(b"="), Some(text.as_bytes()), "{text}");
     }
     Ok(())

@@ -3,29 +3,19 @@ ghost use Rattle.std.specs.Prelude.{◌≡◌, ◌≤◌, All, IfSome, length};
 ghost use Rattle.heap_intern.specs.Sessions.{state_in};
 ghost use Rattle.js_jobs.specs.Jobs.{HasNoLines};
 
+use crate::scripts::script;
 use heap_intern::Session;
 use heap_rule::HeapSize;
 use heap_table::Heap;
 use js_evaluator::{End, Env, Lines, eval};
 use js_io::Gate;
 use js_jobs::{Job, Outcome, run_all, run_group};
-use js_script::{Role, parse};
+use js_script::Role;
 use js_store::Limit;
 use js_syntax::{Names, Script};
 use std::alloc::Global;
 use std::marker::Sync;
 use std::thread::Threads;
-
-pub fn script(alloc: Global, text: &str, role: Role, outer: &Names) -> Option<Script> {
-    if text.len() > 10_000 {
-        return None;
-    }
-    parse(alloc, text.as_bytes(), role, outer).ok()
-}
-
-pub fn prelude(alloc: Global, text: &str) -> Option<Script> {
-    script(alloc, text, Role::Prelude, &Names::new(alloc))
-}
 
 /// Jobs that all have the script of this text.
 pub fn alike(alloc: Global, text: &str, n: u32, outer: &Names) -> Option<Vec<Job>> {

@@ -1,18 +1,10 @@
 // A report from a table, which prints 273 bytes, to sinks that fail at any place.
-use crate::program::run;
+use crate::program::ran;
+use js_io::MemFiles;
 use std::test::Fail;
 
 // The words for one file on a heap that the report has room in.
-const WORDS: [&str; 8] = [
-    "jsstr",
-    "--ids",
-    "2048",
-    "--heap-words",
-    "8192",
-    "--slots",
-    "64",
-    "a.js",
-];
+const WORDS: &str = "jsstr --ids 2048 --heap-words 8192 --slots 64 a.js";
 
 // The bytes that the report prints.
 const PRINTED: u32 = 273;
@@ -54,19 +46,17 @@ print(JSON.stringify(names.split('/')));
 
 #[test]
 fn a_report_breaks_off_at_any_place(rt: HostRuntime) -> Result<(), Fail> {
-    let text = REPORT.as_bytes();
-    let whole = run(&rt, rt.alloc(), &WORDS, text, 100, PRINTED)?;
-    assert_eq!(rt; whole.code, 0);
-    assert_eq!(rt; whole.out.taken().len(), PRINTED as usize);
-    for most in (1..8).step_by(6) {
+    let alloc = rt.alloc();
+    let mut files = MemFiles::new(alloc);
+    files.put("a.js", REPORT.as_bytes())?;
+    let whole = ran(&rt, alloc, WORDS, &mut files, 100, (PRINTED, PRINTED))?;
+    let lines = whole.out.taken();
+    assert_eq!(rt; (whole.code, lines.len()), (0, PRINTED as usize));
+    for most in [1, 7] {
         for room in 0..PRINTED {
-            let ran = run(&rt, rt.alloc(), &WORDS, text, most, room)?;
-            assert_eq!(rt; ran.code, 7, "room for {room}");
-            assert_eq!(rt; ran.out.taken().len(), room as usize, "room for {room}");
-            assert!(rt;
-                whole.out.taken().starts_with(ran.out.taken()),
-                "room for {room}"
-            );
+            let found = ran(&rt, alloc, WORDS, &mut files, most, (room, room))?;
+            let as_wanted = lines.get(..room as usize) == Some(found.out.taken());
+            assert!(rt; as_wanted && found.code == 7, "room for {room}");
         }
     }
     Ok(())

@@ -1,6 +1,6 @@
 use Rattle.std.proofs.Common.{◌≡◌, length, All}
 use Rattle.js_jobs.specs.Jobs.{HasNoLines}
-use Rattle.js_jobs_tests.proofs.running.places.Given as goal
+use Rattle.test_run.proofs.outcomes.places.Given as goal
 
 abbrev pub invariant-loop-turn : goal.invariant-loop-turn
 invariant-loop-turn l = record {

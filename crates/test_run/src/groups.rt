@@ -1,15 +1,15 @@
 // Twenty jobs and fewer, in one group and in several.
 ghost use Rattle.std.specs.Prelude.{◌≡◌, ◌≤◌};
 
-use crate::running::{alike, all_done, counts, numbered, prelude, run, run_in_order};
+use crate::gate::HoldsFirst;
+use crate::outcomes::{alike, all_done, counts, numbered, run, run_in_order};
+use crate::scripts::prelude;
 use heap_rule::HeapSize;
 use js_evaluator::End;
-use js_io::{FreeGate, Gate};
+use js_io::FreeGate;
 use js_store::FullReport;
 use std::alloc::Global;
 use std::marker::Sync;
-use std::sync::atomic::{AtomicU64, Ordering};
-use std::thread;
 use std::thread::Threads;
 
 const AMPLE: HeapSize = HeapSize {
@@ -151,39 +151,9 @@ fn all_find_all_slots_used(rt: HostRuntime) {
     }
 }
 
-const TURNS: u32 = 100_000_000;
-
-// A gate that holds script 0 until script 1 has entered, and for so many turns at most.
-#[derive(Drop)]
-struct HoldsFirst {
-    entered: AtomicU64,
-    ran_out: AtomicU64,
-}
-
-impl Gate for HoldsFirst {
-    fn enter(&self, script: u32) {
-        if script == 1 {
-            self.entered.store(1, Ordering::SeqCst);
-            return;
-        }
-        for _ in 0..TURNS {
-            if self.entered.load(Ordering::SeqCst) == 1 {
-                return;
-            }
-            thread::yield_now();
-        }
-        self.ran_out.store(1, Ordering::SeqCst);
-    }
-
-    fn leave(&self, _script: u32) {}
-}
-
 // Whether both of two jobs, in two groups, print their lines, and the gate let the first go.
 fn both_run_at_once<R: Threads + Sync>(rt: &R, alloc: Global) -> bool {
-    let gate = HoldsFirst {
-        entered: AtomicU64::new(0),
-        ran_out: AtomicU64::new(0),
-    };
+    let gate = HoldsFirst::new();
     let Some(prelude) = prelude(alloc, PRELUDE) else {
         return false;
     };
@@ -193,7 +163,7 @@ fn both_run_at_once<R: Threads + Sync>(rt: &R, alloc: Global) -> bool {
     let Some(outcomes) = run(rt, alloc, AMPLE, &prelude, &jobs, 2, &gate) else {
         return false;
     };
-    gate.ran_out.load(Ordering::SeqCst) == 0 && all_done(alloc, &outcomes, LINES)
+    gate.was_met() && all_done(alloc, &outcomes, LINES)
 }
 
 #[test]

@@ -7,19 +7,21 @@ use std::marker::Sync;
 use std::test::Fail;
 use std::thread::Threads;
 
-// The status of the program for these words.
+// The status of the program for these words, which stand one blank apart.
 pub(crate) fn code_of<R: Threads + Sync, F: Files, O: Sink, E: Sink, G: Gate + Sync>(
     rt: &R,
     alloc: Global,
-    words: &[&str],
+    words: &str,
     files: &mut F,
     out: &mut O,
     err: &mut E,
     gate: &G,
 ) -> Result<u8, Fail> {
     let mut owned = Vec::new(alloc);
-    for word in words {
-        owned.push(String::from_str(alloc, word)?)?;
+    if !words.is_empty() {
+        for word in words.split(' ') {
+            owned.push(String::from_str(alloc, word)?)?;
+        }
     }
     let status = run_words(rt, alloc, &owned, files, out, err, gate);
     Ok(status.code)
