@@ -393,3 +393,8 @@ def declared_at_top(data):
         if before.spelling in ("let", "const") and open_ones == 0:
             names.add(token.spelling)
     return names
+
+
+def told(fault):
+    """What stands behind `FILE:` on standard error, nothing for a script."""
+    return f"{fault[1]}: refused: {fault[0]}" if fault else ""
