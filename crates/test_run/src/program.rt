@@ -82,7 +82,7 @@ fn a_sink_fails_at_any_place(rt: HostRuntime) -> Result<(), Fail> {
             let found = told(&rt, alloc, WORDS, &mut files, most, (room, room))?;
             let written = first("hello~you~", room);
             let code = if room < 10 { 7 } else { 0 };
-            let want = format!(in alloc; "{code} \"{written}\" \"\"")?.replace('~', "\\n")?;
+            let want = format!(in alloc; "{code} \"{written}\" \"\"")?.replace(alloc, "~", "\\n")?;
             assert_eq!(rt; found.as_str(), want.as_str(), "room for {room}");
         }
     }
@@ -113,7 +113,7 @@ fn a_line_on_err_fails_behind_the_lines(rt: HostRuntime) -> Result<(), Fail> {
         let found = told(&rt, alloc, WORDS, &mut files, 7, (100, room))?;
         let line = first("a.js: uncaught TypeError~", room);
         let code = if room < 25 { 7 } else { 1 };
-        let want = format!(in alloc; "{code} \"x~\" \"{line}\"")?.replace('~', "\\n")?;
+        let want = format!(in alloc; "{code} \"x~\" \"{line}\"")?.replace(alloc, "~", "\\n")?;
         assert_eq!(rt; found.as_str(), want.as_str(), "room for {room}");
     }
     Ok(())
