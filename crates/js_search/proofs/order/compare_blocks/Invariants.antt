@@ -1,4 +1,4 @@
-use Rattle.std.proofs.Common.{◌≡◌, ◌≤◌, drop}
+use Rattle.std.proofs.Common.{◌≡◌, ◌-◌, ◌≤◌, drop}
 use Rattle.std.specs.Prelude.{None}
 use Rattle.js_store.specs.State.{text}
 use Rattle.js_store.specs.Faults.{Step}
@@ -17,3 +17,6 @@ invariant-loop-done g l =
       step : Step (state l.fn.store) (state l.store) None 0 0;
       history : (state l.store).history ≡ (state l.fn.store).history;
     }
+
+abbrev pub decreases-loop-done : goal.decreases-loop-done
+decreases-loop-done g l = l.size - l.done

@@ -1,9 +1,5 @@
-use Rattle.std.proofs.Common.{rules, ◌≡◌, ◌+◌, ◌∙◌, length, ap, sym, refl, cc, arith}
-use Rattle.std.specs.Prelude.{slice_range}
-use Rattle.std.specs.Ordering.{ordering_then}
+use Rattle.std.proofs.Common.{rules, length}
 use Rattle.js_store.specs.State.{text}
-use Rattle.js_store.proofs.Laws.{text_still}
-use Rattle.js_search.specs.Order.{units_cmp}
 use Rattle.js_search.proofs.Lexical.{run_then}
 use Rattle.js_search.proofs.order.compare_run.Goals as goal
 
