@@ -2,12 +2,12 @@
 use crate::gate::HoldsFirst;
 use crate::running::code_of;
 use crate::scripts::{prelude, script};
+use eval_tree::Script;
 use js_evaluator::{End, Env, Lines, eval};
 use js_generate::texts_from;
 use js_io::{FreeGate, Gate, MemFiles, MemSink};
-use js_script::Role;
+use js_parse::Role;
 use js_store::Limit;
-use js_syntax::Script;
 use plain_store::PlainStore;
 use std::alloc::Global;
 use std::marker::Sync;

@@ -1,6 +1,6 @@
 // Scripts and preludes of short texts.
-use js_script::{Role, parse};
-use js_syntax::{Names, Script};
+use eval_tree::{Names, Script};
+use js_parse::{Role, parse};
 use std::alloc::Global;
 
 pub(crate) fn script(alloc: Global, text: &str, role: Role, outer: &Names) -> Option<Script> {
