@@ -2,7 +2,7 @@
 use Rattle.std.proofs.Common.{◌≡◌, ℕ, zero, suc, ◌≤◌, List, [], ◌∷◌, length, map, take, ap, sym, ◌∙◌, refl}
 use Rattle.std.proofs.Math.Seq.{take-length}
 use Rattle.std.proofs.lemmas.List.{length-map, take-map}
-use Rattle.js_syntax.specs.declared.tree.Method.{Method}
+use Rattle.eval_tree.specs.declared.tree.Method.{Method}
 use Rattle.js_store.specs.State.{State}
 use Rattle.js_texts.specs.Texts.{Every}
 use Rattle.js_calls.specs.Operands.{most_taken, operands}

@@ -3,8 +3,8 @@ ghost use Rattle.std.specs.Prelude.{◌≡◌};
 ghost use Rattle.js_calls.specs.Operands.{most_taken, operands as operands_of};
 ghost use Rattle.js_values.specs.Seen.{all_seen, AllFine};
 
+use eval_tree::Method;
 use js_store::Strings;
-use js_syntax::Method;
 use js_values::Value;
 
 // How many of `count` arguments a method takes at most.

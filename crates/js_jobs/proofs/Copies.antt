@@ -2,9 +2,9 @@
 use Rattle.std.proofs.Common.{◌≡◌, ℕ, List, [], ◌∷◌, map, refl, sym, ap, subst, ◌∙◌}
 use Rattle.js_store.specs.State.{State, Grows}
 use Rattle.js_texts.proofs.Lists.{every_map, map_same}
-use Rattle.js_scopes.specs.declared.env.Binding.{Binding}
-use Rattle.js_scopes.specs.Bindings.{Bound}
-use Rattle.js_scopes.specs.Seen.{bound_of, bounds_of}
+use Rattle.eval_scopes.specs.declared.env.Binding.{Binding}
+use Rattle.eval_scopes.specs.Bindings.{Bound}
+use Rattle.eval_scopes.specs.Seen.{bound_of, bounds_of}
 use Rattle.js_values.specs.declared.value.Value.{Value}
 use Rattle.js_values.specs.Copies.{Content}
 use Rattle.js_values.specs.Outcome.{Val}
