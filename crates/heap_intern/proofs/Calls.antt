@@ -262,11 +262,11 @@ pub interned_ok : (v w : View) (l : ℕ) (t : TableId) (calls : Calls) (words mo
 interned_ok v w l t calls words most le p g u c = record { grows = grows_goes v w calls l t p g; honest = tt; within_ids = omega arith; within_words = omega arith }
 
 -- the slot that was found free
-pub interned_free : (v w : View) (us : List ℕ) (plan : Plan) (x : View) (f : TableFull) → IsRefused v w us plan f → FoundFree x w (Some (fault_in_table f))
+pub interned_free : (v w : View) (us : List ℕ) (plan : Plan) (x : View) (f : TableFull) → IsRefused v w us plan f → FoundFree x w us (Some (fault_in_table f))
 interned_free v w us plan x (table.Ids f) h = h.4
 interned_free v w us plan x (table.Words f) h = inl h.4
 interned_free v w us plan x (table.Slots n) h = tt
 
 -- no slot was loaded
-pub settle_free : (v w : View) (us : List ℕ) (wide : Bool) (f : TextFull) → IsNoRoom v w w.sizes us f wide → w.slot_loads ≡ v.slot_loads → FoundFree v w (Some (fault_in_text f))
-settle_free v w us wide f h e = let is = h.words.1 in subst (λ (g : TextFull). FoundFree v w (Some (fault_in_text g))) (sym is) (inr e)
+pub settle_free : (v w : View) (us : List ℕ) (wide : Bool) (f : TextFull) → IsNoRoom v w w.sizes us f wide → w.slot_loads ≡ v.slot_loads → FoundFree v w us (Some (fault_in_text f))
+settle_free v w us wide f h e = let is = h.words.1 in subst (λ (g : TextFull). FoundFree v w us (Some (fault_in_text g))) (sym is) (inr e)

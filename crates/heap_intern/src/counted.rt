@@ -35,7 +35,7 @@ impl<'h> Session<'h> {
         ensures grown { IfOk result (λ r. (state_in self.new).history ≡ (state_in self.old).history ++ (text (state_in self.old) s.id, r.id) ∷ []) }
         ensures kept { OnErr result ((state_in self.new).history ≡ (state_in self.old).history) }
         ensures shut { SlotsShut (state_in self.new) (fault_of result) (text (state_in self.old) s.id) }
-        ensures free { FoundFree (view_in self.old) (view_in self.new) (fault_of result) }
+        ensures free { FoundFree (view_in self.old) (view_in self.new) (text (state_in self.old) s.id) (fault_of result) }
         ensures loads { LoadsSlots (view_in self.old) (view_in self.new) (answered result) steps.old steps.new }
         ensures few { (k : ℕ) → loads_at (view_in self.new) k ≤ loads_at (view_in self.old) k + 2 }
         ensures most { steps.new ≤ steps.old + 2 * (state_in self.old).sizes.slots }
@@ -69,7 +69,7 @@ impl<'h> Session<'h> {
         ensures grown { IfOk result (λ r. (state_in self.new).history ≡ (state_in self.old).history ++ (text (state_in self.old) s.id, r.id) ∷ []) }
         ensures kept { OnErr result ((state_in self.new).history ≡ (state_in self.old).history) }
         ensures shut { SlotsShut (state_in self.new) (fault_of result) (text (state_in self.old) s.id) }
-        ensures free { FoundFree (view_in self.old) (view_in self.new) (fault_of result) }
+        ensures free { FoundFree (view_in self.old) (view_in self.new) (text (state_in self.old) s.id) (fault_of result) }
         ensures few { (k : ℕ) → loads_at (view_in self.new) k ≤ loads_at (view_in self.old) k + 2 }
     {
         let mut steps = Steps::<L>::start(blank);

@@ -81,7 +81,7 @@ impl<'h> Strings for Session<'h> {
         ensures grown { IfOk result (λ r. (state_in self.new).history ≡ (state_in self.old).history ++ (text (state_in self.old) s.id, r.id) ∷ []) }
         ensures kept { OnErr result ((state_in self.new).history ≡ (state_in self.old).history) }
         ensures shut { SlotsShut (state_in self.new) (fault_of result) (text (state_in self.old) s.id) }
-        ensures free { FoundFree (view_in self.old) (view_in self.new) (fault_of result) }
+        ensures free { FoundFree (view_in self.old) (view_in self.new) (text (state_in self.old) s.id) (fault_of result) }
         ensures few { (k : ℕ) → loads_at (view_in self.new) k ≤ loads_at (view_in self.old) k + 2 }
     {
         self.intern_by::<Brand>(s, Blank::new(1))

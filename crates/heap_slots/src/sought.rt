@@ -3,7 +3,6 @@
 ghost use Rattle.std.specs.Prelude.{◌≡◌, ℕ, List, ◌+◌, ◌-◌, ◌*◌, ◌/◌, ◌%◌, ◌≤◌, ◌<◌, ◌^◌, Bool, true, slice_index, length};
 ghost use Rattle.std.specs.Bool.{MatchBool};
 ghost use Rattle.js_units.specs.Lanes.{hash_of, lane_count, words_over};
-ghost use Rattle.js_header.specs.Form.{IsInRange};
 ghost use Rattle.js_header.specs.declared.form.Form.TheVariants.{Flat, Sliced};
 ghost use Rattle.heap_rule.specs.Maps.{Has, HasKey};
 ghost use Rattle.heap_rule.specs.Slots.{Differs};
@@ -58,7 +57,6 @@ pub(crate) fn seek(agent: &mut Agent, heap: &Heap, id: u32) -> Sought
     ensures loads { (view_of agent.new).slot_loads ≡ (view_of agent.old).slot_loads }
     ensures id { result.id ≡ id }
     ensures lies { IsSought (view_of agent.new) result }
-    ensures range { IsInRange result.form }
     ensures found { IsFound (view_of agent.old) id result.form }
 {
     let form = agent.load_form(heap, id);

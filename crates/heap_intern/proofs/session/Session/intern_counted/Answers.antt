@@ -13,6 +13,7 @@ use Rattle.heap_rule.proofs.MapLemmas.{has_key}
 use Rattle.heap_table.specs.Agents.{size_of}
 use Rattle.heap_text.specs.Settling.{IsBitOf, IsNoRoom}
 use Rattle.heap_slots.proofs.Loading.{slots_few, slots_from, slots_most, slots_none}
+use Rattle.heap_intern.specs.Counted.{FoundFree}
 use Rattle.heap_intern.specs.Faults.{fault_in_table, fault_in_text}
 use Rattle.heap_intern.specs.Sessions.{is_settled, state_by, table_of}
 use Rattle.heap_intern.proofs.Calls.{header_most, interned_err, interned_free, interned_ok, settle_free, settle_refused, settled_step, shut_text}
@@ -70,12 +71,12 @@ returns-in-Err-clause-free g c = let s = c.args.self.now in let v : View = s.tex
     let p = has_key v.units c.args.s.id c.requires in let e = c.settle.ensures in
     let sizes : w.sizes ≡ size_of s.text.heap.now = e.text.1 ∙ ap (λ x. size_of x.now) e.heap in
     let room : (wide : Bool) × IsBitOf v c.args.s.id wide × IsNoRoom v w w.sizes p.0 c.in-Err.full wide = subst (λ (z : HeapSize). (wide : Bool) × IsBitOf v c.args.s.id wide × IsNoRoom v w z p.0 c.in-Err.full wide) (sym sizes) (c.in-Err.ensures.refused p.0 p.1) in
-    rw c.text_fault.ensures (settle_free v w p.0 room.0 c.in-Err.full room.2 e.continues.slot_loads)
+    rw c.text_fault.ensures (subst (λ (us : List ℕ). FoundFree v w us (Some (fault_in_text c.in-Err.full))) (sym (text_is v.units c.args.s.id p.0 p.1)) (settle_free v w p.0 room.0 c.in-Err.full room.2 e.continues.slot_loads))
 
 pub returns-in-Err-intern_counted-clause-free : goal.returns-in-Err-intern_counted-clause-free
 returns-in-Err-intern_counted-clause-free g c = let v : View = c.args.self.now.text.agent.seat.me.0 in let x : View = c.settle.new.self.agent.seat.me.0 in let w : View = c.intern_counted.new.agent.seat.me.0 in
     let u = has_key v.units c.args.s.id c.requires in let found = c.in-Err-intern_counted.ensures.interns u.0 (c.settle.ensures.continues.known.units c.args.s.id u.0 u.1) in
-    rw c.table_fault.ensures (interned_free x w u.0 found.0 v c.in-Err-intern_counted.full found.2.1)
+    rw c.table_fault.ensures (subst (λ (us : List ℕ). FoundFree v w us (Some (fault_in_table c.in-Err-intern_counted.full))) (sym (text_is v.units c.args.s.id u.0 u.1)) (interned_free x w u.0 found.0 v c.in-Err-intern_counted.full found.2.1))
 
 pub returns-in-Ok-intern_counted-clause-loads : goal.returns-in-Ok-intern_counted-clause-loads
 returns-in-Ok-intern_counted-clause-loads g c = let e = c.settle.ensures.continues in
