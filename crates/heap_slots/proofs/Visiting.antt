@@ -220,10 +220,10 @@ pub only_units : (m : FinMap nat_cmp (List ℕ)) (id : ℕ) (us ws : List ℕ) (
 only_units m id us ws P h g p = let same : Some ws ≡ Some us = sym h ∙ g in let is : ws ≡ us = cc in subst P is p
 
 -- loads before it, and loads after it
-left_after : (a v w : View) (us : List ℕ) (plan : Plan) → v.used.ids ≡ a.used.ids → v.used.words ≡ a.used.words → HasLeft v w us plan → HasLeft a w us plan
+pub left_after : (a v w : View) (us : List ℕ) (plan : Plan) → v.used.ids ≡ a.used.ids → v.used.words ≡ a.used.words → HasLeft v w us plan → HasLeft a w us plan
 left_after a v w us plan e d h = ⊎_elim (λ t. inl (t.0 ∙ e, t.1 ∙ d)) (λ t. inr (t.0, t.1 ∙ ap (λ (x : ℕ). x + 1) e, t.2 ∙ ap (λ (x : ℕ). x + plan.words) d, t.3)) h
 
-refused_after : (a v w : View) (us : List ℕ) (plan : Plan) (f : TableFull) → v.used.ids ≡ a.used.ids → v.used.words ≡ a.used.words → IsRefused v w us plan f → IsRefused a w us plan f
+pub refused_after : (a v w : View) (us : List ℕ) (plan : Plan) (f : TableFull) → v.used.ids ≡ a.used.ids → v.used.words ≡ a.used.words → IsRefused v w us plan f → IsRefused a w us plan f
 refused_after a v w us plan (Ids f) e d h = (h.0 ∙ e, h.1 ∙ ap (λ (n : ℕ). n + plan.words) d, h.2, h.3, h.4, h.5)
 refused_after a v w us plan (Words f) e d h = (h.0 ∙ e, h.1 ∙ d, h.2, h.3, h.4)
 refused_after a v w us plan (Slots n) e d h = (h.0, h.1, left_after a v w us plan e d h.2)
