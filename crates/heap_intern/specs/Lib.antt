@@ -3,5 +3,6 @@ pub mod Counted
 pub mod Shares
 pub mod Whole
 pub mod Faults
+pub mod Ranges
 pub mod Sound
 pub mod Lately

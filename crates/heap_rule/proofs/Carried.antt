@@ -81,7 +81,7 @@ module _ (z : HeapSize) (W : List ℕ) (vs : List View) (stand : (i : ℕ) → I
 
   stands_then : (i : ℕ) (f : Form) → IsBorn z W i → Stands z W vs i f → Stands z W' vs' i f
   stands_then i Unborn b s = absurd s
-  stands_then i (Flat wide start fixed) b s = (kept_span i wide start b s.0, lanes_then i wide start b s.0 s.1, narrow_then i wide b s.2)
+  stands_then i (Flat wide start fixed) b s = (kept_span i wide start b s.0, lanes_then i wide start b s.0 s.1, narrow_then i wide b s.2, λ e. s.3 (sym (a.lengths i b) ∙ e))
   stands_then i (Cons wide left right) b s = (
     s.0,
     s.1,
@@ -127,6 +127,7 @@ module _ (z : HeapSize) (W : List ℕ) (vs : List View) (stand : (i : ℕ) → I
     kept_span i wide start b s.1,
     lanes_then i wide start b s.1 s.2,
     narrow_then i wide b s.3,
+    λ e. s.4 (sym (a.lengths i b) ∙ e),
   )
   shows_then i (Cons wide left right) b s = (
     born left s.0,

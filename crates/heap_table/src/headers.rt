@@ -1,6 +1,5 @@
 // Compare-exchanges that move a header to a later form.
 ghost use Rattle.std.specs.Prelude.{◌≡◌, ℕ, ◌+◌, ◌*◌, ◌≤◌, ◌<◌, ◌^◌};
-ghost use Rattle.js_header.specs.Form.{IsInRange};
 ghost use Rattle.heap_rule.specs.HeaderMoves.{MayFlatten, MayThin, flattened, thinned};
 ghost use Rattle.js_header.specs.declared.form.Form.TheVariants.{Thin};
 ghost use Rattle.heap_rule.specs.Maps.{Has};
@@ -56,7 +55,6 @@ impl Agent {
     fn try_thin(&mut self, heap: &Heap, id: u32, old: Form, target: u32) -> u64
         requires belongs { Belongs self.old heap.now }
         requires may { MayThin (view_of self.old) id old target }
-        requires range { IsInRange old }
         ensures belongs { Belongs self.new heap.now }
         ensures known { KeepsKnown (view_of self.old) (view_of self.new) }
         ensures view { view_of self.new ≡ learned_all (thinned (view_of self.old) id old target result) }
@@ -76,7 +74,6 @@ impl Agent {
     pub fn thin_step(&mut self, heap: &Heap, id: u32, old: Form, target: u32) -> Step
         requires belongs { Belongs self.old heap.now }
         requires may { MayThin (view_of self.old) id old target }
-        requires range { IsInRange old }
         ensures belongs { Belongs self.new heap.now }
         ensures known { KeepsKnown (view_of self.old) (view_of self.new) }
         ensures step { IsMoved old result }

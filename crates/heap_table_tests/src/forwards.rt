@@ -1,7 +1,6 @@
 // Strings that are forwarded to interned ones, won and lost.
 ghost use Rattle.std.specs.Prelude.{◌≡◌, ◌<◌, ◌^◌, ℕ, false, IfSome};
 ghost use Rattle.js_header.specs.declared.form.Form.TheVariants.{Flat};
-ghost use Rattle.js_header.specs.Form.{IsInRange};
 ghost use Rattle.heap_rule.specs.HeaderMoves.{MayThin};
 ghost use Rattle.heap_rule.specs.Maps.{Has, HasKey};
 ghost use Rattle.heap_rule.specs.Views.{IsKnown};
@@ -61,7 +60,7 @@ fn pair(agent: &mut Agent, heap: &Heap, word: u64) -> Option<(u32, Form, u32)>
     requires belongs { Belongs agent.old heap.now }
     requires one { (size_of heap.now).slots ≡ 1 }
     ensures belongs { Belongs agent.new heap.now }
-    ensures may { IfSome result (λ r. MayThin (view_of agent.new) r.0 r.1 r.2 × IsInRange r.1) }
+    ensures may { IfSome result (λ r. MayThin (view_of agent.new) r.0 r.1 r.2) }
 {
     let Some(target) = interned(agent, heap, word) else {
         return None;
@@ -80,7 +79,7 @@ fn pair(agent: &mut Agent, heap: &Heap, word: u64) -> Option<(u32, Form, u32)>
 // How forwarding the string ends, and its form afterwards.
 fn forward(agent: &mut Agent, heap: &Heap, id: u32, old: Form, target: u32) -> (Step, Form)
     requires belongs { Belongs agent.old heap.now }
-    requires may { MayThin (view_of agent.old) id old target × IsInRange old }
+    requires may { MayThin (view_of agent.old) id old target }
     ensures belongs { Belongs agent.new heap.now }
 {
     let step = agent.thin_step(heap, id, old, target);

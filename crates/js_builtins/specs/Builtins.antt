@@ -1,8 +1,8 @@
 -- Built-in functions (ECMA-262, "The String Constructor", "Properties of the String Constructor", "Properties of the Symbol
 -- Constructor", "JSON.stringify").
 use Rattle.std.specs.Prelude.{ℕ, List}
-use Rattle.js_syntax.specs.declared.tree.Builtin.{Builtin}
-use Rattle.js_syntax.specs.declared.tree.Builtin.TheVariants.{String, FromCharCode, FromCodePoint, SymbolFor, KeyFor, Stringify}
+use Rattle.eval_tree.specs.declared.tree.Builtin.{Builtin}
+use Rattle.eval_tree.specs.declared.tree.Builtin.TheVariants.{String, FromCharCode, FromCodePoint, SymbolFor, KeyFor, Stringify}
 use Rattle.js_values.specs.Outcome.{Val, Out}
 use Rattle.js_values.specs.Arguments.{first_of}
 use Rattle.js_builtins.specs.Codes.{char_codes_call, code_points_call}

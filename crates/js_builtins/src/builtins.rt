@@ -8,8 +8,8 @@ ghost use Rattle.js_builtins.specs.Builtins.{built};
 use crate::codes::{Codes, from_codes};
 use crate::quoting::call_stringify;
 use crate::symbols::{call_key_for, call_string_function, call_symbol_for};
+use eval_tree::Builtin;
 use js_store::Strings;
-use js_syntax::Builtin;
 use js_values::{Stop, Value};
 use std::alloc::Global;
 

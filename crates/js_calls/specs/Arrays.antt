@@ -6,8 +6,8 @@ use Rattle.js_number.specs.Arith.{modulo}
 use Rattle.js_methods.specs.Places.{at_of}
 use Rattle.js_texts.specs.Joined.{joined as joined_list}
 use Rattle.js_replace.specs.Parts.{parts as parts_of}
-use Rattle.js_syntax.specs.declared.tree.Method.{Method}
-use Rattle.js_syntax.specs.declared.tree.Method.TheVariants.{At, CharAt, CharCodeAt, CodePointAt, Concat, EndsWith, Includes, IndexOf, IsWellFormed, Join, LastIndexOf, PadEnd, PadStart, Repeat, Replace, ReplaceAll, Slice, Split, StartsWith, Substr, Substring, ToWellFormed, Trim, TrimEnd, TrimStart}
+use Rattle.eval_tree.specs.declared.tree.Method.{Method}
+use Rattle.eval_tree.specs.declared.tree.Method.TheVariants.{At, CharAt, CharCodeAt, CodePointAt, Concat, EndsWith, Includes, IndexOf, IsWellFormed, Join, LastIndexOf, PadEnd, PadStart, Repeat, Replace, ReplaceAll, Slice, Split, StartsWith, Substr, Substring, ToWellFormed, Trim, TrimEnd, TrimStart}
 use Rattle.js_values.specs.declared.value.Kind.TheVariants.{TypeError}
 use Rattle.js_values.specs.Outcome.{Val, undefined, null, bool, number, text, symbol, list, Converted, Out, gave, converting, free, needing, throwing, refuses, converts}
 use Rattle.js_values.specs.Need.{reads, parts}

@@ -9,8 +9,8 @@ use Rattle.js_methods.specs.Trimming.{trimmed, trimmed_start, trimmed_end}
 use Rattle.js_replace.specs.Matches.{matches}
 use Rattle.js_replace.specs.Replaced.{replaced_first, replaced_all}
 use Rattle.js_methods.specs.WellFormed.{all_paired}
-use Rattle.js_syntax.specs.declared.tree.Method.{Method}
-use Rattle.js_syntax.specs.declared.tree.Method.TheVariants.{At, CharAt, CharCodeAt, CodePointAt, Concat, EndsWith, Includes, IndexOf, IsWellFormed, Join, LastIndexOf, PadEnd, PadStart, Repeat, Replace, ReplaceAll, Slice, Split, StartsWith, Substr, Substring, ToWellFormed, Trim, TrimEnd, TrimStart}
+use Rattle.eval_tree.specs.declared.tree.Method.{Method}
+use Rattle.eval_tree.specs.declared.tree.Method.TheVariants.{At, CharAt, CharCodeAt, CodePointAt, Concat, EndsWith, Includes, IndexOf, IsWellFormed, Join, LastIndexOf, PadEnd, PadStart, Repeat, Replace, ReplaceAll, Slice, Split, StartsWith, Substr, Substring, ToWellFormed, Trim, TrimEnd, TrimStart}
 use Rattle.js_values.specs.declared.value.Kind.TheVariants.{TypeError}
 use Rattle.js_values.specs.Outcome.{Val, undefined, null, bool, number, text, symbol, list, Out, gave, free, number_of, needing, throwing}
 use Rattle.js_values.specs.Need.{nothing, reads}

@@ -10,9 +10,9 @@ ghost use Rattle.js_calls.specs.Reading.{maybe_text};
 ghost use Rattle.js_values.specs.Seen.{seen, IsFine, all_seen, AllFine};
 ghost use Rattle.js_values.specs.Does.{Does};
 
+use eval_tree::Method;
 use js_number::Num;
 use js_store::Strings;
-use js_syntax::Method;
 use js_values::{Kind, Stop, Value, first_is_missing, first_text, joined_by_commas};
 use std::alloc::Global;
 

@@ -19,9 +19,9 @@ use crate::reading::{call_at, call_char_at, call_char_code_at, call_code_point_a
 use crate::replacing::{Replace, call_replace};
 use crate::searching::{Search, call_ends_with, call_search};
 use crate::splitting::call_split;
+use eval_tree::Method;
 use js_number::Num;
 use js_store::Strings;
-use js_syntax::Method;
 use js_values::{Kind, Stop, Value, number_value};
 use std::alloc::Global;
 

@@ -10,7 +10,7 @@ use Rattle.js_values.specs.declared.value.Stop.TheVariants.{Threw, Store}
 use Rattle.js_values.specs.Outcome.{Val, ledger_of}
 use Rattle.js_values.specs.Seen.{seen}
 use Rattle.js_values.proofs.Compose.{ran_free, cut_of_memory}
-use Rattle.js_scopes.specs.Bindings.{Bound, Bindings, meant, written, declared}
+use Rattle.eval_scopes.specs.Bindings.{Bound, Bindings, meant, written, declared}
 use Rattle.js_evaluator.specs.Script.{Flow, assigned, leaves}
 use Rattle.js_evaluator.specs.Seen.{bound_seen, bindings_seen}
 use Rattle.js_evaluator.specs.Flows.{Went}

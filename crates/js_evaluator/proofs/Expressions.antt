@@ -4,18 +4,18 @@ use Rattle.js_store.specs.State.{State, Grows}
 use Rattle.js_store.specs.Faults.{Step}
 use Rattle.js_store.specs.declared.faults.StoreFault.TheVariants.{Memory}
 use Rattle.js_store.proofs.Laws.{grows_trans, step_refl}
-use Rattle.js_syntax.specs.declared.tree.Expr.{Expr}
-use Rattle.js_syntax.specs.declared.tree.Link.{Link}
-use Rattle.js_syntax.specs.declared.tree.PostStep.{PostStep}
-use Rattle.js_syntax.specs.declared.tree.Method.{Method}
-use Rattle.js_syntax.specs.declared.tree.Builtin.{Builtin}
-use Rattle.js_syntax.specs.Tree.{ExprTree, chain, unary, conditional, post, builtin, Links, Steps, Exprs, LinkTree, StepTree, of_length, of_description, of_call, of_index, with_step, expr_tree, link_tree, links_tree, step_tree, steps_tree, exprs_tree}
+use Rattle.eval_tree.specs.declared.tree.Expr.{Expr}
+use Rattle.eval_tree.specs.declared.tree.Link.{Link}
+use Rattle.eval_tree.specs.declared.tree.PostStep.{PostStep}
+use Rattle.eval_tree.specs.declared.tree.Method.{Method}
+use Rattle.eval_tree.specs.declared.tree.Builtin.{Builtin}
+use Rattle.eval_tree.specs.Tree.{ExprTree, chain, unary, conditional, post, builtin, Links, Steps, Exprs, LinkTree, StepTree, of_length, of_description, of_call, of_index, with_step, expr_tree, link_tree, links_tree, step_tree, steps_tree, exprs_tree}
 use Rattle.js_values.specs.declared.value.Value.{Value}
 use Rattle.js_values.specs.declared.value.Value.TheVariants.{Undefined, Null, Bool as Boolean, Number, Text, Symbol, List as Listed}
 use Rattle.js_values.specs.declared.value.Kind.TheVariants.{ReferenceError}
 use Rattle.js_values.specs.declared.value.Stop.{Stop}
 use Rattle.js_values.specs.declared.value.Stop.TheVariants.{Threw, Store}
-use Rattle.js_scopes.specs.Bindings.{Bound}
+use Rattle.eval_scopes.specs.Bindings.{Bound}
 use Rattle.js_evaluator.specs.declared.context.Context.{Context}
 use Rattle.js_values.specs.Need.{nothing}
 use Rattle.js_values.specs.Outcome.{Val, Out, gave, free, bind, each, needing, number_of}

@@ -12,7 +12,7 @@ use Rattle.js_values.specs.Outcome.{Val, Ledger, both, Out, gave, ended, threw, 
 use Rattle.js_values.specs.Need.{Row, ids_in, words_in}
 use Rattle.js_values.specs.Ran.{Ran, Cut, Did}
 use Rattle.js_values.proofs.Compose.{did_after, cut_after, cut_more, ran_both, ran_free, ran_of_step}
-use Rattle.js_scopes.specs.Bindings.{Bindings, outer}
+use Rattle.eval_scopes.specs.Bindings.{Bindings, outer}
 use Rattle.js_evaluator.specs.Script.{Flow, then_flow, go_on, leaves, on_value, left, turns}
 use Rattle.js_evaluator.specs.Flows.{WroteSome, Wrote, Leaves, Went, LeavesTop, WentTop}
 

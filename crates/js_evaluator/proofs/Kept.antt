@@ -4,7 +4,7 @@ use Rattle.js_store.specs.State.{State}
 use Rattle.js_texts.specs.Texts.{Every}
 use Rattle.js_values.specs.declared.value.Value.{Value}
 use Rattle.js_values.specs.Seen.{IsFine}
-use Rattle.js_scopes.specs.Bindings.{Bound, Frame, Bindings, bound_in, is_among, inner_first, look, meant, with_value, changed, with_bound, inside, write, written, declare, declared, entered, turned, outer}
+use Rattle.eval_scopes.specs.Bindings.{Bound, Frame, Bindings, bound_in, is_among, inner_first, look, meant, with_value, changed, with_bound, inside, write, written, declare, declared, entered, turned, outer}
 use Rattle.js_evaluator.specs.Seen.{BoundsFine, BindingsFine}
 
 module _ {F R : Type 0} (s : State F) (name : R → ℕ) where

@@ -1,10 +1,10 @@
 -- What the tree of an expression is that holds no other.
 use Rattle.std.proofs.Common.{◌≡◌, ℕ}
-use Rattle.js_syntax.specs.declared.tree.Expr.{fold_out-Expr}
-use Rattle.js_syntax.specs.declared.tree.Expr.TheVariants.{Literal, Number}
-use Rattle.js_syntax.specs.declared.tree.Expr.TheViews.{out-Expr}
+use Rattle.eval_tree.specs.declared.tree.Expr.{fold_out-Expr}
+use Rattle.eval_tree.specs.declared.tree.Expr.TheVariants.{Literal, Number}
+use Rattle.eval_tree.specs.declared.tree.Expr.TheViews.{out-Expr}
 use denote.Hole.Carrier.{out}
-use Rattle.js_syntax.specs.Tree.{ExprTree, StepTree, LinkTree, literal, number, expr_layer, step_layer, link_layer, expr_tree}
+use Rattle.eval_tree.specs.Tree.{ExprTree, StepTree, LinkTree, literal, number, expr_layer, step_layer, link_layer, expr_tree}
 
 pub tree_of_literal : (n : ℕ) → expr_tree (Literal n) ≡ literal n
 unfolding out-Expr out

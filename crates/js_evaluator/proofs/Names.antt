@@ -9,7 +9,7 @@ use Rattle.js_values.specs.Seen.{seen, IsFine}
 use Rattle.js_values.specs.Does.{Does}
 use Rattle.js_values.specs.Ran.{Stopped}
 use Rattle.js_values.proofs.Compose.{ran_free}
-use Rattle.js_scopes.specs.Bindings.{Bound, Bindings, meant}
+use Rattle.eval_scopes.specs.Bindings.{Bound, Bindings, meant}
 use Rattle.js_evaluator.specs.Expression.{read_out}
 use Rattle.js_evaluator.specs.Seen.{bound_seen, bindings_seen}
 use Rattle.js_values.specs.Copies.{content}

@@ -4,7 +4,7 @@ use Rattle.std.proofs.lemmas.List.{append-nil}
 use Rattle.js_store.specs.State.{State, Grows}
 use Rattle.js_store.specs.Faults.{Step, NeverSlots}
 use Rattle.js_store.specs.declared.faults.StoreFault.{StoreFault}
-use Rattle.js_syntax.specs.Tree.{Exprs, print}
+use Rattle.eval_tree.specs.Tree.{Exprs, print}
 use Rattle.js_texts.specs.Texts.{AllKnown, texts as texts_seen, full_only, settle_most}
 use Rattle.js_print.specs.Printing.{line}
 use Rattle.js_values.specs.declared.value.Value.{Value}
@@ -17,7 +17,7 @@ use Rattle.js_values.specs.Seen.{all_seen, AllFine}
 use Rattle.js_values.specs.Does.{GivesAll, GivesTexts, string_words}
 use Rattle.js_values.proofs.Needs.{some_most}
 use Rattle.js_values.proofs.Compose.{ran_both, ran_free, ran_of_step, cut_more, cut_of_full}
-use Rattle.js_scopes.specs.Bindings.{Bindings}
+use Rattle.eval_scopes.specs.Bindings.{Bindings}
 use Rattle.js_evaluator.specs.declared.context.Context.{Context}
 use Rattle.js_evaluator.specs.Expression.{exprs_out}
 use Rattle.js_evaluator.specs.Script.{on_value, printed, reached_units, line_out, stmt_flow}

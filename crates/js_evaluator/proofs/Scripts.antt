@@ -1,14 +1,14 @@
 -- A whole script: its literals, and then its statements.
 use Rattle.std.proofs.Common.{◌≡◌, ℕ, List, [], ap, ◌∙◌, subst, Vec, Global, Result, Ok, Err}
 use Rattle.js_store.specs.State.{State, Grows}
-use Rattle.js_syntax.specs.Tree.{Tree}
+use Rattle.eval_tree.specs.Tree.{Tree}
 use Rattle.js_texts.specs.Texts.{AllKnown, texts as texts_seen}
 use Rattle.js_values.specs.declared.value.Value.{Value}
 use Rattle.js_values.specs.declared.value.Stop.{Stop}
 use Rattle.js_values.specs.Outcome.{Val, each}
 use Rattle.js_values.specs.Does.{GivesTexts}
-use Rattle.js_scopes.specs.Bindings.{Bound, Bindings}
-use Rattle.js_scopes.specs.Seen.{bindings_of}
+use Rattle.eval_scopes.specs.Bindings.{Bound, Bindings}
+use Rattle.eval_scopes.specs.Seen.{bindings_of}
 use Rattle.js_evaluator.specs.declared.context.Context.{Context}
 use Rattle.js_evaluator.specs.Expression.{Scope}
 use Rattle.js_evaluator.specs.Script.{literal_out, with_top, stmts_flow, meaning}

@@ -3,13 +3,13 @@ use Rattle.std.proofs.Common.{arith, ◌≡◌, ℕ, ◌+◌, ◌<◌, List, len
 use Rattle.js_store.specs.State.{State, Grows}
 use Rattle.js_store.specs.Faults.{Step}
 use Rattle.js_store.proofs.Laws.{grows_trans, has_still}
-use Rattle.js_syntax.specs.declared.tree.Stmt.{Stmt}
-use Rattle.js_syntax.specs.declared.tree.Arm.{Arm}
-use Rattle.js_syntax.specs.declared.tree.Block.{Block}
+use Rattle.eval_tree.specs.declared.tree.Stmt.{Stmt}
+use Rattle.eval_tree.specs.declared.tree.Arm.{Arm}
+use Rattle.eval_tree.specs.declared.tree.Block.{Block}
 use Rattle.js_number.specs.declared.Num.TheVariants.{Int}
 use Rattle.std.specs.Prelude.{pos}
-use Rattle.js_syntax.specs.Tree.{ArmTree, ExprTree, BlockTree, expr_tree, stmt_tree, stmts_tree, block_tree, arm_tree, arms}
-use Rattle.js_syntax.proofs.Trees.{block_is, arm_is}
+use Rattle.eval_tree.specs.Tree.{ArmTree, ExprTree, BlockTree, expr_tree, stmt_tree, stmts_tree, block_tree, arm_tree, arms}
+use Rattle.eval_tree.proofs.Trees.{block_is, arm_is}
 use Rattle.js_texts.proofs.Lists.{drop_at}
 use Rattle.js_values.specs.declared.value.Value.{Value}
 use Rattle.js_values.specs.declared.value.Stop.{Stop}
@@ -22,7 +22,7 @@ use Rattle.js_values.specs.Ran.{Ran}
 use Rattle.js_values.specs.Does.{Does, Tells}
 use Rattle.js_values.proofs.Compose.{did_bind, did_stop}
 use Rattle.js_values.proofs.Still.{seen_still}
-use Rattle.js_scopes.specs.Bindings.{Bindings, meant, entered, turned, outer}
+use Rattle.eval_scopes.specs.Bindings.{Bindings, meant, entered, turned, outer}
 use Rattle.js_evaluator.specs.declared.context.Context.{Context}
 use Rattle.js_evaluator.specs.Expression.{Scope, read_out, expr_out}
 use Rattle.js_evaluator.specs.Script.{Flow, on_value, with_bindings, sum_of_both, stmt_flow, stmts_flow, block_flow, arms_flow, turn_flow}

@@ -3,8 +3,8 @@ use Rattle.std.proofs.Common.{◌≡◌, ℕ, List}
 use Rattle.js_store.specs.State.{State, Grows}
 use Rattle.js_store.proofs.Laws.{known_still, text_still}
 use Rattle.js_texts.proofs.Lists.{every_map, map_same}
-use Rattle.js_scopes.specs.Bindings.{Bound, Frame, Bindings}
-use Rattle.js_scopes.specs.Seen.{bindings_of}
+use Rattle.eval_scopes.specs.Bindings.{Bound, Frame, Bindings}
+use Rattle.eval_scopes.specs.Seen.{bindings_of}
 use Rattle.js_values.specs.declared.value.Value.{Value}
 use Rattle.js_values.specs.Seen.{IsFine}
 use Rattle.js_values.proofs.Still.{seen_still, fine_still}

@@ -6,11 +6,11 @@ use Rattle.js_texts.specs.Texts.{Every}
 use Rattle.js_texts.proofs.Lists.{every_get}
 use Rattle.js_values.specs.declared.value.Value.{Value}
 use Rattle.js_values.specs.Seen.{IsFine}
-use Rattle.js_scopes.specs.declared.scope.Scope.{Scope}
-use Rattle.js_scopes.specs.declared.scope.Place.{Place}
-use Rattle.js_scopes.specs.declared.scope.Place.TheVariants.{Top, Block}
-use Rattle.js_scopes.specs.Bindings.{Bound, Frame}
-use Rattle.js_scopes.specs.Seen.{bounds_of, frame_of, bindings_of, got, bound_at, put, put_in, put_at}
+use Rattle.eval_scopes.specs.declared.scope.Scope.{Scope}
+use Rattle.eval_scopes.specs.declared.scope.Place.{Place}
+use Rattle.eval_scopes.specs.declared.scope.Place.TheVariants.{Top, Block}
+use Rattle.eval_scopes.specs.Bindings.{Bound, Frame}
+use Rattle.eval_scopes.specs.Seen.{bounds_of, frame_of, bindings_of, got, bound_at, put, put_in, put_at}
 use Rattle.js_evaluator.specs.Seen.{BoundsFine, BindingsFine}
 
 every_parts : {A : Type 0} (P : A → Type 0) (xs ys : List A) → Every P (xs ++ ys) → Every P xs × Every P ys

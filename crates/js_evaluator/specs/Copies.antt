@@ -1,6 +1,6 @@
 -- What a binding holds, whatever vector has the elements of an array.
 use Rattle.std.specs.Prelude.{ℕ, List, Bool}
-use Rattle.js_scopes.specs.declared.env.Binding.{Binding}
+use Rattle.eval_scopes.specs.declared.env.Binding.{Binding}
 use Rattle.js_values.specs.declared.value.Value.{Value}
 use Rattle.js_values.specs.Copies.{Content, content}
 

@@ -8,7 +8,7 @@ use Rattle.js_store.specs.declared.faults.StoreFault.TheVariants as store
 use Rattle.js_evaluator.specs.declared.ending.End.{End}
 use Rattle.js_evaluator.specs.declared.ending.End.TheVariants.{Done, Threw, Unsupported, Full, Memory}
 use Rattle.js_values.specs.Outcome.{Val, Out, gave, ended, threw, unsupported}
-use Rattle.js_scopes.specs.Bindings.{Bound}
+use Rattle.eval_scopes.specs.Bindings.{Bound}
 use Rattle.js_texts.specs.Texts.{full_only}
 use Rattle.js_evaluator.specs.Script as meant
 use Rattle.js_evaluator.specs.Script.{Flow, need_ids, need_words}

@@ -4,7 +4,7 @@ use Rattle.std.specs.List.{concat}
 use Rattle.js_store.specs.State.{State}
 use Rattle.js_values.specs.declared.value.Stop.{Stop}
 use Rattle.js_values.specs.declared.value.Stop.TheVariants.{Threw, Unsupported, Store}
-use Rattle.js_scopes.specs.Bindings.{Bound, Bindings}
+use Rattle.eval_scopes.specs.Bindings.{Bound, Bindings}
 use Rattle.js_values.specs.Outcome.{Val, Out, gave, ended}
 use Rattle.js_evaluator.specs.Script.{Flow}
 use Rattle.js_values.specs.Ran.{Did}

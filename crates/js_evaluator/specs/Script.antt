@@ -2,9 +2,9 @@
 use Rattle.std.specs.Prelude.{ℕ, zero, suc, ◌+◌, Bool, true, false, List, [], ◌∷◌, ◌++◌, length, nat_le, if◌then◌else◌, Option, Some, None, pos}
 use Rattle.js_number.specs.declared.Num.TheVariants.{Int}
 use Rattle.js_print.specs.Printing.{line}
-use Rattle.js_syntax.specs.declared.tree.Op.TheVariants.{Plus}
-use Rattle.js_syntax.specs.Tree.{ExprTree, Exprs, StmtTree, block, let_line, const_line, assign, append, print, if_line, for_line, Stmts, no_stmts, stmt, BlockTree, block_of, Arms, no_arms, arm, Tree}
-use Rattle.js_scopes.specs.Bindings.{Bound, Bindings, meant, written, declared, entered, turned, outer}
+use Rattle.eval_tree.specs.declared.tree.Op.TheVariants.{Plus}
+use Rattle.eval_tree.specs.Tree.{ExprTree, Exprs, StmtTree, block, let_line, const_line, assign, append, print, if_line, for_line, Stmts, no_stmts, stmt, BlockTree, block_of, Arms, no_arms, arm, Tree}
+use Rattle.eval_scopes.specs.Bindings.{Bound, Bindings, meant, written, declared, entered, turned, outer}
 use Rattle.js_values.specs.declared.value.Kind.TheVariants.{RangeError, TypeError, ReferenceError}
 use Rattle.js_values.specs.Outcome.{Val, undefined, number, Out, gave, ended, threw, after, bind, converting, each, free, cost, ledger_of}
 use Rattle.js_values.specs.Need.{reads, parts, ids_in, words_in}

@@ -2,8 +2,8 @@
 use Rattle.std.specs.Prelude.{ℕ, List, map}
 use Rattle.js_store.specs.State.{State}
 use Rattle.js_texts.specs.Texts.{Every, AllKnown, texts as texts_seen}
-use Rattle.js_scopes.specs.Bindings.{Bound, Frame, Bindings}
-use Rattle.js_scopes.specs.Seen.{bindings_of}
+use Rattle.eval_scopes.specs.Bindings.{Bound, Frame, Bindings}
+use Rattle.eval_scopes.specs.Seen.{bindings_of}
 use Rattle.js_values.specs.declared.value.Value.{Value}
 use Rattle.js_values.specs.Outcome.{Val}
 use Rattle.js_values.specs.Seen.{seen, IsFine}

@@ -1,7 +1,7 @@
 // What expressions read and statements change.
 ghost use Rattle.std.specs.Prelude.{◌≡◌, ◌∷◌, IfOk, IfErr, IfSome, OnOk, MatchOption, Some, None, option_map, List, ℕ};
-ghost use Rattle.js_scopes.specs.Bindings.{meant, declared, entered, turned, outer};
-ghost use Rattle.js_scopes.specs.Seen.{Within, IsPlace};
+ghost use Rattle.eval_scopes.specs.Bindings.{meant, declared, entered, turned, outer};
+ghost use Rattle.eval_scopes.specs.Seen.{Within, IsPlace};
 ghost use Rattle.js_values.specs.Seen.{seen, IsFine};
 ghost use Rattle.js_values.specs.Does.{Does};
 ghost use Rattle.js_evaluator.specs.Expression.{read_out};
@@ -9,9 +9,9 @@ ghost use Rattle.js_evaluator.specs.Script.{assigned, declares};
 ghost use Rattle.js_evaluator.specs.Seen.{ContextFine, context_bindings, scope_of};
 ghost use Rattle.js_evaluator.specs.Flows.{Went};
 
-use js_scopes::{Place, Scope};
+use eval_scopes::{Place, Scope};
+use eval_tree::{Name, Names};
 use js_store::{StoreFault, Strings};
-use js_syntax::{Name, Names};
 use js_values::{Kind, Stop, Value};
 use std::alloc::Global;
 

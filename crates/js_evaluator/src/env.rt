@@ -2,7 +2,7 @@
 ghost use Rattle.std.specs.Prelude.{◌≡◌, [], map, IfOk};
 ghost use Rattle.js_evaluator.specs.Copies.{bound_content};
 
-use js_scopes::Binding;
+use eval_scopes::Binding;
 use js_units::NoMemory;
 use js_values::Value;
 use std::alloc::Global;
@@ -13,12 +13,12 @@ use std::marker::Model;
 #[derive(Drop)]
 pub struct Env<R> {
     alloc: Global,
-    pub(crate) top: js_scopes::Env<Value<R>>,
+    pub(crate) top: eval_scopes::Env<Value<R>>,
 }
 
 impl<R> Model for Env<R> {
     ghost use Rattle.std.specs.Prelude.{List};
-    ghost use Rattle.js_scopes.specs.declared.env.Binding.{Binding};
+    ghost use Rattle.eval_scopes.specs.declared.env.Binding.{Binding};
     ghost use Rattle.js_values.specs.declared.value.Value.{Value as ValueOf};
 
     ghost Value = { List (Binding (ValueOf R)) };
@@ -33,7 +33,7 @@ impl<R: Drop> Env<R> {
     {
         Env {
             alloc,
-            top: js_scopes::Env::new(alloc),
+            top: eval_scopes::Env::new(alloc),
         }
     }
 
@@ -43,7 +43,7 @@ impl<R: Drop> Env<R> {
         R: Copy,
         ensures { IfOk result (λ env. map bound_content env ≡ map bound_content self.now) }
     {
-        let mut top = js_scopes::Env::new(self.alloc);
+        let mut top = eval_scopes::Env::new(self.alloc);
         for binding in self.top.list() {
             top.push(Binding {
                 name: binding.name.copy()?,

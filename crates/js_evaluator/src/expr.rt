@@ -1,9 +1,9 @@
 // Expressions.
 ghost use Rattle.std.specs.Prelude.{◌≡◌, [], IfOk, IfSome, unwrap_or};
-ghost use Rattle.js_scopes.specs.Bindings.{meant};
+ghost use Rattle.eval_scopes.specs.Bindings.{meant};
 ghost use Rattle.js_values.specs.Outcome.{bind};
 ghost use Rattle.js_store.specs.State.{Grows};
-ghost use Rattle.js_syntax.specs.Tree.{variable, expr_tree, link_tree, links_tree, step_tree, steps_tree, exprs_tree};
+ghost use Rattle.eval_tree.specs.Tree.{variable, expr_tree, link_tree, links_tree, step_tree, steps_tree, exprs_tree};
 ghost use Rattle.js_evaluator.specs.Expression.{read_out, expr_out, links_out, link_out, steps_out, step_out, exprs_out};
 ghost use Rattle.js_values.specs.Seen.{seen, all_seen, IsFine, AllFine};
 ghost use Rattle.js_evaluator.specs.Seen.{ContextFine, context_bindings, scope_of};
@@ -12,11 +12,11 @@ ghost use Rattle.js_values.specs.Does.{Does, GivesAll};
 use crate::context::{Context, look_up, read};
 use crate::literals::read_literal;
 use crate::operators::{apply, is_decided, is_true};
+use eval_tree::{Expr, Link, Name, PostStep};
 use js_builtins::{call_builtin, read_description};
 use js_calls::{call, present, read_index, read_length};
 use js_number::Num;
 use js_store::Strings;
-use js_syntax::{Expr, Link, Name, PostStep};
 use js_values::{Kind, Stop, Value, apply_unary, number_value, push};
 use std::alloc::Global;
 

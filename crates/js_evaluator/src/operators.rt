@@ -10,8 +10,8 @@ ghost use Rattle.js_evaluator.specs.Expression.{decides, operated};
 ghost use Rattle.js_evaluator.specs.Seen.{ContextFine};
 
 use crate::context::Context;
+use eval_tree::Op;
 use js_store::Strings;
-use js_syntax::Op;
 use js_values::{Stop, Value, compare, is_same, plus, subtract, truth};
 use std::alloc::Global;
 use std::cmp::Ordering;

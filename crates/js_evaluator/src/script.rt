@@ -1,11 +1,11 @@
 // Statements, and whole scripts.
 ghost use Rattle.std.specs.Prelude.{◌≡◌, ℕ, List, Option, IfOk, pos};
 ghost use Rattle.js_store.specs.State.{Grows};
-ghost use Rattle.js_syntax.specs.Tree;
-ghost use Rattle.js_syntax.specs.Tree.{expr_tree, exprs_tree, init_tree, stmt_tree, stmts_tree, block_tree, arm_tree, arms as arms_tree, tree_of};
+ghost use Rattle.eval_tree.specs.Tree;
+ghost use Rattle.eval_tree.specs.Tree.{expr_tree, exprs_tree, init_tree, stmt_tree, stmts_tree, block_tree, arm_tree, arms as arms_tree, tree_of};
 ghost use Rattle.std.specs.Prelude.{map};
-ghost use Rattle.js_scopes.specs.Bindings.{Bindings};
-ghost use Rattle.js_scopes.specs.Seen.{Within, IsPlace, bounds_of};
+ghost use Rattle.eval_scopes.specs.Bindings.{Bindings};
+ghost use Rattle.eval_scopes.specs.Seen.{Within, IsPlace, bounds_of};
 ghost use Rattle.js_values.specs.Outcome.{Val, number};
 ghost use Rattle.js_values.specs.Seen.{seen, all_seen, IsFine, AllFine};
 ghost use Rattle.js_values.specs.Does.{Does, Tells};
@@ -22,11 +22,11 @@ use crate::ending::End;
 use crate::env::Env;
 use crate::expr::{expr, exprs};
 use crate::literals::intern_literals;
+use eval_scopes::{Place, Scope};
+use eval_tree::{Arm, Block, Expr, Name, Script, Stmt};
 use js_number::Num;
 use js_print::{Lines, print_line};
-use js_scopes::{Place, Scope};
 use js_store::{StoreFault, Strings};
-use js_syntax::{Arm, Block, Expr, Name, Script, Stmt};
 use js_values::{Kind, Stop, Value, plus, texts, truth};
 use std::alloc::Global;
 use std::mem;
@@ -76,7 +76,7 @@ fn run<S: Strings>(
         literals,
         scope: Scope {
             blocks: Vec::new(alloc),
-            env: mem::replace(&mut env.top, js_scopes::Env::new(alloc)),
+            env: mem::replace(&mut env.top, eval_scopes::Env::new(alloc)),
         },
     };
     let result = statements(alloc, store, &mut context, lines, &script.body);

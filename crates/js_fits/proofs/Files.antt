@@ -7,7 +7,7 @@ use Rattle.js_store.specs.declared.faults.StoreFault.{StoreFault}
 use Rattle.js_store.specs.declared.faults.StoreFault.TheVariants as store
 use Rattle.js_store.specs.Faults.{Step}
 use Rattle.js_store.proofs.Laws.{has_known}
-use Rattle.js_scopes.specs.Bindings.{Bound}
+use Rattle.eval_scopes.specs.Bindings.{Bound}
 use Rattle.js_texts.specs.Texts.{Every}
 use Rattle.js_texts.proofs.Lists.{every_map}
 use Rattle.js_values.specs.Outcome.{Val}

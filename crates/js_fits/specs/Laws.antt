@@ -3,9 +3,9 @@ use Rattle.std.specs.Prelude.{◌≡◌, ℕ, List, [], ◌∷◌, ◌++◌, Non
 use Rattle.atomic_table.specs.Seated.{TableId}
 use Rattle.js_store.specs.State.{State, Sizes, Grows}
 use Rattle.js_store.specs.Faults.{Step}
-use Rattle.js_scopes.specs.Bindings.{Bound}
-use Rattle.js_syntax.specs.declared.tree.Script.{Script}
-use Rattle.js_syntax.specs.Tree.{tree_of}
+use Rattle.eval_scopes.specs.Bindings.{Bound}
+use Rattle.eval_tree.specs.declared.tree.Script.{Script}
+use Rattle.eval_tree.specs.Tree.{tree_of}
 use Rattle.js_values.specs.Outcome.{Val}
 use Rattle.js_evaluator.specs.declared.ending.End.{End}
 use Rattle.js_evaluator.specs.Evaluates.{Evaluates}

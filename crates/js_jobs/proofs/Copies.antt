@@ -4,9 +4,9 @@ use Rattle.js_number.specs.Places.{IsLawful}
 use Rattle.js_store.specs.State.{State, Grows, IsKnown, text as units_of}
 use Rattle.js_texts.specs.Texts.{AllKnown, texts as texts_seen}
 use Rattle.js_texts.proofs.Lists.{every_map, map_same}
-use Rattle.js_scopes.specs.declared.env.Binding.{Binding}
-use Rattle.js_scopes.specs.Bindings.{Bound}
-use Rattle.js_scopes.specs.Seen.{bound_of, bounds_of}
+use Rattle.eval_scopes.specs.declared.env.Binding.{Binding}
+use Rattle.eval_scopes.specs.Bindings.{Bound}
+use Rattle.eval_scopes.specs.Seen.{bound_of, bounds_of}
 use Rattle.js_values.specs.declared.value.Value.{Value}
 use Rattle.js_values.specs.declared.value.Value.TheVariants as value
 use Rattle.js_values.specs.Copies.{Content, content}

@@ -8,7 +8,7 @@ use Rattle.js_store.specs.declared.faults.StoreFault.{StoreFault}
 use Rattle.js_store.specs.declared.faults.StoreFault.TheVariants as store
 use Rattle.js_store.proofs.Laws.{has_known, grows_refl, grows_trans}
 use Rattle.js_texts.specs.Texts.{full_only}
-use Rattle.js_scopes.specs.Bindings.{Bound}
+use Rattle.eval_scopes.specs.Bindings.{Bound}
 use Rattle.js_values.specs.Outcome.{Val}
 use Rattle.js_values.specs.Ran.{NextShut}
 use Rattle.js_evaluator.specs.declared.ending.End.{End}

@@ -4,10 +4,10 @@ use Rattle.std.proofs.lemmas.List.{append-nil}
 use Rattle.std.proofs.lemmas.List.Elements.{All-take, All-drop, Contains-append_left}
 use Rattle.js_store.specs.State.{State, Grows}
 use Rattle.js_store.proofs.Laws.{known_still}
-use Rattle.js_syntax.specs.Tree.{tree_of}
-use Rattle.js_scopes.specs.declared.env.Binding.{Binding}
-use Rattle.js_scopes.specs.Bindings.{Bound}
-use Rattle.js_scopes.specs.Seen.{bounds_of}
+use Rattle.eval_tree.specs.Tree.{tree_of}
+use Rattle.eval_scopes.specs.declared.env.Binding.{Binding}
+use Rattle.eval_scopes.specs.Bindings.{Bound}
+use Rattle.eval_scopes.specs.Seen.{bounds_of}
 use Rattle.js_values.specs.declared.value.Value.{Value}
 use Rattle.js_values.specs.Outcome.{Val}
 use Rattle.js_evaluator.specs.Script.{Flow, meaning}

@@ -6,9 +6,9 @@ use Rattle.js_store.specs.Faults.{ids_wanted, words_wanted}
 use Rattle.js_store.specs.declared.faults.FullReport.TheVariants.{Ids, Words, Slots}
 use Rattle.js_store.specs.declared.faults.StoreFault.{StoreFault}
 use Rattle.js_store.specs.declared.faults.StoreFault.TheVariants as store
-use Rattle.js_syntax.specs.Tree.{tree_of}
-use Rattle.js_scopes.specs.declared.env.Binding.{Binding}
-use Rattle.js_scopes.specs.Seen.{bounds_of}
+use Rattle.eval_tree.specs.Tree.{tree_of}
+use Rattle.eval_scopes.specs.declared.env.Binding.{Binding}
+use Rattle.eval_scopes.specs.Seen.{bounds_of}
 use Rattle.js_values.specs.declared.value.Value.{Value}
 use Rattle.js_values.specs.Ran.{NextShut}
 use Rattle.js_evaluator.specs.declared.ending.End.{End}

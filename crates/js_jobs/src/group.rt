@@ -1,6 +1,6 @@
 // Jobs in a row.
 ghost use Rattle.std.specs.Prelude.{◌≡◌, ◌≤◌, ◌<◌, ◌+◌, ℕ, List, length, All, [], ◌∷◌};
-ghost use Rattle.js_scopes.specs.Seen.{bounds_of};
+ghost use Rattle.eval_scopes.specs.Seen.{bounds_of};
 ghost use Rattle.js_evaluator.specs.Seen.{BoundsFine};
 ghost use Rattle.js_jobs.specs.Jobs.{number, HasNoLines, Runs};
 

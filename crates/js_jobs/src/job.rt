@@ -1,6 +1,6 @@
 // Jobs and their outcomes.
+use eval_tree::Script;
 use js_evaluator::{End, Lines};
-use js_syntax::Script;
 
 /// A script, and the place of its file.
 #[derive(Drop)]

@@ -1,6 +1,6 @@
 // Jobs on a session of the heap.
 ghost use Rattle.std.specs.Prelude.{◌≡◌, ◌≤◌, ◌<◌, ◌+◌, ℕ, List, length, All};
-ghost use Rattle.js_scopes.specs.Seen.{bounds_of};
+ghost use Rattle.eval_scopes.specs.Seen.{bounds_of};
 ghost use Rattle.js_evaluator.specs.Seen.{BoundsFine};
 ghost use Rattle.heap_intern.specs.Sessions.{state_in};
 ghost use Rattle.js_jobs.specs.Jobs.{number, HasNoLines, Runs, means, ids_needed, words_needed, most_ids_wanted, most_words_wanted};

@@ -1,9 +1,9 @@
 // A session on the heap is split among threads, and joined again.
 use crate::shared::Shared;
+use eval_tree::Script;
 use heap_intern::Session;
 use heap_text::JsStr;
 use js_evaluator::{End, Env, Lines, eval};
-use js_syntax::Script;
 use std::alloc::Global;
 
 impl<'h> Shared for Session<'h> {

@@ -1,8 +1,8 @@
 // A store that is split among threads, and joined again.
 ghost use Rattle.std.specs.Prelude.{◌≡◌, ◌≤◌, ◌<◌};
 ghost use Rattle.js_store.specs.State.{State, Grows};
-ghost use Rattle.js_syntax.specs.Tree.{tree_of};
-ghost use Rattle.js_scopes.specs.Seen.{bounds_of};
+ghost use Rattle.eval_tree.specs.Tree.{tree_of};
+ghost use Rattle.eval_scopes.specs.Seen.{bounds_of};
 ghost use Rattle.js_evaluator.specs.Script.{meaning};
 ghost use Rattle.js_evaluator.specs.Seen.{BoundsFine, bounds_seen};
 ghost use Rattle.js_evaluator.specs.Evaluates.{Evaluates};
@@ -10,9 +10,9 @@ ghost use Rattle.heap_intern.specs.Sessions.{SessionFrame};
 ghost use Rattle.heap_intern.specs.Shares.{IsJoined, MayJoin, left_by, right_by};
 ghost use Rattle.js_jobs.specs.Jobs.{number};
 
+use eval_tree::Script;
 use heap_text::JsStr;
 use js_evaluator::{End, Env, Lines};
-use js_syntax::Script;
 use std::alloc::Global;
 
 // What running jobs asks of a session. The calls are generic in it, since proofs about threads are

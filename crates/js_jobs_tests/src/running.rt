@@ -3,15 +3,15 @@ ghost use Rattle.std.specs.Prelude.{◌≡◌, ◌≤◌, All, IfSome, length};
 ghost use Rattle.heap_intern.specs.Sessions.{state_in};
 ghost use Rattle.js_jobs.specs.Jobs.{HasNoLines};
 
+use eval_tree::{Names, Script};
 use heap_intern::Session;
 use heap_rule::HeapSize;
 use heap_table::Heap;
 use js_evaluator::{End, Env, Lines, eval};
 use js_io::Gate;
 use js_jobs::{Job, Outcome, run_all, run_group};
-use js_script::{Role, parse};
+use js_parse::{Role, parse};
 use js_store::Limit;
-use js_syntax::{Names, Script};
 use std::alloc::Global;
 use std::marker::Sync;
 use std::thread::Threads;

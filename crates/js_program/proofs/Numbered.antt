@@ -2,9 +2,9 @@
 use Rattle.std.proofs.Common.{◌≡◌, ℕ, ◌+◌, List, [], ◌∷◌, ◌++◌, length, map, refl, sym, ap, ◌∙◌, arith}
 use Rattle.std.proofs.lemmas.List.{map-append}
 use Rattle.js_store.specs.State.{State}
-use Rattle.js_syntax.specs.declared.tree.Script.{Script}
-use Rattle.js_syntax.specs.Tree.{tree_of}
-use Rattle.js_scopes.specs.Bindings.{Bound}
+use Rattle.eval_tree.specs.declared.tree.Script.{Script}
+use Rattle.eval_tree.specs.Tree.{tree_of}
+use Rattle.eval_scopes.specs.Bindings.{Bound}
 use Rattle.js_values.specs.Outcome.{Val}
 use Rattle.js_evaluator.specs.Script.{Flow, meaning}
 use Rattle.js_jobs.specs.declared.job.Job.{Job}

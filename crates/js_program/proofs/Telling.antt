@@ -4,7 +4,7 @@ use Rattle.atomic_table.specs.Seated.{TableId}
 use Rattle.js_store.specs.Faults.{Step}
 use Rattle.js_store.specs.Limits.{limit_units}
 use Rattle.js_store.specs.State.{State, Sizes, Grows}
-use Rattle.js_syntax.specs.Tree.{Tree}
+use Rattle.eval_tree.specs.Tree.{Tree}
 use Rattle.js_evaluator.specs.Script.{Flow}
 use Rattle.heap_rule.specs.Agents.{first_view}
 use Rattle.heap_rule.specs.declared.size.HeapSize.{HeapSize}

@@ -1,7 +1,7 @@
 -- What is meant by a prelude, if there is one, and by scripts that begin with the bindings which the prelude is meant to leave.
 use Rattle.std.specs.Prelude.{ℕ, List, [], map, Option, Some, None}
-use Rattle.js_syntax.specs.Tree.{Tree}
-use Rattle.js_scopes.specs.Bindings.{Bound}
+use Rattle.eval_tree.specs.Tree.{Tree}
+use Rattle.eval_scopes.specs.Bindings.{Bound}
 use Rattle.js_values.specs.Outcome.{Val}
 use Rattle.js_evaluator.specs.Script.{Flow, meaning}
 

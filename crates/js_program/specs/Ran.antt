@@ -3,8 +3,8 @@ use Rattle.std.specs.Prelude.{◌≡◌, ℕ, ◌+◌, Bool, true, false, List, 
 use Rattle.std.specs.Borrow.{Bor}
 use Rattle.js_store.specs.Limits.{limit_units}
 use Rattle.js_store.specs.State.{State, Sizes}
-use Rattle.js_syntax.specs.declared.tree.Script.{Script}
-use Rattle.js_syntax.specs.Tree.{Tree, tree_of}
+use Rattle.eval_tree.specs.declared.tree.Script.{Script}
+use Rattle.eval_tree.specs.Tree.{Tree, tree_of}
 use Rattle.js_evaluator.specs.Script.{Flow}
 use Rattle.heap_table.specs.Agents.{Belongs, size_of, view_of}
 use Rattle.heap_slots.specs.Counting.{different}

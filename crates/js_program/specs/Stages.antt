@@ -1,7 +1,7 @@
 -- What the stages of a run leave. No public contract cites these.
 use Rattle.std.specs.Prelude.{◌≡◌, ℕ, ◌+◌, ◌≤◌, List, [], ◌∷◌, map, Option}
 use Rattle.js_store.specs.State.{State, Sizes}
-use Rattle.js_syntax.specs.Tree.{Tree, tree_of}
+use Rattle.eval_tree.specs.Tree.{Tree, tree_of}
 use Rattle.js_evaluator.specs.Script.{Flow}
 use Rattle.heap_slots.specs.Counting.{different}
 use Rattle.heap_intern.specs.Sessions.{SessionFrame}

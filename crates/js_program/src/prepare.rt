@@ -1,12 +1,12 @@
 // Jobs of scripts, and places for their outcomes.
 ghost use Rattle.std.specs.Prelude.{◌≡◌, ◌≤◌, length, map, All, IfOk};
-ghost use Rattle.js_syntax.specs.Tree.{tree_of};
+ghost use Rattle.eval_tree.specs.Tree.{tree_of};
 ghost use Rattle.js_jobs.specs.Jobs.{HasNoLines};
 ghost use Rattle.js_program.specs.Stages.{AreNumbered, job_trees};
 
+use eval_tree::Script;
 use js_evaluator::{End, Lines};
 use js_jobs::{Job, Outcome};
-use js_syntax::Script;
 use js_units::NoMemory;
 use std::alloc::Global;
 

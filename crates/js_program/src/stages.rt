@@ -1,18 +1,18 @@
 // The prelude, and behind it the scripts, on a session of the heap.
 ghost use Rattle.std.specs.Prelude.{◌≡◌, ◌≤◌, ◌↔◌, length, All, IsTrue, None, Some};
 ghost use Rattle.js_store.specs.State.{Grows};
-ghost use Rattle.js_syntax.specs.Tree.{tree_of};
+ghost use Rattle.eval_tree.specs.Tree.{tree_of};
 ghost use Rattle.js_evaluator.specs.declared.ending.End.TheVariants.{Done};
 ghost use Rattle.heap_intern.specs.Sessions.{state_in};
 ghost use Rattle.js_jobs.specs.Jobs.{HasNoLines};
 ghost use Rattle.js_program.specs.Ran.{tree_if};
 ghost use Rattle.js_program.specs.Stages.{AreNumbered, HaveRunFrom, IsUnused, job_trees};
 
+use eval_tree::Script;
 use heap_intern::Session;
 use js_evaluator::{End, Env, Lines, eval};
 use js_io::Gate;
 use js_jobs::{Job, Outcome, run_all};
-use js_syntax::Script;
 use std::alloc::Global;
 use std::marker::Sync;
 use std::thread::Threads;

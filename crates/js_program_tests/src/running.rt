@@ -1,11 +1,11 @@
 // A prelude with two scripts on a small heap.
+use eval_tree::{Names, Script};
 use heap_rule::HeapSize;
 use js_evaluator::End;
 use js_io::FreeGate;
+use js_parse::{Role, parse};
 use js_program::{Setup, run_program};
-use js_script::{Role, parse};
 use js_store::Limit;
-use js_syntax::{Names, Script};
 use std::alloc::Global;
 use std::marker::Sync;
 use std::thread::Threads;

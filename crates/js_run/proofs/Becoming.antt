@@ -14,8 +14,8 @@ use Rattle.js_store.specs.Limits.{limit_units}
 use Rattle.js_fits.specs.Files.{RunFile, AreFilesOf, AfterPrelude}
 use Rattle.std.specs.Borrow.{Bor}
 use Rattle.std.specs.Option.{option_copied}
-use Rattle.js_syntax.specs.declared.tree.Script.{Script}
-use Rattle.js_syntax.specs.Tree.{Tree, tree_of}
+use Rattle.eval_tree.specs.declared.tree.Script.{Script}
+use Rattle.eval_tree.specs.Tree.{Tree, tree_of}
 use Rattle.js_words.specs.Words.{Asked, IsInRange, Request, files, made_from, request_of}
 use Rattle.js_sources.specs.declared.sources.Source.{Source}
 use Rattle.js_sources.specs.declared.sources.Sources.{Sources}

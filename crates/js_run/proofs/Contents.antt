@@ -3,11 +3,11 @@ use Rattle.std.proofs.Common.{◌≡◌, ℕ, ◌≤◌, List, [], ◌∷◌, �
 use Rattle.js_generate.specs.Texts.{Named}
 use Rattle.js_io.specs.FilesState.{Tells, IsTooLarge}
 use Rattle.js_io.specs.declared.files.TheConstants.{FILE_MAX}
-use Rattle.js_script.specs.declared.fault.Role.{Role}
-use Rattle.js_script.specs.declared.fault.Role.TheVariants as role
-use Rattle.js_script.specs.declared.fault.ParseFault.{ParseFault}
-use Rattle.js_script.specs.Spells.{Spells, Refused}
-use Rattle.js_syntax.specs.Tree.{Tree}
+use Rattle.js_parse.specs.declared.fault.Role.{Role}
+use Rattle.js_parse.specs.declared.fault.Role.TheVariants as role
+use Rattle.js_parse.specs.declared.fault.ParseFault.{ParseFault}
+use Rattle.js_parse.specs.Spells.{Spells, Refused}
+use Rattle.eval_tree.specs.Tree.{Tree}
 use Rattle.js_words.specs.Words.{Asked, files, made_from}
 use Rattle.js_sources.specs.Program.{Name, Program, in_order, outer_of}
 use Rattle.js_sources.specs.Reading as reading

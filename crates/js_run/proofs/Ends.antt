@@ -2,7 +2,7 @@
 use Rattle.std.proofs.Common.{◌≡◌, ◌⊎◌, inl, inr, ⊎_elim, ℕ, List, [], ◌∷◌, ◌++◌, map, Option, None, Some, refl, sym, ap, ap₂, ◌∙◌, append-nil, arith, subst}
 use Rattle.std.specs.List.{concat}
 use Rattle.js_store.specs.State.{State, Sizes}
-use Rattle.js_syntax.specs.Tree.{Tree}
+use Rattle.eval_tree.specs.Tree.{Tree}
 use Rattle.js_texts.specs.Texts.{Every}
 use Rattle.js_evaluator.specs.declared.ending.End.{End}
 use Rattle.js_evaluator.specs.declared.ending.End.TheVariants.{Done, Threw, Unsupported, Full, Memory}

@@ -3,7 +3,7 @@
 use Rattle.std.specs.Prelude.{◌≡◌, ℕ, List, Option, None, Some, map, option_map}
 use Rattle.js_io.specs.FilesState.{FilesState}
 use Rattle.js_generate.specs.Texts.{Named}
-use Rattle.js_syntax.specs.Tree.{Tree}
+use Rattle.eval_tree.specs.Tree.{Tree}
 use Rattle.js_words.specs.Words.{Request, request_of}
 use Rattle.js_sources.specs.Program.{Name, Program, in_order}
 use Rattle.js_sources.specs.Reading.{IsQuiet, IsUnread, IsLarge}

@@ -1,7 +1,7 @@
 -- What is meant to be reported: every file ends and prints as ECMA-262 says of it, each script after the prelude.
 use Rattle.std.specs.Prelude.{ℕ, List, [], ◌∷◌, ◌++◌, map, Option, None, Some}
 use Rattle.std.specs.List.{concat}
-use Rattle.js_syntax.specs.Tree.{Tree}
+use Rattle.eval_tree.specs.Tree.{Tree}
 use Rattle.js_evaluator.specs.declared.ending.End.{End}
 use Rattle.js_evaluator.specs.Evaluates.{end_of}
 use Rattle.js_evaluator.specs.Script.{Flow}

@@ -3,8 +3,8 @@ use Rattle.std.specs.Prelude.{◌≡◌, ◌⊎◌, ℕ, ◌-◌, ◌^◌, ◌�
 use Rattle.js_generate.specs.Texts.{Named}
 use Rattle.js_io.specs.FilesState.{FilesState}
 use Rattle.js_io.specs.declared.files.TheConstants.{FILE_MAX}
-use Rattle.js_script.specs.declared.fault.ParseFault.{ParseFault}
-use Rattle.js_syntax.specs.Tree.{Tree}
+use Rattle.js_parse.specs.declared.fault.ParseFault.{ParseFault}
+use Rattle.eval_tree.specs.Tree.{Tree}
 use Rattle.js_texts.specs.Texts.{Every}
 use Rattle.js_store.specs.State.{Sizes, State}
 use Rattle.js_store.specs.declared.faults.FullReport.{FullReport}

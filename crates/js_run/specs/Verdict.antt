@@ -1,6 +1,6 @@
 -- What becomes of a call, and what is reported of it: the status and the bytes for each sink.
 use Rattle.std.specs.Prelude.{ℕ, List, [], ◌∷◌, ◌++◌, codes, decimal, map, Option, None, Some}
-use Rattle.js_script.specs.declared.fault.ParseFault.{ParseFault}
+use Rattle.js_parse.specs.declared.fault.ParseFault.{ParseFault}
 use Rattle.js_store.specs.declared.faults.FullReport.{FullReport}
 use Rattle.js_store.specs.declared.faults.FullReport.TheVariants.{Ids, Words, Slots}
 use Rattle.js_values.specs.declared.value.Kind.{Kind}

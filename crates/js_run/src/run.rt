@@ -11,7 +11,7 @@ use crate::stages::{run_plan, stopped};
 use crate::status::Status;
 use crate::telling::tell_words;
 use js_io::{Files, Gate, Sink};
-use js_script::{no_refused_script, one_script};
+use js_parse::{no_refused_script, one_script};
 use js_sources::Stop;
 use js_words::{WordsFault, read_words};
 use std::alloc::Global;

@@ -6,8 +6,8 @@ use Rattle.std.proofs.lemmas.List.Elements.{All-nil}
 use Rattle.js_generate.specs.Texts.{IsSmall, Named}
 use Rattle.js_io.specs.Counts.{next_count}
 use Rattle.js_io.specs.FilesState.{FilesState, IsTooLarge, Tells}
-use Rattle.js_script.specs.declared.fault.Role.TheVariants.{Main}
-use Rattle.js_syntax.specs.Tree.{Tree}
+use Rattle.js_parse.specs.declared.fault.Role.TheVariants.{Main}
+use Rattle.eval_tree.specs.Tree.{Tree}
 use Rattle.js_sources.specs.declared.stop.Stop.{Stop}
 use Rattle.js_sources.specs.declared.stop.Stop.TheVariants as stop
 use Rattle.js_sources.specs.Program.{Name, Program, outer_of, program_from, with_prelude}

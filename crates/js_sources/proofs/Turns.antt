@@ -5,10 +5,10 @@ use Rattle.std.specs.List.{All}
 use Rattle.std.proofs.lemmas.List.{map_push, take_more}
 use Rattle.js_generate.specs.Texts.{Named, named_for}
 use Rattle.js_generate.specs.declared.texts.Text.{Text}
-use Rattle.js_script.specs.declared.fault.Role.TheVariants.{Main}
-use Rattle.js_script.specs.declared.fault.ParseFault.{ParseFault}
-use Rattle.js_script.specs.Spells as script
-use Rattle.js_syntax.specs.Tree.{Tree}
+use Rattle.js_parse.specs.declared.fault.Role.TheVariants.{Main}
+use Rattle.js_parse.specs.declared.fault.ParseFault.{ParseFault}
+use Rattle.js_parse.specs.Spells as script
+use Rattle.eval_tree.specs.Tree.{Tree}
 use Rattle.js_sources.specs.Program.{Name, Program, program_from}
 use Rattle.js_sources.specs.Reading as reading
 use Rattle.js_sources.specs.Reading.{IsRead, Read}

@@ -6,10 +6,10 @@ use Rattle.js_generate.specs.Texts.{Named}
 use Rattle.js_io.specs.Counts.{next_count}
 use Rattle.js_io.specs.FilesState.{FilesState, IsTooLarge}
 use Rattle.js_io.specs.declared.files.TheConstants.{FILE_MAX}
-use Rattle.js_script.specs.declared.fault.Role.{Role}
-use Rattle.js_script.specs.declared.fault.Role.TheVariants as role
-use Rattle.js_script.specs.Spells as script
-use Rattle.js_syntax.specs.Tree.{Tree, tree_of}
+use Rattle.js_parse.specs.declared.fault.Role.{Role}
+use Rattle.js_parse.specs.declared.fault.Role.TheVariants as role
+use Rattle.js_parse.specs.Spells as script
+use Rattle.eval_tree.specs.Tree.{Tree, tree_of}
 use Rattle.js_sources.specs.declared.sources.Source.{Source}
 use Rattle.js_sources.specs.declared.sources.Sources.{Sources}
 use Rattle.js_sources.specs.declared.sources.Scripts.{Scripts}

@@ -1,7 +1,7 @@
 -- A prelude or none, and scripts: by the names of their files, by their texts, or by their trees.
 use Rattle.std.specs.Prelude.{ℕ, List, [], ◌∷◌, Option, None, Some}
 use Rattle.js_generate.specs.Texts.{Named}
-use Rattle.js_syntax.specs.Tree.{Tree}
+use Rattle.eval_tree.specs.Tree.{Tree}
 
 -- a word that names a file, by its bytes
 abbrev pub Name : Type 0

@@ -1,10 +1,10 @@
 -- Which texts spell which scripts, and which one is the first that spells none.
 use Rattle.std.specs.Prelude.{◌≡◌, ⊤, ℕ, List, [], ◌∷◌, Option, None, Some}
 use Rattle.js_generate.specs.Texts.{Named}
-use Rattle.js_script.specs.declared.fault.Role.TheVariants as role
-use Rattle.js_script.specs.declared.fault.ParseFault.{ParseFault}
-use Rattle.js_script.specs.Spells as script
-use Rattle.js_syntax.specs.Tree.{Tree}
+use Rattle.js_parse.specs.declared.fault.Role.TheVariants as role
+use Rattle.js_parse.specs.declared.fault.ParseFault.{ParseFault}
+use Rattle.js_parse.specs.Spells as script
+use Rattle.eval_tree.specs.Tree.{Tree}
 use Rattle.js_sources.specs.Program.{Name, Program, outer_of}
 
 -- the prelude's text spells this prelude; without one there is no tree

@@ -1,16 +1,16 @@
 // Parses the texts.
 ghost use Rattle.std.specs.Prelude.{◌≡◌, map, option_map, IfOk, IfErr};
 ghost use Rattle.std.specs.List.{All};
-ghost use Rattle.js_syntax.specs.Tree.{tree_of};
-ghost use Rattle.js_script.specs.Spells.{Spells};
+ghost use Rattle.eval_tree.specs.Tree.{tree_of};
+ghost use Rattle.js_parse.specs.Spells.{Spells};
 ghost use Rattle.js_sources.specs.Program.{outer_of};
 ghost use Rattle.js_sources.specs.Spelling.{AllSpell, Spell, SpellsPrelude};
 ghost use Rattle.js_sources.specs.Answers.{source_for, sources_for, trees_for, AreShort, IsPreludeShort, IsShort, RefusesAmong, RefusesPreludeText, RefusesScript, RefusesText};
 
 use crate::sources::{Scripts, Source, Sources};
 use crate::stop::Stop;
-use js_script::{ParseFault, Role, parse};
-use js_syntax::{Names, Script};
+use eval_tree::{Names, Script};
+use js_parse::{ParseFault, Role, parse};
 use std::alloc::Global;
 
 // The script that a text spells in a role, after a prelude that declares the outer names.

@@ -1,5 +1,5 @@
 // Texts and scripts.
-use js_syntax::Script;
+use eval_tree::Script;
 
 /// A text: the word that names it, and its bytes.
 #[derive(Debug, Drop)]

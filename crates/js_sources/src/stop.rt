@@ -2,7 +2,7 @@
 ghost use Rattle.std.specs.Prelude.{◌≡◌};
 ghost use Rattle.js_sources.specs.declared.stop.Stop.TheVariants as stop;
 
-use js_script::ParseFault;
+use js_parse::ParseFault;
 use std::alloc::{AllocError, AllocFailed};
 
 /// Why there are no scripts, with the word that names the file.

@@ -1,5 +1,5 @@
 // The trait of all stores of strings.
-ghost use Rattle.std.specs.Prelude.{◌≡◌, ◌<◌, ◌≤◌, ◌↔◌, ℕ, List, [], ◌∷◌, ◌++◌, length, slice_index, slice_range, IfOk, OnOk, OnErr, IsTrue};
+ghost use Rattle.std.specs.Prelude.{◌≡◌, ◌+◌, ◌<◌, ◌≤◌, ◌↔◌, ℕ, List, [], ◌∷◌, ◌++◌, length, slice_index, slice_range, IfOk, OnOk, OnErr, IsTrue};
 ghost use Rattle.js_store.specs.State.{State, Has, IsKnown, IsSettled, text, Interned, Sound};
 
 use crate::faults::{ConcatFault, StoreFault};
@@ -16,6 +16,7 @@ pub trait Strings {
     type Ref: Copy;
 
     ghost use Rattle.js_store.specs.Faults.{Step, fault_of, concat_fault_of, JoinAnswer, SlotsShut, NeverSlots};
+    ghost use Rattle.js_store.specs.Units.{IsFirstUnit};
     ghost use Rattle.js_store.specs.Rows.{flat_words, join_ids, join_words, cut_ids, cut_words, settle_words, intern_words};
 
     // The type of the data that every call keeps.
@@ -60,6 +61,37 @@ pub trait Strings {
         ensures value { result ≡ slice_index (text (state self.old) (number s)) i }
         ensures step { Step (state self.old) (state self.new) None 0 0 }
         ensures history { (state self.new).history ≡ (state self.old).history };
+
+    /// Copies the units from place `from` on into `into`, as many as it holds.
+    fn read(&mut self, s: Self::Ref, from: u32, into: &mut [u16])
+        requires known { IsKnown (state self.old) (number s) }
+        requires settled { IsSettled (state self.old) (number s) }
+        requires within { from + length into.old ≤ length (text (state self.old) (number s)) }
+        ensures units { into.new ≡ slice_range (text (state self.old) (number s)) from (from + length into.old) }
+        ensures step { Step (state self.old) (state self.new) None 0 0 }
+        ensures history { (state self.new).history ≡ (state self.old).history }
+    {
+        for k in 0..into.len() {
+            into[k] = self.unit_at(s, from + k as u32);
+        }
+    }
+
+    /// The least place at or after `from` whose unit is `unit`.
+    fn find_unit(&mut self, s: Self::Ref, unit: u16, from: u32) -> Option<u32>
+        requires known { IsKnown (state self.old) (number s) }
+        requires settled { IsSettled (state self.old) (number s) }
+        requires within { from ≤ length (text (state self.old) (number s)) }
+        ensures least { IsFirstUnit (text (state self.old) (number s)) unit from result }
+        ensures step { Step (state self.old) (state self.new) None 0 0 }
+        ensures history { (state self.new).history ≡ (state self.old).history }
+    {
+        for i in from..self.len(s) {
+            if self.unit_at(s, i) == unit {
+                return Some(i);
+            }
+        }
+        None
+    }
 
     /// The units of `a` followed by those of `b`. It is refused as too long exactly where that
     /// is longer than the limit; only want of memory may stand in the place of that answer.

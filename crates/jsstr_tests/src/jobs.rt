@@ -2,12 +2,12 @@
 ghost use Rattle.std.specs.Prelude.{◌≤◌};
 
 use crate::running::code_of;
+use eval_tree::{Names, Script};
 use js_evaluator::{End, Env, Lines, eval};
 use js_generate::texts_from;
 use js_io::{FreeGate, Gate, MemFiles, MemSink};
-use js_script::{Role, parse};
+use js_parse::{Role, parse};
 use js_store::Limit;
-use js_syntax::{Names, Script};
 use plain_store::PlainStore;
 use std::alloc::Global;
 use std::marker::Sync;

@@ -5,7 +5,7 @@
 //! start, and nothing is counted as used.
 #![tactic(auto)]
 
-ghost use Rattle.std.specs.Prelude.{◌≡◌, ◌<◌, ◌≤◌, [], ◌∷◌, ◌++◌, length, IfOk, OnErr, None, Some, slice_get, ℕ};
+ghost use Rattle.std.specs.Prelude.{◌≡◌, ◌<◌, ◌≤◌, [], ◌∷◌, ◌++◌, length, IfOk, OnErr, None, Some, slice_get, slice_index, ℕ};
 ghost use Rattle.std.proofs.Props.{props};
 ghost use Rattle.std.specs.FinMap as map;
 ghost use Rattle.js_store.specs.Limits.{limit_units};
@@ -61,6 +61,7 @@ impl PlainStore {
         if self.strings.len() >= u32::MAX as usize {
             return Err(NoMemory);
         }
+        read_each(units.as_slice());
         let number = self.strings.len() as u32;
         self.strings.push(units)?;
         Ok(number)
@@ -82,6 +83,16 @@ impl PlainStore {
         }
         self.table.insert(self.alloc, units, s)?;
         Ok(s)
+    }
+}
+
+// Reads each unit, which tells that it is 16 bits wide: of a list the type tells it of no unit
+// that wasn't read. The loop does nothing, and a compiler leaves it out.
+fn read_each(units: &[u16])
+    ensures { (k : ℕ) → k < length units.now → slice_index units.now k < 65536 }
+{
+    for i in 0..units.len() {
+        let _unit = units[i];
     }
 }
 
@@ -113,6 +124,22 @@ impl Strings for PlainStore {
 
     fn unit_at(&mut self, s: u32, i: u32) -> u16 {
         self.strings[s as usize].as_slice()[i as usize]
+    }
+
+    fn read(&mut self, s: u32, from: u32, into: &mut [u16]) {
+        let from = from as usize;
+        let end = from + into.len();
+        into.copy_from_slice(&self.strings[s as usize].as_slice()[from..end]);
+    }
+
+    fn find_unit(&mut self, s: u32, unit: u16, from: u32) -> Option<u32> {
+        let units = self.strings[s as usize].as_slice();
+        for i in from as usize..units.len() {
+            if units[i] == unit {
+                return Some(i as u32);
+            }
+        }
+        None
     }
 
     fn concat(&mut self, a: u32, b: u32) -> Result<u32, ConcatFault> {

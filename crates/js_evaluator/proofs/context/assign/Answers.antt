@@ -1,4 +1,4 @@
-use Rattle.js_scopes.specs.Seen.{bindings_of}
+use Rattle.eval_scopes.specs.Seen.{bindings_of}
 use Rattle.js_values.specs.Seen.{seen}
 use Rattle.js_evaluator.proofs.Assigned.{unassigned}
 use Rattle.js_evaluator.proofs.context.assign.Goals as goal

@@ -1,5 +1,5 @@
 use Rattle.std.proofs.Common.{◌∙◌, sym}
-use Rattle.js_scopes.specs.Seen.{bound_of, bindings_of}
+use Rattle.eval_scopes.specs.Seen.{bound_of, bindings_of}
 use Rattle.js_values.specs.Seen.{seen}
 use Rattle.js_evaluator.proofs.Within.{put_at_fine}
 use Rattle.js_evaluator.proofs.Assigned.{constant_kept, assign_done}

@@ -1,5 +1,5 @@
 use Rattle.std.proofs.Common.{ap, sym, ◌∙◌}
-use Rattle.js_scopes.specs.Seen.{bindings_of}
+use Rattle.eval_scopes.specs.Seen.{bindings_of}
 use Rattle.js_values.specs.Seen.{seen}
 use Rattle.js_evaluator.specs.Seen.{bindings_seen}
 use Rattle.js_evaluator.proofs.Kept.{outer_fine}

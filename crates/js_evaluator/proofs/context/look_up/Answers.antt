@@ -1,7 +1,7 @@
 use Rattle.std.proofs.Common.{◌∙◌, sym, ap, Option, option_map}
 use Rattle.js_values.specs.Outcome.{Val}
-use Rattle.js_scopes.specs.Bindings.{Bound}
-use Rattle.js_scopes.specs.Seen.{bound_of, bindings_of}
+use Rattle.eval_scopes.specs.Bindings.{Bound}
+use Rattle.eval_scopes.specs.Seen.{bound_of, bindings_of}
 use Rattle.js_evaluator.proofs.Within.{place_fine}
 use Rattle.js_evaluator.proofs.Names.{meant_none, meant_some}
 use Rattle.js_evaluator.proofs.context.look_up.Goals as goal

@@ -1,4 +1,4 @@
-use Rattle.js_scopes.specs.Seen.{bindings_of}
+use Rattle.eval_scopes.specs.Seen.{bindings_of}
 use Rattle.js_evaluator.proofs.Names.{unread}
 use Rattle.js_evaluator.proofs.context.read.Goals as goal
 

@@ -1,5 +1,5 @@
 use Rattle.std.proofs.Common.{◌∙◌, sym}
-use Rattle.js_scopes.specs.Seen.{bound_of, bindings_of}
+use Rattle.eval_scopes.specs.Seen.{bound_of, bindings_of}
 use Rattle.js_evaluator.proofs.Within.{place_fine}
 use Rattle.js_evaluator.proofs.Copied.{fine_copy}
 use Rattle.js_evaluator.proofs.Names.{read_one}

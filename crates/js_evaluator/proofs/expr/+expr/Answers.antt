@@ -3,11 +3,11 @@ use Rattle.std.proofs.lemmas.Result.{err_from_is_err_and}
 use Rattle.std.proofs.Math.ListN.{drop_of_length-le}
 use Rattle.js_store.specs.declared.faults.StoreFault.TheVariants.{Memory}
 use Rattle.js_store.proofs.Laws.{grows_refl, grows_trans}
-use Rattle.js_syntax.specs.Tree.{expr_tree, link_tree, links_tree, steps_tree, exprs_tree}
-use Rattle.js_syntax.proofs.Trees.{tree_of_unary, tree_of_chain, tree_of_post, tree_of_conditional, tree_of_call, tree_of_index, tree_of_builtin}
+use Rattle.eval_tree.specs.Tree.{expr_tree, link_tree, links_tree, steps_tree, exprs_tree}
+use Rattle.eval_tree.proofs.Trees.{tree_of_unary, tree_of_chain, tree_of_post, tree_of_conditional, tree_of_call, tree_of_index, tree_of_builtin}
 use Rattle.js_values.specs.declared.value.Stop.TheVariants.{Store}
 use Rattle.js_values.specs.Outcome.{Val, Out}
-use Rattle.js_scopes.specs.Bindings.{meant}
+use Rattle.eval_scopes.specs.Bindings.{meant}
 use Rattle.js_evaluator.specs.Expression.{expr_out, steps_out}
 use Rattle.js_values.specs.Seen.{seen, IsFine}
 use Rattle.js_evaluator.specs.Seen.{scope_of}

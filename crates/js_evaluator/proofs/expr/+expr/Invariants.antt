@@ -1,6 +1,6 @@
 use Rattle.std.proofs.Common.{[], drop, unwrap_or, Result, Vec, Global}
 use Rattle.js_store.specs.State.{State, Grows}
-use Rattle.js_syntax.specs.Tree.{expr_tree, links_tree, steps_tree, exprs_tree}
+use Rattle.eval_tree.specs.Tree.{expr_tree, links_tree, steps_tree, exprs_tree}
 use Rattle.js_values.specs.declared.value.Value.{Value}
 use Rattle.js_values.specs.declared.value.Stop.{Stop}
 use Rattle.js_values.specs.Outcome.{each}

@@ -2,8 +2,8 @@ use Rattle.std.proofs.Common.{Ok, Err, arith, sym, subst, ◌≡◌, ◌∙◌, 
 use Rattle.std.proofs.Math.ListN.{drop_of_length-le}
 use Rattle.std.proofs.lemmas.Result.{err_from_is_err_and}
 use Rattle.js_store.proofs.Laws.{grows_trans}
-use Rattle.js_syntax.specs.Tree.{block_tree}
-use Rattle.js_syntax.proofs.Trees.{tree_of_block, tree_of_let, tree_of_const, tree_of_assign, tree_of_append, tree_of_print, tree_of_if, tree_of_for}
+use Rattle.eval_tree.specs.Tree.{block_tree}
+use Rattle.eval_tree.proofs.Trees.{tree_of_block, tree_of_let, tree_of_const, tree_of_assign, tree_of_append, tree_of_print, tree_of_if, tree_of_for}
 use Rattle.js_values.specs.Seen.{seen}
 use Rattle.js_evaluator.specs.Script.{Flow, block_flow, turn_flow, turns}
 use Rattle.js_evaluator.specs.Seen.{context_bindings, scope_of}

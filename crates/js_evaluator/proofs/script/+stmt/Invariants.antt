@@ -1,10 +1,10 @@
 use Rattle.std.proofs.Common.{◌≡◌, ℕ, ◌-◌, ◌+◌, ◌*◌, max, List, drop, map, Result}
 use Rattle.js_store.specs.State.{State, Grows}
-use Rattle.js_syntax.specs.declared.tree.Block.{size-Block}
-use Rattle.js_syntax.specs.Tree.{stmts_tree, block_tree, arm_tree, arms}
+use Rattle.eval_tree.specs.declared.tree.Block.{size-Block}
+use Rattle.eval_tree.specs.Tree.{stmts_tree, block_tree, arm_tree, arms}
 use Rattle.js_values.specs.declared.value.Stop.{Stop}
 use Rattle.js_values.specs.Outcome.{Val}
-use Rattle.js_scopes.specs.Bindings.{Bindings}
+use Rattle.eval_scopes.specs.Bindings.{Bindings}
 use Rattle.js_evaluator.specs.Script.{stmts_flow, block_flow, arms_flow, turn_flow, turns}
 use Rattle.js_evaluator.specs.Seen.{ContextFine, context_bindings, scope_of}
 use Rattle.js_evaluator.specs.Flows.{Went}

@@ -1,6 +1,6 @@
 use Rattle.std.proofs.lemmas.Result.{err_from_is_err_and}
-use Rattle.js_syntax.specs.Tree.{expr_tree}
-use Rattle.js_scopes.specs.Bindings.{meant}
+use Rattle.eval_tree.specs.Tree.{expr_tree}
+use Rattle.eval_scopes.specs.Bindings.{meant}
 use Rattle.js_evaluator.specs.Script.{sum_of_both, assigned}
 use Rattle.js_evaluator.specs.Seen.{context_bindings, scope_of}
 use Rattle.js_evaluator.proofs.Statements.{then_went, then_halts}

@@ -4,9 +4,9 @@ use Rattle.js_values.specs.declared.value.Stop.TheVariants.{Threw}
 use Rattle.js_values.specs.Outcome.{bind}
 use Rattle.js_values.specs.Operators.{plus}
 use Rattle.js_values.specs.Seen.{seen, IsFine}
-use Rattle.js_syntax.specs.Tree.{expr_tree}
-use Rattle.js_scopes.specs.Bindings.{meant}
-use Rattle.js_scopes.specs.Seen.{bindings_of}
+use Rattle.eval_tree.specs.Tree.{expr_tree}
+use Rattle.eval_scopes.specs.Bindings.{meant}
+use Rattle.eval_scopes.specs.Seen.{bindings_of}
 use Rattle.js_evaluator.specs.Expression.{read_out, expr_out}
 use Rattle.js_evaluator.specs.Script.{assigned}
 use Rattle.js_evaluator.specs.Seen.{context_bindings, scope_of}

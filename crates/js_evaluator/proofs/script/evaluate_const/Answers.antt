@@ -1,6 +1,6 @@
 use Rattle.std.proofs.lemmas.Result.{err_from_is_err_and}
 use Rattle.std.proofs.Common.{true}
-use Rattle.js_syntax.specs.Tree.{expr_tree}
+use Rattle.eval_tree.specs.Tree.{expr_tree}
 use Rattle.js_evaluator.specs.Expression.{expr_out}
 use Rattle.js_evaluator.specs.Script.{declares}
 use Rattle.js_evaluator.specs.Seen.{context_bindings, scope_of}

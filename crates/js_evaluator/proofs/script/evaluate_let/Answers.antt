@@ -1,6 +1,6 @@
 use Rattle.std.proofs.lemmas.Result.{err_from_is_err_and}
 use Rattle.std.proofs.Common.{false}
-use Rattle.js_syntax.specs.Tree.{init_tree}
+use Rattle.eval_tree.specs.Tree.{init_tree}
 use Rattle.js_evaluator.specs.Script.{init_out, declares}
 use Rattle.js_evaluator.specs.Seen.{context_bindings, scope_of}
 use Rattle.js_evaluator.proofs.Statements.{then_went, then_halts}

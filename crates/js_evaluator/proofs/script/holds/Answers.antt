@@ -1,6 +1,6 @@
 use Rattle.std.proofs.lemmas.Result.{err_from_is_err_and}
 use Rattle.js_store.proofs.Laws.{grows_trans}
-use Rattle.js_syntax.specs.Tree.{expr_tree}
+use Rattle.eval_tree.specs.Tree.{expr_tree}
 use Rattle.js_evaluator.specs.Expression.{expr_out}
 use Rattle.js_evaluator.specs.Seen.{scope_of}
 use Rattle.js_evaluator.proofs.Stays.{context_fine_still}

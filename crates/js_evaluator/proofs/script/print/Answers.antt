@@ -1,6 +1,6 @@
 use Rattle.std.proofs.lemmas.Result.{err_from_is_err_and}
 use Rattle.js_store.proofs.Laws.{grows_trans}
-use Rattle.js_syntax.specs.Tree.{exprs_tree}
+use Rattle.eval_tree.specs.Tree.{exprs_tree}
 use Rattle.js_evaluator.proofs.Stays.{context_fine_still}
 use Rattle.js_evaluator.proofs.Printing.{print_went, print_halt}
 use Rattle.js_evaluator.proofs.script.print.Goals as goal

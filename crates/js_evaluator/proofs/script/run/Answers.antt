@@ -1,7 +1,7 @@
 use Rattle.std.proofs.Common.{◌≡◌, ◌∙◌, [], ap}
 use Rattle.std.proofs.lemmas.Result.{err_from_is_err_and}
-use Rattle.js_syntax.specs.Tree.{tree_of}
-use Rattle.js_scopes.specs.Seen.{bounds_of, frames_of}
+use Rattle.eval_tree.specs.Tree.{tree_of}
+use Rattle.eval_scopes.specs.Seen.{bounds_of, frames_of}
 use Rattle.js_evaluator.specs.Seen.{context_bindings}
 use Rattle.js_evaluator.proofs.Stays.{bounds_fine_still}
 use Rattle.js_evaluator.proofs.Scripts.{script_went, script_halts}

@@ -1,5 +1,5 @@
 use Rattle.std.proofs.lemmas.Result.{err_from_is_err_and}
-use Rattle.js_syntax.specs.Tree.{expr_tree}
+use Rattle.eval_tree.specs.Tree.{expr_tree}
 use Rattle.js_values.proofs.Still.{fine_still}
 use Rattle.js_evaluator.proofs.Stays.{context_fine_still}
 use Rattle.js_evaluator.proofs.Statements.{sum_does, sum_stops, sum_unread}

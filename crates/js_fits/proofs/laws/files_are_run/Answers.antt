@@ -2,7 +2,7 @@ use Rattle.std.proofs.Common.{refl}
 use Rattle.heap_rule.specs.Agents.{first_view}
 use Rattle.heap_intern.specs.Sessions.{state_by}
 use Rattle.js_evaluator.specs.Script.{meaning}
-use Rattle.js_syntax.specs.Tree.{tree_of}
+use Rattle.eval_tree.specs.Tree.{tree_of}
 use Rattle.js_fits.proofs.Files.{run_jobs, run_none, run_one, run_stays, run_totals}
 use Rattle.js_fits.proofs.laws.files_are_run.Goals as goal
 

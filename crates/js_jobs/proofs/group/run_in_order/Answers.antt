@@ -1,6 +1,6 @@
 use Rattle.std.proofs.Common.{◌∙◌, arith}
 use Rattle.std.proofs.lemmas.List.{length-set}
-use Rattle.js_scopes.specs.Seen.{bounds_of}
+use Rattle.eval_scopes.specs.Seen.{bounds_of}
 use Rattle.js_jobs.specs.Jobs.{number, means}
 use Rattle.js_jobs.proofs.Copies.{bounds_fine_still}
 use Rattle.js_jobs.proofs.Jobs.{ran_more, empty_more}

@@ -1,8 +1,8 @@
 use Rattle.std.proofs.Common.{[], refl, subst, List, ℕ}
 use Rattle.js_store.proofs.Laws.{grows_refl}
-use Rattle.js_syntax.specs.Tree.{tree_of}
-use Rattle.js_scopes.specs.Bindings.{Bound}
-use Rattle.js_scopes.specs.Seen.{bounds_of}
+use Rattle.eval_tree.specs.Tree.{tree_of}
+use Rattle.eval_scopes.specs.Bindings.{Bound}
+use Rattle.eval_scopes.specs.Seen.{bounds_of}
 use Rattle.js_values.specs.Outcome.{Val}
 use Rattle.js_evaluator.specs.Script.{meaning}
 use Rattle.js_evaluator.specs.Seen.{bounds_seen}

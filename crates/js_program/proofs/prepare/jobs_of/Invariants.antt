@@ -1,6 +1,6 @@
 use Rattle.std.proofs.Common.{◌≡◌, ◌++◌, length, map}
 use Rattle.std.specs.Vec.Iter.{into_iter_items, into_iter_len}
-use Rattle.js_syntax.specs.Tree.{tree_of}
+use Rattle.eval_tree.specs.Tree.{tree_of}
 use Rattle.js_program.specs.Stages.{AreNumbered, job_trees}
 use Rattle.js_program.proofs.prepare.jobs_of.Given as goal
 

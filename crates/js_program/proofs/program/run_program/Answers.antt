@@ -1,5 +1,5 @@
 use Rattle.std.proofs.Common.{List, ap, subst, ◌∙◌}
-use Rattle.js_syntax.specs.Tree.{Tree}
+use Rattle.eval_tree.specs.Tree.{Tree}
 use Rattle.js_program.specs.declared.ran.Ran.{Ran}
 use Rattle.js_program.specs.Ran.{state_kept, tree_if, trees_of}
 use Rattle.js_program.specs.Stages.{IsTold, job_trees}

@@ -1,5 +1,5 @@
 use Rattle.std.proofs.Common.{subst, List}
-use Rattle.js_scopes.specs.declared.env.Binding.{Binding}
+use Rattle.eval_scopes.specs.declared.env.Binding.{Binding}
 use Rattle.js_values.specs.declared.value.Value.{Value}
 use Rattle.heap_text.specs.declared.string.JsStr.{JsStr}
 use Rattle.heap_intern.specs.Sessions.{state_in}

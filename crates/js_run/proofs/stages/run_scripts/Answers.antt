@@ -1,6 +1,6 @@
 use Rattle.std.proofs.Common.{Option, Some, arith, refl, subst}
 use Rattle.std.proofs.lemmas.List.{length-map}
-use Rattle.js_syntax.specs.Tree.{Tree, tree_of}
+use Rattle.eval_tree.specs.Tree.{Tree, tree_of}
 use Rattle.js_sources.specs.Answers.{source_for, sources_for, trees_for}
 use Rattle.js_program.specs.Ran.{IsRan, trees_of}
 use Rattle.js_run.specs.Moment.{ended, sinks}

@@ -1,7 +1,7 @@
 use Rattle.std.proofs.Common.{◌+◌, map, take, drop}
 use Rattle.std.proofs.lemmas.Result.{err_from_is_err_and}
 use Rattle.std.proofs.lemmas.List.{map_push}
-use Rattle.js_syntax.specs.Tree.{tree_of}
+use Rattle.eval_tree.specs.Tree.{tree_of}
 use Rattle.js_sources.specs.Answers.{IsShort, source_for}
 use Rattle.js_sources.specs.Spelling as spelling
 use Rattle.js_sources.specs.Spelling.{AllSpell}

@@ -1,5 +1,5 @@
 use Rattle.std.proofs.Common.{map, take}
-use Rattle.js_syntax.specs.Tree.{tree_of}
+use Rattle.eval_tree.specs.Tree.{tree_of}
 use Rattle.js_sources.specs.Answers.{source_for}
 use Rattle.js_sources.specs.Spelling.{AllSpell}
 use Rattle.js_sources.proofs.parsing.parse_scripts.Given as goal

@@ -1,6 +1,6 @@
 use Rattle.std.proofs.Common.{option_map, refl}
 use Rattle.std.proofs.lemmas.Result.{err_from_is_err_and}
-use Rattle.js_syntax.specs.Tree.{tree_of}
+use Rattle.eval_tree.specs.Tree.{tree_of}
 use Rattle.js_sources.specs.Answers.{source_for, sources_for}
 use Rattle.js_sources.proofs.Stages.{prelude_refused, scripts_refused}
 use Rattle.js_sources.proofs.parsing.parse_sources.Goals as goal
