@@ -8,6 +8,3 @@
 mod laws;
 
 pub use laws::{ends_tell, files_are_run};
-
-#[cfg(test)]
-mod tests;
