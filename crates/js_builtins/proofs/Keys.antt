@@ -1,28 +1,32 @@
 -- Symbols: their keys as values, and `String` of one.
-use Rattle.std.proofs.Common.{arith, Bool, ◌≡◌, ℕ, ◌+◌, ◌≤◌, List, [], ◌∷◌, ◌++◌, length, length-append, refl, ap, sym, ◌∙◌, subst, Some, None, Result, Ok, Err}
+use Rattle.std.proofs.Common.{arith, Bool, ◌≡◌, ℕ, ◌+◌, ◌≤◌, List, [], ◌∷◌, ◌++◌, length, length-append, refl, ap, sym, ◌∙◌, subst, true, nat_le, Some, None, Result, Ok, Err}
 use Rattle.std.specs.Prelude.{codes, Contains}
 use Rattle.std.proofs.lemmas.List.{append-nil}
 use Rattle.std.proofs.lemmas.List.Elements.{Contains-append_right}
 use Rattle.js_store.specs.State.{State, Has, IsKnown, Interned, text as units_of}
-use Rattle.js_store.specs.Faults.{Step, SlotsShut}
+use Rattle.js_store.specs.Faults.{Step, SlotsShut, NeverSlots}
+use Rattle.js_store.specs.Answers.{full_part, IsStoreFault}
+use Rattle.js_store.specs.declared.faults.MethodFault.{MethodFault}
+use Rattle.js_store.specs.declared.faults.MethodFault.TheVariants as method
 use Rattle.js_store.specs.Rows.{intern_words}
 use Rattle.js_store.specs.declared.faults.StoreFault.{StoreFault}
 use Rattle.js_store.specs.declared.faults.StoreFault.TheVariants.{Full, Memory}
 use Rattle.js_store.specs.declared.faults.FullReport.TheVariants.{Ids, Words, Slots}
-use Rattle.js_store.proofs.Laws.{has_text, has_known, known_has, step_refl, settle_words_most}
+use Rattle.js_store.proofs.Laws.{has_text, has_known, known_has, step_refl, text_still, settle_words_most}
 use Rattle.js_values.specs.declared.value.Value.{Value}
 use Rattle.js_values.specs.declared.value.Value.TheVariants.{Text, Symbol}
 use Rattle.js_values.specs.declared.value.Kind.TheVariants.{TypeError}
 use Rattle.js_values.specs.declared.value.Stop.{Stop}
 use Rattle.js_values.specs.declared.value.Stop.TheVariants.{Threw, Store}
 use Rattle.js_values.specs.Outcome.{gives, throwing, text, symbol}
-use Rattle.js_values.specs.Need.{Row, reads, ids_in, words_in}
+use Rattle.js_values.specs.Need.{Row, reads, ids_in, words_in, row_ids, row_words}
 use Rattle.js_values.specs.Conversions.{to_string, text_units, string_units}
-use Rattle.js_values.specs.Seen.{seen}
+use Rattle.js_values.specs.Seen.{seen, IsFine}
+use Rattle.js_values.specs.Stops.{stop_of}
 use Rattle.js_values.specs.Ran.{NextShut}
 use Rattle.js_values.specs.Does.{Does, GivesText}
-use Rattle.js_values.proofs.Compose.{honest_full, ran_of_step, ran_of_text}
-use Rattle.js_builtins.specs.Symbols.{shown_symbol, registered, symbol_for}
+use Rattle.js_values.proofs.Compose.{honest_full, ran_of_step, ran_of_text, did_before, cut_of_full, full_same}
+use Rattle.js_builtins.specs.Symbols.{shown_symbol, shown_out, registered, symbol_for}
 use Rattle.js_values.proofs.TextArguments.{text_converts, text_fails}
 
 pub shown_length : (k : List ℕ) → length (shown_symbol k) ≡ length k + 8
@@ -77,3 +81,19 @@ module _ {F R : Type 0} (name : R → ℕ) where
 
   pub symbol_ends : (a b : State F) (v : Value R) (n : Stop) → GivesText name a b (Err n) (to_string a.limit (seen a name v)) → Does name a b (Err n) (symbol_for a.limit (seen a name v))
   symbol_ends a b v n d = text_fails name (reads (string_units (seen a name v))) a b n (to_string a.limit (seen a name v)) (λ k. registered (text_units (seen a name v)) k) d
+
+  -- the length of a key that was told, and then what is shown
+  pub shown_after : (a b c : State F) (s : R) (r : Result (Value R) Stop) → Step a b None 0 0 → b.history ≡ a.history → IsKnown a (name s) → Does name b c r (shown_out b.limit (units_of b (name s))) → Does name a c r (shown_out a.limit (units_of a (name s)))
+  shown_after a b c s r x g k z =
+      let one = subst (λ (q : ℕ). Does name b c r (shown_out q (units_of b (name s)))) x.grows.limit z in
+      let two = subst (λ (q : List ℕ). Does name b c r (shown_out a.limit q)) (text_still x.grows (name s) k) one in
+      did_before a b c (λ o v. seen o name v) (λ o v. IsFine o name v) r (shown_out a.limit (units_of a (name s))) x g two
+
+  -- what is shown of a symbol, where it isn't too long and the store refused
+  pub shown_stops : (a b : State F) {i k : ℕ} (u : List ℕ) (f : MethodFault) → length (shown_symbol u) ≤ a.limit → IsStoreFault f → Step a b (full_part f) i k → b.history ≡ a.history → NeverSlots (full_part f) → i ≤ row_ids → k ≤ row_words (length (shown_symbol u)) → Does {R = R} name a b (Err (stop_of f)) (shown_out a.limit u)
+  shown_stops a b u (method.Store f) l e s h n p q =
+      let fits : nat_le (length (shown_symbol u)) a.limit ≡ true = grind (arith, l) in
+      let s' = rw (full_same f) at s in
+      let n' = rw (full_same f) at n in
+      rw fits (cut_of_full f _ s' h n' p q)
+  shown_stops a b u (method.RangeError c) l e s h n p q = absurd e

@@ -54,8 +54,8 @@ module _ {F R : Type 0} (name : R → ℕ) (a : State F) (which : Codes) (at : �
   pub codes_throws : 1048576 < length vs → Does name a a (Err (Threw RangeError)) (codes_call which at vs)
   codes_throws l = rw (no_room l) (refl, ran_of_step (ids_in (from_row vs 0)) (words_in (from_row vs 0)) (step_refl a) refl (omega arith) (omega arith))
 
-  pub codes_stops : (n : Stop) → length vs ≤ 1048576 → GivesNumbers a which (Err n) (each (number_out (taken_of which vs) at vs) vs []) → Does name a a (Err n) (codes_call which at vs)
-  codes_stops n l d = rw (room l) (did_stop {W = Value R} a a (λ s (v : Vec Num Global). v.items) (λ s (v : Vec Num Global). Every (IsFor which) v.items) (λ s v. seen s name v) (λ s v. IsFine s name v) n (each (number_out (taken_of which vs) at vs) vs []) (λ ns. made vs (units_of which ns)) d)
+  pub codes_stops : (n : Stop) → length vs ≤ 1048576 → GivesNumbers a which (Err n) (each (number_out (taken_of which vs) at vs) vs) → Does name a a (Err n) (codes_call which at vs)
+  codes_stops n l d = rw (room l) (did_stop {W = Value R} a a (λ s (v : Vec Num Global). v.items) (λ s (v : Vec Num Global). Every (IsFor which) v.items) (λ s v. seen s name v) (λ s v. IsFine s name v) n (each (number_out (taken_of which vs) at vs) vs) (λ ns. made vs (units_of which ns)) d)
 
-  pub codes_does : (b : State F) (ns : Vec Num Global) (r : Result (Value R) Stop) → length vs ≤ 1048576 → GivesNumbers a which (Ok ns) (each (number_out (taken_of which vs) at vs) vs []) → Does name a b r (made vs (units_of which ns.items)) → Does name a b r (codes_call which at vs)
-  codes_does b ns r l d e = rw (room l) (did_bind a a b (λ s (v : Vec Num Global). v.items) (λ s (v : Vec Num Global). Every (IsFor which) v.items) (λ s v. seen s name v) (λ s v. IsFine s name v) ns r (each (number_out (taken_of which vs) at vs) vs []) (λ ms. made vs (units_of which ms)) d e)
+  pub codes_does : (b : State F) (ns : Vec Num Global) (r : Result (Value R) Stop) → length vs ≤ 1048576 → GivesNumbers a which (Ok ns) (each (number_out (taken_of which vs) at vs) vs) → Does name a b r (made vs (units_of which ns.items)) → Does name a b r (codes_call which at vs)
+  codes_does b ns r l d e = rw (room l) (did_bind a a b (λ s (v : Vec Num Global). v.items) (λ s (v : Vec Num Global). Every (IsFor which) v.items) (λ s v. seen s name v) (λ s v. IsFine s name v) ns r (each (number_out (taken_of which vs) at vs) vs) (λ ms. made vs (units_of which ms)) d e)

@@ -32,7 +32,7 @@ made vs u = needing (from_row vs (length u)) (text u)
 abbrev pub from_numbers : (Num → Out Num) → (List Num → List ℕ) → ℕ → List Val → Out Val
 from_numbers taken units at vs =
     if nat_le (length vs) 1048576
-    then bind (each (number_out taken at vs) vs []) (λ ns. made vs (units ns))
+    then bind (each (number_out taken at vs) vs) (λ ns. made vs (units ns))
     else from_throws vs
 
 -- "String.fromCharCode": each number modulo 2^16

@@ -1,5 +1,5 @@
 -- Symbols and `String` (ECMA-262, "String ( value )", "Symbol.for", "Symbol.keyFor", "Symbol.prototype.description").
-use Rattle.std.specs.Prelude.{ℕ, ◌+◌, ◌-◌, List, [], ◌∷◌, ◌++◌, length, codes}
+use Rattle.std.specs.Prelude.{ℕ, List, [], ◌∷◌, ◌++◌, length, codes}
 use Rattle.js_values.specs.declared.value.Kind.TheVariants.{TypeError}
 use Rattle.js_values.specs.Outcome.{Val, undefined, null, text, symbol, Out, gave, needing, throwing, converting}
 use Rattle.js_values.specs.Need.{nothing, reads, ids_in, words_in}
@@ -18,9 +18,8 @@ description_of _ = needing nothing undefined
 abbrev pub shown_symbol : List ℕ → List ℕ
 shown_symbol k = codes "Symbol(" ++ (k ++ codes ")")
 
--- it needs what its result needs, and where that is too long for a string, what reading the key may need
 abbrev pub shown_out : ℕ → List ℕ → Out Val
-shown_out limit k = bounded limit (λ r. reads (r + (length k - r))) (shown_symbol k)
+shown_out limit k = bounded limit (λ r. reads r) (shown_symbol k)
 
 abbrev pub string_of : ℕ → Val → Out Val
 string_of limit (symbol k) = shown_out limit k

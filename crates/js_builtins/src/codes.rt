@@ -36,7 +36,8 @@ pub(crate) fn from_codes<S: Strings>(
     requires { AllFine (S.state store.old) S.number args.now }
     ensures grows { Grows (S.state store.old) (S.state store.new) }
     ensures fine { IfOk result (λ v. IsFine (S.state store.new) S.number v) }
-    ensures did { Does S.number (S.state store.old) (S.state store.new) result (codes_call which at (all_seen (S.state store.old) S.number args.now)) }
+    ensures did { Does S.number (S.state store.old) (S.state store.new) result
+        (codes_call which at (all_seen (S.state store.old) S.number args.now)) }
 {
     if args.len() > 1048576 {
         return Err(Stop::Threw(Kind::RangeError));
@@ -56,7 +57,9 @@ fn numbers<S: Strings>(
     requires { AllFine (S.state store.now) S.number args.now }
     ensures each { IfOk result (λ v. Every (IsFor which) v.items) }
     ensures count { IfOk result (λ v. length v.items ≡ length args.now) }
-    ensures did { GivesNumbers (S.state store.now) which result (each (number_out (taken_of which (all_seen (S.state store.now) S.number args.now)) at (all_seen (S.state store.now) S.number args.now)) (all_seen (S.state store.now) S.number args.now) []) }
+    ensures did { GivesNumbers (S.state store.now) which result
+        (each (number_out (taken_of which (all_seen (S.state store.now) S.number args.now)) at
+        (all_seen (S.state store.now) S.number args.now)) (all_seen (S.state store.now) S.number args.now)) }
 {
     let mut numbers = Vec::new(alloc);
     for value in args {
@@ -70,7 +73,8 @@ fn numbers<S: Strings>(
 fn number<S: Strings>(store: &S, at: u32, which: Codes, value: &Value<S::Ref>) -> Result<Num, Stop>
     requires { IsFine (S.state store.now) S.number value.now }
     ensures is_for { IfOk result (IsFor which) }
-    ensures did { (vs : List Val) → GivesNumber (S.state store.now) which result (number_out (taken_of which vs) at vs (seen (S.state store.now) S.number value.now)) }
+    ensures did { (vs : List Val) → GivesNumber (S.state store.now) which result
+        (number_out (taken_of which vs) at vs (seen (S.state store.now) S.number value.now)) }
 {
     let n = number_of(store, at, value)?;
     match which {
@@ -81,7 +85,8 @@ fn number<S: Strings>(store: &S, at: u32, which: Codes, value: &Value<S::Ref>) -
 
 fn code_point<S: Strings>(_store: &S, n: Num) -> Result<Num, Stop>
     ensures is_for { IfOk result (IsFor Codes.CodePoints) }
-    ensures did { (vs : List Val) → GivesNumber (S.state _store.now) Codes.CodePoints result (point_out vs n) }
+    ensures did { (vs : List Val) → GivesNumber (S.state _store.now) Codes.CodePoints result
+        (point_out vs n) }
 {
     match n {
         Num::Int(k) if 0 <= k && k <= 0x10FFFF => Ok(n),
@@ -100,7 +105,8 @@ fn make<S: Strings>(
     requires count { length numbers.now ≤ 1048576 }
     ensures grows { Grows (S.state store.old) (S.state store.new) }
     ensures fine { IfOk result (λ v. IsFine (S.state store.new) S.number v) }
-    ensures did { (vs : List Val) → Does S.number (S.state store.old) (S.state store.new) result (made_out vs (units_of which numbers.now)) }
+    ensures did { (vs : List Val) → Does S.number (S.state store.old) (S.state store.new) result
+        (made_out vs (units_of which numbers.now)) }
 {
     match which {
         Codes::CharCodes => from_char_codes(alloc, store, numbers),
@@ -117,7 +123,8 @@ fn from_char_codes<S: Strings>(
     requires count { length codes.now ≤ 1048576 }
     ensures grows { Grows (S.state store.old) (S.state store.new) }
     ensures fine { IfOk result (λ v. IsFine (S.state store.new) S.number v) }
-    ensures did { (vs : List Val) → Does S.number (S.state store.old) (S.state store.new) result (made_out vs (map (modulo 65536) codes.now)) }
+    ensures did { (vs : List Val) → Does S.number (S.state store.old) (S.state store.new) result
+        (made_out vs (map (modulo 65536) codes.now)) }
 {
     let r = js_methods::from_char_code(alloc, store, codes)?;
     Ok(Value::Text(r))
@@ -132,7 +139,8 @@ fn from_code_points<S: Strings>(
     requires count { length points.now ≤ 1048576 }
     ensures grows { Grows (S.state store.old) (S.state store.new) }
     ensures fine { IfOk result (λ v. IsFine (S.state store.new) S.number v) }
-    ensures did { (vs : List Val) → Does S.number (S.state store.old) (S.state store.new) result (made_out vs (code_units_of points.now)) }
+    ensures did { (vs : List Val) → Does S.number (S.state store.old) (S.state store.new) result
+        (made_out vs (code_units_of points.now)) }
 {
     let r = js_methods::from_code_point(alloc, store, points)?;
     Ok(Value::Text(r))

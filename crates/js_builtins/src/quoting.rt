@@ -24,7 +24,9 @@ pub fn call_stringify<S: Strings>(
     requires { AllFine (S.state store.old) S.number args.now }
     ensures grows { Grows (S.state store.old) (S.state store.new) }
     ensures fine { IfOk result (λ v. IsFine (S.state store.new) S.number v) }
-    ensures did { Does S.number (S.state store.old) (S.state store.new) result (stringify_call (S.state store.old).limit (first_of (all_seen (S.state store.old) S.number args.now))) }
+    ensures did { Does S.number (S.state store.old) (S.state store.new) result
+        (stringify_call (S.state store.old).limit
+        (first_of (all_seen (S.state store.old) S.number args.now))) }
 {
     match args {
         [first, ..] => stringify(alloc, store, first),
@@ -40,7 +42,8 @@ fn stringify<S: Strings>(
     requires { IsFine (S.state store.old) S.number value.now }
     ensures grows { Grows (S.state store.old) (S.state store.new) }
     ensures fine { IfOk result (λ v. IsFine (S.state store.new) S.number v) }
-    ensures did { Does S.number (S.state store.old) (S.state store.new) result (stringify_call (S.state store.old).limit (seen (S.state store.old) S.number value.now)) }
+    ensures did { Does S.number (S.state store.old) (S.state store.new) result
+        (stringify_call (S.state store.old).limit (seen (S.state store.old) S.number value.now)) }
 {
     match value {
         Value::Undefined | Value::Symbol(_) => Ok(Value::Undefined),
@@ -60,7 +63,8 @@ pub fn give_text<S: Strings>(
     requires { IsFine (S.state store.old) S.number value.now }
     ensures grows { Grows (S.state store.old) (S.state store.new) }
     ensures fine { IfOk result (λ v. IsFine (S.state store.new) S.number v) }
-    ensures did { Does S.number (S.state store.old) (S.state store.new) result (as_text (S.state store.old).limit (seen (S.state store.old) S.number value.now)) }
+    ensures did { Does S.number (S.state store.old) (S.state store.new) result
+        (as_text (S.state store.old).limit (seen (S.state store.old) S.number value.now)) }
 {
     let text = to_text(alloc, store, value)?;
     Ok(Value::Text(text))
@@ -71,7 +75,8 @@ fn give_number<S: Strings>(alloc: Global, store: &mut S, n: Num) -> Result<Value
     requires { IsLawful n }
     ensures grows { Grows (S.state store.old) (S.state store.new) }
     ensures fine { IfOk result (λ v. IsFine (S.state store.new) S.number v) }
-    ensures did { Does S.number (S.state store.old) (S.state store.new) result (as_text (S.state store.old).limit (whole_or_null n)) }
+    ensures did { Does S.number (S.state store.old) (S.state store.new) result
+        (as_text (S.state store.old).limit (whole_or_null n)) }
 {
     match n {
         Num::Int(_) => give_text(alloc, store, &Value::Number(n)),
@@ -83,7 +88,9 @@ fn give_quoted<S: Strings>(alloc: Global, store: &mut S, s: S::Ref) -> Result<Va
     requires { IsKnown (S.state store.old) (S.number s) }
     ensures grows { Grows (S.state store.old) (S.state store.new) }
     ensures fine { IfOk result (λ v. IsFine (S.state store.new) S.number v) }
-    ensures did { Does S.number (S.state store.old) (S.state store.new) result (limited (S.state store.old).limit (length (text (S.state store.old) (S.number s))) (quoted (text (S.state store.old) (S.number s)))) }
+    ensures did { Does S.number (S.state store.old) (S.state store.new) result
+        (limited (S.state store.old).limit (length (text (S.state store.old) (S.number s)))
+        (quoted (text (S.state store.old) (S.number s)))) }
 {
     let r = js_json::quote(alloc, store, s)?;
     Ok(Value::Text(r))
@@ -98,7 +105,8 @@ fn give_list<S: Strings>(
     requires { AllKnown (S.state store.old) S.number list.now }
     ensures grows { Grows (S.state store.old) (S.state store.new) }
     ensures fine { IfOk result (λ v. IsFine (S.state store.new) S.number v) }
-    ensures did { Does S.number (S.state store.old) (S.state store.new) result (list_json (S.state store.old).limit (texts (S.state store.old) S.number list.now)) }
+    ensures did { Does S.number (S.state store.old) (S.state store.new) result
+        (list_json (S.state store.old).limit (texts (S.state store.old) S.number list.now)) }
 {
     let r = js_json::stringify_list(alloc, store, list)?;
     Ok(Value::Text(r))

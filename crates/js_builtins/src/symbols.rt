@@ -4,7 +4,7 @@ ghost use Rattle.std.specs.Prelude.{◌≡◌, ◌+◌, ◌++◌, ◌≤◌, ℕ
 ghost use Rattle.js_store.specs.State.{Has, Grows, IsKnown, text};
 ghost use Rattle.js_store.specs.Rows.{wide_words, flat_words};
 ghost use Rattle.js_store.specs.Faults.{Step, NeverSlots};
-ghost use Rattle.js_store.specs.Answers.{ThrowsLong, full_of};
+ghost use Rattle.js_store.specs.Answers.{NeverThrows, full_of};
 ghost use Rattle.js_values.specs.Arguments.{first_of};
 ghost use Rattle.js_values.specs.Outcome.{needing};
 ghost use Rattle.js_values.specs.Outcome;
@@ -15,7 +15,7 @@ ghost use Rattle.js_builtins.specs.Symbols.{description_of, shown_symbol, shown_
 
 use crate::quoting::give_text;
 use js_number::append_text;
-use js_store::{Cause, MethodFault, Strings};
+use js_store::{MethodFault, Strings};
 use js_texts::read;
 use js_units::{NoMemory, Units};
 use js_values::{Kind, Stop, Value, to_text};
@@ -56,7 +56,8 @@ pub(crate) fn call_string_function<S: Strings>(
 fn give_empty<S: Strings>(store: &mut S) -> Result<Value<S::Ref>, Stop>
     ensures grows { Grows (S.state store.old) (S.state store.new) }
     ensures fine { IfOk result (λ v. IsFine (S.state store.new) S.number v) }
-    ensures did { Does S.number (S.state store.old) (S.state store.new) result (needing (reads 0) (Outcome.text [])) }
+    ensures did { Does S.number (S.state store.old) (S.state store.new) result
+        (needing (reads 0) (Outcome.text [])) }
 {
     let r = store.from_units(&[])?;
     Ok(Value::Text(r))
@@ -70,7 +71,8 @@ fn string_of<S: Strings>(
     requires { IsFine (S.state store.old) S.number value.now }
     ensures grows { Grows (S.state store.old) (S.state store.new) }
     ensures fine { IfOk result (λ v. IsFine (S.state store.new) S.number v) }
-    ensures did { Does S.number (S.state store.old) (S.state store.new) result (string_out (S.state store.old).limit (seen (S.state store.old) S.number value.now)) }
+    ensures did { Does S.number (S.state store.old) (S.state store.new) result
+        (string_out (S.state store.old).limit (seen (S.state store.old) S.number value.now)) }
 {
     match value {
         Value::Symbol(key) => show_symbol(alloc, store, *key),
@@ -83,41 +85,51 @@ fn string_of<S: Strings>(
     }
 }
 
+// The length is told before anything of that size is read or made.
 fn show_symbol<S: Strings>(alloc: Global, store: &mut S, key: S::Ref) -> Result<Value<S::Ref>, Stop>
     requires { IsKnown (S.state store.old) (S.number key) }
     ensures grows { Grows (S.state store.old) (S.state store.new) }
     ensures fine { IfOk result (λ v. IsFine (S.state store.new) S.number v) }
-    ensures did { Does S.number (S.state store.old) (S.state store.new) result (shown_out (S.state store.old).limit (text (S.state store.old) (S.number key))) }
+    ensures did { Does S.number (S.state store.old) (S.state store.new) result
+        (shown_out (S.state store.old).limit (text (S.state store.old) (S.number key))) }
+{
+    let length = u64::from(store.len(key)) + 8;
+    if length > u64::from(store.limit()) {
+        return Err(Stop::Threw(Kind::RangeError));
+    }
+    give_shown(alloc, store, key)
+}
+
+fn give_shown<S: Strings>(alloc: Global, store: &mut S, key: S::Ref) -> Result<Value<S::Ref>, Stop>
+    requires known { IsKnown (S.state store.old) (S.number key) }
+    requires short { length (shown_symbol (text (S.state store.old) (S.number key))) ≤
+        (S.state store.old).limit }
+    ensures grows { Grows (S.state store.old) (S.state store.new) }
+    ensures fine { IfOk result (λ v. IsFine (S.state store.new) S.number v) }
+    ensures did { Does S.number (S.state store.old) (S.state store.new) result
+        (shown_out (S.state store.old).limit (text (S.state store.old) (S.number key))) }
 {
     let r = shown(alloc, store, key)?;
     Ok(Value::Text(r))
 }
 
-// `Symbol(`, the key, `)`. The length is found before anything of that size is made.
+// `Symbol(`, the key, `)`.
 fn shown<S: Strings>(alloc: Global, store: &mut S, key: S::Ref) -> Result<S::Ref, MethodFault>
-    requires { IsKnown (S.state store.old) (S.number key) }
-    ensures value { IfOk result (λ r. Has (S.state store.new) (S.number r) (shown_symbol (text (S.state store.old) (S.number key)))) }
-    ensures throws { ThrowsLong result (S.state store.old).limit (length (shown_symbol (text (S.state store.old) (S.number key)))) }
+    requires known { IsKnown (S.state store.old) (S.number key) }
+    requires short { length (shown_symbol (text (S.state store.old) (S.number key))) ≤
+        (S.state store.old).limit }
+    ensures value { IfOk result
+        (λ r. Has (S.state store.new) (S.number r) (shown_symbol (text (S.state store.old) (S.number key)))) }
+    ensures throws { NeverThrows result }
     ensures step { Step (S.state store.old) (S.state store.new) (full_of result)
         1 (wide_words (length (text (S.state store.old) (S.number key))) + flat_words (shown_symbol (text (S.state store.old) (S.number key)))) }
     ensures slots { NeverSlots (full_of result) }
     ensures history { (S.state store.new).history ≡ (S.state store.old).history }
 {
     let units = read(alloc, store, key)?;
-    let length = shown_len(units.as_slice());
-    if length > u128::from(store.limit()) {
-        return Err(MethodFault::RangeError(Cause::TooLong { length }));
-    }
     let mut text = Units::new(alloc);
     push_shown(&mut text, units.as_slice())?;
     Ok(store.from_units(text.as_slice())?)
-}
-
-#[tactic(auto, using(crate::proofs::Keys::shown_length))]
-fn shown_len(key: &[u16]) -> u128
-    ensures { result ≡ length (shown_symbol key.now) }
-{
-    key.len() as u128 + 8
 }
 
 fn push_shown(text: &mut Units, key: &[u16]) -> Result<(), NoMemory>
@@ -154,7 +166,8 @@ fn symbol_for<S: Strings>(
     requires { IsFine (S.state store.old) S.number value.now }
     ensures grows { Grows (S.state store.old) (S.state store.new) }
     ensures fine { IfOk result (λ v. IsFine (S.state store.new) S.number v) }
-    ensures did { Does S.number (S.state store.old) (S.state store.new) result (symbol_out (S.state store.old).limit (seen (S.state store.old) S.number value.now)) }
+    ensures did { Does S.number (S.state store.old) (S.state store.new) result
+        (symbol_out (S.state store.old).limit (seen (S.state store.old) S.number value.now)) }
 {
     let key = to_text(alloc, store, value)?;
     register(store, key)
@@ -165,7 +178,9 @@ fn register<S: Strings>(store: &mut S, key: S::Ref) -> Result<Value<S::Ref>, Sto
     requires { IsKnown (S.state store.old) (S.number key) }
     ensures grows { Grows (S.state store.old) (S.state store.new) }
     ensures fine { IfOk result (λ v. IsFine (S.state store.new) S.number v) }
-    ensures did { (t : ℕ) → length (text (S.state store.old) (S.number key)) ≤ t + 40 → Does S.number (S.state store.old) (S.state store.new) result (registered t (text (S.state store.old) (S.number key))) }
+    ensures did { (t : ℕ) → length (text (S.state store.old) (S.number key)) ≤ t + 40 → Does S.number
+        (S.state store.old) (S.state store.new) result
+        (registered t (text (S.state store.old) (S.number key))) }
 {
     let r = store.intern(key)?;
     Ok(Value::Symbol(r))
@@ -190,7 +205,8 @@ pub(crate) fn call_key_for<S: Strings>(
 fn key_for<S: Strings>(store: &S, value: &Value<S::Ref>) -> Result<Value<S::Ref>, Stop>
     requires { IsFine (S.state store.now) S.number value.now }
     ensures fine { IfOk result (λ v. IsFine (S.state store.now) S.number v) }
-    ensures did { Does S.number (S.state store.now) (S.state store.now) result (key_out (seen (S.state store.now) S.number value.now)) }
+    ensures did { Does S.number (S.state store.now) (S.state store.now) result
+        (key_out (seen (S.state store.now) S.number value.now)) }
 {
     match value {
         Value::Symbol(key) => Ok(Value::Text(*key)),

@@ -5,3 +5,4 @@ mod Parts
 mod Made
 mod Replacements
 mod Elements
+mod Taken

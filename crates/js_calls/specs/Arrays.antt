@@ -7,7 +7,7 @@ use Rattle.js_methods.specs.Places.{at_of}
 use Rattle.js_texts.specs.Joined.{joined as joined_list}
 use Rattle.js_replace.specs.Parts.{parts as parts_of}
 use Rattle.eval_tree.specs.declared.tree.Method.{Method}
-use Rattle.eval_tree.specs.declared.tree.Method.TheVariants.{At, CharAt, CharCodeAt, CodePointAt, Concat, EndsWith, Includes, IndexOf, IsWellFormed, Join, LastIndexOf, PadEnd, PadStart, Repeat, Replace, ReplaceAll, Slice, Split, StartsWith, Substr, Substring, ToWellFormed, Trim, TrimEnd, TrimStart}
+use Rattle.eval_tree.specs.declared.tree.Method.TheVariants.{At, Concat, Includes, IndexOf, Join, LastIndexOf, Slice}
 use Rattle.js_values.specs.declared.value.Kind.TheVariants.{TypeError}
 use Rattle.js_values.specs.Outcome.{Val, undefined, null, bool, number, text, symbol, list, Converted, Out, gave, converting, free, needing, throwing, refuses, converts}
 use Rattle.js_values.specs.Need.{reads, parts}
@@ -81,33 +81,16 @@ abbrev pub join_call : ℕ → List (List ℕ) → List Val → Out Val
 join_call limit us vs = converting (parts (length us) (list_units us + all_units vs)) (separator_of limit (first_of vs)) (λ w. joined_with limit (list_units us + first_text_units vs) us w)
 
 -- a method that was called on an array, where the operands of the call have t units. The profile leaves out what arrays have
--- besides `join` (ECMA-262, "Properties of the Array Prototype Object")
+-- besides `join`, and of the other words arrays know nothing (ECMA-262, "Properties of the Array Prototype Object")
 abbrev pub list_call : Method → ℕ → ℕ → ℕ → List (List ℕ) → List Val → Out Val
+list_call Join at limit t us vs = join_call limit us vs
 list_call At at limit t us vs = refuses at
-list_call CharAt at limit t us vs = throwing (reads t) TypeError
-list_call CharCodeAt at limit t us vs = throwing (reads t) TypeError
-list_call CodePointAt at limit t us vs = throwing (reads t) TypeError
 list_call Concat at limit t us vs = refuses at
-list_call EndsWith at limit t us vs = throwing (reads t) TypeError
 list_call Includes at limit t us vs = refuses at
 list_call IndexOf at limit t us vs = refuses at
-list_call IsWellFormed at limit t us vs = throwing (reads t) TypeError
-list_call Join at limit t us vs = join_call limit us vs
 list_call LastIndexOf at limit t us vs = refuses at
-list_call PadEnd at limit t us vs = throwing (reads t) TypeError
-list_call PadStart at limit t us vs = throwing (reads t) TypeError
-list_call Repeat at limit t us vs = throwing (reads t) TypeError
-list_call Replace at limit t us vs = throwing (reads t) TypeError
-list_call ReplaceAll at limit t us vs = throwing (reads t) TypeError
 list_call Slice at limit t us vs = refuses at
-list_call Split at limit t us vs = throwing (reads t) TypeError
-list_call StartsWith at limit t us vs = throwing (reads t) TypeError
-list_call Substr at limit t us vs = throwing (reads t) TypeError
-list_call Substring at limit t us vs = throwing (reads t) TypeError
-list_call ToWellFormed at limit t us vs = throwing (reads t) TypeError
-list_call Trim at limit t us vs = throwing (reads t) TypeError
-list_call TrimEnd at limit t us vs = throwing (reads t) TypeError
-list_call TrimStart at limit t us vs = throwing (reads t) TypeError
+list_call _ at limit t us vs = throwing (reads t) TypeError
 
 -- how many parts `split` may give: 2^32 - 1 where no number is given, and else the number modulo 2^32 ("ToUint32")
 abbrev pub most_parts : Option Num → ℕ

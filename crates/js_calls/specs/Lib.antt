@@ -1,3 +1,4 @@
+pub mod Operands
 pub mod Reading
 pub mod Cutting
 pub mod Searching

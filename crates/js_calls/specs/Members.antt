@@ -16,6 +16,7 @@ use Rattle.js_values.specs.Outcome.{Val, undefined, null, bool, number, text, sy
 use Rattle.js_values.specs.Need.{nothing, reads}
 use Rattle.js_values.specs.Conversions.{to_number, list_units, all_units, first_text_units}
 use Rattle.js_values.specs.Arguments.{first_of, second_of, end_in}
+use Rattle.js_calls.specs.Operands.{operands}
 use Rattle.js_calls.specs.Reading.{at_call, char_at_call, char_code_call, code_point_call}
 use Rattle.js_values.specs.Limited.{limited}
 use Rattle.js_calls.specs.Cutting.{cut_call}
@@ -68,8 +69,8 @@ string_call Trim at limit t u vs = limited limit t (trimmed u)
 string_call TrimEnd at limit t u vs = limited limit t (trimmed_end u)
 string_call TrimStart at limit t u vs = limited limit t (trimmed_start u)
 
--- a call of a method on a value, with all its arguments
+-- a call of a method on a value, with all its arguments, of which the method takes those that its definition names
 abbrev pub called : Method → ℕ → ℕ → Val → List Val → Out Val
-called m at limit (text u) vs = string_call m at limit (length u + all_units vs) u vs
-called m at limit (list us) vs = list_call m at limit (list_units us + all_units vs) us vs
-called m at limit v vs = throwing (reads (all_units vs)) TypeError
+called m at limit (text u) vs = string_call m at limit (length u + all_units (operands m vs)) u (operands m vs)
+called m at limit (list us) vs = list_call m at limit (list_units us + all_units (operands m vs)) us (operands m vs)
+called m at limit v vs = throwing (reads (all_units (operands m vs))) TypeError

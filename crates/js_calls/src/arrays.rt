@@ -27,7 +27,9 @@ pub fn read_index<S: Strings>(
     requires index { IsFine (S.state store.old) S.number index.now }
     ensures grows { Grows (S.state store.old) (S.state store.new) }
     ensures fine { IfOk result (λ v. IsFine (S.state store.new) S.number v) }
-    ensures did { Does S.number (S.state store.old) (S.state store.new) result (indexed at (seen (S.state store.old) S.number value.now) (seen (S.state store.old) S.number index.now)) }
+    ensures did { Does S.number (S.state store.old) (S.state store.new) result
+        (indexed at (seen (S.state store.old) S.number value.now)
+        (seen (S.state store.old) S.number index.now)) }
 {
     let number = index_number(store, index);
     match value {
@@ -77,7 +79,8 @@ fn unit<S: Strings>(
     requires lawful { IfSome index IsLawful }
     ensures grows { Grows (S.state store.old) (S.state store.new) }
     ensures fine { IfOk result (λ v. IsFine (S.state store.new) S.number v) }
-    ensures did { Does S.number (S.state store.old) (S.state store.new) result (indexed_text at (text (S.state store.old) (S.number s)) index) }
+    ensures did { Does S.number (S.state store.old) (S.state store.new) result
+        (indexed_text at (text (S.state store.old) (S.number s)) index) }
 {
     match index {
         None => Err(Stop::Unsupported { at }),
@@ -100,7 +103,8 @@ fn element<S: Strings>(
 ) -> Result<Value<S::Ref>, Stop>
     requires known { AllKnown (S.state store.now) S.number list.now }
     ensures fine { IfOk result (λ v. IsFine (S.state store.now) S.number v) }
-    ensures did { Does S.number (S.state store.now) (S.state store.now) result (indexed_list at (texts_seen (S.state store.now) S.number list.now) index) }
+    ensures did { Does S.number (S.state store.now) (S.state store.now) result
+        (indexed_list at (texts_seen (S.state store.now) S.number list.now) index) }
 {
     match index {
         None => Err(Stop::Unsupported { at }),
@@ -114,7 +118,8 @@ fn element<S: Strings>(
 // The element at a place, counted from 0.
 fn nth<S: Strings>(_store: &S, list: &[S::Ref], place: u64) -> Value<S::Ref>
     requires { AllKnown (S.state _store.now) S.number list.now }
-    ensures seen { seen (S.state _store.now) S.number result ≡ maybe_text (slice_get (texts_seen (S.state _store.now) S.number list.now) place) }
+    ensures seen { seen (S.state _store.now) S.number result
+        ≡ maybe_text (slice_get (texts_seen (S.state _store.now) S.number list.now) place) }
     ensures fine { IsFine (S.state _store.now) S.number result }
 {
     match list.get(place as usize) {
@@ -137,7 +142,9 @@ pub fn call_list<S: Strings>(
     requires args { AllFine (S.state store.old) S.number args.now }
     ensures grows { Grows (S.state store.old) (S.state store.new) }
     ensures fine { IfOk result (λ v. IsFine (S.state store.new) S.number v) }
-    ensures did { (t : ℕ) → Does S.number (S.state store.old) (S.state store.new) result (list_call method at (S.state store.old).limit t (texts_seen (S.state store.old) S.number list.now) (all_seen (S.state store.old) S.number args.now)) }
+    ensures did { (t : ℕ) → Does S.number (S.state store.old) (S.state store.new) result
+        (list_call method at (S.state store.old).limit t (texts_seen (S.state store.old) S.number list.now)
+        (all_seen (S.state store.old) S.number args.now)) }
 {
     match method {
         Method::Join => call_join(alloc, store, list, args),
@@ -147,24 +154,7 @@ pub fn call_list<S: Strings>(
         | Method::IndexOf
         | Method::LastIndexOf
         | Method::Slice => Err(Stop::Unsupported { at }),
-        Method::CharAt
-        | Method::CharCodeAt
-        | Method::CodePointAt
-        | Method::EndsWith
-        | Method::IsWellFormed
-        | Method::PadEnd
-        | Method::PadStart
-        | Method::Repeat
-        | Method::Replace
-        | Method::ReplaceAll
-        | Method::Split
-        | Method::StartsWith
-        | Method::Substr
-        | Method::Substring
-        | Method::ToWellFormed
-        | Method::Trim
-        | Method::TrimEnd
-        | Method::TrimStart => Err(Stop::Threw(Kind::TypeError)),
+        _ => Err(Stop::Threw(Kind::TypeError)),
     }
 }
 
@@ -179,7 +169,9 @@ fn call_join<S: Strings>(
     requires args { AllFine (S.state store.old) S.number args.now }
     ensures grows { Grows (S.state store.old) (S.state store.new) }
     ensures fine { IfOk result (λ v. IsFine (S.state store.new) S.number v) }
-    ensures did { Does S.number (S.state store.old) (S.state store.new) result (join_call (S.state store.old).limit (texts_seen (S.state store.old) S.number list.now) (all_seen (S.state store.old) S.number args.now)) }
+    ensures did { Does S.number (S.state store.old) (S.state store.new) result
+        (join_call (S.state store.old).limit (texts_seen (S.state store.old) S.number list.now)
+        (all_seen (S.state store.old) S.number args.now)) }
 {
     if first_is_missing(store, args) {
         return join_with_commas(alloc, store, list);
@@ -196,7 +188,10 @@ fn join_with_commas<S: Strings>(
     requires known { AllKnown (S.state store.old) S.number list.now }
     ensures grows { Grows (S.state store.old) (S.state store.new) }
     ensures fine { IfOk result (λ v. IsFine (S.state store.new) S.number v) }
-    ensures did { (t : ℕ) → list_units (texts_seen (S.state store.old) S.number list.now) ≤ t → Does S.number (S.state store.old) (S.state store.new) result (joined_with (S.state store.old).limit t (texts_seen (S.state store.old) S.number list.now) (44 ∷ [])) }
+    ensures did { (t : ℕ) → list_units (texts_seen (S.state store.old) S.number list.now) ≤ t → Does S.number
+        (S.state store.old) (S.state store.new) result
+        (joined_with (S.state store.old).limit t (texts_seen (S.state store.old) S.number list.now)
+        (44 ∷ [])) }
 {
     let r = joined_by_commas(alloc, store, list)?;
     Ok(Value::Text(r))
@@ -214,7 +209,11 @@ fn join_with<S: Strings>(
     requires separator_known { IsKnown (S.state store.old) (S.number sep) }
     ensures grows { Grows (S.state store.old) (S.state store.new) }
     ensures fine { IfOk result (λ v. IsFine (S.state store.new) S.number v) }
-    ensures did { (t : ℕ) → list_units (texts_seen (S.state store.old) S.number list.now) + length (text (S.state store.old) (S.number sep)) ≤ t + 40 → Does S.number (S.state store.old) (S.state store.new) result (joined_with (S.state store.old).limit t (texts_seen (S.state store.old) S.number list.now) (text (S.state store.old) (S.number sep))) }
+    ensures did { (t : ℕ) → list_units (texts_seen (S.state store.old) S.number list.now)
+        + length (text (S.state store.old) (S.number sep)) ≤ t + 40 → Does S.number (S.state store.old)
+        (S.state store.new) result
+        (joined_with (S.state store.old).limit t (texts_seen (S.state store.old) S.number list.now)
+        (text (S.state store.old) (S.number sep))) }
 {
     let r = js_texts::join(alloc, store, list, sep)?;
     Ok(Value::Text(r))

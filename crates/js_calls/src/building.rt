@@ -21,7 +21,9 @@ pub fn call_concat<S: Strings>(
     requires args { AllFine (S.state store.old) S.number args.now }
     ensures grows { Grows (S.state store.old) (S.state store.new) }
     ensures fine { IfOk result (λ v. IsFine (S.state store.new) S.number v) }
-    ensures did { Does S.number (S.state store.old) (S.state store.new) result (concat_call (S.state store.old).limit (text (S.state store.old) (S.number s)) (all_seen (S.state store.old) S.number args.now)) }
+    ensures did { Does S.number (S.state store.old) (S.state store.new) result
+        (concat_call (S.state store.old).limit (text (S.state store.old) (S.number s))
+        (all_seen (S.state store.old) S.number args.now)) }
 {
     let mut text = s;
     for value in args {
@@ -41,7 +43,9 @@ fn join_one<S: Strings>(
     requires fine { IsFine (S.state store.old) S.number value.now }
     ensures grows { Grows (S.state store.old) (S.state store.new) }
     ensures known { IfOk result (λ r. IsKnown (S.state store.new) (S.number r)) }
-    ensures did { GivesText S.number (S.state store.old) (S.state store.new) result (one_joined (S.state store.old).limit (text (S.state store.old) (S.number s)) (seen (S.state store.old) S.number value.now)) }
+    ensures did { GivesText S.number (S.state store.old) (S.state store.new) result
+        (one_joined (S.state store.old).limit (text (S.state store.old) (S.number s))
+        (seen (S.state store.old) S.number value.now)) }
 {
     let w = to_text(alloc, store, value)?;
     append(store, s, w)
@@ -53,7 +57,9 @@ fn append<S: Strings>(store: &mut S, s: S::Ref, w: S::Ref) -> Result<S::Ref, Sto
     requires right { IsKnown (S.state store.old) (S.number w) }
     ensures grows { Grows (S.state store.old) (S.state store.new) }
     ensures known { IfOk result (λ r. IsKnown (S.state store.new) (S.number r)) }
-    ensures did { GivesText S.number (S.state store.old) (S.state store.new) result (joined_text (S.state store.old).limit (text (S.state store.old) (S.number s)) (text (S.state store.old) (S.number w))) }
+    ensures did { GivesText S.number (S.state store.old) (S.state store.new) result
+        (joined_text (S.state store.old).limit (text (S.state store.old) (S.number s))
+        (text (S.state store.old) (S.number w))) }
 {
     Ok(js_methods::concat(store, s, w)?)
 }
@@ -63,7 +69,8 @@ pub fn itself<S: Strings>(store: &mut S, s: S::Ref) -> Result<Value<S::Ref>, Sto
     requires { IsKnown (S.state store.old) (S.number s) }
     ensures grows { Grows (S.state store.old) (S.state store.new) }
     ensures fine { IfOk result (λ v. IsFine (S.state store.new) S.number v) }
-    ensures did { (ids : ℕ) (words : ℕ → ℕ) → Does S.number (S.state store.old) (S.state store.new) result (within (S.state store.old).limit ids words (text (S.state store.old) (S.number s))) }
+    ensures did { (ids : ℕ) (words : ℕ → ℕ) → Does S.number (S.state store.old) (S.state store.new) result
+        (within (S.state store.old).limit ids words (text (S.state store.old) (S.number s))) }
 {
     if store.len(s) > store.limit() {
         Err(Stop::Threw(Kind::RangeError))

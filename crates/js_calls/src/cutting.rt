@@ -47,7 +47,13 @@ pub fn call_cut<S: Strings>(
     requires args { AllFine (S.state store.old) S.number args.now }
     ensures grows { Grows (S.state store.old) (S.state store.new) }
     ensures fine { IfOk result (λ v. IsFine (S.state store.new) S.number v) }
-    ensures did { Does S.number (S.state store.old) (S.state store.new) result (cut_call (S.state store.old).limit (length (text (S.state store.old) (S.number s)) + all_units (all_seen (S.state store.old) S.number args.now)) (part_of cut (text (S.state store.old) (S.number s))) (to_number at (first_of (all_seen (S.state store.old) S.number args.now))) (end_in at (second_of (all_seen (S.state store.old) S.number args.now)))) }
+    ensures did { Does S.number (S.state store.old) (S.state store.new) result
+        (cut_call (S.state store.old).limit
+        (length (text (S.state store.old) (S.number s))
+        + all_units (all_seen (S.state store.old) S.number args.now))
+        (part_of cut (text (S.state store.old) (S.number s)))
+        (to_number at (first_of (all_seen (S.state store.old) S.number args.now)))
+        (end_in at (second_of (all_seen (S.state store.old) S.number args.now)))) }
 {
     let start = first_number(store, at, args)?;
     let end = second_or_none(store, at, args)?;
@@ -67,7 +73,10 @@ fn give_part<S: Strings>(
     requires end { IfSome end IsLawful }
     ensures grows { Grows (S.state store.old) (S.state store.new) }
     ensures fine { IfOk result (λ v. IsFine (S.state store.new) S.number v) }
-    ensures did { (t : ℕ) → length (text (S.state store.old) (S.number s)) ≤ t → Does S.number (S.state store.old) (S.state store.new) result (limited (S.state store.old).limit t (part_of cut (text (S.state store.old) (S.number s)) start end)) }
+    ensures did { (t : ℕ) → length (text (S.state store.old) (S.number s)) ≤ t → Does S.number
+        (S.state store.old) (S.state store.new) result
+        (limited (S.state store.old).limit t
+        (part_of cut (text (S.state store.old) (S.number s)) start end)) }
 {
     let r = part(store, cut, s, start, end)?;
     Ok(Value::Text(r))
@@ -83,8 +92,11 @@ fn part<S: Strings>(
     requires known { IsKnown (S.state store.old) (S.number s) }
     requires start { IsLawful start }
     requires end { IfSome end IsLawful }
-    ensures value { IfOk result (λ r. Has (S.state store.new) (S.number r) (part_of cut (text (S.state store.old) (S.number s)) start end)) }
-    ensures throws { ThrowsLong result (S.state store.old).limit (length (part_of cut (text (S.state store.old) (S.number s)) start end)) }
+    ensures value { IfOk result
+        (λ r. Has (S.state store.new) (S.number r)
+        (part_of cut (text (S.state store.old) (S.number s)) start end)) }
+    ensures throws { ThrowsLong result (S.state store.old).limit
+        (length (part_of cut (text (S.state store.old) (S.number s)) start end)) }
     ensures step { Step (S.state store.old) (S.state store.new) (method_fault_of result)
         1 (2 * wide_words (length (text (S.state store.old) (S.number s))) + 3) }
     ensures slots { NeverSlots (method_fault_of result) }
@@ -102,7 +114,9 @@ pub fn call_trim<S: Strings>(store: &mut S, trim: Trim, s: S::Ref) -> Result<Val
     requires known { IsKnown (S.state store.old) (S.number s) }
     ensures grows { Grows (S.state store.old) (S.state store.new) }
     ensures fine { IfOk result (λ v. IsFine (S.state store.new) S.number v) }
-    ensures did { (t : ℕ) → length (text (S.state store.old) (S.number s)) ≤ t → Does S.number (S.state store.old) (S.state store.new) result (limited (S.state store.old).limit t (trimmed_of trim (text (S.state store.old) (S.number s)))) }
+    ensures did { (t : ℕ) → length (text (S.state store.old) (S.number s)) ≤ t → Does S.number
+        (S.state store.old) (S.state store.new) result
+        (limited (S.state store.old).limit t (trimmed_of trim (text (S.state store.old) (S.number s)))) }
 {
     let r = trimmed(store, trim, s)?;
     Ok(Value::Text(r))
@@ -110,8 +124,11 @@ pub fn call_trim<S: Strings>(store: &mut S, trim: Trim, s: S::Ref) -> Result<Val
 
 fn trimmed<S: Strings>(store: &mut S, trim: Trim, s: S::Ref) -> Result<S::Ref, MethodFault>
     requires known { IsKnown (S.state store.old) (S.number s) }
-    ensures value { IfOk result (λ r. Has (S.state store.new) (S.number r) (trimmed_of trim (text (S.state store.old) (S.number s)))) }
-    ensures throws { ThrowsLong result (S.state store.old).limit (length (trimmed_of trim (text (S.state store.old) (S.number s)))) }
+    ensures value { IfOk result
+        (λ r. Has (S.state store.new) (S.number r)
+        (trimmed_of trim (text (S.state store.old) (S.number s)))) }
+    ensures throws { ThrowsLong result (S.state store.old).limit
+        (length (trimmed_of trim (text (S.state store.old) (S.number s)))) }
     ensures step { Step (S.state store.old) (S.state store.new) (method_fault_of result)
         1 (2 * wide_words (length (text (S.state store.old) (S.number s))) + 3) }
     ensures slots { NeverSlots (method_fault_of result) }
@@ -133,7 +150,9 @@ pub fn call_to_well_formed<S: Strings>(
     requires known { IsKnown (S.state store.old) (S.number s) }
     ensures grows { Grows (S.state store.old) (S.state store.new) }
     ensures fine { IfOk result (λ v. IsFine (S.state store.new) S.number v) }
-    ensures did { (t : ℕ) → length (text (S.state store.old) (S.number s)) ≤ t → Does S.number (S.state store.old) (S.state store.new) result (limited (S.state store.old).limit t (well (text (S.state store.old) (S.number s)))) }
+    ensures did { (t : ℕ) → length (text (S.state store.old) (S.number s)) ≤ t → Does S.number
+        (S.state store.old) (S.state store.new) result
+        (limited (S.state store.old).limit t (well (text (S.state store.old) (S.number s)))) }
 {
     let r = js_methods::to_well_formed(alloc, store, s)?;
     Ok(Value::Text(r))

@@ -9,6 +9,7 @@ mod arrays;
 mod building;
 mod cutting;
 mod members;
+mod operands;
 mod padding;
 mod reading;
 mod replacing;

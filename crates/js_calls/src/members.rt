@@ -14,6 +14,7 @@ ghost use Rattle.js_values.specs.Does.{Does};
 use crate::arrays::call_list;
 use crate::building::call_concat;
 use crate::cutting::{Cut, Trim, call_cut, call_to_well_formed, call_trim};
+use crate::operands::operands;
 use crate::padding::{Pad, call_pad, call_repeat};
 use crate::reading::{call_at, call_char_at, call_char_code_at, call_code_point_at};
 use crate::replacing::{Replace, call_replace};
@@ -30,7 +31,8 @@ pub fn read_length<S: Strings>(store: &mut S, value: &Value<S::Ref>) -> Result<V
     requires { IsFine (S.state store.old) S.number value.now }
     ensures grows { Grows (S.state store.old) (S.state store.new) }
     ensures fine { IfOk result (λ v. IsFine (S.state store.new) S.number v) }
-    ensures did { Does S.number (S.state store.old) (S.state store.new) result (length_of (seen (S.state store.old) S.number value.now)) }
+    ensures did { Does S.number (S.state store.old) (S.state store.new) result
+        (length_of (seen (S.state store.old) S.number value.now)) }
 {
     match value {
         Value::Undefined | Value::Null => Err(Stop::Threw(Kind::TypeError)),
@@ -45,7 +47,8 @@ pub fn read_length<S: Strings>(store: &mut S, value: &Value<S::Ref>) -> Result<V
 
 /// TypeError where a value has no members at all.
 pub fn present<S: Strings>(_store: &S, value: &Value<S::Ref>) -> Result<(), Stop>
-    ensures { Did (S.state _store.now) (S.state _store.now) (λ _ u. u) (λ _ _. Unit {0}) result (present_out (seen (S.state _store.now) S.number value.now)) }
+    ensures { Did (S.state _store.now) (S.state _store.now) (λ _ u. u) (λ _ _. Unit {0}) result
+        (present_out (seen (S.state _store.now) S.number value.now)) }
 {
     match value {
         Value::Undefined | Value::Null => Err(Stop::Threw(Kind::TypeError)),
@@ -67,8 +70,11 @@ pub fn call<S: Strings>(
     requires args { AllFine (S.state store.old) S.number args.now }
     ensures grows { Grows (S.state store.old) (S.state store.new) }
     ensures fine { IfOk result (λ v. IsFine (S.state store.new) S.number v) }
-    ensures did { Does S.number (S.state store.old) (S.state store.new) result (called method at (S.state store.old).limit (seen (S.state store.old) S.number value.now) (all_seen (S.state store.old) S.number args.now)) }
+    ensures did { Does S.number (S.state store.old) (S.state store.new) result
+        (called method at (S.state store.old).limit (seen (S.state store.old) S.number value.now)
+        (all_seen (S.state store.old) S.number args.now)) }
 {
+    let args = operands(store, method, args);
     match value {
         Value::Text(s) => call_string(alloc, store, at, method, *s, args),
         Value::List(list) => call_list(alloc, store, at, method, list, args),
@@ -90,7 +96,11 @@ fn call_string<S: Strings>(
     requires args { AllFine (S.state store.old) S.number args.now }
     ensures grows { Grows (S.state store.old) (S.state store.new) }
     ensures fine { IfOk result (λ v. IsFine (S.state store.new) S.number v) }
-    ensures did { Does S.number (S.state store.old) (S.state store.new) result (string_call method at (S.state store.old).limit (length (text (S.state store.old) (S.number s)) + all_units (all_seen (S.state store.old) S.number args.now)) (text (S.state store.old) (S.number s)) (all_seen (S.state store.old) S.number args.now)) }
+    ensures did { Does S.number (S.state store.old) (S.state store.new) result
+        (string_call method at (S.state store.old).limit
+        (length (text (S.state store.old) (S.number s))
+        + all_units (all_seen (S.state store.old) S.number args.now))
+        (text (S.state store.old) (S.number s)) (all_seen (S.state store.old) S.number args.now)) }
 {
     match method {
         Method::At => call_at(store, at, s, args),
@@ -126,7 +136,9 @@ fn call_is_well_formed<S: Strings>(store: &mut S, s: S::Ref) -> Result<Value<S::
     requires { IsKnown (S.state store.old) (S.number s) }
     ensures grows { Grows (S.state store.old) (S.state store.new) }
     ensures fine { IfOk result (λ v. IsFine (S.state store.new) S.number v) }
-    ensures did { (t : ℕ) → length (text (S.state store.old) (S.number s)) ≤ t → Does S.number (S.state store.old) (S.state store.new) result (needing (reads t) (Outcome.bool (all_paired (text (S.state store.old) (S.number s))))) }
+    ensures did { (t : ℕ) → length (text (S.state store.old) (S.number s)) ≤ t → Does S.number
+        (S.state store.old) (S.state store.new) result
+        (needing (reads t) (Outcome.bool (all_paired (text (S.state store.old) (S.number s))))) }
 {
     let holds = js_methods::is_well_formed(store, s)?;
     Ok(Value::Bool(holds))

@@ -36,7 +36,9 @@ pub fn call_repeat<S: Strings>(
     requires args { AllFine (S.state store.old) S.number args.now }
     ensures grows { Grows (S.state store.old) (S.state store.new) }
     ensures fine { IfOk result (λ v. IsFine (S.state store.new) S.number v) }
-    ensures did { Does S.number (S.state store.old) (S.state store.new) result (repeat_call (S.state store.old).limit (text (S.state store.old) (S.number s)) (to_number at (first_of (all_seen (S.state store.old) S.number args.now)))) }
+    ensures did { Does S.number (S.state store.old) (S.state store.new) result
+        (repeat_call (S.state store.old).limit (text (S.state store.old) (S.number s))
+        (to_number at (first_of (all_seen (S.state store.old) S.number args.now)))) }
 {
     let n = first_number(store, at, args)?;
     let r = js_methods::repeat(store, s, n)?;
@@ -56,7 +58,11 @@ pub fn call_pad<S: Strings>(
     requires args { AllFine (S.state store.old) S.number args.now }
     ensures grows { Grows (S.state store.old) (S.state store.new) }
     ensures fine { IfOk result (λ v. IsFine (S.state store.new) S.number v) }
-    ensures did { Does S.number (S.state store.old) (S.state store.new) result (pad_call (S.state store.old).limit (padded_of pad (text (S.state store.old) (S.number s))) (text (S.state store.old) (S.number s)) (to_number at (first_of (all_seen (S.state store.old) S.number args.now))) (second_of (all_seen (S.state store.old) S.number args.now))) }
+    ensures did { Does S.number (S.state store.old) (S.state store.new) result
+        (pad_call (S.state store.old).limit (padded_of pad (text (S.state store.old) (S.number s)))
+        (text (S.state store.old) (S.number s))
+        (to_number at (first_of (all_seen (S.state store.old) S.number args.now)))
+        (second_of (all_seen (S.state store.old) S.number args.now))) }
 {
     let n = first_number(store, at, args)?;
     pad_to(alloc, store, pad, s, n.to_length(), args)
@@ -75,7 +81,10 @@ fn pad_to<S: Strings>(
     requires args { AllFine (S.state store.old) S.number args.now }
     ensures grows { Grows (S.state store.old) (S.state store.new) }
     ensures fine { IfOk result (λ v. IsFine (S.state store.new) S.number v) }
-    ensures did { Does S.number (S.state store.old) (S.state store.new) result (padded (S.state store.old).limit (padded_of pad (text (S.state store.old) (S.number s))) (text (S.state store.old) (S.number s)) max (second_of (all_seen (S.state store.old) S.number args.now))) }
+    ensures did { Does S.number (S.state store.old) (S.state store.new) result
+        (padded (S.state store.old).limit (padded_of pad (text (S.state store.old) (S.number s)))
+        (text (S.state store.old) (S.number s)) max
+        (second_of (all_seen (S.state store.old) S.number args.now))) }
 {
     let len = store.len(s);
     if max <= u64::from(len) {
@@ -97,7 +106,10 @@ fn fill<S: Strings>(
     requires args { AllFine (S.state store.old) S.number args.now }
     ensures grows { Grows (S.state store.old) (S.state store.new) }
     ensures fine { IfOk result (λ v. IsFine (S.state store.new) S.number v) }
-    ensures did { Does S.number (S.state store.old) (S.state store.new) result (filled (S.state store.old).limit (padded_of pad (text (S.state store.old) (S.number s))) (text (S.state store.old) (S.number s)) max (second_of (all_seen (S.state store.old) S.number args.now))) }
+    ensures did { Does S.number (S.state store.old) (S.state store.new) result
+        (filled (S.state store.old).limit (padded_of pad (text (S.state store.old) (S.number s)))
+        (text (S.state store.old) (S.number s)) max
+        (second_of (all_seen (S.state store.old) S.number args.now))) }
 {
     if second_is_missing(store, args) {
         return pad_with_space(store, pad, s, max);
@@ -115,7 +127,10 @@ fn pad_with_space<S: Strings>(
     requires { IsKnown (S.state store.old) (S.number s) }
     ensures grows { Grows (S.state store.old) (S.state store.new) }
     ensures fine { IfOk result (λ v. IsFine (S.state store.new) S.number v) }
-    ensures did { Does S.number (S.state store.old) (S.state store.new) result (within (S.state store.old).limit pad_ids (λ _. pad_words (length (text (S.state store.old) (S.number s)) + 1)) (padded_of pad (text (S.state store.old) (S.number s)) max (32 ∷ []))) }
+    ensures did { Does S.number (S.state store.old) (S.state store.new) result
+        (within (S.state store.old).limit pad_ids
+        (λ _. pad_words (length (text (S.state store.old) (S.number s)) + 1))
+        (padded_of pad (text (S.state store.old) (S.number s)) max (32 ∷ []))) }
 {
     let r = padded_with_space(store, pad, s, max)?;
     Ok(Value::Text(r))
@@ -128,8 +143,11 @@ fn padded_with_space<S: Strings>(
     max: u64,
 ) -> Result<S::Ref, MethodFault>
     requires { IsKnown (S.state store.old) (S.number s) }
-    ensures value { IfOk result (λ r. Has (S.state store.new) (S.number r) (padded_of pad (text (S.state store.old) (S.number s)) max (32 ∷ []))) }
-    ensures throws { ThrowsLong result (S.state store.old).limit (length (padded_of pad (text (S.state store.old) (S.number s)) max (32 ∷ []))) }
+    ensures value { IfOk result
+        (λ r. Has (S.state store.new) (S.number r)
+        (padded_of pad (text (S.state store.old) (S.number s)) max (32 ∷ []))) }
+    ensures throws { ThrowsLong result (S.state store.old).limit
+        (length (padded_of pad (text (S.state store.old) (S.number s)) max (32 ∷ []))) }
     ensures step { Step (S.state store.old) (S.state store.new) (method_fault_of result) pad_ids
         (pad_words (length (text (S.state store.old) (S.number s)) + 1)) }
     ensures slots { NeverSlots (method_fault_of result) }
@@ -150,7 +168,13 @@ fn pad_with<S: Strings>(
     requires filler_known { IsKnown (S.state store.old) (S.number w) }
     ensures grows { Grows (S.state store.old) (S.state store.new) }
     ensures fine { IfOk result (λ v. IsFine (S.state store.new) S.number v) }
-    ensures did { Does S.number (S.state store.old) (S.state store.new) result (within (S.state store.old).limit pad_ids (λ _. pad_words (length (text (S.state store.old) (S.number s)) + length (text (S.state store.old) (S.number w)))) (padded_of pad (text (S.state store.old) (S.number s)) max (text (S.state store.old) (S.number w)))) }
+    ensures did { Does S.number (S.state store.old) (S.state store.new) result
+        (within (S.state store.old).limit pad_ids
+        (λ _. pad_words
+        (length (text (S.state store.old) (S.number s))
+        + length (text (S.state store.old) (S.number w))))
+        (padded_of pad (text (S.state store.old) (S.number s)) max
+        (text (S.state store.old) (S.number w)))) }
 {
     let r = padded_with(store, pad, s, max, w)?;
     Ok(Value::Text(r))
@@ -165,8 +189,13 @@ fn padded_with<S: Strings>(
 ) -> Result<S::Ref, MethodFault>
     requires known { IsKnown (S.state store.old) (S.number s) }
     requires filler_known { IsKnown (S.state store.old) (S.number w) }
-    ensures value { IfOk result (λ r. Has (S.state store.new) (S.number r) (padded_of pad (text (S.state store.old) (S.number s)) max (text (S.state store.old) (S.number w)))) }
-    ensures throws { ThrowsLong result (S.state store.old).limit (length (padded_of pad (text (S.state store.old) (S.number s)) max (text (S.state store.old) (S.number w)))) }
+    ensures value { IfOk result
+        (λ r. Has (S.state store.new) (S.number r)
+        (padded_of pad (text (S.state store.old) (S.number s)) max
+        (text (S.state store.old) (S.number w)))) }
+    ensures throws { ThrowsLong result (S.state store.old).limit
+        (length (padded_of pad (text (S.state store.old) (S.number s)) max
+        (text (S.state store.old) (S.number w)))) }
     ensures step { Step (S.state store.old) (S.state store.new) (method_fault_of result) methods.pad_ids
         (methods.pad_words (length (text (S.state store.old) (S.number w)))) }
     ensures slots { NeverSlots (method_fault_of result) }

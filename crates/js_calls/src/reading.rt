@@ -22,7 +22,11 @@ pub fn call_at<S: Strings>(
     requires args { AllFine (S.state store.old) S.number args.now }
     ensures grows { Grows (S.state store.old) (S.state store.new) }
     ensures fine { IfOk result (λ v. IsFine (S.state store.new) S.number v) }
-    ensures did { Does S.number (S.state store.old) (S.state store.new) result (at_call (length (text (S.state store.old) (S.number s)) + all_units (all_seen (S.state store.old) S.number args.now)) (text (S.state store.old) (S.number s)) (to_number at (first_of (all_seen (S.state store.old) S.number args.now)))) }
+    ensures did { Does S.number (S.state store.old) (S.state store.new) result
+        (at_call (length (text (S.state store.old) (S.number s))
+        + all_units (all_seen (S.state store.old) S.number args.now))
+        (text (S.state store.old) (S.number s))
+        (to_number at (first_of (all_seen (S.state store.old) S.number args.now)))) }
 {
     let n = first_number(store, at, args)?;
     match js_methods::at(store, s, n)? {
@@ -42,7 +46,12 @@ pub fn call_char_at<S: Strings>(
     requires args { AllFine (S.state store.old) S.number args.now }
     ensures grows { Grows (S.state store.old) (S.state store.new) }
     ensures fine { IfOk result (λ v. IsFine (S.state store.new) S.number v) }
-    ensures did { Does S.number (S.state store.old) (S.state store.new) result (char_at_call (length (text (S.state store.old) (S.number s)) + all_units (all_seen (S.state store.old) S.number args.now)) (text (S.state store.old) (S.number s)) (to_number at (first_of (all_seen (S.state store.old) S.number args.now)))) }
+    ensures did { Does S.number (S.state store.old) (S.state store.new) result
+        (char_at_call
+        (length (text (S.state store.old) (S.number s))
+        + all_units (all_seen (S.state store.old) S.number args.now))
+        (text (S.state store.old) (S.number s))
+        (to_number at (first_of (all_seen (S.state store.old) S.number args.now)))) }
 {
     let n = first_number(store, at, args)?;
     let r = js_methods::char_at(store, s, n)?;
@@ -60,7 +69,12 @@ pub fn call_char_code_at<S: Strings>(
     requires args { AllFine (S.state store.old) S.number args.now }
     ensures grows { Grows (S.state store.old) (S.state store.new) }
     ensures fine { IfOk result (λ v. IsFine (S.state store.new) S.number v) }
-    ensures did { Does S.number (S.state store.old) (S.state store.new) result (char_code_call (length (text (S.state store.old) (S.number s)) + all_units (all_seen (S.state store.old) S.number args.now)) (text (S.state store.old) (S.number s)) (to_number at (first_of (all_seen (S.state store.old) S.number args.now)))) }
+    ensures did { Does S.number (S.state store.old) (S.state store.new) result
+        (char_code_call
+        (length (text (S.state store.old) (S.number s))
+        + all_units (all_seen (S.state store.old) S.number args.now))
+        (text (S.state store.old) (S.number s))
+        (to_number at (first_of (all_seen (S.state store.old) S.number args.now)))) }
 {
     let n = first_number(store, at, args)?;
     let code = js_methods::char_code_at(store, s, n)?;
@@ -78,7 +92,12 @@ pub fn call_code_point_at<S: Strings>(
     requires args { AllFine (S.state store.old) S.number args.now }
     ensures grows { Grows (S.state store.old) (S.state store.new) }
     ensures fine { IfOk result (λ v. IsFine (S.state store.new) S.number v) }
-    ensures did { Does S.number (S.state store.old) (S.state store.new) result (code_point_call (length (text (S.state store.old) (S.number s)) + all_units (all_seen (S.state store.old) S.number args.now)) (text (S.state store.old) (S.number s)) (to_number at (first_of (all_seen (S.state store.old) S.number args.now)))) }
+    ensures did { Does S.number (S.state store.old) (S.state store.new) result
+        (code_point_call
+        (length (text (S.state store.old) (S.number s))
+        + all_units (all_seen (S.state store.old) S.number args.now))
+        (text (S.state store.old) (S.number s))
+        (to_number at (first_of (all_seen (S.state store.old) S.number args.now)))) }
 {
     let n = first_number(store, at, args)?;
     match js_methods::code_point_at(store, s, n)? {

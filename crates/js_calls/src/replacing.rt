@@ -34,7 +34,18 @@ pub fn call_replace<S: Strings>(
     requires args { AllFine (S.state store.old) S.number args.now }
     ensures grows { Grows (S.state store.old) (S.state store.new) }
     ensures fine { IfOk result (λ v. IsFine (S.state store.new) S.number v) }
-    ensures did { Does S.number (S.state store.old) (S.state store.new) result (replace_call (S.state store.old).limit (length (text (S.state store.old) (S.number s)) + all_units (all_seen (S.state store.old) S.number args.now)) (length (text (S.state store.old) (S.number s)) + first_text_units (all_seen (S.state store.old) S.number args.now)) (length (text (S.state store.old) (S.number s)) + two_text_units (all_seen (S.state store.old) S.number args.now)) (match_count replace (text (S.state store.old) (S.number s))) (replaced_of replace (text (S.state store.old) (S.number s))) (first_of (all_seen (S.state store.old) S.number args.now)) (second_of (all_seen (S.state store.old) S.number args.now))) }
+    ensures did { Does S.number (S.state store.old) (S.state store.new) result
+        (replace_call (S.state store.old).limit
+        (length (text (S.state store.old) (S.number s))
+        + all_units (all_seen (S.state store.old) S.number args.now))
+        (length (text (S.state store.old) (S.number s))
+        + first_text_units (all_seen (S.state store.old) S.number args.now))
+        (length (text (S.state store.old) (S.number s))
+        + two_text_units (all_seen (S.state store.old) S.number args.now))
+        (match_count replace (text (S.state store.old) (S.number s)))
+        (replaced_of replace (text (S.state store.old) (S.number s)))
+        (first_of (all_seen (S.state store.old) S.number args.now))
+        (second_of (all_seen (S.state store.old) S.number args.now))) }
 {
     match args {
         [w, template, ..] => replace_values(alloc, store, replace, s, w, template),
@@ -65,7 +76,15 @@ fn replace_values<S: Strings>(
     requires template { IsFine (S.state store.old) S.number template.now }
     ensures grows { Grows (S.state store.old) (S.state store.new) }
     ensures fine { IfOk result (λ v. IsFine (S.state store.new) S.number v) }
-    ensures did { (o m t : ℕ) → length (text (S.state store.old) (S.number s)) + (text_units (seen (S.state store.old) S.number searched.now) + text_units (seen (S.state store.old) S.number template.now)) ≤ t → Does S.number (S.state store.old) (S.state store.new) result (replace_call (S.state store.old).limit o m t (match_count replace (text (S.state store.old) (S.number s))) (replaced_of replace (text (S.state store.old) (S.number s))) (seen (S.state store.old) S.number searched.now) (seen (S.state store.old) S.number template.now)) }
+    ensures did { (o m t : ℕ) → length (text (S.state store.old) (S.number s))
+        + (text_units (seen (S.state store.old) S.number searched.now)
+        + text_units (seen (S.state store.old) S.number template.now)) ≤ t → Does S.number
+        (S.state store.old) (S.state store.new) result
+        (replace_call (S.state store.old).limit o m t
+        (match_count replace (text (S.state store.old) (S.number s)))
+        (replaced_of replace (text (S.state store.old) (S.number s)))
+        (seen (S.state store.old) S.number searched.now)
+        (seen (S.state store.old) S.number template.now)) }
 {
     let w = to_text(alloc, store, searched)?;
     let by = to_text(alloc, store, template)?;
@@ -87,7 +106,15 @@ fn give_replaced<S: Strings>(
     requires template_known { IsKnown (S.state store.old) (S.number template) }
     ensures grows { Grows (S.state store.old) (S.state store.new) }
     ensures fine { IfOk result (λ v. IsFine (S.state store.new) S.number v) }
-    ensures did { (t : ℕ) → length (text (S.state store.old) (S.number s)) + (length (text (S.state store.old) (S.number w)) + length (text (S.state store.old) (S.number template))) ≤ t + 80 → Does S.number (S.state store.old) (S.state store.new) result (replacement (S.state store.old).limit t (match_count replace (text (S.state store.old) (S.number s)) (text (S.state store.old) (S.number w))) (replaced_of replace (text (S.state store.old) (S.number s)) (text (S.state store.old) (S.number w)) (text (S.state store.old) (S.number template)))) }
+    ensures did { (t : ℕ) → length (text (S.state store.old) (S.number s))
+        + (length (text (S.state store.old) (S.number w))
+        + length (text (S.state store.old) (S.number template))) ≤ t + 80 → Does S.number
+        (S.state store.old) (S.state store.new) result
+        (replacement (S.state store.old).limit t
+        (match_count replace (text (S.state store.old) (S.number s))
+        (text (S.state store.old) (S.number w)))
+        (replaced_of replace (text (S.state store.old) (S.number s))
+        (text (S.state store.old) (S.number w)) (text (S.state store.old) (S.number template)))) }
 {
     let r = replaced(alloc, store, replace, s, w, template)?;
     Ok(Value::Text(r))
@@ -104,8 +131,13 @@ fn replaced<S: Strings>(
     requires known { IsKnown (S.state store.old) (S.number s) }
     requires needle_known { IsKnown (S.state store.old) (S.number w) }
     requires template_known { IsKnown (S.state store.old) (S.number template) }
-    ensures value { IfOk result (λ r. Has (S.state store.new) (S.number r) (replaced_of replace (text (S.state store.old) (S.number s)) (text (S.state store.old) (S.number w)) (text (S.state store.old) (S.number template)))) }
-    ensures throws { ThrowsLong result (S.state store.old).limit (length (replaced_of replace (text (S.state store.old) (S.number s)) (text (S.state store.old) (S.number w)) (text (S.state store.old) (S.number template)))) }
+    ensures value { IfOk result
+        (λ r. Has (S.state store.new) (S.number r)
+        (replaced_of replace (text (S.state store.old) (S.number s))
+        (text (S.state store.old) (S.number w)) (text (S.state store.old) (S.number template)))) }
+    ensures throws { ThrowsLong result (S.state store.old).limit
+        (length (replaced_of replace (text (S.state store.old) (S.number s))
+        (text (S.state store.old) (S.number w)) (text (S.state store.old) (S.number template)))) }
     ensures step { Step (S.state store.old) (S.state store.new) (full_of result)
         1 (settling (S.state store.old) (S.number s) + settling (S.state store.old) (S.number w) + settling (S.state store.old) (S.number template) + made_words (S.state store.old).limit (replaced_of replace (text (S.state store.old) (S.number s)) (text (S.state store.old) (S.number w)) (text (S.state store.old) (S.number template)))) }
     ensures slots { NeverSlots (full_of result) }

@@ -42,7 +42,15 @@ pub fn call_search<S: Strings>(
     requires args { AllFine (S.state store.old) S.number args.now }
     ensures grows { Grows (S.state store.old) (S.state store.new) }
     ensures fine { IfOk result (λ v. IsFine (S.state store.new) S.number v) }
-    ensures did { Does S.number (S.state store.old) (S.state store.new) result (search_call (S.state store.old).limit (length (text (S.state store.old) (S.number s)) + all_units (all_seen (S.state store.old) S.number args.now)) (length (text (S.state store.old) (S.number s)) + first_text_units (all_seen (S.state store.old) S.number args.now)) (search_of search (text (S.state store.old) (S.number s))) (first_of (all_seen (S.state store.old) S.number args.now)) (to_number at (second_of (all_seen (S.state store.old) S.number args.now)))) }
+    ensures did { Does S.number (S.state store.old) (S.state store.new) result
+        (search_call (S.state store.old).limit
+        (length (text (S.state store.old) (S.number s))
+        + all_units (all_seen (S.state store.old) S.number args.now))
+        (length (text (S.state store.old) (S.number s))
+        + first_text_units (all_seen (S.state store.old) S.number args.now))
+        (search_of search (text (S.state store.old) (S.number s)))
+        (first_of (all_seen (S.state store.old) S.number args.now))
+        (to_number at (second_of (all_seen (S.state store.old) S.number args.now)))) }
 {
     let place = second_number(store, at, args);
     let w = first_text(alloc, store, args)?;
@@ -62,7 +70,11 @@ fn find<S: Strings>(
     requires lawful { IfOk place IsLawful }
     ensures grows { Grows (S.state store.old) (S.state store.new) }
     ensures fine { IfOk result (λ v. IsFine (S.state store.new) S.number v) }
-    ensures did { (t : ℕ) → length (text (S.state store.old) (S.number s)) + length (text (S.state store.old) (S.number w)) ≤ t + 40 → Does S.number (S.state store.old) (S.state store.new) result (found t (search_of search (text (S.state store.old) (S.number s)) (text (S.state store.old) (S.number w))) (converted_of place)) }
+    ensures did { (t : ℕ) → length (text (S.state store.old) (S.number s))
+        + length (text (S.state store.old) (S.number w)) ≤ t + 40 → Does S.number (S.state store.old)
+        (S.state store.new) result
+        (found t (search_of search (text (S.state store.old) (S.number s))
+        (text (S.state store.old) (S.number w))) (converted_of place)) }
 {
     let n = place?;
     Ok(searched(store, search, s, w, n)?)
@@ -78,7 +90,9 @@ fn searched<S: Strings>(
     requires known { IsKnown (S.state store.old) (S.number s) }
     requires needle_known { IsKnown (S.state store.old) (S.number w) }
     requires lawful { IsLawful n }
-    ensures value { IfOk result (λ v. seen (S.state store.new) S.number v ≡ search_of search (text (S.state store.old) (S.number s)) (text (S.state store.old) (S.number w)) n) }
+    ensures value { IfOk result
+        (λ v. seen (S.state store.new) S.number v ≡ search_of search (text (S.state store.old) (S.number s))
+        (text (S.state store.old) (S.number w)) n) }
     ensures fine { IfOk result (λ v. IsFine (S.state store.new) S.number v) }
     ensures throws { NeverThrows result }
     ensures step { Step (S.state store.old) (S.state store.new) (method_fault_of result)
@@ -117,7 +131,15 @@ pub fn call_ends_with<S: Strings>(
     requires args { AllFine (S.state store.old) S.number args.now }
     ensures grows { Grows (S.state store.old) (S.state store.new) }
     ensures fine { IfOk result (λ v. IsFine (S.state store.new) S.number v) }
-    ensures did { Does S.number (S.state store.old) (S.state store.new) result (search_call (S.state store.old).limit (length (text (S.state store.old) (S.number s)) + all_units (all_seen (S.state store.old) S.number args.now)) (length (text (S.state store.old) (S.number s)) + first_text_units (all_seen (S.state store.old) S.number args.now)) (λ x e. Outcome.bool (ends_at (text (S.state store.old) (S.number s)) x e)) (first_of (all_seen (S.state store.old) S.number args.now)) (end_in at (second_of (all_seen (S.state store.old) S.number args.now)))) }
+    ensures did { Does S.number (S.state store.old) (S.state store.new) result
+        (search_call (S.state store.old).limit
+        (length (text (S.state store.old) (S.number s))
+        + all_units (all_seen (S.state store.old) S.number args.now))
+        (length (text (S.state store.old) (S.number s))
+        + first_text_units (all_seen (S.state store.old) S.number args.now))
+        (λ x e. Outcome.bool (ends_at (text (S.state store.old) (S.number s)) x e))
+        (first_of (all_seen (S.state store.old) S.number args.now))
+        (end_in at (second_of (all_seen (S.state store.old) S.number args.now)))) }
 {
     let end = second_or_none(store, at, args);
     let w = first_text(alloc, store, args)?;
@@ -135,7 +157,12 @@ fn find_end<S: Strings>(
     requires lawful { IfOk end LawfulEnd }
     ensures grows { Grows (S.state store.old) (S.state store.new) }
     ensures fine { IfOk result (λ v. IsFine (S.state store.new) S.number v) }
-    ensures did { (t : ℕ) → length (text (S.state store.old) (S.number s)) + length (text (S.state store.old) (S.number w)) ≤ t + 40 → Does S.number (S.state store.old) (S.state store.new) result (found t (λ e. Outcome.bool (ends_at (text (S.state store.old) (S.number s)) (text (S.state store.old) (S.number w)) e)) (converted_of end)) }
+    ensures did { (t : ℕ) → length (text (S.state store.old) (S.number s))
+        + length (text (S.state store.old) (S.number w)) ≤ t + 40 → Does S.number (S.state store.old)
+        (S.state store.new) result
+        (found t (λ e. Outcome.bool
+        (ends_at (text (S.state store.old) (S.number s)) (text (S.state store.old) (S.number w)) e))
+        (converted_of end)) }
 {
     let end = end?;
     let ends = js_methods::ends_with(store, s, w, end)?;

@@ -24,7 +24,10 @@ pub fn call_split<S: Strings>(
     requires args { AllFine (S.state store.old) S.number args.now }
     ensures grows { Grows (S.state store.old) (S.state store.new) }
     ensures fine { IfOk result (λ v. IsFine (S.state store.new) S.number v) }
-    ensures did { Does S.number (S.state store.old) (S.state store.new) result (split_call (S.state store.old).limit (text (S.state store.old) (S.number s)) (all_seen (S.state store.old) S.number args.now) (end_in at (second_of (all_seen (S.state store.old) S.number args.now)))) }
+    ensures did { Does S.number (S.state store.old) (S.state store.new) result
+        (split_call (S.state store.old).limit (text (S.state store.old) (S.number s))
+        (all_seen (S.state store.old) S.number args.now)
+        (end_in at (second_of (all_seen (S.state store.old) S.number args.now)))) }
 {
     let most = second_or_none(store, at, args)?;
     split_most(alloc, store, s, args, most_parts(most))
@@ -52,7 +55,9 @@ fn split_most<S: Strings>(
     requires args { AllFine (S.state store.old) S.number args.now }
     ensures grows { Grows (S.state store.old) (S.state store.new) }
     ensures fine { IfOk result (λ v. IsFine (S.state store.new) S.number v) }
-    ensures did { Does S.number (S.state store.old) (S.state store.new) result (split_out (S.state store.old).limit (text (S.state store.old) (S.number s)) (all_seen (S.state store.old) S.number args.now) most) }
+    ensures did { Does S.number (S.state store.old) (S.state store.new) result
+        (split_out (S.state store.old).limit (text (S.state store.old) (S.number s))
+        (all_seen (S.state store.old) S.number args.now) most) }
 {
     if first_is_missing(store, args) {
         return keep_whole(alloc, store, s, most);
@@ -71,7 +76,8 @@ fn keep_whole<S: Strings>(
     requires known { IsKnown (S.state store.old) (S.number s) }
     ensures grows { Grows (S.state store.old) (S.state store.new) }
     ensures fine { IfOk result (λ v. IsFine (S.state store.new) S.number v) }
-    ensures did { (t : ℕ) → Does S.number (S.state store.old) (S.state store.new) result (split_into t (text (S.state store.old) (S.number s)) most None) }
+    ensures did { (t : ℕ) → Does S.number (S.state store.old) (S.state store.new) result
+        (split_into t (text (S.state store.old) (S.number s)) most None) }
 {
     let parts = js_replace::split(alloc, store, s, None, most)?;
     Ok(Value::List(parts))
@@ -90,7 +96,11 @@ fn split_by<S: Strings>(
     requires separator_known { IsKnown (S.state store.old) (S.number sep) }
     ensures grows { Grows (S.state store.old) (S.state store.new) }
     ensures fine { IfOk result (λ v. IsFine (S.state store.new) S.number v) }
-    ensures did { (t : ℕ) → length (text (S.state store.old) (S.number s)) + length (text (S.state store.old) (S.number sep)) ≤ t + 40 → Does S.number (S.state store.old) (S.state store.new) result (split_into t (text (S.state store.old) (S.number s)) most (Some (text (S.state store.old) (S.number sep)))) }
+    ensures did { (t : ℕ) → length (text (S.state store.old) (S.number s))
+        + length (text (S.state store.old) (S.number sep)) ≤ t + 40 → Does S.number (S.state store.old)
+        (S.state store.new) result
+        (split_into t (text (S.state store.old) (S.number s)) most
+        (Some (text (S.state store.old) (S.number sep)))) }
 {
     let parts = js_replace::split(alloc, store, s, Some(sep), most)?;
     Ok(Value::List(parts))

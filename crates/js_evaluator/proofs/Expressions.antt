@@ -18,7 +18,7 @@ use Rattle.js_values.specs.declared.value.Stop.TheVariants.{Threw, Store}
 use Rattle.eval_scopes.specs.Bindings.{Bound}
 use Rattle.js_evaluator.specs.declared.context.Context.{Context}
 use Rattle.js_values.specs.Need.{nothing}
-use Rattle.js_values.specs.Outcome.{Val, Out, gave, free, bind, each, needing, number_of}
+use Rattle.js_values.specs.Outcome.{Val, Out, gave, free, bind, mapped, each, needing, number_of}
 use Rattle.js_values.specs.Copies.{content}
 use Rattle.js_values.specs.Operators.{unary_out}
 use Rattle.js_values.specs.Conversions.{to_boolean}
@@ -32,10 +32,11 @@ use Rattle.js_values.specs.Ran.{Did}
 use Rattle.js_values.specs.Does.{Does, GivesAll}
 use Rattle.js_texts.proofs.Lists.{drop_at}
 use Rattle.js_values.proofs.Compose.{did_bind, did_stop, did_before, ran_free, ran_of_step, cut_of_memory}
-use Rattle.js_values.proofs.Each.{bind_same}
+use Rattle.js_values.proofs.Each.{bind_same, each_behind, each_is}
 use Rattle.js_values.proofs.Still.{seen_still, fine_still}
 use Rattle.js_evaluator.proofs.Stays.{scope_still}
-use Rattle.js_evaluator.proofs.Copied.{seen_copy, fine_copy, ran_seen}
+use Rattle.js_values.proofs.Copied.{seen_copy, fine_copy}
+use Rattle.js_evaluator.proofs.Copied.{ran_seen}
 
 -- a step in front of others
 steps_step : (s : StepTree) (rest : Steps) (scope : Scope) (v : Val) → steps_out (with_step s rest) scope v ≡ bind (step_out s scope v) (λ x. steps_out rest scope x)
@@ -45,9 +46,12 @@ steps_step (of_call at method args) rest scope v = refl
 steps_step (of_index at index) rest scope v = refl
 
 -- expressions in order are the same evaluation of each
-pub exprs_are : (es : List Expr) (s : Scope) (found : List Val) → exprs_out (exprs_tree es) s found ≡ each (λ e. expr_out (expr_tree e) s) es found
-exprs_are [] s found = refl
-exprs_are (e ∷ es) s found = bind_same (expr_out (expr_tree e) s) _ _ (λ v. exprs_are es s (found ++ v ∷ []))
+exprs_each : (es : List Expr) (s : Scope) → exprs_out (exprs_tree es) s ≡ each (λ e. expr_out (expr_tree e) s) es
+exprs_each [] s = refl
+exprs_each (e ∷ es) s = bind_same (expr_out (expr_tree e) s) _ _ (λ v. ap (λ o. mapped (λ vs. v ∷ vs) o) (exprs_each es s))
+
+pub exprs_are : (es : List Expr) (s : Scope) → exprs_out (exprs_tree es) s ≡ each_behind (λ e. expr_out (expr_tree e) s) es []
+exprs_are es s = exprs_each es s ∙ each_is (λ e. expr_out (expr_tree e) s) es
 
 module _ {F R : Type 0} (name : R → ℕ) (a b : State F) where
   -- a value, and then what is done with it; or an early end
@@ -79,12 +83,12 @@ module _ {F R : Type 0} (name : R → ℕ) (a b : State F) where
   pub post_stops : (n : Stop) (t : ExprTree) (ss : Steps) (s : Scope) → Does name a b (Err n) (expr_out t s) → Does name a b (Err n) (expr_out (post t ss) s)
   post_stops n t ss s d = does_stop n (expr_out t s) (λ w. steps_out ss s w) d
 
-  pub builtin_does : (c : State F) (vs : Vec (Value R) Global) (r : Result (Value R) Stop) (at : ℕ) (which : Builtin) (es : Exprs) (context : Context R) → Grows a b → GivesAll name a b (Ok vs) (exprs_out es (scope_of a name context) []) → Does name b c r (built which at b.limit (all_seen b name vs.items)) → Does name a c r (expr_out (builtin at which es) (scope_of a name context))
-  builtin_does c vs r at which es context g d e = did_bind {V = Vec (Value R) Global} a b c (λ o w. all_seen o name w.items) (λ o w. AllFine o name w.items) (λ o w. seen o name w) (λ o w. IsFine o name w) vs r (exprs_out es (scope_of a name context) []) (λ ws. built which at a.limit ws) d
+  pub builtin_does : (c : State F) (vs : Vec (Value R) Global) (r : Result (Value R) Stop) (at : ℕ) (which : Builtin) (es : Exprs) (context : Context R) → Grows a b → GivesAll name a b (Ok vs) (exprs_out es (scope_of a name context)) → Does name b c r (built which at b.limit (all_seen b name vs.items)) → Does name a c r (expr_out (builtin at which es) (scope_of a name context))
+  builtin_does c vs r at which es context g d e = did_bind {V = Vec (Value R) Global} a b c (λ o w. all_seen o name w.items) (λ o w. AllFine o name w.items) (λ o w. seen o name w) (λ o w. IsFine o name w) vs r (exprs_out es (scope_of a name context)) (λ ws. built which at a.limit ws) d
       (subst (λ (q : ℕ). Does name b c r (built which at q (all_seen b name vs.items))) g.limit e)
 
-  pub builtin_stops : (n : Stop) (at : ℕ) (which : Builtin) (es : Exprs) (s : Scope) → GivesAll name a b (Err n) (exprs_out es s []) → Does name a b (Err n) (expr_out (builtin at which es) s)
-  builtin_stops n at which es s d = did_stop {V = Vec (Value R) Global} a b (λ o w. all_seen o name w.items) (λ o w. AllFine o name w.items) (λ o w. seen o name w) (λ o w. IsFine o name w) n (exprs_out es s []) (λ ws. built which at s.limit ws) d
+  pub builtin_stops : (n : Stop) (at : ℕ) (which : Builtin) (es : Exprs) (s : Scope) → GivesAll name a b (Err n) (exprs_out es s) → Does name a b (Err n) (expr_out (builtin at which es) s)
+  builtin_stops n at which es s d = did_stop {V = Vec (Value R) Global} a b (λ o w. all_seen o name w.items) (λ o w. AllFine o name w.items) (λ o w. seen o name w) (λ o w. IsFine o name w) n (exprs_out es s) (λ ws. built which at s.limit ws) d
 
   -- the next of the links, and then those after it
   pub links_turn : (c : State F) (v w : Value R) (ls : List Link) (i : ℕ) (l : Link) (s : Scope) → i < length ls → l ≡ get_or ls i l → Does name a b (Ok w) (link_out (link_tree l) s (seen a name v)) → (r : Result (Value R) Stop) → Does name b c r (links_out (links_tree (drop (i + 1) ls)) s (seen b name w)) → Does name a c r (links_out (links_tree (drop i ls)) s (seen a name v))
@@ -112,16 +116,16 @@ module _ {F R : Type 0} (name : R → ℕ) (a b : State F) where
       (does_stop n (step_out (step_tree t) s (seen a name v)) (λ x. steps_out (steps_tree (drop (i + 1) ss)) s x) d)
 
   -- a call: a value that has members, the arguments, and the method
-  pub call_does : (c : State F) (v : Value R) (vs : Vec (Value R) Global) (r : Result (Value R) Stop) (at : ℕ) (m : Method) (es : Exprs) (context : Context R) → Grows a b → IsFine a name v → Did a a (λ _ u. u) (λ _ _. Unit {0}) (Ok tt) (present (seen a name v)) → GivesAll name a b (Ok vs) (exprs_out es (scope_of a name context) []) → Does name b c r (called m at b.limit (seen b name v) (all_seen b name vs.items)) → Does name a c r (call_out at m es (scope_of a name context) (seen a name v))
+  pub call_does : (c : State F) (v : Value R) (vs : Vec (Value R) Global) (r : Result (Value R) Stop) (at : ℕ) (m : Method) (es : Exprs) (context : Context R) → Grows a b → IsFine a name v → Did a a (λ _ u. u) (λ _ _. Unit {0}) (Ok tt) (present (seen a name v)) → GivesAll name a b (Ok vs) (exprs_out es (scope_of a name context)) → Does name b c r (called m at b.limit (seen b name v) (all_seen b name vs.items)) → Does name a c r (call_out at m es (scope_of a name context) (seen a name v))
   call_does c v vs r at m es context g h p d e =
-      did_bind {V = Unit {0}} a a c (λ _ u. u) (λ _ _. Unit {0}) (λ s w. seen s name w) (λ s w. IsFine s name w) tt r (present (seen a name v)) (λ _. bind (exprs_out es (scope_of a name context) []) (λ ws. called m at a.limit (seen a name v) ws)) p
-      (did_bind {V = Vec (Value R) Global} a b c (λ s w. all_seen s name w.items) (λ s w. AllFine s name w.items) (λ s w. seen s name w) (λ s w. IsFine s name w) vs r (exprs_out es (scope_of a name context) []) (λ ws. called m at a.limit (seen a name v) ws) d
+      did_bind {V = Unit {0}} a a c (λ _ u. u) (λ _ _. Unit {0}) (λ s w. seen s name w) (λ s w. IsFine s name w) tt r (present (seen a name v)) (λ _. bind (exprs_out es (scope_of a name context)) (λ ws. called m at a.limit (seen a name v) ws)) p
+      (did_bind {V = Vec (Value R) Global} a b c (λ s w. all_seen s name w.items) (λ s w. AllFine s name w.items) (λ s w. seen s name w) (λ s w. IsFine s name w) vs r (exprs_out es (scope_of a name context)) (λ ws. called m at a.limit (seen a name v) ws) d
       (subst (λ (q : ℕ × Val). Does name b c r (called m at q.0 q.1 (all_seen b name vs.items))) (cc (g.limit, seen_still a b name g v h)) e))
 
-  pub call_stops : (v : Value R) (n : Stop) (at : ℕ) (m : Method) (es : Exprs) (context : Context R) → Did a a (λ _ u. u) (λ _ _. Unit {0}) (Ok tt) (present (seen a name v)) → GivesAll name a b (Err n) (exprs_out es (scope_of a name context) []) → Does name a b (Err n) (call_out at m es (scope_of a name context) (seen a name v))
+  pub call_stops : (v : Value R) (n : Stop) (at : ℕ) (m : Method) (es : Exprs) (context : Context R) → Did a a (λ _ u. u) (λ _ _. Unit {0}) (Ok tt) (present (seen a name v)) → GivesAll name a b (Err n) (exprs_out es (scope_of a name context)) → Does name a b (Err n) (call_out at m es (scope_of a name context) (seen a name v))
   call_stops v n at m es context p d =
-      did_bind {V = Unit {0}} a a b (λ _ u. u) (λ _ _. Unit {0}) (λ s w. seen s name w) (λ s w. IsFine s name w) tt (Err n) (present (seen a name v)) (λ _. bind (exprs_out es (scope_of a name context) []) (λ ws. called m at a.limit (seen a name v) ws)) p
-      (did_stop {V = Vec (Value R) Global} a b (λ s w. all_seen s name w.items) (λ s w. AllFine s name w.items) (λ s w. seen s name w) (λ s w. IsFine s name w) n (exprs_out es (scope_of a name context) []) (λ ws. called m at a.limit (seen a name v) ws) d)
+      did_bind {V = Unit {0}} a a b (λ _ u. u) (λ _ _. Unit {0}) (λ s w. seen s name w) (λ s w. IsFine s name w) tt (Err n) (present (seen a name v)) (λ _. bind (exprs_out es (scope_of a name context)) (λ ws. called m at a.limit (seen a name v) ws)) p
+      (did_stop {V = Vec (Value R) Global} a b (λ s w. all_seen s name w.items) (λ s w. AllFine s name w.items) (λ s w. seen s name w) (λ s w. IsFine s name w) n (exprs_out es (scope_of a name context)) (λ ws. called m at a.limit (seen a name v) ws) d)
 
   -- an index, and then the element
   pub index_does : (c : State F) (v i : Value R) (r : Result (Value R) Stop) (at : ℕ) (e : ExprTree) (context : Context R) → Grows a b → IsFine a name v → Does name a b (Ok i) (expr_out e (scope_of a name context)) → Does name b c r (indexed at (seen b name v) (seen b name i)) → Does name a c r (index_out at e (scope_of a name context) (seen a name v))
@@ -133,7 +137,7 @@ module _ {F R : Type 0} (name : R → ℕ) (a b : State F) where
   index_stops v n at e s d = does_stop n (expr_out e s) (λ w. indexed at (seen a name v) w) d
 
 pub call_absent : {F R : Type 0} (name : R → ℕ) (a : State F) (v : Value R) (n : Stop) (at : ℕ) (m : Method) (es : Exprs) (s : Scope) → Did {V = Unit {0}} a a (λ _ u. u) (λ _ _. Unit {0}) (Err n) (present (seen a name v)) → Does name a a (Err n) (call_out at m es s (seen a name v))
-call_absent name a v n at m es s d = did_stop {V = Unit {0}} a a (λ _ u. u) (λ _ _. Unit {0}) (λ o w. seen o name w) (λ o w. IsFine o name w) n (present (seen a name v)) (λ _. bind (exprs_out es s []) (λ ws. called m at s.limit (seen a name v) ws)) d
+call_absent name a v n at m es s d = did_stop {V = Unit {0}} a a (λ _ u. u) (λ _ _. Unit {0}) (λ o w. seen o name w) (λ o w. IsFine o name w) n (present (seen a name v)) (λ _. bind (exprs_out es s) (λ ws. called m at s.limit (seen a name v) ws)) d
 
 -- a link: the left side alone, or the operator on both sides
 module _ {F R : Type 0} (name : R → ℕ) (a b : State F) (left : Value R) (l : LinkTree) (step : Step a b None 0 0) (history : b.history ≡ a.history) (fine : IsFine a name left) where

@@ -16,7 +16,8 @@ use Rattle.js_values.specs.Copies.{content}
 use Rattle.js_evaluator.specs.Seen.{BindingsFine}
 use Rattle.js_evaluator.proofs.Mapped.{meant_by, bound_by}
 use Rattle.js_evaluator.proofs.Kept.{FoundFine, meant_fine}
-use Rattle.js_evaluator.proofs.Copied.{seen_copy, fine_copy, ran_seen}
+use Rattle.js_values.proofs.Copied.{seen_copy, fine_copy}
+use Rattle.js_evaluator.proofs.Copied.{ran_seen}
 
 module _ {F R : Type 0} (s : State F) (name : R → ℕ) where
   -- a name that means nothing

@@ -1,5 +1,5 @@
 -- What an expression means in a scope, by recursion over its tree.
-use Rattle.std.specs.Prelude.{ℕ, List, [], ◌∷◌, ◌++◌, slice_get, Bool, false, not, if◌then◌else◌, Option, Some, None}
+use Rattle.std.specs.Prelude.{ℕ, List, [], ◌∷◌, slice_get, Bool, false, not, if◌then◌else◌, Option, Some, None}
 use Rattle.js_number.specs.declared.Num.TheVariants.{NaN, PosInf}
 use Rattle.eval_tree.specs.declared.tree.Op.{Op}
 use Rattle.eval_tree.specs.declared.tree.Op.TheVariants.{Or, And, Same, NotSame, Less, Greater, LessEq, GreaterEq, Plus, Minus}
@@ -8,7 +8,7 @@ use Rattle.eval_tree.specs.Tree as tree
 use Rattle.eval_tree.specs.Tree.{ExprTree, Links, no_links, link, Steps, no_steps, length_step, description_step, call_step, index_step, Exprs, no_exprs, expr, LinkTree, StepTree, of_length, of_description, of_call, of_index}
 use Rattle.eval_scopes.specs.Bindings.{Bound, Bindings, meant}
 use Rattle.js_values.specs.declared.value.Kind.TheVariants.{ReferenceError}
-use Rattle.js_values.specs.Outcome.{Val, undefined, null, bool, number, Out, gave, bind, free, number_of, needing, throwing}
+use Rattle.js_values.specs.Outcome.{Val, undefined, null, bool, number, Out, gave, bind, mapped, free, number_of, needing, throwing}
 use Rattle.js_values.specs.Need.{nothing}
 use Rattle.js_values.specs.Conversions.{to_boolean}
 use Rattle.js_values.specs.Operators.{plus, difference_in, unary_out}
@@ -70,7 +70,7 @@ abbrev mutual
   expr_out (tree.chain first rest) s = bind (expr_out first s) (λ v. links_out rest s v)
   expr_out (tree.conditional test first second) s = bind (expr_out test s) (λ v. if to_boolean v then expr_out first s else expr_out second s)
   expr_out (tree.post of steps) s = bind (expr_out of s) (λ v. steps_out steps s v)
-  expr_out (tree.builtin at which args) s = bind (exprs_out args s []) (λ vs. built which at s.limit vs)
+  expr_out (tree.builtin at which args) s = bind (exprs_out args s) (λ vs. built which at s.limit vs)
 
   -- the links of a chain, from the value on their left
   pub links_out : Links → Scope → Val → Out Val
@@ -82,20 +82,20 @@ abbrev mutual
   steps_out no_steps s v = gave v free
   steps_out (length_step rest) s v = bind (length_of v) (λ x. steps_out rest s x)
   steps_out (description_step rest) s v = bind (description_of v) (λ x. steps_out rest s x)
-  steps_out (call_step at method args rest) s v = bind (bind (present v) (λ _. bind (exprs_out args s []) (λ ws. called method at s.limit v ws))) (λ x. steps_out rest s x)
+  steps_out (call_step at method args rest) s v = bind (bind (present v) (λ _. bind (exprs_out args s) (λ ws. called method at s.limit v ws))) (λ x. steps_out rest s x)
   steps_out (index_step at index rest) s v = bind (bind (expr_out index s) (λ i. indexed at v i)) (λ x. steps_out rest s x)
 
-  -- expressions from left to right, behind the values that were found
-  pub exprs_out : Exprs → Scope → List Val → Out (List Val)
-  exprs_out no_exprs s vs = gave vs free
-  exprs_out (expr first rest) s vs = bind (expr_out first s) (λ v. exprs_out rest s (vs ++ v ∷ []))
+  -- expressions from left to right
+  pub exprs_out : Exprs → Scope → Out (List Val)
+  exprs_out no_exprs s = gave [] free
+  exprs_out (expr first rest) s = bind (expr_out first s) (λ v. mapped (λ vs. v ∷ vs) (exprs_out rest s))
 
 -- one link, and one step
 abbrev pub link_out : LinkTree → Scope → Val → Out Val
 link_out l s v = linked l.op l.at s.limit v (expr_out l.right s)
 
 abbrev pub call_out : ℕ → Method → Exprs → Scope → Val → Out Val
-call_out at method args s v = bind (present v) (λ _. bind (exprs_out args s []) (λ ws. called method at s.limit v ws))
+call_out at method args s v = bind (present v) (λ _. bind (exprs_out args s) (λ ws. called method at s.limit v ws))
 
 abbrev pub index_out : ℕ → ExprTree → Scope → Val → Out Val
 index_out at index s v = bind (expr_out index s) (λ i. indexed at v i)

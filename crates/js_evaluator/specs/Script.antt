@@ -49,10 +49,10 @@ reached_units limit (v ∷ vs) = reached (to_string limit v) (text_units v + rea
 
 -- the line of a `print`: all its arguments, then their texts
 abbrev pub line_out : ℕ → List Val → Out (List ℕ)
-line_out limit vs = converting (parts (length vs) (reached_units limit vs)) (each (to_string limit) vs []) (λ us. gave (line us) (cost (parts (length vs) (all_text_units vs))))
+line_out limit vs = converting (parts (length vs) (reached_units limit vs)) (each (to_string limit) vs) (λ us. gave (line us) (cost (parts (length vs) (all_text_units vs))))
 
 abbrev pub print_out : Exprs → Scope → Out (List ℕ)
-print_out args s = bind (exprs_out args s []) (λ vs. line_out s.limit vs)
+print_out args s = bind (exprs_out args s) (λ vs. line_out s.limit vs)
 
 -- one line
 abbrev pub printed : List ℕ → Bindings Val → Flow
@@ -123,7 +123,7 @@ with_top top = record { blocks = []; top = top }
 
 -- the meaning of a script that begins with these bindings of the top, where strings have at most `limit` units
 abbrev pub meaning : Tree → List (Bound Val) → ℕ → Flow
-meaning t top limit = on_value (each (literal_out limit) t.literals []) (with_top top) (λ ls. stmts_flow t.body (record { literals = ls; bindings = with_top top; limit = limit }))
+meaning t top limit = on_value (each (literal_out limit) t.literals) (with_top top) (λ ls. stmts_flow t.body (record { literals = ls; bindings = with_top top; limit = limit }))
 
 -- what a meaning interns, in order; the strings that its expressions gave; and what it needs of a store at most
 abbrev pub interned : Flow → List (List ℕ)

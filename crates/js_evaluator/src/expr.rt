@@ -247,7 +247,7 @@ pub fn exprs<S: Strings>(
     ensures context { ContextFine (S.state store.new) S.number context.now }
     ensures fine { IfOk result (λ v. AllFine (S.state store.new) S.number v.items) }
     ensures did { GivesAll S.number (S.state store.old) (S.state store.new) result
-        (exprs_out (exprs_tree list.now) (scope_of (S.state store.old) S.number context.now) []) }
+        (exprs_out (exprs_tree list.now) (scope_of (S.state store.old) S.number context.now)) }
 {
     let mut values = Vec::new(alloc);
     for e in list {

@@ -24,7 +24,7 @@ pub fn intern_literals<S: Strings>(
     ensures grows { Grows (S.state store.old) (S.state store.new) }
     ensures known { IfOk result (λ v. AllKnown (S.state store.new) S.number v.items) }
     ensures did { GivesTexts S.number (S.state store.old) (S.state store.new) result
-        (each (literal_out (S.state store.old).limit) literals.now []) }
+        (each (literal_out (S.state store.old).limit) literals.now) }
 {
     let mut interned = Vec::new(alloc);
     for units in literals {

@@ -25,7 +25,7 @@ use crate::literals::intern_literals;
 use eval_scopes::{Place, Scope};
 use eval_tree::{Arm, Block, Expr, Name, Script, Stmt};
 use js_number::Num;
-use js_print::{Lines, print_line};
+use js_print::Lines;
 use js_store::{StoreFault, Strings};
 use js_values::{Kind, Stop, Value, plus, texts, truth};
 use std::alloc::Global;
@@ -69,7 +69,10 @@ fn run<S: Strings>(
     requires { BoundsFine (S.state store.old) S.number (bounds_of env.old) }
     ensures grows { Grows (S.state store.old) (S.state store.new) }
     ensures env { BoundsFine (S.state store.new) S.number (bounds_of env.new) }
-    ensures went { WentTop (S.state store.old) (S.state store.new) lines.old lines.new result (bounds_seen (S.state store.new) S.number (bounds_of env.new)) (meaning (tree_of script.now) (bounds_seen (S.state store.old) S.number (bounds_of env.old)) (S.state store.old).limit) }
+    ensures went { WentTop (S.state store.old) (S.state store.new) lines.old lines.new result
+        (bounds_seen (S.state store.new) S.number (bounds_of env.new))
+        (meaning (tree_of script.now) (bounds_seen (S.state store.old) S.number (bounds_of env.old))
+        (S.state store.old).limit) }
 {
     let literals = intern_literals(alloc, store, &script.literals)?;
     let mut context = Context {
@@ -98,7 +101,9 @@ fn statement<'a, S: Strings>(
     ensures grows { Grows (S.state store.old) (S.state store.new) }
     ensures context { ContextFine (S.state store.new) S.number context.new }
     ensures literals { context.new.literals ≡ context.old.literals }
-    ensures went { Went (S.state store.old) (S.state store.new) lines.old lines.new result (context_bindings (S.state store.new) S.number context.new) (stmt_flow (stmt_tree s.now) (scope_of (S.state store.old) S.number context.old)) }
+    ensures went { Went (S.state store.old) (S.state store.new) lines.old lines.new result
+        (context_bindings (S.state store.new) S.number context.new)
+        (stmt_flow (stmt_tree s.now) (scope_of (S.state store.old) S.number context.old)) }
 {
     match s {
         Stmt::Block { inner } => block(alloc, store, context, lines, inner),
@@ -132,7 +137,9 @@ fn statements<'a, S: Strings>(
     ensures grows { Grows (S.state store.old) (S.state store.new) }
     ensures context { ContextFine (S.state store.new) S.number context.new }
     ensures literals { context.new.literals ≡ context.old.literals }
-    ensures went { Went (S.state store.old) (S.state store.new) lines.old lines.new result (context_bindings (S.state store.new) S.number context.new) (stmts_flow (stmts_tree body.now) (scope_of (S.state store.old) S.number context.old)) }
+    ensures went { Went (S.state store.old) (S.state store.new) lines.old lines.new result
+        (context_bindings (S.state store.new) S.number context.new)
+        (stmts_flow (stmts_tree body.now) (scope_of (S.state store.old) S.number context.old)) }
 {
     for s in body {
         statement(alloc, store, context, lines, s)?;
@@ -153,7 +160,9 @@ fn block<'a, S: Strings>(
     ensures grows { Grows (S.state store.old) (S.state store.new) }
     ensures context { ContextFine (S.state store.new) S.number context.new }
     ensures literals { context.new.literals ≡ context.old.literals }
-    ensures went { Went (S.state store.old) (S.state store.new) lines.old lines.new result (context_bindings (S.state store.new) S.number context.new) (block_flow (block_tree b.now) (scope_of (S.state store.old) S.number context.old)) }
+    ensures went { Went (S.state store.old) (S.state store.new) lines.old lines.new result
+        (context_bindings (S.state store.new) S.number context.new)
+        (block_flow (block_tree b.now) (scope_of (S.state store.old) S.number context.old)) }
 {
     enter(alloc, store, context, &b.names)?;
     let result = statements(alloc, store, context, lines, &b.body);
@@ -175,7 +184,10 @@ fn arms<'a, S: Strings>(
     ensures grows { Grows (S.state store.old) (S.state store.new) }
     ensures context { ContextFine (S.state store.new) S.number context.new }
     ensures literals { context.new.literals ≡ context.old.literals }
-    ensures went { Went (S.state store.old) (S.state store.new) lines.old lines.new result (context_bindings (S.state store.new) S.number context.new) (arms_flow (arms_tree (map arm_tree list.now)) (λ q. block_flow (block_tree rest.now) q) (scope_of (S.state store.old) S.number context.old)) }
+    ensures went { Went (S.state store.old) (S.state store.new) lines.old lines.new result
+        (context_bindings (S.state store.new) S.number context.new)
+        (arms_flow (arms_tree (map arm_tree list.now)) (λ q. block_flow (block_tree rest.now) q)
+        (scope_of (S.state store.old) S.number context.old)) }
 {
     for arm in list {
         let held = holds(alloc, store, context, &arm.test)?;
@@ -201,7 +213,11 @@ fn turns<'a, S: Strings>(
     ensures grows { Grows (S.state store.old) (S.state store.new) }
     ensures context { ContextFine (S.state store.new) S.number context.new }
     ensures literals { context.new.literals ≡ context.old.literals }
-    ensures went { Went (S.state store.old) (S.state store.new) lines.old lines.new result (context_bindings (S.state store.new) S.number context.new) (turns_flow (turn_flow name.now (block_tree body.now) (scope_of (S.state store.old) S.number context.old)) 0 bound (context_bindings (S.state store.old) S.number context.old)) }
+    ensures went { Went (S.state store.old) (S.state store.new) lines.old lines.new result
+        (context_bindings (S.state store.new) S.number context.new)
+        (turns_flow (turn_flow name.now (block_tree body.now)
+        (scope_of (S.state store.old) S.number context.old)) 0 bound
+        (context_bindings (S.state store.old) S.number context.old)) }
 {
     for i in 0..bound {
         turn(alloc, store, context, lines, name, i, body)?;
@@ -224,7 +240,10 @@ fn turn<'a, S: Strings>(
     ensures grows { Grows (S.state store.old) (S.state store.new) }
     ensures context { ContextFine (S.state store.new) S.number context.new }
     ensures literals { context.new.literals ≡ context.old.literals }
-    ensures went { Went (S.state store.old) (S.state store.new) lines.old lines.new result (context_bindings (S.state store.new) S.number context.new) (turn_flow name.now (block_tree body.now) (scope_of (S.state store.old) S.number context.old) i (context_bindings (S.state store.old) S.number context.old)) }
+    ensures went { Went (S.state store.old) (S.state store.new) lines.old lines.new result
+        (context_bindings (S.state store.new) S.number context.new)
+        (turn_flow name.now (block_tree body.now) (scope_of (S.state store.old) S.number context.old) i
+        (context_bindings (S.state store.old) S.number context.old)) }
 {
     let count = turn_number(store, i);
     enter_turn(alloc, store, context, name, count)?;
@@ -251,7 +270,9 @@ fn holds<S: Strings>(
     requires { ContextFine (S.state store.old) S.number context.now }
     ensures grows { Grows (S.state store.old) (S.state store.new) }
     ensures context { ContextFine (S.state store.new) S.number context.now }
-    ensures did { Tells (S.state store.old) (S.state store.new) result (told to_boolean (expr_out (expr_tree test.now) (scope_of (S.state store.old) S.number context.now))) }
+    ensures did { Tells (S.state store.old) (S.state store.new) result
+        (told to_boolean
+        (expr_out (expr_tree test.now) (scope_of (S.state store.old) S.number context.now))) }
 {
     let value = expr(alloc, store, context, test)?;
     Ok(truth(store, &value))
@@ -268,7 +289,10 @@ fn evaluate_let<'a, S: Strings>(
     ensures grows { Grows (S.state store.old) (S.state store.new) }
     ensures context { ContextFine (S.state store.new) S.number context.new }
     ensures literals { context.new.literals ≡ context.old.literals }
-    ensures went { (at : ℕ) (x : List ℕ) → Went (S.state store.old) (S.state store.new) x x result (context_bindings (S.state store.new) S.number context.new) (stmt_flow (Tree.let_line at name.now (init_tree init.now)) (scope_of (S.state store.old) S.number context.old)) }
+    ensures went { (at : ℕ) (x : List ℕ) → Went (S.state store.old) (S.state store.new) x x result
+        (context_bindings (S.state store.new) S.number context.new)
+        (stmt_flow (Tree.let_line at name.now (init_tree init.now))
+        (scope_of (S.state store.old) S.number context.old)) }
 {
     let value = initial(alloc, store, context, init)?;
     declare(store, context, name, false, value)
@@ -285,7 +309,8 @@ fn initial<S: Strings>(
     ensures grows { Grows (S.state store.old) (S.state store.new) }
     ensures context { ContextFine (S.state store.new) S.number context.now }
     ensures fine { IfOk result (λ v. IsFine (S.state store.new) S.number v) }
-    ensures did { Does S.number (S.state store.old) (S.state store.new) result (init_out (init_tree init.now) (scope_of (S.state store.old) S.number context.now)) }
+    ensures did { Does S.number (S.state store.old) (S.state store.new) result
+        (init_out (init_tree init.now) (scope_of (S.state store.old) S.number context.now)) }
 {
     match init {
         Some(e) => expr(alloc, store, context, e),
@@ -304,7 +329,10 @@ fn evaluate_const<'a, S: Strings>(
     ensures grows { Grows (S.state store.old) (S.state store.new) }
     ensures context { ContextFine (S.state store.new) S.number context.new }
     ensures literals { context.new.literals ≡ context.old.literals }
-    ensures went { (at : ℕ) (x : List ℕ) → Went (S.state store.old) (S.state store.new) x x result (context_bindings (S.state store.new) S.number context.new) (stmt_flow (Tree.const_line at name.now (expr_tree init.now)) (scope_of (S.state store.old) S.number context.old)) }
+    ensures went { (at : ℕ) (x : List ℕ) → Went (S.state store.old) (S.state store.new) x x result
+        (context_bindings (S.state store.new) S.number context.new)
+        (stmt_flow (Tree.const_line at name.now (expr_tree init.now))
+        (scope_of (S.state store.old) S.number context.old)) }
 {
     let value = expr(alloc, store, context, init)?;
     declare(store, context, name, true, value)
@@ -321,7 +349,10 @@ fn evaluate_assign<'a, S: Strings>(
     ensures grows { Grows (S.state store.old) (S.state store.new) }
     ensures context { ContextFine (S.state store.new) S.number context.new }
     ensures literals { context.new.literals ≡ context.old.literals }
-    ensures went { (at : ℕ) (x : List ℕ) → Went (S.state store.old) (S.state store.new) x x result (context_bindings (S.state store.new) S.number context.new) (stmt_flow (Tree.assign at name.now (expr_tree value.now)) (scope_of (S.state store.old) S.number context.old)) }
+    ensures went { (at : ℕ) (x : List ℕ) → Went (S.state store.old) (S.state store.new) x x result
+        (context_bindings (S.state store.new) S.number context.new)
+        (stmt_flow (Tree.assign at name.now (expr_tree value.now))
+        (scope_of (S.state store.old) S.number context.old)) }
 {
     let value = expr(alloc, store, context, value)?;
     assign(store, context, name, value)
@@ -340,7 +371,10 @@ fn evaluate_append<'a, S: Strings>(
     ensures grows { Grows (S.state store.old) (S.state store.new) }
     ensures context { ContextFine (S.state store.new) S.number context.new }
     ensures literals { context.new.literals ≡ context.old.literals }
-    ensures went { (name_at : ℕ) (x : List ℕ) → Went (S.state store.old) (S.state store.new) x x result (context_bindings (S.state store.new) S.number context.new) (stmt_flow (Tree.append at name_at name.now (expr_tree value.now)) (scope_of (S.state store.old) S.number context.old)) }
+    ensures went { (name_at : ℕ) (x : List ℕ) → Went (S.state store.old) (S.state store.new) x x result
+        (context_bindings (S.state store.new) S.number context.new)
+        (stmt_flow (Tree.append at name_at name.now (expr_tree value.now))
+        (scope_of (S.state store.old) S.number context.old)) }
 {
     match context.scope.place_of(name) {
         Some(place) => append_at(alloc, store, context, at, place, value),
@@ -362,7 +396,11 @@ fn append_at<'a, S: Strings>(
     ensures grows { Grows (S.state store.old) (S.state store.new) }
     ensures context { ContextFine (S.state store.new) S.number context.new }
     ensures literals { context.new.literals ≡ context.old.literals }
-    ensures went { (n : List ℕ) → IsPlace context.old.scope n place → (name_at : ℕ) (x : List ℕ) → Went (S.state store.old) (S.state store.new) x x result (context_bindings (S.state store.new) S.number context.new) (stmt_flow (Tree.append at name_at n (expr_tree value.now)) (scope_of (S.state store.old) S.number context.old)) }
+    ensures went { (n : List ℕ) → IsPlace context.old.scope n place → (name_at : ℕ) (x : List ℕ)
+        → Went (S.state store.old) (S.state store.new) x x result
+        (context_bindings (S.state store.new) S.number context.new)
+        (stmt_flow (Tree.append at name_at n (expr_tree value.now))
+        (scope_of (S.state store.old) S.number context.old)) }
 {
     let value = sum_with(alloc, store, context, at, place, value)?;
     assign_at(store, context, place, value)
@@ -382,7 +420,9 @@ fn sum_with<S: Strings>(
     ensures grows { Grows (S.state store.old) (S.state store.new) }
     ensures context { ContextFine (S.state store.new) S.number context.now }
     ensures fine { IfOk result (λ v. IsFine (S.state store.new) S.number v) }
-    ensures did { (n : List ℕ) → IsPlace context.now.scope n place → Does S.number (S.state store.old) (S.state store.new) result (sum_of_both at n (expr_tree value.now) (scope_of (S.state store.old) S.number context.now)) }
+    ensures did { (n : List ℕ) → IsPlace context.now.scope n place → Does S.number (S.state store.old)
+        (S.state store.new) result
+        (sum_of_both at n (expr_tree value.now) (scope_of (S.state store.old) S.number context.now)) }
 {
     let left = read_at(alloc, store, context, place)?;
     let right = expr(alloc, store, context, value)?;
@@ -399,7 +439,9 @@ fn print<S: Strings>(
     requires { ContextFine (S.state store.old) S.number context.now }
     ensures grows { Grows (S.state store.old) (S.state store.new) }
     ensures context { ContextFine (S.state store.new) S.number context.now }
-    ensures went { Went (S.state store.old) (S.state store.new) lines.old lines.new result (context_bindings (S.state store.new) S.number context.now) (stmt_flow (Tree.print (exprs_tree args.now)) (scope_of (S.state store.old) S.number context.now)) }
+    ensures went { Went (S.state store.old) (S.state store.new) lines.old lines.new result
+        (context_bindings (S.state store.new) S.number context.now)
+        (stmt_flow (Tree.print (exprs_tree args.now)) (scope_of (S.state store.old) S.number context.now)) }
 {
     let values = exprs(alloc, store, context, args)?;
     print_values(alloc, store, lines, &values)
@@ -413,10 +455,13 @@ fn print_values<S: Strings>(
 ) -> Result<(), Stop>
     requires { AllFine (S.state store.old) S.number values.now }
     ensures grows { Grows (S.state store.old) (S.state store.new) }
-    ensures went { (bs : Bindings Val) → Went (S.state store.old) (S.state store.new) lines.old lines.new result bs (on_value (line_out (S.state store.old).limit (all_seen (S.state store.old) S.number values.now)) bs (λ l. printed l bs)) }
+    ensures went { (bs : Bindings Val) → Went (S.state store.old) (S.state store.new) lines.old lines.new
+        result bs (on_value
+        (line_out (S.state store.old).limit (all_seen (S.state store.old) S.number values.now)) bs
+        (λ l. printed l bs)) }
 {
     let texts = texts(alloc, store, values)?;
-    match print_line(alloc, store, &texts, lines) {
+    match lines.print_line(alloc, store, &texts) {
         Ok(()) => Ok(()),
         Err(fault) => Err(Stop::Store(fault)),
     }

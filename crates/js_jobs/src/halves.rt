@@ -87,12 +87,16 @@ fn both_halves<R: Threads + Sync, S: Shared + Send, G: Gate + Sync>(
     ensures right { Runs (S.state other.old) (S.state other.new) env.now back.now high.new }
 {
     let mut first = ||
-        requires { IsSync R.row × IsSend S.row × IsSync G.row × MayRun (S.state session.now) left env.now front.now low.now }
-        ensures { Runs (S.state session.entry.now) (S.state session.exit.now) env.entry.now front.entry.now low.exit.now }
+        requires { IsSync R.row × IsSend S.row × IsSync G.row × MayRun (S.state session.now) left env.now
+            front.now low.now }
+        ensures { Runs (S.state session.entry.now) (S.state session.exit.now) env.entry.now front.entry.now
+            low.exit.now }
     { run_groups(rt, alloc, session, front, low, left, env, gate) };
     let mut second = ||
-        requires { IsSync R.row × IsSend S.row × IsSync G.row × MayRun (S.state other.now) right env.now back.now high.now }
-        ensures { Runs (S.state other.entry.now) (S.state other.exit.now) env.entry.now back.entry.now high.exit.now }
+        requires { IsSync R.row × IsSend S.row × IsSync G.row × MayRun (S.state other.now) right env.now
+            back.now high.now }
+        ensures { Runs (S.state other.entry.now) (S.state other.exit.now) env.entry.now back.entry.now
+            high.exit.now }
     { run_groups(rt, alloc, other, back, high, right, env, gate) };
     join_mut(rt, &mut first, &mut second);
 }

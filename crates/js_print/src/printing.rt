@@ -21,9 +21,11 @@ pub fn append_line<S: Strings>(
     line: &mut Vec<u8>,
 ) -> Result<(), StoreFault>
     requires { AllKnown (S.state store.old) S.number parts.now }
-    ensures added { OnOk result (line.new.items ≡ line.old.items ++ Printing.line (texts (S.state store.old) S.number parts.now)) }
+    ensures added { OnOk result
+        (line.new.items ≡ line.old.items ++ Printing.line (texts (S.state store.old) S.number parts.now)) }
     ensures kept { take (length line.old.items) line.new.items ≡ line.old.items }
-    ensures step { Step (S.state store.old) (S.state store.new) (full_fault_of result) 0 (settle_most (S.state store.old) S.number parts.now) }
+    ensures step { Step (S.state store.old) (S.state store.new) (full_fault_of result) 0
+        (settle_most (S.state store.old) S.number parts.now) }
     ensures slots { NeverSlots (full_fault_of result) }
     ensures history { (S.state store.new).history ≡ (S.state store.old).history }
 {
@@ -44,9 +46,11 @@ fn append_rest<S: Strings>(
     line: &mut Vec<u8>,
 ) -> Result<(), StoreFault>
     requires { AllKnown (S.state store.old) S.number rest.now }
-    ensures added { OnOk result (line.new.items ≡ line.old.items ++ line_rest (texts (S.state store.old) S.number rest.now)) }
+    ensures added { OnOk result
+        (line.new.items ≡ line.old.items ++ line_rest (texts (S.state store.old) S.number rest.now)) }
     ensures kept { take (length line.old.items) line.new.items ≡ line.old.items }
-    ensures step { Step (S.state store.old) (S.state store.new) (full_fault_of result) 0 (settle_most (S.state store.old) S.number rest.now) }
+    ensures step { Step (S.state store.old) (S.state store.new) (full_fault_of result) 0
+        (settle_most (S.state store.old) S.number rest.now) }
     ensures slots { NeverSlots (full_fault_of result) }
     ensures history { (S.state store.new).history ≡ (S.state store.old).history }
 {
@@ -65,9 +69,12 @@ fn append_string<S: Strings>(
     line: &mut Vec<u8>,
 ) -> Result<(), StoreFault>
     requires { IsKnown (S.state store.old) (S.number s) }
-    ensures added { OnOk result (line.new.items ≡ line.old.items ++ utf8 (text (S.state store.old) (S.number s))) }
+    ensures added { OnOk result
+        (line.new.items ≡ line.old.items ++ utf8 (text (S.state store.old) (S.number s))) }
     ensures kept { take (length line.old.items) line.new.items ≡ line.old.items }
-    ensures step { Step (S.state store.old) (S.state store.new) (full_fault_of result) 0 (settle_words ((S.state store.old).settled (S.number s)) (length (text (S.state store.old) (S.number s)))) }
+    ensures step { Step (S.state store.old) (S.state store.new) (full_fault_of result) 0
+        (settle_words ((S.state store.old).settled (S.number s))
+        (length (text (S.state store.old) (S.number s)))) }
     ensures slots { NeverSlots (full_fault_of result) }
     ensures history { (S.state store.new).history ≡ (S.state store.old).history }
 {
@@ -84,7 +91,8 @@ fn append_settled<S: Strings>(
 ) -> Result<(), NoMemory>
     requires known { IsKnown (S.state store.old) (S.number s) }
     requires settled { IsSettled (S.state store.old) (S.number s) }
-    ensures added { OnOk result (line.new.items ≡ line.old.items ++ utf8 (text (S.state store.old) (S.number s))) }
+    ensures added { OnOk result
+        (line.new.items ≡ line.old.items ++ utf8 (text (S.state store.old) (S.number s))) }
     ensures kept { take (length line.old.items) line.new.items ≡ line.old.items }
     ensures step { Step (S.state store.old) (S.state store.new) None 0 0 }
     ensures history { (S.state store.new).history ≡ (S.state store.old).history }
@@ -109,7 +117,8 @@ fn push_ascii<S: Strings>(store: &mut S, s: S::Ref, len: u32, line: &mut Vec<u8>
     requires len { len ≡ length (text (S.state store.old) (S.number s)) }
     requires room { vec_len line.old + len ≤ vec_capacity line.old }
     ensures bound { result ≤ len }
-    ensures added { line.new.items ++ utf8 (drop result (text (S.state store.old) (S.number s))) ≡ line.old.items ++ utf8 (text (S.state store.old) (S.number s)) }
+    ensures added { line.new.items ++ utf8 (drop result (text (S.state store.old) (S.number s)))
+        ≡ line.old.items ++ utf8 (text (S.state store.old) (S.number s)) }
     ensures kept { take (length line.old.items) line.new.items ≡ line.old.items }
     ensures step { Step (S.state store.old) (S.state store.new) None 0 0 }
     ensures history { (S.state store.new).history ≡ (S.state store.old).history }
@@ -160,7 +169,8 @@ fn append_behind<S: Strings>(
     requires known { IsKnown (S.state store.old) (S.number s) }
     requires settled { IsSettled (S.state store.old) (S.number s) }
     requires within { from ≤ length (text (S.state store.old) (S.number s)) }
-    ensures added { OnOk result (line.new.items ≡ line.old.items ++ utf8 (drop from (text (S.state store.old) (S.number s)))) }
+    ensures added { OnOk result
+        (line.new.items ≡ line.old.items ++ utf8 (drop from (text (S.state store.old) (S.number s)))) }
     ensures unchanged { OnErr result (line.new.items ≡ line.old.items) }
     ensures step { Step (S.state store.old) (S.state store.new) None 0 0 }
     ensures history { (S.state store.new).history ≡ (S.state store.old).history }

@@ -46,7 +46,8 @@ fn run_alone<R: Threads + Sync, G: Gate + Sync>(
     requires numbered { AreNumbered 0 jobs.now }
     requires unused { IsUnused (state_in session.old) }
     ensures grows { Grows (state_in session.old) (state_in session.new) }
-    ensures ran { HaveRunFrom (state_in session.old) (state_in session.new) None (job_trees jobs.now) None outcomes.new }
+    ensures ran { HaveRunFrom (state_in session.old) (state_in session.new) None (job_trees jobs.now) None
+        outcomes.new }
 {
     let env = Env::new(alloc);
     run_all(rt, alloc, session, jobs, outcomes, groups, &env, gate);
@@ -71,7 +72,8 @@ fn run_behind<R: Threads + Sync, G: Gate + Sync>(
     requires numbered { AreNumbered 0 jobs.now }
     requires unused { IsUnused (state_in session.old) }
     ensures grows { Grows (state_in session.old) (state_in session.new) }
-    ensures ran { HaveRunFrom (state_in session.old) (state_in session.new) (Some (tree_of prelude.now)) (job_trees jobs.now) (Some result) outcomes.new.items }
+    ensures ran { HaveRunFrom (state_in session.old) (state_in session.new) (Some (tree_of prelude.now))
+        (job_trees jobs.now) (Some result) outcomes.new.items }
 {
     let mut env = Env::new(alloc);
     let mut lines = Lines::new(alloc);
@@ -108,7 +110,8 @@ pub(crate) fn run_files<R: Threads + Sync, G: Gate + Sync>(
     requires numbered { AreNumbered 0 jobs.now }
     requires unused { IsUnused (state_in session.old) }
     ensures grows { Grows (state_in session.old) (state_in session.new) }
-    ensures ran { HaveRunFrom (state_in session.old) (state_in session.new) (tree_if prelude.entry) (job_trees jobs.now) result outcomes.new.items }
+    ensures ran { HaveRunFrom (state_in session.old) (state_in session.new) (tree_if prelude.entry)
+        (job_trees jobs.now) result outcomes.new.items }
 {
     match prelude {
         None => {

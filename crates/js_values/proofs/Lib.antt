@@ -8,3 +8,4 @@ pub mod Sums
 mod Orders
 pub mod TextArguments
 pub mod Limited
+pub mod Copied

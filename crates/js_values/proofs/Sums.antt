@@ -5,14 +5,13 @@ use Rattle.js_store.proofs.Laws.{grows_trans}
 use Rattle.js_values.specs.declared.value.Value.{Value}
 use Rattle.js_values.specs.declared.value.Value.TheVariants.{Text}
 use Rattle.js_values.specs.declared.value.Stop.{Stop}
-use Rattle.js_values.specs.Outcome.{Val, bind, converting, gave, free}
-use Rattle.js_values.specs.Need.{joins}
+use Rattle.js_values.specs.Outcome.{Val, bind, gave, free}
 use Rattle.js_values.specs.Outcome.{text as text_value}
 use Rattle.js_values.specs.Conversions.{to_string}
 use Rattle.js_values.specs.Operators.{primitive, plus, plus_primitives}
 use Rattle.js_values.specs.Seen.{seen, IsFine}
 use Rattle.js_values.specs.Does.{Does, GivesText}
-use Rattle.js_values.proofs.Compose.{did_bind, did_stop, did_convert, did_fail, ran_free}
+use Rattle.js_values.proofs.Compose.{did_bind, did_stop, ran_free}
 use Rattle.js_values.proofs.Still.{seen_still}
 
 module _ {F R : Type 0} (name : R → ℕ) where
@@ -33,13 +32,13 @@ module _ {F R : Type 0} (name : R → ℕ) where
   sum_does a b c d at v w x y r g h f k e e' z =
       let one : Does name c d r (plus_primitives at a.limit (seen c name x) (seen c name y)) = subst (λ (q : ℕ). Does name c d r (plus_primitives at q (seen c name x) (seen c name y))) (grows_trans g h).limit z in
       let last : Does name c d r (plus_primitives at a.limit (seen b name x) (seen c name y)) = subst (λ (q : Val). Does name c d r (plus_primitives at a.limit q (seen c name y))) (seen_still b c name h x k) one in
-      did_convert joins a b d (λ s q. seen s name q) (λ s q. IsFine s name q) (λ s q. seen s name q) (λ s q. IsFine s name q) x r (primitive a.limit (seen a name v)) (λ p. converting joins (primitive a.limit (seen a name w)) (λ q. plus_primitives at a.limit p q)) e
-      (did_convert joins b c d (λ s q. seen s name q) (λ s q. IsFine s name q) (λ s q. seen s name q) (λ s q. IsFine s name q) y r (primitive a.limit (seen a name w)) (λ q. plus_primitives at a.limit (seen b name x) q) (meant a b c w (Ok y) g f e') last)
+      did_bind a b d (λ s q. seen s name q) (λ s q. IsFine s name q) (λ s q. seen s name q) (λ s q. IsFine s name q) x r (primitive a.limit (seen a name v)) (λ p. bind (primitive a.limit (seen a name w)) (λ q. plus_primitives at a.limit p q)) e
+      (did_bind b c d (λ s q. seen s name q) (λ s q. IsFine s name q) (λ s q. seen s name q) (λ s q. IsFine s name q) y r (primitive a.limit (seen a name w)) (λ q. plus_primitives at a.limit (seen b name x) q) (meant a b c w (Ok y) g f e') last)
 
   pub first_ends : (a b : State F) (at : ℕ) (v w : Value R) (n : Stop) → Does name a b (Err n) (primitive a.limit (seen a name v)) → Does name a b (Err n) (plus at a.limit (seen a name v) (seen a name w))
-  first_ends a b at v w n e = did_fail joins a b (λ s q. seen s name q) (λ s q. IsFine s name q) (λ s q. seen s name q) (λ s q. IsFine s name q) n (primitive a.limit (seen a name v)) (λ p. converting joins (primitive a.limit (seen a name w)) (λ q. plus_primitives at a.limit p q)) e
+  first_ends a b at v w n e = did_stop a b (λ s q. seen s name q) (λ s q. IsFine s name q) (λ s q. seen s name q) (λ s q. IsFine s name q) n (primitive a.limit (seen a name v)) (λ p. bind (primitive a.limit (seen a name w)) (λ q. plus_primitives at a.limit p q)) e
 
   pub second_ends : (a b c : State F) (at : ℕ) (v w x : Value R) (n : Stop) → Grows a b → IsFine a name w → Does name a b (Ok x) (primitive a.limit (seen a name v)) → Does name b c (Err n) (primitive b.limit (seen b name w)) → Does name a c (Err n) (plus at a.limit (seen a name v) (seen a name w))
   second_ends a b c at v w x n g f e e' =
-      did_convert joins a b c (λ s q. seen s name q) (λ s q. IsFine s name q) (λ s q. seen s name q) (λ s q. IsFine s name q) x (Err n) (primitive a.limit (seen a name v)) (λ p. converting joins (primitive a.limit (seen a name w)) (λ q. plus_primitives at a.limit p q)) e
-      (did_fail joins b c (λ s q. seen s name q) (λ s q. IsFine s name q) (λ s q. seen s name q) (λ s q. IsFine s name q) n (primitive a.limit (seen a name w)) (λ q. plus_primitives at a.limit (seen b name x) q) (meant a b c w (Err n) g f e'))
+      did_bind a b c (λ s q. seen s name q) (λ s q. IsFine s name q) (λ s q. seen s name q) (λ s q. IsFine s name q) x (Err n) (primitive a.limit (seen a name v)) (λ p. bind (primitive a.limit (seen a name w)) (λ q. plus_primitives at a.limit p q)) e
+      (did_stop b c (λ s q. seen s name q) (λ s q. IsFine s name q) (λ s q. seen s name q) (λ s q. IsFine s name q) n (primitive a.limit (seen a name w)) (λ q. plus_primitives at a.limit (seen b name x) q) (meant a b c w (Err n) g f e'))

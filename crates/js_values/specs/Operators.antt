@@ -3,7 +3,7 @@ use Rattle.std.specs.Prelude.{ℕ, ◌+◌, List, ◌++◌, length, Option, Some
 use Rattle.js_number.specs.declared.Num.{Num}
 use Rattle.js_number.specs.Arith.{sum, difference, negative}
 use Rattle.js_values.specs.declared.value.Kind.TheVariants.{RangeError}
-use Rattle.js_values.specs.Outcome.{Val, undefined, null, bool, number, text, symbol, list, Converted, into, fails, threw, unsupported, Out, gave, free, bind, needing, throwing, refuses, converts, converting}
+use Rattle.js_values.specs.Outcome.{Val, undefined, null, bool, number, text, symbol, list, Converted, into, fails, threw, unsupported, Out, gave, free, bind, needing, throwing, refuses, converts}
 use Rattle.js_values.specs.Need.{nothing, joins}
 use Rattle.js_values.specs.Conversions.{to_string, to_number, to_boolean, is_text}
 
@@ -30,17 +30,16 @@ difference_in at v w = converts nothing (paired (to_number at v) (to_number at w
 abbrev pub negative_in : ℕ → Val → Out Val
 negative_in at v = converts nothing (to_number at v) (λ n. needing nothing (number (negative n)))
 
--- two strings joined, unless they are longer together than a string may be
+-- two strings joined, unless they are longer together than a string may be; where nothing is joined, it needs nothing
 abbrev pub joined : ℕ → List ℕ → List ℕ → Out Val
 joined limit u w =
     if nat_le (length u + length w) limit
     then needing joins (text (u ++ w))
-    else throwing joins RangeError
+    else throwing nothing RangeError
 
 -- two primitive values as strings, joined
 abbrev pub joined_strings : ℕ → Val → Val → Out Val
-joined_strings limit v w =
-    converting joins (to_string limit v) (λ u. converting joins (to_string limit w) (λ x. joined limit u x))
+joined_strings limit v w = bind (to_string limit v) (λ u. bind (to_string limit w) (λ x. joined limit u x))
 
 -- the primitive value of a value: an array becomes its string (ECMA-262, "ToPrimitive")
 abbrev pub primitive : ℕ → Val → Out Val
@@ -60,10 +59,10 @@ added false at limit v w = sum_in at v w
 abbrev pub plus_primitives : ℕ → ℕ → Val → Val → Out Val
 plus_primitives at limit v w = added (is_text v || is_text w) at limit v w
 
--- arrays become strings before anything else
+-- arrays become strings before anything else; what ends early has needed its conversions alone
 abbrev pub plus : ℕ → ℕ → Val → Val → Out Val
 plus at limit v w =
-    converting joins (primitive limit v) (λ x. converting joins (primitive limit w) (λ y. plus_primitives at limit x y))
+    bind (primitive limit v) (λ x. bind (primitive limit w) (λ y. plus_primitives at limit x y))
 
 -- unary minus, or else `!`
 abbrev pub unary_out : Bool → ℕ → Val → Out Val

@@ -57,10 +57,15 @@ abbrev pub ledger_of : {A : Type 0} → Out A → Ledger
 ledger_of (gave x l) = l
 ledger_of (ended e l) = l
 
--- the same of each element from left to right, behind the values that were found
-abbrev pub each : {X A : Type 0} → (X → Out A) → List X → List A → Out (List A)
-each f [] found = gave found free
-each f (x ∷ xs) found = bind (f x) (λ a. each f xs (found ++ a ∷ []))
+-- the value of an evaluation, and another one that is made of it at no cost
+abbrev pub mapped : {A B : Type 0} → (A → B) → Out A → Out B
+mapped f (gave x l) = gave (f x) l
+mapped f (ended e l) = ended e l
+
+-- the same evaluation of each element, from left to right
+abbrev pub each : {X A : Type 0} → (X → Out A) → List X → Out (List A)
+each f [] = gave [] free
+each f (x ∷ xs) = bind (f x) (λ a. mapped (λ ys. a ∷ ys) (each f xs))
 
 abbrev pub texts_of : Val → List (List ℕ)
 texts_of (text u) = u ∷ []

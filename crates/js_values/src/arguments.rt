@@ -24,8 +24,11 @@ pub fn first_text<S: Strings>(
     requires { AllFine (S.state store.old) S.number args.now }
     ensures grows { Grows (S.state store.old) (S.state store.new) }
     ensures known { IfOk result (λ r. IsKnown (S.state store.new) (S.number r)) }
-    ensures short { IfOk result (λ r. length (text (S.state store.new) (S.number r)) ≤ first_text_units (all_seen (S.state store.old) S.number args.now) + 40) }
-    ensures did { GivesText S.number (S.state store.old) (S.state store.new) result (to_string (S.state store.old).limit (first_of (all_seen (S.state store.old) S.number args.now))) }
+    ensures short { IfOk result
+        (λ r. length (text (S.state store.new) (S.number r))
+        ≤ first_text_units (all_seen (S.state store.old) S.number args.now) + 40) }
+    ensures did { GivesText S.number (S.state store.old) (S.state store.new) result
+        (to_string (S.state store.old).limit (first_of (all_seen (S.state store.old) S.number args.now))) }
 {
     match args {
         [first, ..] => to_text(alloc, store, first),
@@ -42,8 +45,11 @@ pub fn second_text<S: Strings>(
     requires { AllFine (S.state store.old) S.number args.now }
     ensures grows { Grows (S.state store.old) (S.state store.new) }
     ensures known { IfOk result (λ r. IsKnown (S.state store.new) (S.number r)) }
-    ensures short { IfOk result (λ r. length (text (S.state store.new) (S.number r)) ≤ second_units (all_seen (S.state store.old) S.number args.now) + 40) }
-    ensures did { GivesText S.number (S.state store.old) (S.state store.new) result (to_string (S.state store.old).limit (second_of (all_seen (S.state store.old) S.number args.now))) }
+    ensures short { IfOk result
+        (λ r. length (text (S.state store.new) (S.number r))
+        ≤ second_units (all_seen (S.state store.old) S.number args.now) + 40) }
+    ensures did { GivesText S.number (S.state store.old) (S.state store.new) result
+        (to_string (S.state store.old).limit (second_of (all_seen (S.state store.old) S.number args.now))) }
 {
     match args {
         [_, second, ..] => to_text(alloc, store, second),
@@ -88,7 +94,8 @@ fn is_missing<S: Strings>(_store: &S, value: &Value<S::Ref>) -> bool
 /// ToNumber of the first argument, of a call at the byte offset `at`.
 pub fn first_number<S: Strings>(store: &S, at: u32, args: &[Value<S::Ref>]) -> Result<Num, Refusal>
     requires { AllFine (S.state store.now) S.number args.now }
-    ensures value { converted_of result ≡ to_number at (first_of (all_seen (S.state store.now) S.number args.now)) }
+    ensures value { converted_of result ≡ to_number at
+        (first_of (all_seen (S.state store.now) S.number args.now)) }
     ensures lawful { IfOk result IsLawful }
 {
     match args {
@@ -100,7 +107,8 @@ pub fn first_number<S: Strings>(store: &S, at: u32, args: &[Value<S::Ref>]) -> R
 /// ToNumber of the second argument, of a call at the byte offset `at`.
 pub fn second_number<S: Strings>(store: &S, at: u32, args: &[Value<S::Ref>]) -> Result<Num, Refusal>
     requires { AllFine (S.state store.now) S.number args.now }
-    ensures value { converted_of result ≡ to_number at (second_of (all_seen (S.state store.now) S.number args.now)) }
+    ensures value { converted_of result ≡ to_number at
+        (second_of (all_seen (S.state store.now) S.number args.now)) }
     ensures lawful { IfOk result IsLawful }
 {
     match args {
@@ -116,7 +124,8 @@ pub fn second_or_none<S: Strings>(
     args: &[Value<S::Ref>],
 ) -> Result<Option<Num>, Refusal>
     requires { AllFine (S.state store.now) S.number args.now }
-    ensures value { converted_of result ≡ end_in at (second_of (all_seen (S.state store.now) S.number args.now)) }
+    ensures value { converted_of result ≡ end_in at
+        (second_of (all_seen (S.state store.now) S.number args.now)) }
     ensures lawful { IfOk result LawfulEnd }
 {
     match args {

@@ -119,7 +119,8 @@ fn is_text_too<S: Strings>(store: &mut S, s: S::Ref, value: &Value<S::Ref>) -> R
     requires string { IsKnown (S.state store.old) (S.number s) }
     requires value { IsFine (S.state store.old) S.number value.now }
     ensures grows { Grows (S.state store.old) (S.state store.new) }
-    ensures did { Tells (S.state store.old) (S.state store.new) result (same_as_text (text (S.state store.old) (S.number s)) (seen (S.state store.old) S.number value.now)) }
+    ensures did { Tells (S.state store.old) (S.state store.new) result
+        (same_as_text (text (S.state store.old) (S.number s)) (seen (S.state store.old) S.number value.now)) }
 {
     match value {
         Value::Text(other) => same_texts(store, s, *other),
@@ -141,7 +142,9 @@ fn is_symbol_too<S: Strings>(
     requires key { IsKey (S.state store.old) (S.number key) }
     requires value { IsFine (S.state store.old) S.number value.now }
     ensures grows { Grows (S.state store.old) (S.state store.new) }
-    ensures did { Tells (S.state store.old) (S.state store.new) result (gave (Comparing.is_symbol_too (text (S.state store.old) (S.number key)) (seen (S.state store.old) S.number value.now)) free) }
+    ensures did { Tells (S.state store.old) (S.state store.new) result
+        (gave (Comparing.is_symbol_too (text (S.state store.old) (S.number key))
+        (seen (S.state store.old) S.number value.now)) free) }
 {
     match value {
         Value::Symbol(other) => Ok(store.same(key, *other)),
@@ -155,7 +158,8 @@ fn is_symbol_too<S: Strings>(
 }
 
 fn is_list_too<S: Strings>(_store: &S, at: u32, value: &Value<S::Ref>) -> Result<bool, Stop>
-    ensures { Tells (S.state _store.now) (S.state _store.now) result (same_as_list at (seen (S.state _store.now) S.number value.now)) }
+    ensures { Tells (S.state _store.now) (S.state _store.now) result
+        (same_as_list at (seen (S.state _store.now) S.number value.now)) }
 {
     match value {
         Value::List(_) => Err(Stop::Unsupported { at }),
@@ -172,7 +176,9 @@ fn same_texts<S: Strings>(store: &mut S, a: S::Ref, b: S::Ref) -> Result<bool, S
     requires left { IsKnown (S.state store.old) (S.number a) }
     requires right { IsKnown (S.state store.old) (S.number b) }
     ensures grows { Grows (S.state store.old) (S.state store.new) }
-    ensures did { Tells (S.state store.old) (S.state store.new) result (compared (bytes_eq (text (S.state store.old) (S.number a)) (text (S.state store.old) (S.number b))) (text (S.state store.old) (S.number a)) (text (S.state store.old) (S.number b))) }
+    ensures did { Tells (S.state store.old) (S.state store.new) result
+        (compared (bytes_eq (text (S.state store.old) (S.number a)) (text (S.state store.old) (S.number b)))
+        (text (S.state store.old) (S.number a)) (text (S.state store.old) (S.number b))) }
 {
     settle_both(store, a, b)?;
     Ok(js_search::equal(store, a, b))
@@ -239,7 +245,9 @@ fn compare_primitives<S: Strings>(
     requires left { IsFine (S.state store.old) S.number left.now }
     requires right { IsFine (S.state store.old) S.number right.now }
     ensures grows { Grows (S.state store.old) (S.state store.new) }
-    ensures did { Tells (S.state store.old) (S.state store.new) result (order_primitives at (seen (S.state store.old) S.number left.now) (seen (S.state store.old) S.number right.now)) }
+    ensures did { Tells (S.state store.old) (S.state store.new) result
+        (order_primitives at (seen (S.state store.old) S.number left.now)
+        (seen (S.state store.old) S.number right.now)) }
 {
     match left {
         Value::Text(s) => compare_text(store, at, *s, right),
@@ -262,7 +270,9 @@ fn compare_text<S: Strings>(
     requires left { IsKnown (S.state store.old) (S.number s) }
     requires right { IsFine (S.state store.old) S.number right.now }
     ensures grows { Grows (S.state store.old) (S.state store.new) }
-    ensures did { Tells (S.state store.old) (S.state store.new) result (order_text at (text (S.state store.old) (S.number s)) (seen (S.state store.old) S.number right.now)) }
+    ensures did { Tells (S.state store.old) (S.state store.new) result
+        (order_text at (text (S.state store.old) (S.number s))
+        (seen (S.state store.old) S.number right.now)) }
 {
     match right {
         Value::Text(other) => compare_texts(store, s, *other),
@@ -279,7 +289,10 @@ fn compare_texts<S: Strings>(store: &mut S, a: S::Ref, b: S::Ref) -> Result<Opti
     requires left { IsKnown (S.state store.old) (S.number a) }
     requires right { IsKnown (S.state store.old) (S.number b) }
     ensures grows { Grows (S.state store.old) (S.state store.new) }
-    ensures did { Tells (S.state store.old) (S.state store.new) result (compared (Some (units_cmp (text (S.state store.old) (S.number a)) (text (S.state store.old) (S.number b)))) (text (S.state store.old) (S.number a)) (text (S.state store.old) (S.number b))) }
+    ensures did { Tells (S.state store.old) (S.state store.new) result
+        (compared (Some
+        (units_cmp (text (S.state store.old) (S.number a)) (text (S.state store.old) (S.number b))))
+        (text (S.state store.old) (S.number a)) (text (S.state store.old) (S.number b))) }
 {
     settle_both(store, a, b)?;
     Ok(Some(js_search::compare(store, a, b)))
@@ -294,7 +307,9 @@ fn compare_numbers<S: Strings>(
 ) -> Result<Option<Ordering>, Stop>
     requires left { IsFine (S.state store.now) S.number left.now }
     requires right { IsFine (S.state store.now) S.number right.now }
-    ensures { Tells (S.state store.now) (S.state store.now) result (order_numbers at (seen (S.state store.now) S.number left.now) (seen (S.state store.now) S.number right.now)) }
+    ensures { Tells (S.state store.now) (S.state store.now) result
+        (order_numbers at (seen (S.state store.now) S.number left.now)
+        (seen (S.state store.now) S.number right.now)) }
 {
     let (m, n) = two_numbers(store, at, left, right)?;
     Ok(order_of(m, n))

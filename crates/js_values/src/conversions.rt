@@ -30,9 +30,15 @@ pub fn to_text<S: Strings>(
     requires { IsFine (S.state store.old) S.number value.now }
     ensures grows { Grows (S.state store.old) (S.state store.new) }
     ensures known { IfOk result (λ r. IsKnown (S.state store.new) (S.number r)) }
-    ensures short { IfOk result (λ r. length (text (S.state store.new) (S.number r)) ≤ text_units (seen (S.state store.old) S.number value.now) + 40) }
-    ensures settles { IfOk result (λ r. settle_words ((S.state store.new).settled (S.number r)) (length (text (S.state store.new) (S.number r))) ≤ wide_words (text_units (seen (S.state store.old) S.number value.now))) }
-    ensures did { GivesText S.number (S.state store.old) (S.state store.new) result (to_string (S.state store.old).limit (seen (S.state store.old) S.number value.now)) }
+    ensures short { IfOk result
+        (λ r. length (text (S.state store.new) (S.number r))
+        ≤ text_units (seen (S.state store.old) S.number value.now) + 40) }
+    ensures settles { IfOk result
+        (λ r. settle_words ((S.state store.new).settled (S.number r))
+        (length (text (S.state store.new) (S.number r)))
+        ≤ wide_words (text_units (seen (S.state store.old) S.number value.now))) }
+    ensures did { GivesText S.number (S.state store.old) (S.state store.new) result
+        (to_string (S.state store.old).limit (seen (S.state store.old) S.number value.now)) }
 {
     match value {
         Value::Undefined => word(alloc, store, "undefined"),
@@ -51,9 +57,12 @@ fn list_text<S: Strings>(alloc: Global, store: &mut S, list: &[S::Ref]) -> Resul
     requires { AllKnown (S.state store.old) S.number list.now }
     ensures grows { Grows (S.state store.old) (S.state store.new) }
     ensures known { IfOk result (λ r. IsKnown (S.state store.new) (S.number r)) }
-    ensures is { IfOk result (λ r. text (S.state store.new) (S.number r) ≡ comma_joined (texts_seen (S.state store.old) S.number list.now)) }
+    ensures is { IfOk result
+        (λ r. text (S.state store.new) (S.number r)
+        ≡ comma_joined (texts_seen (S.state store.old) S.number list.now)) }
     ensures settled { IfOk result (λ r. IsSettled (S.state store.new) (S.number r)) }
-    ensures did { GivesText S.number (S.state store.old) (S.state store.new) result (list_string (S.state store.old).limit (texts_seen (S.state store.old) S.number list.now)) }
+    ensures did { GivesText S.number (S.state store.old) (S.state store.new) result
+        (list_string (S.state store.old).limit (texts_seen (S.state store.old) S.number list.now)) }
 {
     Ok(joined_by_commas(alloc, store, list)?)
 }
@@ -66,9 +75,12 @@ pub fn joined_by_commas<S: Strings>(
     list: &[S::Ref],
 ) -> Result<S::Ref, MethodFault>
     requires { AllKnown (S.state store.old) S.number list.now }
-    ensures value { IfOk result (λ r. Has (S.state store.new) (S.number r) (comma_joined (texts_seen (S.state store.old) S.number list.now))) }
+    ensures value { IfOk result
+        (λ r. Has (S.state store.new) (S.number r)
+        (comma_joined (texts_seen (S.state store.old) S.number list.now))) }
     ensures settled { IfOk result (λ r. IsSettled (S.state store.new) (S.number r)) }
-    ensures throws { ThrowsLong result (S.state store.old).limit (length (comma_joined (texts_seen (S.state store.old) S.number list.now))) }
+    ensures throws { ThrowsLong result (S.state store.old).limit
+        (length (comma_joined (texts_seen (S.state store.old) S.number list.now))) }
     ensures step { Step (S.state store.old) (S.state store.new) (full_of result)
         2 (settle_most (S.state store.old) S.number list.now + made_words (S.state store.old).limit (comma_joined (texts_seen (S.state store.old) S.number list.now)) + 1) }
     ensures slots { NeverSlots (full_of result) }
@@ -182,8 +194,11 @@ pub fn texts<S: Strings>(
     requires { AllFine (S.state store.old) S.number values.now }
     ensures grows { Grows (S.state store.old) (S.state store.new) }
     ensures known { IfOk result (λ v. AllKnown (S.state store.new) S.number v.items) }
-    ensures settles { IfOk result (λ v. settle_most (S.state store.new) S.number v.items ≤ string_words (all_seen (S.state store.old) S.number values.now)) }
-    ensures did { GivesTexts S.number (S.state store.old) (S.state store.new) result (each (to_string (S.state store.old).limit) (all_seen (S.state store.old) S.number values.now) []) }
+    ensures settles { IfOk result
+        (λ v. settle_most (S.state store.new) S.number v.items
+        ≤ string_words (all_seen (S.state store.old) S.number values.now)) }
+    ensures did { GivesTexts S.number (S.state store.old) (S.state store.new) result
+        (each (to_string (S.state store.old).limit) (all_seen (S.state store.old) S.number values.now)) }
 {
     let mut texts = Vec::new(alloc);
     for value in values {

@@ -1,5 +1,5 @@
 // Operators on values (ECMA-262, "Additive Operators" and "Unary Operators").
-ghost use Rattle.std.specs.Prelude.{◌≡◌, ◌||◌, IfOk, IfSome};
+ghost use Rattle.std.specs.Prelude.{◌≡◌, ◌≤◌, ◌+◌, ◌||◌, length, IfOk, IfSome};
 ghost use Rattle.js_number.specs.Places.{IsLawful};
 ghost use Rattle.js_store.specs.State.{Grows, IsKnown, text};
 ghost use Rattle.js_values.specs.Outcome;
@@ -28,7 +28,9 @@ pub fn plus<S: Strings>(
     requires right { IsFine (S.state store.old) S.number right.now }
     ensures grows { Grows (S.state store.old) (S.state store.new) }
     ensures fine { IfOk result (λ v. IsFine (S.state store.new) S.number v) }
-    ensures did { Does S.number (S.state store.old) (S.state store.new) result (sum_out at (S.state store.old).limit (seen (S.state store.old) S.number left.now) (seen (S.state store.old) S.number right.now)) }
+    ensures did { Does S.number (S.state store.old) (S.state store.new) result
+        (sum_out at (S.state store.old).limit (seen (S.state store.old) S.number left.now)
+        (seen (S.state store.old) S.number right.now)) }
 {
     let first = to_primitive(alloc, store, left)?;
     let second = to_primitive(alloc, store, right)?;
@@ -44,7 +46,8 @@ pub fn to_primitive<S: Strings>(
     requires { IsFine (S.state store.old) S.number value.now }
     ensures grows { Grows (S.state store.old) (S.state store.new) }
     ensures fine { IfOk result (λ v. IsFine (S.state store.new) S.number v) }
-    ensures did { Does S.number (S.state store.old) (S.state store.new) result (primitive (S.state store.old).limit (seen (S.state store.old) S.number value.now)) }
+    ensures did { Does S.number (S.state store.old) (S.state store.new) result
+        (primitive (S.state store.old).limit (seen (S.state store.old) S.number value.now)) }
 {
     match value {
         Value::Undefined => Ok(Value::Undefined),
@@ -66,7 +69,9 @@ fn text_value<S: Strings>(
     requires { IsFine (S.state store.old) S.number value.now }
     ensures grows { Grows (S.state store.old) (S.state store.new) }
     ensures fine { IfOk result (λ v. IsFine (S.state store.new) S.number v) }
-    ensures did { Does S.number (S.state store.old) (S.state store.new) result (bind (to_string (S.state store.old).limit (seen (S.state store.old) S.number value.now)) (λ u. gave (Outcome.text u) free)) }
+    ensures did { Does S.number (S.state store.old) (S.state store.new) result
+        (bind (to_string (S.state store.old).limit (seen (S.state store.old) S.number value.now))
+        (λ u. gave (Outcome.text u) free)) }
 {
     let text = to_text(alloc, store, value)?;
     Ok(Value::Text(text))
@@ -83,7 +88,9 @@ fn plus_primitives<S: Strings>(
     requires right { IsFine (S.state store.old) S.number right.now }
     ensures grows { Grows (S.state store.old) (S.state store.new) }
     ensures fine { IfOk result (λ v. IsFine (S.state store.new) S.number v) }
-    ensures did { Does S.number (S.state store.old) (S.state store.new) result (primitive_sum at (S.state store.old).limit (seen (S.state store.old) S.number left.now) (seen (S.state store.old) S.number right.now)) }
+    ensures did { Does S.number (S.state store.old) (S.state store.new) result
+        (primitive_sum at (S.state store.old).limit (seen (S.state store.old) S.number left.now)
+        (seen (S.state store.old) S.number right.now)) }
 {
     if one_is_string(store, left, right) {
         join_strings(alloc, store, left, right)
@@ -102,7 +109,8 @@ pub fn apply_unary<S: Strings>(
     requires { IsFine (S.state store.old) S.number value.now }
     ensures grows { Grows (S.state store.old) (S.state store.new) }
     ensures fine { IfOk result (λ v. IsFine (S.state store.new) S.number v) }
-    ensures did { Does S.number (S.state store.old) (S.state store.new) result (unary_out minus at (seen (S.state store.old) S.number value.now)) }
+    ensures did { Does S.number (S.state store.old) (S.state store.new) result
+        (unary_out minus at (seen (S.state store.old) S.number value.now)) }
 {
     if minus {
         negate(store, at, value)
@@ -114,14 +122,16 @@ pub fn apply_unary<S: Strings>(
 
 fn negate<S: Strings>(store: &S, at: u32, value: &Value<S::Ref>) -> Result<Value<S::Ref>, Stop>
     requires { IsFine (S.state store.now) S.number value.now }
-    ensures { Does S.number (S.state store.now) (S.state store.now) result (negative_in at (seen (S.state store.now) S.number value.now)) }
+    ensures { Does S.number (S.state store.now) (S.state store.now) result
+        (negative_in at (seen (S.state store.now) S.number value.now)) }
 {
     let n = number_of(store, at, value)?;
     Ok(Value::Number(n.neg()))
 }
 
 fn one_is_string<S: Strings>(store: &S, left: &Value<S::Ref>, right: &Value<S::Ref>) -> bool
-    ensures { result ≡ (is_text (seen (S.state store.now) S.number left.now) || is_text (seen (S.state store.now) S.number right.now)) }
+    ensures { result ≡ (is_text (seen (S.state store.now) S.number left.now) || is_text
+        (seen (S.state store.now) S.number right.now)) }
 {
     is_string(store, left) || is_string(store, right)
 }
@@ -145,7 +155,9 @@ fn add<S: Strings>(
 ) -> Result<Value<S::Ref>, Stop>
     requires left { IsFine (S.state store.now) S.number left.now }
     requires right { IsFine (S.state store.now) S.number right.now }
-    ensures { Does S.number (S.state store.now) (S.state store.now) result (sum_in at (seen (S.state store.now) S.number left.now) (seen (S.state store.now) S.number right.now)) }
+    ensures { Does S.number (S.state store.now) (S.state store.now) result
+        (sum_in at (seen (S.state store.now) S.number left.now)
+        (seen (S.state store.now) S.number right.now)) }
 {
     let m = number_of(store, at, left)?;
     let n = number_of(store, at, right)?;
@@ -161,7 +173,9 @@ pub fn subtract<S: Strings>(
 ) -> Result<Value<S::Ref>, Stop>
     requires left { IsFine (S.state store.now) S.number left.now }
     requires right { IsFine (S.state store.now) S.number right.now }
-    ensures { Does S.number (S.state store.now) (S.state store.now) result (difference_in at (seen (S.state store.now) S.number left.now) (seen (S.state store.now) S.number right.now)) }
+    ensures { Does S.number (S.state store.now) (S.state store.now) result
+        (difference_in at (seen (S.state store.now) S.number left.now)
+        (seen (S.state store.now) S.number right.now)) }
 {
     let (m, n) = two_numbers(store, at, left, right)?;
     count(store, at, m.sub(n))
@@ -176,7 +190,8 @@ pub fn two_numbers<S: Strings>(
 ) -> Result<(Num, Num), Refusal>
     requires left { IsFine (S.state store.now) S.number left.now }
     requires right { IsFine (S.state store.now) S.number right.now }
-    ensures value { converted_of result ≡ paired (to_number at (seen (S.state store.now) S.number left.now)) (to_number at (seen (S.state store.now) S.number right.now)) }
+    ensures value { converted_of result ≡ paired (to_number at (seen (S.state store.now) S.number left.now))
+        (to_number at (seen (S.state store.now) S.number right.now)) }
     ensures lawful { IfOk result (λ p. IsLawful p.0 × IsLawful p.1) }
 {
     match number_of(store, at, left) {
@@ -203,24 +218,49 @@ fn join_strings<S: Strings>(
     requires right { IsFine (S.state store.old) S.number right.now }
     ensures grows { Grows (S.state store.old) (S.state store.new) }
     ensures fine { IfOk result (λ v. IsFine (S.state store.new) S.number v) }
-    ensures did { Does S.number (S.state store.old) (S.state store.new) result (joined_strings (S.state store.old).limit (seen (S.state store.old) S.number left.now) (seen (S.state store.old) S.number right.now)) }
+    ensures did { Does S.number (S.state store.old) (S.state store.new) result
+        (joined_strings (S.state store.old).limit (seen (S.state store.old) S.number left.now)
+        (seen (S.state store.old) S.number right.now)) }
 {
     let a = to_text(alloc, store, left)?;
     let b = to_text(alloc, store, right)?;
     join(store, a, b)
 }
 
-// Two strings joined, unless they are longer together than a string may be.
+// Two strings joined, unless they are longer together than a string may be. The lengths are told
+// first, so what can't be joined takes nothing of the store.
 fn join<S: Strings>(store: &mut S, a: S::Ref, b: S::Ref) -> Result<Value<S::Ref>, Stop>
     requires left { IsKnown (S.state store.old) (S.number a) }
     requires right { IsKnown (S.state store.old) (S.number b) }
     ensures grows { Grows (S.state store.old) (S.state store.new) }
     ensures fine { IfOk result (λ v. IsFine (S.state store.new) S.number v) }
-    ensures did { Does S.number (S.state store.old) (S.state store.new) result (joined (S.state store.old).limit (text (S.state store.old) (S.number a)) (text (S.state store.old) (S.number b))) }
+    ensures did { Does S.number (S.state store.old) (S.state store.new) result
+        (joined (S.state store.old).limit (text (S.state store.old) (S.number a))
+        (text (S.state store.old) (S.number b))) }
+{
+    let left = u64::from(store.len(a));
+    let right = u64::from(store.len(b));
+    if left + right > u64::from(store.limit()) {
+        return Err(Stop::Threw(Kind::RangeError));
+    }
+    concat(store, a, b)
+}
+
+// Two strings joined, which aren't longer together than a string may be.
+fn concat<S: Strings>(store: &mut S, a: S::Ref, b: S::Ref) -> Result<Value<S::Ref>, Stop>
+    requires left { IsKnown (S.state store.old) (S.number a) }
+    requires right { IsKnown (S.state store.old) (S.number b) }
+    requires short { length (text (S.state store.old) (S.number a)) + length
+        (text (S.state store.old) (S.number b)) ≤ (S.state store.old).limit }
+    ensures grows { Grows (S.state store.old) (S.state store.new) }
+    ensures fine { IfOk result (λ v. IsFine (S.state store.new) S.number v) }
+    ensures did { Does S.number (S.state store.old) (S.state store.new) result
+        (joined (S.state store.old).limit (text (S.state store.old) (S.number a))
+        (text (S.state store.old) (S.number b))) }
 {
     match store.concat(a, b) {
         Ok(both) => Ok(Value::Text(both)),
-        Err(ConcatFault::TooLong { .. }) => Err(Stop::Threw(Kind::RangeError)),
+        Err(ConcatFault::TooLong { .. }) => unreachable!(),
         Err(ConcatFault::Store(fault)) => Err(Stop::Store(fault)),
     }
 }

@@ -1,18 +1,18 @@
 -- Every request of lawful words is in its ranges.
-use Rattle.std.proofs.Common.{◌≡◌, ◌&&◌, ◌||◌, ◌+◌, ◌<◌, ◌≤◌, ◌^◌, ℕ, Bool, true, false, not, List, length, None, Some, refl, ap, sym, ◌∙◌, codes, is_some, option_map, unwrap_or, arith, subst, if◌then◌else◌}
+use Rattle.std.proofs.Common.{◌≡◌, ◌&&◌, ◌||◌, ◌+◌, ◌<◌, ◌≤◌, ◌^◌, ◌≤ℤ◌, ℕ, zero, suc, pos, neg_ℤ, cond, Bool, true, false, not, List, length, None, Some, refl, ap, sym, ◌∙◌, codes, is_some, option_map, unwrap_or, arith, subst, if◌then◌else◌}
 use Rattle.std.proofs.lemmas.Bool.{leb-true}
 use Rattle.std.specs.declared.option.Option.{Option}
 use Rattle.std.specs.Prelude.{nat_le, option_and_then}
-use Rattle.std.specs.Str.Parse.{digits_value, without_leading_plus}
+use Rattle.std.specs.Str.Parse.{digits_value, starts_with_minus, without_leading_sign}
 use Rattle.clap.specs.Walk.{is_empty}
-use Rattle.clap.specs.ValueTests.{is_unsigned_in}
+use Rattle.clap.specs.ValueTests.{is_signed_in}
 use Rattle.clap.specs.Words.{Row, Text, first_of}
 use Rattle.clap.specs.declared.builder.value_parser.ValueParser.TheVariants as parser
 use Rattle.clap.proofs.ValueTestLemmas.{accepts-Accepts}
 use Rattle.clap.proofs.WalkLemmas.{both}
 use Rattle.js_store.specs.declared.limit.Limit.{Limit}
 use Rattle.js_words.specs.declared.plan.Sizes.{Sizes}
-use Rattle.js_words.specs.Words.{Asked, IsInRange, IsSomeFiles, Name, Request, asked_in, files, files_in, generated_in, is_plain, is_some_files, jobs_in, limit_in, made_from, most_size, most_together, named_in, number_in, number_of, request_by, request_in, request_with, sizes_by, sizes_in, summary_in}
+use Rattle.js_words.specs.Words.{Asked, IsInRange, IsSomeFiles, Name, Request, asked_in, files, files_in, generated_in, is_some_files, jobs_in, limit_in, made_from, most_size, most_together, named_in, number_in, number_of, request_by, request_in, request_with, sizes_by, sizes_in, summary_in}
 
 none≢some : {T : Type 0} (x : T) → ◌≡◌ {A = Option T} None (Some x) → ⊥
 none≢some x is = cc
@@ -20,17 +20,26 @@ none≢some x is = cc
 same : {T : Type 0} (x y : T) → ◌≡◌ {A = Option T} (Some x) (Some y) → x ≡ y
 same x y is = ap (λ o. unwrap_or o x) is
 
+-- the digits of a number that is at least `least` and at most `most`
+digits_between : (b : Bool) (d least most : ℕ) → pos least ≤ℤ cond b (neg_ℤ (pos d)) (pos d) → cond b (neg_ℤ (pos d)) (pos d) ≤ℤ pos most → (least ≤ d) × (d ≤ most)
+digits_between true zero least most low high = (omega (arith, low), omega (arith, high))
+digits_between true (suc d) least most low high = absurd (omega (arith, low))
+digits_between false d least most low high =
+    let low' : pos least ≤ℤ pos d = low in
+    let high' : pos d ≤ℤ pos most = high in
+    (omega (arith, low'), omega (arith, high'))
+
 number_between : (least most : ℕ) (text : Text) (n : ℕ) → number_in least most text ≡ Some n → (least ≤ n) × (n ≤ most)
-number_between least most text n is = go (is_plain text && is_unsigned_in least most text) refl
+number_between least most text n is = go (is_signed_in (pos least) (pos most) text) refl
   where
-    go : (b : Bool) → (is_plain text && is_unsigned_in least most text) ≡ b → (least ≤ n) × (n ≤ most)
+    go : (b : Bool) → is_signed_in (pos least) (pos most) text ≡ b → (least ≤ n) × (n ≤ most)
     go false fails =
         let none : None ≡ Some n = rw fails at is in
         absurd (none≢some n none)
     go true holds =
-        let value = same (digits_value 10 (without_leading_plus text)) n (rw holds at is) in
-        let between = accepts-Accepts false (parser.Unsigned least most) text (both _ _ holds).1 in
-        (omega (arith, value, between.2), omega (arith, value, between.3))
+        let value = same (digits_value 10 (without_leading_sign text)) n (rw holds at is) in
+        let between = accepts-Accepts false (parser.Signed (pos least) (pos most)) text holds in
+        subst (λ (k : ℕ). (least ≤ k) × (k ≤ most)) value (digits_between (starts_with_minus text) (digits_value 10 (without_leading_sign text)) least most between.2 between.3)
 
 option_between : (least most : ℕ) (text : Option Text) (n : ℕ) → option_and_then (number_in least most) text ≡ Some n → (least ≤ n) × (n ≤ most)
 option_between least most None n is = absurd (none≢some n is)

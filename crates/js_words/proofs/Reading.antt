@@ -1,37 +1,44 @@
 -- What the getters of the matches read of an option.
-use Rattle.std.proofs.Common.{◌≡◌, ◌⊎◌, ◌<◌, ◌≤◌, ◌^◌, ℕ, Bool, true, false, List, None, Some, Ok, Err, refl, ap, subst, sym, ◌∙◌, codes, unwrap_or, arith, true≢false, if◌then◌else◌}
+use Rattle.std.proofs.Common.{◌≡◌, ◌⊎◌, ◌≤◌, ◌≤ℤ◌, ◌<ℤ◌, ℕ, zero, suc, ℤ, pos, neg_ℤ, nat_abs, cond, w64, to_z, of_z, FitsSigned, Bool, true, false, List, None, Some, Ok, Err, refl, ap, subst, sym, ◌∙◌, codes, unwrap_or, arith, true≢false, if◌then◌else◌}
 use Rattle.std.specs.declared.option.Option.{Option}
 use Rattle.std.specs.Prelude.{Result, option_and_then}
 use Rattle.std.specs.Result.{result_ok}
 use Rattle.std.specs.Option.{option_map_or}
 use Rattle.std.specs.Str.{bytes_eq}
-use Rattle.std.specs.Str.Parse.{ParsesBool, ParsesUnsigned, digits_value, true_text, without_leading_plus}
+use Rattle.std.specs.Str.Parse.{ParsesBool, ParsesSigned, digits_value, signed_digits_value, starts_with_minus, true_text, without_leading_sign}
+use Rattle.std.proofs.lemmas.Int.{to_z-of_z}
 use Rattle.std.proofs.lemmas.Slice.Eq.{bytes_eq-Decides}
 use Rattle.clap.specs.Matches.{ReadsOne, first_value, one_text}
-use Rattle.clap.specs.Values.{IsUnsignedIn}
-use Rattle.clap.specs.ValueTests.{is_unsigned_in}
+use Rattle.clap.specs.Values.{IsSignedIn}
+use Rattle.clap.specs.ValueTests.{is_signed_in}
 use Rattle.clap.specs.Words.{Text, one_of, rows_of}
 use Rattle.clap.specs.declared.builder.value_parser.ValueParser.TheVariants as parser
 use Rattle.clap.specs.declared.parser.matches.Found.{Found}
 use Rattle.clap.proofs.ValueTestLemmas.{Accepts-accepts, accepts-Accepts}
 use Rattle.clap.proofs.WalkLemmas.{first_value-rows, one_text-rows}
-use Rattle.js_words.specs.Words.{is_plain, number_in, number_of}
+use Rattle.js_words.specs.Words.{number_in, number_of}
 
 none≢some : {T : Type 0} (x : T) → ◌≡◌ {A = Option T} None (Some x) → ⊥
 none≢some x is = cc
 
-only_plain : (least most : ℕ) (text : Text) → is_plain text ≡ false → number_in least most text ≡ None
-only_plain least most text not_plain = rw (not_plain) refl
+no_value : (z : ℤ) → ◌≡◌ {A = Option ℤ} None (Some z) → ⊥
+no_value z is = none≢some z is
 
-no_number : (least most : ℕ) (text : Text) → is_plain text ≡ true → (IsUnsignedIn least most text → ⊥) → number_in least most text ≡ None
-no_number least most text plain not = go (is_unsigned_in least most text) refl
+no_number : (least most : ℕ) (text : Text) → (IsSignedIn (pos least) (pos most) text → ⊥) → number_in least most text ≡ None
+no_number least most text not = go (is_signed_in (pos least) (pos most) text) refl
   where
-    go : (b : Bool) → is_unsigned_in least most text ≡ b → number_in least most text ≡ None
-    go true is = absurd (not (accepts-Accepts false (parser.Unsigned least most) text is))
-    go false is = rw (plain, is) refl
+    go : (b : Bool) → is_signed_in (pos least) (pos most) text ≡ b → number_in least most text ≡ None
+    go true is = absurd (not (accepts-Accepts false (parser.Signed (pos least) (pos most)) text is))
+    go false is = rw (is) refl
 
-a_number : (least most : ℕ) (text : Text) → is_plain text ≡ true → IsUnsignedIn least most text → number_in least most text ≡ Some (digits_value 10 (without_leading_plus text))
-a_number least most text plain is = rw (plain, Accepts-accepts false (parser.Unsigned least most) text is) refl
+a_number : (least most : ℕ) (text : Text) → IsSignedIn (pos least) (pos most) text → number_in least most text ≡ Some (digits_value 10 (without_leading_sign text))
+a_number least most text is = rw (Accepts-accepts false (parser.Signed (pos least) (pos most)) text is) refl
+
+-- a number without its sign is what the digits write
+signless : (b : Bool) (d : ℕ) → nat_abs (cond b (neg_ℤ (pos d)) (pos d)) ≡ d
+signless true zero = refl
+signless true (suc d) = refl
+signless false d = refl
 
 module _ (least most : ℕ) (f : Found) (id : Text) where
   -- what an option spells is what its first value spells
@@ -42,29 +49,28 @@ module _ (least most : ℕ) (f : Found) (id : Text) where
   number_not_given given = of_text None None given refl
 
   module _ (text : Text) (given : Some text ≡ first_value f id) where
-    pub number_not_plain : is_plain text ≡ false → number_of least most id (rows_of f) ≡ None
-    number_not_plain not_plain = of_text (Some text) None given (only_plain least most text not_plain)
+    module _ {E : Type 0} where
+      pub number_unread : (x : Result ℤ E) → ParsesSigned w64 10 text x → None ≡ result_ok x → number_of least most id (rows_of f) ≡ None
+      number_unread (Ok z) parsed none = absurd (no_value z none)
+      number_unread (Err e) parsed none = of_text (Some text) None given (no_number least most text (λ is. parsed (is.0, is.1)))
 
-    module _ (plain : is_plain text ≡ true) (fits : most < 2 ^ 32) {E : Type 0} where
-      pub number_unread : (x : Result ℕ E) → ParsesUnsigned 32 10 text x → None ≡ result_ok x → number_of least most id (rows_of f) ≡ None
-      number_unread (Ok n) parsed none = absurd (none≢some n none)
-      number_unread (Err e) parsed none = of_text (Some text) None given (no_number least most text plain (λ is. parsed (is.0, omega (arith, is.3, fits))))
+      parsed_to : (z : ℤ) (x : Result ℤ E) → ParsesSigned w64 10 text x → Some z ≡ result_ok x → ParsesSigned {E = E} w64 10 text (Ok z)
+      parsed_to z (Ok m) parsed is = subst (λ k. ParsesSigned {E = E} w64 10 text (Ok k)) (sym (ap (λ o. unwrap_or o z) is)) parsed
+      parsed_to z (Err e) parsed is = absurd (no_value z (sym is))
 
-      module _ (n : ℕ) where
-        parsed_to : (x : Result ℕ E) → ParsesUnsigned 32 10 text x → Some n ≡ result_ok x → ParsesUnsigned {E = E} 32 10 text (Ok n)
-        parsed_to (Ok m) parsed is = subst (λ k. ParsesUnsigned {E = E} 32 10 text (Ok k)) (sym (ap (λ o. unwrap_or o n) is)) parsed
-        parsed_to (Err e) parsed is = absurd (none≢some n (sym is))
+      pub number_outside : (z : ℤ) (x : Result ℤ E) → ParsesSigned w64 10 text x → Some z ≡ result_ok x → (z <ℤ pos least) ⊎ (pos most <ℤ z) → number_of least most id (rows_of f) ≡ None
+      number_outside z x parses is out =
+          let parsed = parsed_to z x parses is in
+          of_text (Some text) None given (no_number least most text (λ is. grind (arith, out, parsed.1, is.2, is.3)))
 
-        pub number_outside : (x : Result ℕ E) → ParsesUnsigned 32 10 text x → Some n ≡ result_ok x → (n < least) ⊎ (most < n) → number_of least most id (rows_of f) ≡ None
-        number_outside x parses is out =
-            let parsed = parsed_to x parses is in
-            of_text (Some text) None given (no_number least most text plain (λ is. grind (arith, out, parsed.1, is.2, is.3)))
-
-        pub number_inside : (x : Result ℕ E) → ParsesUnsigned 32 10 text x → Some n ≡ result_ok x → least ≤ n → n ≤ most → number_of least most id (rows_of f) ≡ Some n
-        number_inside x parses is low high =
-            let parsed = parsed_to x parses is in
-            of_text (Some text) (Some n) given
-            (a_number least most text plain (parsed.0.0, omega (arith, parsed.0.1), omega (arith, parsed.1, low), omega (arith, parsed.1, high)) ∙ ap Some (sym parsed.1))
+      pub number_inside : (z : ℤ) (x : Result ℤ E) → ParsesSigned w64 10 text x → Some z ≡ result_ok x → pos least ≤ℤ z → z ≤ℤ pos most → number_of least most id (rows_of f) ≡ Some (nat_abs (to_z w64 (of_z w64 z)))
+      number_inside z x parses is low high =
+          let parsed = parsed_to z x parses is in
+          let value : z ≡ signed_digits_value 10 text = parsed.1 in
+          let read : number_in least most text ≡ Some (digits_value 10 (without_leading_sign text)) = a_number least most text (parsed.0.0, parsed.0.1, subst (λ (k : ℤ). pos least ≤ℤ k) value low, subst (λ (k : ℤ). k ≤ℤ pos most) value high) in
+          let same : nat_abs (to_z w64 (of_z w64 z)) ≡ nat_abs z = ap nat_abs (to_z-of_z w64 z (subst (λ (k : ℤ). FitsSigned w64 k) (sym value) parsed.0.1)) in
+          of_text (Some text) (Some (nat_abs (to_z w64 (of_z w64 z)))) given
+          (read ∙ ap Some (sym (same ∙ ap nat_abs value ∙ signless (starts_with_minus text) (digits_value 10 (without_leading_sign text)))))
 
 -- whether a flag was given
 abbrev pub is_true : Option Text → Bool

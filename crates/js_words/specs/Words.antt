@@ -1,9 +1,9 @@
 -- What the words of the command line ask for.
-use Rattle.std.specs.Prelude.{◌≡◌, ◌==◌, ◌&&◌, ◌||◌, not, is_some, ◌+◌, ◌^◌, ◌<◌, ◌≤◌, ⊤, ℕ, Bool, false, List, [], ◌∷◌, Option, None, Some, codes, if◌then◌else◌, length, map, nat_le, option_and_then, option_map, unwrap_or}
+use Rattle.std.specs.Prelude.{◌≡◌, ◌==◌, ◌&&◌, ◌||◌, not, is_some, ◌+◌, ◌^◌, ◌<◌, ◌≤◌, ⊤, ℕ, Bool, false, List, [], ◌∷◌, Option, None, Some, codes, if◌then◌else◌, length, map, nat_le, pos, option_and_then, option_map, unwrap_or}
 use Rattle.std.specs.Option.{option_map_or}
 use Rattle.std.specs.Str.{bytes_eq}
-use Rattle.std.specs.Str.Parse.{digits_value, without_leading_plus}
-use Rattle.clap.specs.ValueTests.{is_unsigned_in}
+use Rattle.std.specs.Str.Parse.{digits_value, without_leading_sign}
+use Rattle.clap.specs.ValueTests.{is_signed_in}
 use Rattle.clap.specs.Walk.{is_empty}
 use Rattle.clap.specs.Words.{Row, Text, all_of, first_of, matches_of, one_of}
 use Rattle.js_store.specs.declared.limit.Limit.{Limit}
@@ -35,14 +35,9 @@ pub record Request : Type 0 where
 
 -- ---- values of options
 
--- a text that may spell a number: its first byte is a digit from 1 to 9, or the text is `0`, so there is neither a sign nor a leading zero
-abbrev pub is_plain : Text → Bool
-is_plain [] = false
-is_plain (first ∷ rest) = (nat_le 49 first && nat_le first 57) || (first == 48 && is_empty rest)
-
--- the number that a text spells: decimal digits, without a sign and without a leading zero; where it is in the range
+-- the number that a text spells, where it is in the range: decimal digits, behind a sign or none, as the command takes them
 abbrev pub number_in : ℕ → ℕ → Text → Option ℕ
-number_in least most text = if is_plain text && is_unsigned_in least most text then Some (digits_value 10 (without_leading_plus text)) else None
+number_in least most text = if is_signed_in (pos least) (pos most) text then Some (digits_value 10 (without_leading_sign text)) else None
 
 -- the number of an option
 abbrev pub number_of : ℕ → ℕ → Text → List Row → Option ℕ
@@ -66,7 +61,7 @@ sizes_by _ _ _ = None
 abbrev pub sizes_in : List Row → Option Sizes
 sizes_in rows = sizes_by (number_of 1 most_size (codes "ids") rows) (number_of 1 most_size (codes "heap-words") rows) (number_of 1 most_size (codes "slots") rows)
 
--- `--limit`: 32 or 64, spelled so
+-- `--limit`: 32 or 64
 abbrev pub limit_by : ℕ → Option Limit
 limit_by bits = if bits == 32 then Some Bits32 else (if bits == 64 then Some Bits64 else None)
 

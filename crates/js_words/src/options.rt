@@ -1,7 +1,7 @@
 // What the matches of the command ask for.
 ghost use Rattle.std.specs.Prelude.{◌≡◌, Some, length, option_map, IfOk, IfErr};
 ghost use Rattle.clap.specs.Words.{found_of, rows_of};
-ghost use Rattle.js_words.specs.Words.{made_from, IsRefusal, asked_for, asked_in, files_in, generated_in, is_plain, limit_in, named_in, number_of, request_for, request_in, request_with, sizes_in, summary_in};
+ghost use Rattle.js_words.specs.Words.{made_from, IsRefusal, asked_for, asked_in, files_in, generated_in, limit_in, named_in, number_of, request_for, request_in, request_with, sizes_in, summary_in};
 
 use crate::plan::{Plan, Sizes, Source, WordsFault};
 use clap::ArgMatches;
@@ -19,30 +19,16 @@ const TOGETHER_MAX: u64 = 536_870_912;
 // The most files that may be named.
 const FILES_MAX: usize = 4096;
 
-// Whether a text may spell a number: it begins with a digit from 1 to 9, or is `0`.
-fn is_plain(text: &str) -> bool
-    ensures { result ≡ is_plain text.now }
-{
-    match text.as_bytes() {
-        [] => false,
-        [first, rest @ ..] => (*first >= b'1' && *first <= b'9')
-            || (*first == b'0' && rest.is_empty()),
-    }
-}
-
-// The number of an option, where it is spelled plainly and in the range.
+// The number of an option, where it is in the range. A sign and leading zeros are taken, as by the
+// command.
 fn number_in(matches: &ArgMatches, id: &str, least: u32, most: u32) -> Option<u32>
     ensures { result ≡ number_of least most id.now (rows_of (found_of matches.now)) }
 {
-    let text = matches.get_str(id)?;
-    if !is_plain(text) {
+    let number = matches.get_str(id)?.parse::<i64>().ok()?;
+    if number < i64::from(least) || number > i64::from(most) {
         return None;
     }
-    let number = text.parse::<u32>().ok()?;
-    if number < least || number > most {
-        return None;
-    }
-    Some(number)
+    Some(number as u32)
 }
 
 fn sizes_in(matches: &ArgMatches) -> Option<Sizes>

@@ -24,7 +24,7 @@ loop-value-init g c =
       every = rw e tt;
       count = rw e refl;
       within = omega arith;
-      completes = λ r d. subst (λ (o : Out (List Num)). GivesNumbers a c.args.which r o) (sym (each_map (number_out (taken_of c.args.which vs) c.args.at vs) (λ v. seen a number v) c.args.args.now [])) (as_numbers a c.args.which r _ (rw e at d));
+      completes = λ r d. subst (λ (o : Out (List Num)). GivesNumbers a c.args.which r o) (sym (each_map (number_out (taken_of c.args.which vs) c.args.at vs) (λ v. seen a number v) c.args.args.now)) (as_numbers a c.args.which r _ (rw e at d));
     }
 
 pub returns-in_err-number-clause-did : goal.returns-in_err-number-clause-did

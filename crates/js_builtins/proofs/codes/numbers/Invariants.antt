@@ -1,4 +1,4 @@
-use Rattle.std.proofs.Common.{◌≡◌, ◌≤◌, [], drop, length, map, Result, Vec, Global}
+use Rattle.std.proofs.Common.{◌≡◌, ◌≤◌, drop, length, map, Result, Vec, Global}
 use Rattle.js_number.specs.declared.Num.{Num}
 use Rattle.js_values.specs.declared.value.Stop.{Stop}
 use Rattle.js_values.specs.Outcome.{each}
@@ -8,6 +8,7 @@ use Rattle.js_values.specs.Seen.{seen, all_seen}
 use Rattle.js_builtins.specs.Numbers.{IsFor}
 use Rattle.js_values.specs.Ran.{Did}
 use Rattle.js_builtins.specs.Numbers.{taken_of, GivesNumbers}
+use Rattle.js_values.proofs.Each.{each_behind}
 use Rattle.js_builtins.proofs.codes.numbers.Given as goal
 
 -- whatever completes what is left, completes the whole
@@ -21,6 +22,6 @@ invariant-loop-value g l =
       count : length l.numbers.items ≡ l.value-index;
       within : l.value-index ≤ length l.args;
       completes : (r : Result (Vec Num Global) Stop) →
-          Did a a (λ s (w : Vec Num Global). map (λ n. n) w.items) (λ s (w : Vec Num Global). Every (λ n. IsFor l.which n) w.items) r (each (λ v. number_out (taken_of l.which vs) l.at vs (seen a number v)) (drop l.value-index l.args) (map (λ n. n) l.numbers.items)) →
-          GivesNumbers a l.which r (each (number_out (taken_of l.which vs) l.at vs) vs []);
+          Did a a (λ s (w : Vec Num Global). map (λ n. n) w.items) (λ s (w : Vec Num Global). Every (λ n. IsFor l.which n) w.items) r (each_behind (λ v. number_out (taken_of l.which vs) l.at vs (seen a number v)) (drop l.value-index l.args) (map (λ n. n) l.numbers.items)) →
+          GivesNumbers a l.which r (each (number_out (taken_of l.which vs) l.at vs) vs);
     }

@@ -1,7 +1,7 @@
 use Rattle.std.proofs.Common.{◌∙◌, sym}
 use Rattle.eval_scopes.specs.Seen.{bound_of, bindings_of}
 use Rattle.js_evaluator.proofs.Within.{place_fine}
-use Rattle.js_evaluator.proofs.Copied.{fine_copy}
+use Rattle.js_values.proofs.Copied.{fine_copy}
 use Rattle.js_evaluator.proofs.Names.{read_one}
 use Rattle.js_evaluator.proofs.context.read_at.Goals as goal
 

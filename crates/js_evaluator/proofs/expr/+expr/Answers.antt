@@ -194,7 +194,7 @@ exprs-loop-e-init g t c =
       grows = grows_refl a;
       context = c.requires;
       fine = rw e tt;
-      completes = λ z r f. subst (λ (o : Out (List Val)). GivesAll number a z r o) (sym (exprs_are c.args.list.now (scope_of a number c.args.context.now) [])) (rw e at f);
+      completes = λ z r f. subst (λ (o : Out (List Val)). GivesAll number a z r o) (sym (exprs_are c.args.list.now (scope_of a number c.args.context.now))) (rw e at f);
     }
 
 pub exprs-loop-e-preserved : goal.exprs-loop-e-preserved

@@ -1,13 +1,13 @@
-use Rattle.std.proofs.Common.{[], drop, unwrap_or, Result, Vec, Global}
+use Rattle.std.proofs.Common.{drop, unwrap_or, Result, Vec, Global}
 use Rattle.js_store.specs.State.{State, Grows}
 use Rattle.eval_tree.specs.Tree.{expr_tree, links_tree, steps_tree, exprs_tree}
 use Rattle.js_values.specs.declared.value.Value.{Value}
 use Rattle.js_values.specs.declared.value.Stop.{Stop}
-use Rattle.js_values.specs.Outcome.{each}
 use Rattle.js_evaluator.specs.Expression.{expr_out, links_out, steps_out, exprs_out}
 use Rattle.js_values.specs.Seen.{seen, IsFine, all_seen, AllFine}
 use Rattle.js_evaluator.specs.Seen.{ContextFine, scope_of}
 use Rattle.js_values.specs.Does.{Does, GivesAll}
+use Rattle.js_values.proofs.Each.{each_behind}
 use Rattle.js_evaluator.proofs.expr.+expr.Given as goal
 
 -- whatever completes what is left, completes the whole
@@ -47,6 +47,6 @@ invariant-exprs-loop-e g l =
       context : ContextFine (state l.store) number l.context;
       fine : AllFine (state l.store) number l.values.items;
       completes : (c : State g.S.Strings.Frame) (r : Result (Vec (Value g.row.S-Ref.Denot) Global) Stop) →
-          GivesAll number (state l.store) c r (each (λ e. expr_out (expr_tree e) meant) (drop l.e-index l.list) (all_seen (state l.store) number l.values.items)) →
-          GivesAll number (state l.fn.store) c r (exprs_out (exprs_tree l.list) meant []);
+          GivesAll number (state l.store) c r (each_behind (λ e. expr_out (expr_tree e) meant) (drop l.e-index l.list) (all_seen (state l.store) number l.values.items)) →
+          GivesAll number (state l.fn.store) c r (exprs_out (exprs_tree l.list) meant);
     }

@@ -1,14 +1,27 @@
-use Rattle.std.proofs.Common.{Ok, Err, refl}
+use Rattle.std.proofs.Common.{ℕ, List, Ok, Err, refl, sym, subst}
 use Rattle.std.proofs.Math.ListN.{drop_of_length-le}
 use Rattle.std.proofs.lemmas.Result.{err_from_is_err_and}
 use Rattle.js_store.specs.State.{IsKnown, text}
 use Rattle.js_store.specs.declared.faults.StoreFault.TheVariants.{Memory}
-use Rattle.js_store.proofs.Laws.{grows_trans, known_still, text_still}
+use Rattle.js_store.proofs.Laws.{grows_refl, grows_trans, known_still, text_still}
 use Rattle.js_values.specs.declared.value.Stop.TheVariants.{Store}
+use Rattle.js_values.specs.Outcome.{Out}
+use Rattle.js_values.specs.Does.{GivesTexts}
 use Rattle.js_evaluator.specs.Script.{literal_out}
 use Rattle.js_values.proofs.Compose.{ran_free}
-use Rattle.js_values.proofs.Each.{each_turn, each_halt, each_full, fine_turn}
+use Rattle.js_values.proofs.Each.{each_turn, each_halt, each_full, each_is, fine_turn}
 use Rattle.js_evaluator.proofs.literals.intern_literals.Goals as goal
+
+pub loop-units-init : goal.loop-units-init
+loop-units-init g c =
+    let number = g.S.Strings.number in
+    let a = g.S.Strings.state c.args.store.now in
+    let e = c.new-interned.ensures.items in
+    record {
+      grows = grows_refl a;
+      known = rw e tt;
+      completes = λ z r f. subst (λ (o : Out (List (List ℕ))). GivesTexts number a z r o) (sym (each_is (literal_out a.limit) c.args.literals.now)) (rw e at f);
+    }
 
 pub loop-units-preserved : goal.loop-units-preserved
 loop-units-preserved g c =

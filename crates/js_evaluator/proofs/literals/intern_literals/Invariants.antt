@@ -1,10 +1,11 @@
-use Rattle.std.proofs.Common.{[], drop, Result, Vec, Global}
+use Rattle.std.proofs.Common.{drop, Result, Vec, Global}
 use Rattle.js_store.specs.State.{State, Grows}
 use Rattle.js_values.specs.declared.value.Stop.{Stop}
 use Rattle.js_values.specs.Outcome.{each}
 use Rattle.js_texts.specs.Texts.{AllKnown, texts as texts_seen}
 use Rattle.js_evaluator.specs.Script.{literal_out}
 use Rattle.js_values.specs.Does.{GivesTexts}
+use Rattle.js_values.proofs.Each.{each_behind}
 use Rattle.js_evaluator.proofs.literals.intern_literals.Given as goal
 
 -- whatever completes what is left, completes the whole
@@ -17,6 +18,6 @@ invariant-loop-units g l =
       grows : Grows (state l.fn.store) (state l.store);
       known : AllKnown (state l.store) number l.interned.items;
       completes : (c : State g.S.Strings.Frame) (r : Result (Vec g.row.S-Ref.Denot Global) Stop) →
-          GivesTexts number (state l.store) c r (each (literal_out limit) (drop l.units-index l.literals) (texts_seen (state l.store) number l.interned.items)) →
-          GivesTexts number (state l.fn.store) c r (each (literal_out limit) l.literals []);
+          GivesTexts number (state l.store) c r (each_behind (literal_out limit) (drop l.units-index l.literals) (texts_seen (state l.store) number l.interned.items)) →
+          GivesTexts number (state l.fn.store) c r (each (literal_out limit) l.literals);
     }

@@ -26,7 +26,7 @@ loop-value-init g c =
       fine = c.requires;
       known = rw e tt;
       settles = rw e (omega arith);
-      completes = λ z r f. subst (λ (o : Out (List (List ℕ))). GivesTexts number a z r o) (sym (each_map (to_string a.limit) (λ v. seen a number v) c.args.values.now [])) (rw e at f);
+      completes = λ z r f. subst (λ (o : Out (List (List ℕ))). GivesTexts number a z r o) (sym (each_map (to_string a.limit) (λ v. seen a number v) c.args.values.now)) (rw e at f);
     }
 
 pub returns-in_err-text-clause-grows : goal.returns-in_err-text-clause-grows

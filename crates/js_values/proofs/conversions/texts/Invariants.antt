@@ -1,4 +1,4 @@
-use Rattle.std.proofs.Common.{◌+◌, ◌≤◌, [], drop, Result, Vec, Global}
+use Rattle.std.proofs.Common.{◌+◌, ◌≤◌, drop, Result, Vec, Global}
 use Rattle.js_store.specs.State.{State, Grows}
 use Rattle.js_values.specs.declared.value.Stop.{Stop}
 use Rattle.js_values.specs.Outcome.{each}
@@ -6,6 +6,7 @@ use Rattle.js_values.specs.Conversions.{to_string}
 use Rattle.js_texts.specs.Texts.{texts as texts_seen, AllKnown, settle_most}
 use Rattle.js_values.specs.Seen.{seen, all_seen, AllFine}
 use Rattle.js_values.specs.Does.{GivesTexts, string_words}
+use Rattle.js_values.proofs.Each.{each_behind}
 use Rattle.js_values.proofs.conversions.texts.Given as goal
 
 -- whatever completes what is left, completes the whole
@@ -19,6 +20,6 @@ invariant-loop-value g l =
       known : AllKnown (state l.store) number l.texts.items;
       settles : settle_most (state l.store) number l.texts.items + string_words (all_seen (state l.fn.store) number (drop l.value-index l.values)) ≤ string_words (all_seen (state l.fn.store) number l.values);
       completes : (c : State g.S.Strings.Frame) (r : Result (Vec g.row.S-Ref.Denot Global) Stop) →
-          GivesTexts number (state l.store) c r (each (λ v. to_string (state l.fn.store).limit (seen (state l.fn.store) number v)) (drop l.value-index l.values) (texts_seen (state l.store) number l.texts.items)) →
-          GivesTexts number (state l.fn.store) c r (each (to_string (state l.fn.store).limit) (all_seen (state l.fn.store) number l.values) []);
+          GivesTexts number (state l.store) c r (each_behind (λ v. to_string (state l.fn.store).limit (seen (state l.fn.store) number v)) (drop l.value-index l.values) (texts_seen (state l.store) number l.texts.items)) →
+          GivesTexts number (state l.fn.store) c r (each (to_string (state l.fn.store).limit) (all_seen (state l.fn.store) number l.values));
     }
