@@ -13,7 +13,7 @@ pub(crate) fn case_of(alloc: Global, line: usize, text: &str) -> Result<Case, Fa
     let mut wanted = Vec::new(alloc);
     wanted.push(wanted_of(alloc, wish)?)?;
     let mut files = MemFiles::new(alloc);
-    let script = wish.script.trim_end_matches(' ');
+    let script = without_blanks(wish.script);
     match script.strip_prefix('@') {
         Some(spelled) => files.put(FILE, &bytes_of(alloc, spelled)?)?,
         None => files.put(FILE, script.as_bytes())?,
@@ -61,7 +61,7 @@ fn split_wish(text: &str) -> Option<Wish<'_>> {
 // The parts where `->` stands first, with this behind it.
 fn with_out<'a>(script: &'a str, rest: &'a str) -> Wish<'a> {
     let (out, err) = match rest.split_once("  !") {
-        Some((out, err)) => (out.trim_end_matches(' '), Some(err)),
+        Some((out, err)) => (without_blanks(out), Some(err)),
         None => (rest, None),
     };
     Wish {
@@ -69,6 +69,18 @@ fn with_out<'a>(script: &'a str, rest: &'a str) -> Wish<'a> {
         out: Some(out),
         err,
     }
+}
+
+// The text without the blanks at its end.
+fn without_blanks(text: &str) -> &str {
+    let mut kept = text;
+    for _ in 0..text.len() {
+        match kept.strip_suffix(' ') {
+            Some(rest) => kept = rest,
+            None => return kept,
+        }
+    }
+    kept
 }
 
 fn wanted_of(alloc: Global, wish: Wish<'_>) -> Result<Ending, Fault> {
@@ -86,7 +98,9 @@ fn wanted_of(alloc: Global, wish: Wish<'_>) -> Result<Ending, Fault> {
 // What stands behind the one blank: it neither begins nor ends with another.
 fn behind_blank(text: &str) -> Result<&str, Fault> {
     match text.strip_prefix(' ') {
-        Some(text) if text == text.trim_matches(' ') && !text.is_empty() => Ok(text),
+        Some(text) if !text.is_empty() && !text.starts_with(' ') && !text.ends_with(' ') => Ok(
+            text,
+        ),
         _ => Err(Fault::Form("not one blank and a text behind `->` or `!`")),
     }
 }
