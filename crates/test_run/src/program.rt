@@ -2,8 +2,9 @@
 // comes of a run is one text: the status, what `out` took and what `err` took.
 ghost use Rattle.std.specs.Prelude.{◌≤◌};
 
+use crate::host::text;
 use crate::running::code_of;
-use js_io::{FILE_MAX, FreeGate, MemFiles, MemSink};
+use js_io::{FreeGate, MemFiles, MemSink};
 use std::alloc::Global;
 use std::test::Fail;
 use std::thread::Threads;
@@ -151,22 +152,19 @@ fn runs_with_little_room(rt: HostRuntime) -> Result<(), Fail> {
     Ok(())
 }
 
+// How many bytes more than 1,048,576 a file has, and what comes of it.
 #[test]
 fn a_file_has_at_most_so_many_bytes(rt: HostRuntime) -> Result<(), Fail> {
     let alloc = rt.alloc();
-    let mut text = Vec::new(alloc);
-    text.resize(FILE_MAX as usize, b' ')?;
-    let mut files = MemFiles::new(alloc);
-    files.put("a.js", text.as_slice())?;
-    let found = told(&rt, alloc, WORDS, &mut files, 100, (100, 100))?;
-    assert_eq!(rt; found.as_str(), r#"0 "" """#);
-    text.push(b' ')?;
-    files.put("a.js", text.as_slice())?;
-    let found = told(&rt, alloc, WORDS, &mut files, 100, (100, 100))?;
-    assert_eq!(rt;
-        found.as_str(),
-        r#"3 "" "a.js: larger than 1048576 bytes\n""#
-    );
+    for (more, want) in [
+        (0, r#"0 "" """#),
+        (1, r#"3 "" "a.js: larger than 1048576 bytes\n""#),
+    ] {
+        let mut files = MemFiles::new(alloc);
+        files.put("a.js", text(alloc, 1024, more)?.as_slice())?;
+        let found = told(&rt, alloc, WORDS, &mut files, 100, (100, 100))?;
+        assert_eq!(rt; found.as_str(), want);
+    }
     Ok(())
 }
 
