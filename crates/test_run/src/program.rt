@@ -182,7 +182,7 @@ fn ran_of_three<R: Threads + Sync>(rt: &R, alloc: Global, failing: u32) -> Resul
 // One of three reads fails: its file is named, and nothing is printed.
 #[test]
 fn a_read_fails_among_several(rt: HostRuntime) -> Result<(), Fail> {
-    let mut call = 0;
+    let mut call = 0u32;
     for told in [
         "a.js: cannot be read\n",
         "b.js: cannot be read\n",
