@@ -34,7 +34,7 @@ pub(crate) struct Room {
 }
 
 // Runs the program with these words, one blank apart, over the files.
-pub(crate) fn ran<R: Threads + Sync>(
+pub(crate) fn run_on<R: Threads + Sync>(
     rt: &R,
     alloc: Global,
     words: &str,
@@ -71,7 +71,7 @@ fn a_sink_fails_at_any_place(rt: HostRuntime) -> Result<(), Fail> {
                 out: bytes,
                 err: bytes,
             };
-            let ran = ran(&rt, rt.alloc(), WORDS, &mut files, room)?;
+            let ran = run_on(&rt, rt.alloc(), WORDS, &mut files, room)?;
             let code = if bytes < 10 { 7 } else { 0 };
             assert!(rt;
                 ran.is(code, first(b"hello\nyou\n", bytes), b""),
@@ -92,7 +92,7 @@ fn err_fails_at_any_place(rt: HostRuntime) -> Result<(), Fail> {
                 out: bytes,
                 err: bytes,
             };
-            let ran = ran(&rt, rt.alloc(), WORDS, &mut files, room)?;
+            let ran = run_on(&rt, rt.alloc(), WORDS, &mut files, room)?;
             let told = first(b"a.js:3: refused: unexpected\n", bytes);
             assert!(rt; ran.is(4, b"", told), "room for {bytes}");
         }
@@ -109,7 +109,7 @@ fn a_line_breaks_off(rt: HostRuntime) -> Result<(), Fail> {
         out: 5,
         err: 5,
     };
-    let ran = ran(&rt, rt.alloc(), WORDS, &mut files, room)?;
+    let ran = run_on(&rt, rt.alloc(), WORDS, &mut files, room)?;
     assert!(rt; ran.is(7, b"abcde", b""));
     Ok(())
 }
@@ -124,7 +124,7 @@ fn a_line_on_err_fails_behind_the_lines(rt: HostRuntime) -> Result<(), Fail> {
             out: 100,
             err: bytes,
         };
-        let ran = ran(&rt, rt.alloc(), WORDS, &mut files, room)?;
+        let ran = run_on(&rt, rt.alloc(), WORDS, &mut files, room)?;
         let code = if bytes < 25 { 7 } else { 1 };
         let told = first(b"a.js: uncaught TypeError\n", bytes);
         assert!(rt; ran.is(code, b"x\n", told), "room for {bytes}");
@@ -144,7 +144,7 @@ fn a_file_has_at_most_so_many_bytes(rt: HostRuntime) -> Result<(), Fail> {
     for more in 0..2 {
         let mut files = MemFiles::new(rt.alloc());
         files.put("a.js", text(rt.alloc(), 1024, more)?.as_slice())?;
-        let ran = ran(&rt, rt.alloc(), WORDS, &mut files, AMPLE)?;
+        let ran = run_on(&rt, rt.alloc(), WORDS, &mut files, AMPLE)?;
         let large = ran.is(3, b"", b"a.js: larger than 1048576 bytes\n");
         assert!(rt;
             if more == 0 {
@@ -163,9 +163,9 @@ fn a_file_has_at_most_so_many_bytes(rt: HostRuntime) -> Result<(), Fail> {
 fn a_read_fails(rt: HostRuntime) -> Result<(), Fail> {
     let mut files = file_of(rt.alloc(), "print('x');")?;
     files.fail_at(0)?;
-    let failed = ran(&rt, rt.alloc(), WORDS, &mut files, AMPLE)?;
+    let failed = run_on(&rt, rt.alloc(), WORDS, &mut files, AMPLE)?;
     assert!(rt; failed.is(3, b"", b"a.js: cannot be read\n"));
-    let done = ran(&rt, rt.alloc(), WORDS, &mut files, AMPLE)?;
+    let done = run_on(&rt, rt.alloc(), WORDS, &mut files, AMPLE)?;
     assert!(rt; done.is(0, b"x\n", b""));
     Ok(())
 }
@@ -176,7 +176,7 @@ fn ran_of_three<R: Threads + Sync>(rt: &R, alloc: Global, failing: u32) -> Resul
     files.put("b.js", b"no script")?;
     files.put("c.js", b"print('y');")?;
     files.fail_at(failing)?;
-    ran(rt, alloc, "jsstr a.js b.js c.js", &mut files, AMPLE)
+    run_on(rt, alloc, "jsstr a.js b.js c.js", &mut files, AMPLE)
 }
 
 // One of three reads fails: its file is named, and nothing is printed.
@@ -199,7 +199,7 @@ fn a_read_fails_among_several(rt: HostRuntime) -> Result<(), Fail> {
 #[test]
 fn no_words(rt: HostRuntime) -> Result<(), Fail> {
     let mut files = MemFiles::new(rt.alloc());
-    let ran = ran(&rt, rt.alloc(), "", &mut files, AMPLE)?;
+    let ran = run_on(&rt, rt.alloc(), "", &mut files, AMPLE)?;
     assert!(rt; ran.is(2, b"", b"jsstr: the words are refused\n"));
     Ok(())
 }

@@ -1,5 +1,5 @@
 // A report from a table, which prints 273 bytes, to sinks that fail at any place.
-use crate::program::{Room, ran};
+use crate::program::{Room, run_on};
 use js_io::MemFiles;
 use std::test::Fail;
 
@@ -54,7 +54,7 @@ fn a_report_breaks_off_at_any_place(rt: HostRuntime) -> Result<(), Fail> {
         out: PRINTED,
         err: PRINTED,
     };
-    let whole = ran(&rt, alloc, WORDS, &mut files, ample)?;
+    let whole = run_on(&rt, alloc, WORDS, &mut files, ample)?;
     let lines = whole.out.taken();
     assert_eq!(rt; (whole.code, lines.len()), (0, PRINTED as usize));
     for most in [1, 7] {
@@ -64,7 +64,7 @@ fn a_report_breaks_off_at_any_place(rt: HostRuntime) -> Result<(), Fail> {
                 out: bytes,
                 err: bytes,
             };
-            let found = ran(&rt, alloc, WORDS, &mut files, room)?;
+            let found = run_on(&rt, alloc, WORDS, &mut files, room)?;
             let as_wanted = lines.get(..bytes as usize) == Some(found.out.taken());
             assert!(rt; as_wanted && found.code == 7, "room for {bytes}");
         }
