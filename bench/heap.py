@@ -29,10 +29,19 @@ STORES = os.path.join(ROOT, "crates", "store_bench", "out", "store_bench")
 # the word for the program, what one turn is, the small count and the large one
 OVER_STORES = [
     ("read", "a unit of a string of 1,000,000 read", 1_000, 20_001_000),
+    ("blocks", "the same by blocks of 250 units", 1_000, 200_001_000),
     ("seek", "a unit that isn't there sought in it", 1, 21),
     ("make", "a string of 20 units made", 1_000, 501_000),
     ("known", "the same made and interned, where it is there", 1_000, 501_000),
     ("new", "the same made and interned, where it is new", 1_000, 501_000),
+    ("keys", "a string of 40 units made", 1_000, 101_000),
+    ("forty", "the same made and interned, where it is new", 1_000, 101_000),
+]
+# a measure with interning, the same without, and what their difference is
+INTERNINGS = [
+    ("known", "make", "interning 20 units alone, where they are there"),
+    ("new", "make", "interning 20 units alone, where they are new"),
+    ("forty", "keys", "interning 40 units alone, where they are new"),
 ]
 # what takes ten times as long for ten times the count, within these bounds
 LINEAR = (8, 14)
@@ -99,8 +108,8 @@ def over_stores():
             many = seconds([STORES, store, word, str(large)], RUNS, 0)
             took[word, store] = (many - few) / (large - small) * 1e9
         told(what, took[word, "plain"], took[word, "heap"])
-    for word, what in [("known", "interning alone, where it is there"), ("new", "interning alone, where it is new")]:
-        told(what, *(took[word, store] - took["make", store] for store in ["plain", "heap"]))
+    for word, less, what in INTERNINGS:
+        told(what, *(took[word, store] - took[less, store] for store in ["plain", "heap"]))
 
 
 def told(what, plain, heap):

@@ -1,4 +1,4 @@
--- What a refusal of the heap is as a fault of a store. No public contract cites these.
+-- What a refusal of the heap is as a fault of a store.
 use Rattle.js_store.specs.declared.faults.ConcatFault.{ConcatFault}
 use Rattle.js_store.specs.declared.faults.ConcatFault.TheVariants.{Store, TooLong}
 use Rattle.js_store.specs.declared.faults.FullReport.TheVariants as report

@@ -5,7 +5,7 @@ ghost use Rattle.js_store.specs.Rows.{intern_words};
 ghost use Rattle.js_store.specs.State.{Has, IsKnown, IsSettled, text};
 ghost use Rattle.heap_slots.specs.Answers.{IsForwarded};
 ghost use Rattle.heap_slots.specs.SlotLoads.{LoadsSlots, loads_at};
-ghost use Rattle.heap_intern.specs.Counted.{FoundFree, answered};
+ghost use Rattle.heap_intern.specs.Counted.{FoundFree, GoesByPlan, answered};
 ghost use Rattle.heap_intern.specs.Sessions.{state_in, view_in};
 
 use crate::faults::{table_fault, text_fault};
@@ -35,7 +35,8 @@ impl<'h> Session<'h> {
         ensures grown { IfOk result (λ r. (state_in self.new).history ≡ (state_in self.old).history ++ (text (state_in self.old) s.id, r.id) ∷ []) }
         ensures kept { OnErr result ((state_in self.new).history ≡ (state_in self.old).history) }
         ensures shut { SlotsShut (state_in self.new) (fault_of result) (text (state_in self.old) s.id) }
-        ensures free { FoundFree (view_in self.old) (view_in self.new) (fault_of result) }
+        ensures free { FoundFree (view_in self.old) (view_in self.new) (text (state_in self.old) s.id) (fault_of result) }
+        ensures plan { GoesByPlan (view_in self.old) (view_in self.new) s.id (text (state_in self.old) s.id) result }
         ensures loads { LoadsSlots (view_in self.old) (view_in self.new) (answered result) steps.old steps.new }
         ensures few { (k : ℕ) → loads_at (view_in self.new) k ≤ loads_at (view_in self.old) k + 2 }
         ensures most { steps.new ≤ steps.old + 2 * (state_in self.old).sizes.slots }
@@ -69,7 +70,8 @@ impl<'h> Session<'h> {
         ensures grown { IfOk result (λ r. (state_in self.new).history ≡ (state_in self.old).history ++ (text (state_in self.old) s.id, r.id) ∷ []) }
         ensures kept { OnErr result ((state_in self.new).history ≡ (state_in self.old).history) }
         ensures shut { SlotsShut (state_in self.new) (fault_of result) (text (state_in self.old) s.id) }
-        ensures free { FoundFree (view_in self.old) (view_in self.new) (fault_of result) }
+        ensures free { FoundFree (view_in self.old) (view_in self.new) (text (state_in self.old) s.id) (fault_of result) }
+        ensures plan { GoesByPlan (view_in self.old) (view_in self.new) s.id (text (state_in self.old) s.id) result }
         ensures few { (k : ℕ) → loads_at (view_in self.new) k ≤ loads_at (view_in self.old) k + 2 }
     {
         let mut steps = Steps::<L>::start(blank);

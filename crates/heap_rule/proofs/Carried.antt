@@ -17,7 +17,7 @@ use Rattle.heap_rule.proofs.Agreement.{Agrees, Turned, born_then, kept_then, sol
 pub false_true : false ≡ true → ⊥
 false_true e = cc
 
-latest : (f g h : Form) → IsLater f g → IsLater g h → IsLater f h
+pub latest : (f g h : Form) → IsLater f g → IsLater g h → IsLater f h
 latest (Cons w l r) (Flat b s false) (Thin t) p q = refl
 latest (Cons w l r) (Flat b s false) Unborn p q = q
 latest (Cons w l r) (Flat b s false) (Flat b' s' x) p q = absurd (false_true q)

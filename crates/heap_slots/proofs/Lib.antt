@@ -12,3 +12,4 @@ pub mod Moving
 pub mod Distinct
 pub mod Counted
 pub mod Visiting
+pub mod Blocks

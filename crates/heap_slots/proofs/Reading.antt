@@ -15,7 +15,8 @@ use Rattle.heap_slots.specs.Stretches.{AreFrozen, HasLane, IsLearned, IsSought, 
 use Rattle.heap_slots.proofs.Going.{forms_self, forms_trans, looks_self, looks_trans}
 use Rattle.heap_slots.specs.Answers.{is_wide}
 use Rattle.heap_slots.proofs.Packing.{none_wide, some_wide}
-use Rattle.heap_slots.proofs.Stretching.{all_read, differs_lane, has_units, hash_end, hash_next, lane_kept, lies_kept, sought_kept, sought_length, word_kept}
+use Rattle.heap_slots.proofs.Stretching.{all_read, has_units, sought_kept, sought_length}
+use Rattle.js_units.proofs.Hashing.{hash_end}
 
 -- the hash of the first i units is h, and their words are frozen
 pub record Hashing (a v : View) (s : Sought) (i h : ℕ) : Type 0 where
@@ -28,21 +29,8 @@ pub record Hashing (a v : View) (s : Sought) (i h : ℕ) : Type 0 where
 pub hashing_none : (a : View) (s : Sought) → IsSought a s → Hashing a a s 0 0
 hashing_none a s h = record { looks = looks_self a; forms = forms_self a; lies = h; hash = λ us u. refl; read = λ o l. absurd (omega arith) }
 
-pub hashing_next : (a v w : View) (s : Sought) (i h unit next : ℕ) → IsPossible v → Hashing a v s i h → Looks v w → KeepsForms v w → HasLane w s.wide s.start (s.offset + i) unit → ((us : List ℕ) → Has v.units s.id us → unit ≡ get_or us i 0) → i < s.len → next ≡ hash_after h unit
-    → Hashing a w s (i + 1) next
-hashing_next a v w s i h unit next p k l f lane is inside e = record {
-  looks = looks_trans a v w k.looks l;
-  forms = forms_trans a v w k.forms f;
-  lies = sought_kept v w l.goes.known f s k.lies;
-  hash = λ us u. let u' = k.looks.goes.known.units s.id us u in let n = sought_length v p s us k.lies u' in
-      subst (λ (x : ℕ). hash_from x (drop (i + 1) us) ≡ hash_of us) (sym (e ∙ ap (hash_after h) (is us u'))) (hash_next h i us (omega arith) (k.hash us u));
-  read = λ o m. dite (ℕ_discrete o i)
-      (λ (e' : o ≡ i). subst (λ (x : ℕ). HasKey w.frozen (s.start + (s.offset + x) / lane_count s.wide)) (sym e') (key_of w.frozen (s.start + (s.offset + i) / lane_count s.wide) lane.word lane.frozen))
-      (λ ne. word_kept v w l.goes.known (s.start + (s.offset + o) / lane_count s.wide) (k.read o (omega arith)));
-}
-
 pub hashed : (a v : View) (s : Sought) (i h : ℕ) → IsPossible v → Hashing a v s i h → i ≡ s.len → (us : List ℕ) → Has a.units s.id us → h ≡ hash_of us
-hashed a v s i h p k e us u = let n = sought_length v p s us k.lies (k.looks.goes.known.units s.id us u) in hash_end h i us (e ∙ n) (k.hash us u)
+hashed a v s i h p k e us u = let n = sought_length v p s us k.lies (k.looks.goes.known.units s.id us u) in hash_end h (hash_of us) i us (e ∙ n) (k.hash us u)
 
 pub all_hashed : (a v : View) (s : Sought) (i h : ℕ) → Hashing a v s i h → i ≡ s.len → s.offset ≡ 0 → AreFrozen v s.wide s.start s.len
 all_hashed a v s i h k e none = subst (AreFrozen v s.wide s.start) e (all_read v s.wide s.start i
@@ -60,28 +48,9 @@ pub record Comparing (a v : View) (s : Sought) (t : Stretch) (i : ℕ) : Type 0 
 pub comparing_none : (a : View) (s : Sought) (t : Stretch) → IsSought a s → LiesIn a t → IsLearned a → Comparing a a s t 0
 comparing_none a s t h k l = record { looks = looks_self a; forms = forms_self a; lies = h; other = k; learned = l; same = λ us u o m. absurd (omega arith) }
 
-pub comparing_next : (a v u w : View) (s : Sought) (t : Stretch) (i unit other : ℕ) → Comparing a v s t i → Looks v u → Looks u w → KeepsForms v u → KeepsForms u w → IsLearned w → ((us : List ℕ) → Has v.units s.id us → unit ≡ get_or us i 0) → HasLane w t.wide t.start i other → unit ≡ other
-    → Comparing a w s t (i + 1)
-comparing_next a v u w s t i unit other k l m f g learned is lane e = let n = looks_trans v u w l m in let forms = forms_trans v u w f g in record {
-  looks = looks_trans a v w k.looks n;
-  forms = forms_trans a v w k.forms forms;
-  lies = sought_kept v w n.goes.known forms s k.lies;
-  other = lies_kept v w n.goes.known t k.other;
-  learned = learned;
-  same = λ us x o m. dite (ℕ_discrete o i)
-      (λ (e' : o ≡ i). let here : other ≡ get_or us o 0 = sym e ∙ (is us (k.looks.goes.known.units s.id us x) ∙ ap (λ (j : ℕ). get_or us j 0) (sym e')) in
-      subst (λ (y : ℕ). HasLane w t.wide t.start o y) here (subst (λ (y : ℕ). HasLane w t.wide t.start y other) (sym e') lane))
-      (λ ne. lane_kept v w n.goes.known t.wide t.start o (get_or us o 0) (k.same us x o (omega arith)));
-}
-
 pub compared_same : (a v : View) (s : Sought) (t : Stretch) (i : ℕ) → IsPossible v → Comparing a v s t i → t.len ≡ s.len → i ≡ s.len → (us : List ℕ) → Has a.units s.id us → Has v.units t.id us
 compared_same a v s t i p k long e us u = let n = sought_length v p s us k.lies (k.looks.goes.known.units s.id us u) in
     has_units v p t us k.other k.learned (long ∙ n) (λ o l. k.same us u o (omega arith))
-
-pub compared_other : (a v u w : View) (s : Sought) (t : Stretch) (i unit other : ℕ) → IsPossible v → Comparing a v s t i → Looks v u → Looks u w → ((us : List ℕ) → Has v.units s.id us → unit ≡ get_or us i 0) → HasLane w t.wide t.start i other → (unit ≡ other → ⊥)
-    → i < s.len → (us : List ℕ) → Has a.units s.id us → Differs w us t.id
-compared_other a v u w s t i unit other p k l m is lane ne inside us x = let x' = k.looks.goes.known.units s.id us x in let n = sought_length v p s us k.lies x' in
-    differs_lane w t us i other (lies_kept v w (looks_trans v u w l m).goes.known t k.other) (omega arith) lane (λ e. ne (is us x' ∙ e))
 
 -- the first i units are at most 255
 pub record Narrow (a v : View) (s : Sought) (i : ℕ) : Type 0 where

@@ -1,8 +1,8 @@
 -- The units of a string, lane by lane.
-use Rattle.std.proofs.Common.{◌≡◌, ℕ, suc, ◌+◌, ◌*◌, ◌/◌, ◌%◌, ◌^◌, ◌<◌, ◌⊎◌, inl, inr, ⊎_elim, Bool, true, false, cond, List, [], ◌∷◌, drop, length, get_or, sym, refl, ap, ◌∙◌, subst, arith, drop-cons, Option, Some, None}
+use Rattle.std.proofs.Common.{◌≡◌, ℕ, ◌+◌, ◌*◌, ◌/◌, ◌%◌, ◌^◌, ◌<◌, ◌⊎◌, inl, inr, ⊎_elim, Bool, true, false, cond, List, length, get_or, sym, refl, ap, ◌∙◌, subst, arith, Option, Some, None}
 use Rattle.std.proofs.lemmas.Grind.{same_number_lists}
 use Rattle.std.specs.FinMap.{contains_key, insert}
-use Rattle.js_units.specs.Lanes.{hash_after, hash_from, hash_of, lane_count, lane_of, words_over}
+use Rattle.js_units.specs.Lanes.{lane_count, lane_of, words_over}
 use Rattle.js_header.specs.declared.form.Form.{Form}
 use Rattle.js_header.specs.Form.{form_of}
 use Rattle.js_header.specs.declared.form.Form.TheVariants.{Flat, Sliced, Thin}
@@ -156,18 +156,3 @@ has_units w p t us h learned long lanes = let all : AreFrozen w t.wide t.start t
 -- a lane that is another unit
 pub differs_lane : (w : View) (t : Stretch) (us : List ℕ) (o unit : ℕ) → LiesIn w t → o < length us → HasLane w t.wide t.start o unit → (get_or us o 0 ≡ unit → ⊥) → Differs w us t.id
 differs_lane w t us o unit h l lane ne = inr (inr (t.wide, t.start, true, o, lane.word, h.form, l, lane.frozen, λ e. ne (sym (lane.lane ∙ e))))
-
--- the hash, one unit further
-pub hash_next : (h i : ℕ) (us : List ℕ) → i < length us → hash_from h (drop i us) ≡ hash_of us → hash_from (hash_after h (get_or us i 0)) (drop (i + 1) us) ≡ hash_of us
-hash_next h i us l e = let one : suc i ≡ i + 1 = omega arith in let next : drop (suc i) us ≡ drop (i + 1) us = ap (λ (n : ℕ). drop n us) one in
-    subst (λ (xs : List ℕ). hash_from (hash_after h (get_or us i 0)) xs ≡ hash_of us) next (ap (hash_from h) (sym (drop-cons us i 0 l)) ∙ e)
-
-drop_all : (n : ℕ) (us : List ℕ) → n ≡ length us → drop n us ≡ []
-drop_all n us e = ap (λ (m : ℕ). drop m us) e ∙ drop_whole us
-  where
-    drop_whole : (xs : List ℕ) → drop (length xs) xs ≡ []
-    drop_whole [] = refl
-    drop_whole (x ∷ xs) = drop_whole xs
-
-pub hash_end : (h n : ℕ) (us : List ℕ) → n ≡ length us → hash_from h (drop n us) ≡ hash_of us → h ≡ hash_of us
-hash_end h n us long e = sym (ap (hash_from h) (drop_all n us long)) ∙ e

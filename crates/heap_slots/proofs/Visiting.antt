@@ -24,12 +24,12 @@ use Rattle.heap_slots.specs.declared.faults.TableFull.TheVariants.{Ids, Words, S
 use Rattle.heap_slots.specs.declared.probing.Visit.{Visit}
 use Rattle.heap_slots.specs.declared.probing.Visit.TheVariants.{Answer, Next}
 use Rattle.heap_slots.specs.declared.sought.Sought.{Sought}
-use Rattle.heap_slots.specs.Answers.{HasLeft, Interns, IsFixed, IsHeader, IsRefused, Plan}
+use Rattle.heap_slots.specs.Answers.{HasLeft, Interns, IsBehind, IsFixed, IsHeader, IsOpen, IsRefused, Plan}
 use Rattle.heap_slots.specs.Goes.{Goes, KeepsForms, Looks}
 use Rattle.heap_slots.specs.Headers.{IsNoHeader, ids_of, words_of}
 use Rattle.heap_slots.specs.SlotLoads.{IsFirst}
 use Rattle.heap_slots.specs.Stretches.{AreFrozen, IsSought}
-use Rattle.heap_slots.specs.Visits.{IsAnswer, IsBehind, IsMade, IsNext, IsUnmade, Visited, Visits}
+use Rattle.heap_slots.specs.Visits.{IsAnswer, IsMade, IsNext, IsUnmade, Visited, Visits}
 use Rattle.heap_slots.proofs.Going.{forms_self, forms_trans, goes_self, goes_trans}
 use Rattle.heap_slots.proofs.Possibly.{possible_open}
 use Rattle.heap_slots.proofs.Stretching.{frozen_kept, sought_kept}
@@ -182,18 +182,19 @@ module _ (a v : View) (s : Sought) (us : List ℕ) (plan : Plan) (r : ℕ) (head
       let ids : w.used.ids ≡ a.used.ids + ids_of g.made = omega arith in let words : w.used.words ≡ a.used.words + words_of plan.words g.made = omega arith in let one = ids_most g.made in let most = words_most plan.words g.made in
       (goes_trans a v w [] ((us, i) ∷ []) p.goes g.goes, omega arith, omega arith, g.fixed, (k, g.stands), left_by a w us plan g.made ids words g.made_is)
 
-  free_slot : (w : View) (f : TableFull) → r < n → IsUnmade v w plan.words ((h % n + r) % n) header f → (k : ℕ) × (k < w.sizes.slots) × (get w.slots k ≡ None)
-  free_slot w f l g = let go = goes_trans a v w [] [] p.goes g.goes in ((h % n + r) % n, subst (λ (z : HeapSize). (h % n + r) % n < z.slots) (sym go.sizes) (next_inside l), g.free)
+  free_slot : (w : View) (f : TableFull) → IsPossible v → r < n → IsUnmade v w plan.words ((h % n + r) % n) header f → IsOpen w us
+  free_slot w f possible l g = let go = goes_trans a v w [] [] p.goes g.goes in
+      ((h % n + r) % n, subst (λ (z : HeapSize). (h % n + r) % n < z.slots) (sym go.sizes) (next_inside l), g.free, behind_kept v w possible g.goes.known us g.goes.sizes ((h % n + r) % n) (next_behind l))
 
-  refused_by : (w : View) (f : TableFull) → r < n → IsUnmade v w plan.words ((h % n + r) % n) header f → IsNoHeader v w plan.words f → IsRefused a w us plan f
-  refused_by w (Ids f) l g t = let none : ids_of header ≡ 0 = ap ids_of g.none in let none' : words_of plan.words header ≡ 0 = ap (words_of plan.words) g.none in let u' = p.used in let x' = p.used_words in let t2 = t.2 in let t3 = t.3 in
-      (omega arith, omega arith, t.0, t.1, free_slot w (Ids f) l g, t.4)
-  refused_by w (Words f) l g t = let none : ids_of header ≡ 0 = ap ids_of g.none in let none' : words_of plan.words header ≡ 0 = ap (words_of plan.words) g.none in let u' = p.used in let x' = p.used_words in let t2 = t.2 in let t3 = t.3 in
-      (omega arith, omega arith, t.0, t.1, free_slot w (Words f) l g)
-  refused_by w (Slots m) l g t = absurd t
+  refused_by : (w : View) (f : TableFull) → IsPossible v → r < n → IsUnmade v w plan.words ((h % n + r) % n) header f → IsNoHeader v w plan.words f → IsRefused a w us plan f
+  refused_by w (Ids f) possible l g t = let none : ids_of header ≡ 0 = ap ids_of g.none in let none' : words_of plan.words header ≡ 0 = ap (words_of plan.words) g.none in let u' = p.used in let x' = p.used_words in let t2 = t.2 in let t3 = t.3 in
+      (omega arith, omega arith, t.0, t.1, free_slot w (Ids f) possible l g, t.4)
+  refused_by w (Words f) possible l g t = let none : ids_of header ≡ 0 = ap ids_of g.none in let none' : words_of plan.words header ≡ 0 = ap (words_of plan.words) g.none in let u' = p.used in let x' = p.used_words in let t2 = t.2 in let t3 = t.3 in
+      (omega arith, omega arith, t.0, t.1, free_slot w (Words f) possible l g)
+  refused_by w (Slots m) possible l g t = absurd t
 
-  pub probed_unmade : (w : View) (f : TableFull) → r < n → IsUnmade v w plan.words ((h % n + r) % n) header f → Interns a w us plan (Err f)
-  probed_unmade w f l g = (goes_trans a v w [] [] p.goes g.goes, refused_by w f l g g.told)
+  pub probed_unmade : (w : View) (f : TableFull) → IsPossible v → r < n → IsUnmade v w plan.words ((h % n + r) % n) header f → Interns a w us plan (Err f)
+  probed_unmade w f possible l g = (goes_trans a v w [] [] p.goes g.goes, refused_by w f possible l g g.told)
 
   pub probed_all : r ≡ n → Interns a v us plan (Err (Slots n))
   probed_all e = let all : (j : ℕ) → j < a.sizes.slots → IsShutAt v us j = ranks_all (IsShutAt v us) us a.sizes.slots (subst (λ (m : ℕ). (j : ℕ) → j < a.sizes.slots → rank us a.sizes.slots j < m → IsShutAt v us j) (e ∙ slots) p.passed) in
@@ -219,10 +220,10 @@ pub only_units : (m : FinMap nat_cmp (List ℕ)) (id : ℕ) (us ws : List ℕ) (
 only_units m id us ws P h g p = let same : Some ws ≡ Some us = sym h ∙ g in let is : ws ≡ us = cc in subst P is p
 
 -- loads before it, and loads after it
-left_after : (a v w : View) (us : List ℕ) (plan : Plan) → v.used.ids ≡ a.used.ids → v.used.words ≡ a.used.words → HasLeft v w us plan → HasLeft a w us plan
+pub left_after : (a v w : View) (us : List ℕ) (plan : Plan) → v.used.ids ≡ a.used.ids → v.used.words ≡ a.used.words → HasLeft v w us plan → HasLeft a w us plan
 left_after a v w us plan e d h = ⊎_elim (λ t. inl (t.0 ∙ e, t.1 ∙ d)) (λ t. inr (t.0, t.1 ∙ ap (λ (x : ℕ). x + 1) e, t.2 ∙ ap (λ (x : ℕ). x + plan.words) d, t.3)) h
 
-refused_after : (a v w : View) (us : List ℕ) (plan : Plan) (f : TableFull) → v.used.ids ≡ a.used.ids → v.used.words ≡ a.used.words → IsRefused v w us plan f → IsRefused a w us plan f
+pub refused_after : (a v w : View) (us : List ℕ) (plan : Plan) (f : TableFull) → v.used.ids ≡ a.used.ids → v.used.words ≡ a.used.words → IsRefused v w us plan f → IsRefused a w us plan f
 refused_after a v w us plan (Ids f) e d h = (h.0 ∙ e, h.1 ∙ ap (λ (n : ℕ). n + plan.words) d, h.2, h.3, h.4, h.5)
 refused_after a v w us plan (Words f) e d h = (h.0 ∙ e, h.1 ∙ d, h.2, h.3, h.4)
 refused_after a v w us plan (Slots n) e d h = (h.0, h.1, left_after a v w us plan e d h.2)

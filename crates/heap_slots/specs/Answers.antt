@@ -8,7 +8,9 @@ use Rattle.js_header.specs.declared.form.Form.TheVariants.{Flat, Sliced, Thin}
 use Rattle.heap_rule.specs.declared.view.View.{View}
 use Rattle.heap_rule.specs.Forms.{IsLater}
 use Rattle.heap_rule.specs.Maps.{Has, HasKey}
+use Rattle.heap_rule.specs.Paths.{rank}
 use Rattle.heap_rule.specs.SlotTests.{shut}
+use Rattle.heap_rule.specs.Slots.{IsShutAt}
 use Rattle.heap_table.specs.Full.{IsFull}
 use Rattle.heap_slots.specs.declared.faults.TableFull.{TableFull}
 use Rattle.heap_slots.specs.declared.faults.TableFull.TheVariants.{Ids, Words, Slots}
@@ -66,14 +68,22 @@ HasLeft v w us plan = ((w.used.ids ≡ v.used.ids) × (w.used.words ≡ v.used.w
 abbrev pub HasSpared : View → ℕ → Type 0
 HasSpared w n = (start : ℕ) × ((q : ℕ) → q < n → HasKey w.own_words (start + q))
 
--- Refused for want of an id, or of the words of a copy: the counter that was read last has no room for it, and some slot is not known to be used.
--- Where an id was wanted the words were claimed; they stay the agent's own.
+-- each slot before k on the path of us is known to be used by a string that differs
+abbrev pub IsBehind : View → List ℕ → ℕ → Type 0
+IsBehind v us k = (j : ℕ) → j < v.sizes.slots → rank us v.sizes.slots j < rank us v.sizes.slots k → IsShutAt v us j
+
+-- some slot is not known to be used, behind slots that were compared
+abbrev pub IsOpen : View → List ℕ → Type 0
+IsOpen w us = (k : ℕ) × (k < w.sizes.slots) × (get w.slots k ≡ None) × IsBehind w us k
+
+-- Refused for want of an id, or of the words of a copy: the counter that was read last has no room for it, and a slot was free behind slots that
+-- were compared. Where an id was wanted the words were claimed; they stay the agent's own.
 -- Refused for want of a slot: every slot is known to be used by a string that differs.
 abbrev pub IsRefused : View → View → List ℕ → Plan → TableFull → Type 0
 IsRefused v w us plan (Ids f) = (w.used.ids ≡ v.used.ids) × (w.used.words ≡ v.used.words + plan.words) × IsFull f 1 w.sizes.ids × (w.low.ids ≡ f.at)
-    × ((k : ℕ) × (k < w.sizes.slots) × (get w.slots k ≡ None)) × HasSpared w plan.words
+    × IsOpen w us × HasSpared w plan.words
 IsRefused v w us plan (Words f) = (w.used.ids ≡ v.used.ids) × (w.used.words ≡ v.used.words) × IsFull f plan.words w.sizes.words × (w.low.words ≡ f.at)
-    × ((k : ℕ) × (k < w.sizes.slots) × (get w.slots k ≡ None))
+    × IsOpen w us
 IsRefused v w us plan (Slots n) = (n ≡ w.sizes.slots) × IsTrue (shut w us w.sizes.slots) × HasLeft v w us plan
 
 -- Interning the units us: the answer is a fixed Flat of these units that stands in a slot, and the history has one call more. At most one id was

@@ -3,7 +3,6 @@ use Rattle.std.specs.Prelude.{◌≡◌, ◌≢◌, ℕ, ◌+◌, ◌<◌, ◌�
 use Rattle.std.specs.FinMap.{get, contains_key}
 use Rattle.heap_rule.specs.declared.view.View.{View}
 use Rattle.heap_rule.specs.Maps.{Has}
-use Rattle.heap_rule.specs.Paths.{rank}
 use Rattle.heap_rule.specs.Slots.{IsShutAt}
 use Rattle.heap_slots.specs.declared.faults.TableFull.{TableFull}
 use Rattle.heap_slots.specs.declared.probing.Visit.{Visit}
@@ -13,10 +12,6 @@ use Rattle.heap_slots.specs.Counting.{count_below}
 use Rattle.heap_slots.specs.Goes.{Goes, KeepsForms, Looks}
 use Rattle.heap_slots.specs.Headers.{IsNoHeader, ids_of, words_of}
 use Rattle.heap_slots.specs.SlotLoads.{counted_on, loads_at}
-
--- each slot before k on the path of us is known to be used by a string that differs
-abbrev pub IsBehind : View → List ℕ → ℕ → Type 0
-IsBehind v us k = (j : ℕ) → j < v.sizes.slots → rank us v.sizes.slots j < rank us v.sizes.slots k → IsShutAt v us j
 
 abbrev pub IsMade : View → Plan → List ℕ → Option ℕ → Type 0
 IsMade v plan us header = IfSome header (IsHeader v plan us)

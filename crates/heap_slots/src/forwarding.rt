@@ -1,7 +1,6 @@
 // The header of a string that was interned moves to the answer.
 ghost use Rattle.std.specs.Prelude.{◌≡◌, ℕ, List, [], Bool};
 ghost use Rattle.std.specs.Bool.{MatchBool};
-ghost use Rattle.js_header.specs.Form.{IsInRange};
 ghost use Rattle.heap_rule.specs.HeaderMoves.{CanThin};
 ghost use Rattle.heap_rule.specs.Maps.{Has};
 ghost use Rattle.heap_table.specs.Agents.{Belongs, view_of};
@@ -31,7 +30,6 @@ fn can_thin(form: Form) -> bool
 pub(crate) fn forward(agent: &mut Agent, heap: &Heap, s: Sought, answer: u32)
     requires belongs { Belongs agent.old heap.now }
     requires lies { IsSought (view_of agent.old) s }
-    requires range { IsInRange s.form }
     requires stands { (k : ℕ) × Has (view_of agent.old).slots k answer }
     requires units { (us : List ℕ) × Has (view_of agent.old).units s.id us × Has (view_of agent.old).units answer us }
     ensures belongs { Belongs agent.new heap.now }

@@ -5,12 +5,12 @@ ghost use Rattle.js_units.specs.Lanes.{hash_of};
 ghost use Rattle.heap_rule.specs.Maps.{Has, HasKey};
 ghost use Rattle.heap_rule.specs.Views.{IsKnown, IsSettled};
 ghost use Rattle.heap_table.specs.Agents.{Belongs, view_of, size_of};
-ghost use Rattle.heap_slots.specs.Answers.{Interns, IsForwarded, IsPlan, Plan};
+ghost use Rattle.heap_slots.specs.Answers.{Interns, IsBehind, IsForwarded, IsPlan, Plan};
 ghost use Rattle.heap_slots.specs.Goes.{KeepsForms};
 ghost use Rattle.heap_slots.specs.SlotLoads.{IsFirst, LoadsSlots, answered, loads_at};
 ghost use Rattle.heap_slots.specs.Stretches.{AreFrozen, IsSought};
 ghost use Rattle.heap_slots.specs.Headers.{header_plan};
-ghost use Rattle.heap_slots.specs.Visits.{IsBehind, IsMade, LoadsOne, Visited, Visits, entries, entries_in};
+ghost use Rattle.heap_slots.specs.Visits.{IsMade, LoadsOne, Visited, Visits, entries, entries_in};
 
 use crate::faults::TableFull;
 use crate::forwarding::forward;

@@ -1,9 +1,8 @@
 // The string that is looked for. Its header is a Flat, forwards to one, or is a part of one of the
 // two; its units are read from the words of that Flat.
-ghost use Rattle.std.specs.Prelude.{◌≡◌, ℕ, List, ◌+◌, ◌-◌, ◌*◌, ◌/◌, ◌%◌, ◌≤◌, ◌<◌, ◌^◌, Bool, true, slice_index, length};
+ghost use Rattle.std.specs.Prelude.{◌≡◌, ◌≢◌, ℕ, List, ◌+◌, ◌-◌, ◌*◌, ◌/◌, ◌%◌, ◌≤◌, ◌<◌, ◌^◌, Bool, true, slice_index, length};
 ghost use Rattle.std.specs.Bool.{MatchBool};
 ghost use Rattle.js_units.specs.Lanes.{hash_of, lane_count, words_over};
-ghost use Rattle.js_header.specs.Form.{IsInRange};
 ghost use Rattle.js_header.specs.declared.form.Form.TheVariants.{Flat, Sliced};
 ghost use Rattle.heap_rule.specs.Maps.{Has, HasKey};
 ghost use Rattle.heap_rule.specs.Slots.{Differs};
@@ -13,10 +12,10 @@ ghost use Rattle.heap_slots.specs.Answers.{IsFound, is_wide};
 ghost use Rattle.heap_slots.specs.Goes.{KeepsForms, Looks};
 ghost use Rattle.heap_slots.specs.Stretches.{AreFrozen, HasLane, HasWords, IsLearned, IsSought, LiesIn};
 
-use crate::stretch::{Stretch, fixed_words, lane_at, stretch_of};
+use crate::stretch::{Block, Stretch, fixed_words, lane_at, lanes_at, stretch_of};
 use heap_table::{Agent, Heap};
 use js_header::Form;
-use js_units::hash_step;
+use js_units::hash_units as hash_list;
 
 /// A string that is looked for: its number, its header as it was loaded, and its units as `len`
 /// lanes behind `offset` others from content word `start` on.
@@ -58,7 +57,6 @@ pub(crate) fn seek(agent: &mut Agent, heap: &Heap, id: u32) -> Sought
     ensures loads { (view_of agent.new).slot_loads ≡ (view_of agent.old).slot_loads }
     ensures id { result.id ≡ id }
     ensures lies { IsSought (view_of agent.new) result }
-    ensures range { IsInRange result.form }
     ensures found { IsFound (view_of agent.old) id result.form }
 {
     let form = agent.load_form(heap, id);
@@ -114,6 +112,25 @@ pub(crate) fn unit_in(agent: &mut Agent, heap: &Heap, s: Sought, i: u32) -> u16
     lane_at(agent, heap, s.wide, s.start, s.offset + i)
 }
 
+// The units from `i` on that lie in one word, by one load.
+fn units_at(agent: &mut Agent, heap: &Heap, s: Sought, i: u32) -> Block
+    requires belongs { Belongs agent.old heap.now }
+    requires lies { IsSought (view_of agent.old) s }
+    requires within { i < s.len }
+    ensures belongs { Belongs agent.new heap.now }
+    ensures looks { Looks (view_of agent.old) (view_of agent.new) }
+    ensures forms { KeepsForms (view_of agent.old) (view_of agent.new) }
+    ensures loads { (view_of agent.new).slot_loads ≡ (view_of agent.old).slot_loads }
+    ensures some { 0 < result.count }
+    ensures most { i + result.count ≤ s.len }
+    ensures room { result.count ≤ 8 }
+    ensures lanes { (k : ℕ) → k < result.count → HasLane (view_of agent.new) s.wide s.start (s.offset + (i + k)) (slice_index result.units k) }
+    ensures units { (us : List ℕ) → Has (view_of agent.old).units s.id us → (k : ℕ) → k < result.count → slice_index result.units k ≡ slice_index us (i + k) }
+    ensures learned { IsLearned (view_of agent.new) }
+{
+    lanes_at(agent, heap, s.wide, s.start, s.offset + i, s.len - i)
+}
+
 // The hash of the units. Afterwards all words that a string has for itself are known to be frozen.
 pub(crate) fn hash_units(agent: &mut Agent, heap: &Heap, s: Sought) -> u32
     requires belongs { Belongs agent.old heap.now }
@@ -127,8 +144,11 @@ pub(crate) fn hash_units(agent: &mut Agent, heap: &Heap, s: Sought) -> u32
     ensures frozen { s.offset ≡ 0 → AreFrozen (view_of agent.new) s.wide s.start s.len }
 {
     let mut h = 0;
-    for i in 0..s.len {
-        h = hash_step(h, unit_in(agent, heap, s, i));
+    let mut i = 0;
+    while i < s.len {
+        let block = units_at(agent, heap, s, i);
+        h = hash_list(h, &block.units[..block.count as usize]);
+        i += block.count;
     }
     h
 }
@@ -154,7 +174,22 @@ pub(crate) fn has_wide(agent: &mut Agent, heap: &Heap, s: Sought) -> bool
     false
 }
 
-// Whether a string of the same length has the same units, unit by unit.
+// The first of so many units that differs, or their number where none does.
+fn first_other(left: &[u16; 8], right: &[u16; 8], count: u32) -> u32
+    requires { count ≤ 8 }
+    ensures most { result ≤ count }
+    ensures same { (k : ℕ) → k < result → slice_index left.now k ≡ slice_index right.now k }
+    ensures other { result < count → slice_index left.now result ≢ slice_index right.now result }
+{
+    for k in 0..count {
+        if left[k as usize] != right[k as usize] {
+            return k;
+        }
+    }
+    count
+}
+
+// Whether a string of the same length has the same units, a word of each in turn.
 fn has_same_units(agent: &mut Agent, heap: &Heap, s: Sought, t: Stretch) -> bool
     requires belongs { Belongs agent.old heap.now }
     requires lies { IsSought (view_of agent.old) s × LiesIn (view_of agent.old) t }
@@ -167,12 +202,14 @@ fn has_same_units(agent: &mut Agent, heap: &Heap, s: Sought, t: Stretch) -> bool
     ensures loads { (view_of agent.new).slot_loads ≡ (view_of agent.old).slot_loads }
     ensures same { (us : List ℕ) → Has (view_of agent.old).units s.id us → MatchBool result (Has (view_of agent.new).units t.id us) (Differs (view_of agent.new) us t.id) }
 {
-    for i in 0..s.len {
-        let unit = unit_in(agent, heap, s, i);
-        let other = lane_at(agent, heap, t.wide, t.start, i);
-        if unit != other {
+    let mut i = 0;
+    while i < s.len {
+        let left = units_at(agent, heap, s, i);
+        let right = lanes_at(agent, heap, t.wide, t.start, i, left.count);
+        if first_other(&left.units, &right.units, right.count) < right.count {
             return false;
         }
+        i += right.count;
     }
     true
 }

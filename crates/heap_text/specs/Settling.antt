@@ -5,7 +5,7 @@ use Rattle.js_header.specs.declared.form.Form.{Form}
 use Rattle.js_header.specs.declared.form.Form.TheVariants.{Cons, Flat, Sliced, Thin}
 use Rattle.heap_rule.specs.declared.size.HeapSize.{HeapSize}
 use Rattle.heap_rule.specs.declared.view.View.{View}
-use Rattle.heap_rule.specs.Forms.{IsNarrow}
+use Rattle.heap_rule.specs.Forms.{IsLater, IsNarrow}
 use Rattle.heap_rule.specs.Maps.{Has, HasKey}
 use Rattle.heap_rule.specs.Views.{IsKnown}
 use Rattle.heap_table.specs.declared.claims.CounterFull.{CounterFull}
@@ -37,6 +37,10 @@ pub record IsFlattened (v w : View) (i : ℕ) (us : List ℕ) (wide : Bool) : Ty
 -- the wide bit is that of the Cons, where the string was seen as one
 abbrev pub IsBitOf : View → ℕ → Bool → Type 0
 IsBitOf v i wide = (seen : Bool) (left right : ℕ) → Has v.forms i (Cons seen left right) → wide ≡ seen
+
+-- the form that was seen of the string is the one that the view has now, or an earlier one
+abbrev pub IsSeenLater : View → View → ℕ → Type 0
+IsSeenLater v w i = (f : Form) → Has v.forms i f → (g : Form) × Has w.forms i g × ((f ≡ g) ⊎ IsLater f g)
 
 -- no Cons was loaded, and nothing used; or a Cons was, and became flat with its wide bit
 abbrev pub IsSettling : View → View → ℕ → List ℕ → Type 0

@@ -36,7 +36,6 @@ pub fn pack(units: &[u16], wide: bool, at: u32) -> u64
 
 /// The hash of units behind those whose hash is `h`; 0 is that of no unit.
 pub fn hash_units(h: u32, units: &[u16]) -> u32
-    requires { h < 2 ^ 32 }
     ensures { result ≡ hash_from h units.now }
 {
     let mut hash = h;

@@ -3,7 +3,8 @@ ghost use Rattle.std.specs.Prelude.{◌≡◌, [], ◌∷◌, ℕ, MatchOption, 
 ghost use Rattle.parse_laws.specs.Reader.{Got, one_of, heads, heads_two};
 ghost use Rattle.eval_tree.specs.Tree.{expr_tree, step_tree};
 ghost use Rattle.parse_syntax.specs.Terminals as terminals;
-ghost use Rattle.parse_syntax.specs.Terminals.{Ident};
+ghost use Rattle.parse_syntax.specs.Terminals.{Ident, when};
+ghost use Rattle.parse_syntax.specs.declared.token.Token.TheVariants as token;
 ghost use Rattle.parse_syntax.specs.Reading.{step_mark, goes_on, read_header};
 ghost use Rattle.parse_look.specs.Look.{terminal, operators, openers, read_string_called, read_symbol_called, read_json_called, read_called, ident};
 ghost use Rattle.parse_look.specs.Gives.{Gives};
@@ -62,141 +63,54 @@ pub fn next(tokens: &[Token]) -> Option<(Token, &[Token])>
     }
 }
 
-fn is(fixed: Fixed, token: Token) -> Option<()>
-    ensures { result ≡ terminal fixed token }
+fn is_mark(fixed: Fixed, mark: Mark, after_line: bool) -> bool
+    ensures { (at : ℕ) → terminal fixed (token.Mark at mark after_line) ≡ when result tt }
 {
-    match (fixed, token) {
-        (
-            Fixed::OpenParen,
-            Token::Mark {
-                mark: Mark::OpenParen,
-                ..
-            },
-        ) => Some(()),
-        (
-            Fixed::CloseParen,
-            Token::Mark {
-                mark: Mark::CloseParen,
-                ..
-            },
-        ) => Some(()),
-        (
-            Fixed::CloseBracket,
-            Token::Mark {
-                mark: Mark::CloseBracket,
-                ..
-            },
-        ) => Some(()),
-        (
-            Fixed::OpenBrace,
-            Token::Mark {
-                mark: Mark::OpenBrace,
-                ..
-            },
-        ) => Some(()),
-        (
-            Fixed::CloseBrace,
-            Token::Mark {
-                mark: Mark::CloseBrace,
-                ..
-            },
-        ) => Some(()),
-        (
-            Fixed::Comma,
-            Token::Mark {
-                mark: Mark::Comma,
-                ..
-            },
-        ) => Some(()),
-        (
-            Fixed::Point,
-            Token::Mark {
-                mark: Mark::Point,
-                ..
-            },
-        ) => Some(()),
-        (
-            Fixed::Semicolon,
-            Token::Mark {
-                mark: Mark::Semicolon,
-                ..
-            },
-        ) => Some(()),
-        (
-            Fixed::Question,
-            Token::Mark {
-                mark: Mark::Question,
-                ..
-            },
-        ) => Some(()),
-        (
-            Fixed::Colon,
-            Token::Mark {
-                mark: Mark::Colon,
-                ..
-            },
-        ) => Some(()),
-        (
-            Fixed::Less,
-            Token::Mark {
-                mark: Mark::Less,
-                ..
-            },
-        ) => Some(()),
-        (
-            Fixed::Assign,
-            Token::Mark {
-                mark: Mark::Assign,
-                ..
-            },
-        ) => Some(()),
-        (
-            Fixed::Increment,
-            Token::Mark {
-                mark: Mark::Increment,
-                after_line: false,
-                ..
-            },
-        ) => Some(()),
-        (Fixed::Nought, Token::Number { value: 0, .. }) => Some(()),
-        (Fixed::Directive, Token::Directive { .. }) => Some(()),
-        (
-            Fixed::Let,
-            Token::Word {
-                word: Word::Let,
-                ..
-            },
-        ) => Some(()),
-        (
-            Fixed::Const,
-            Token::Word {
-                word: Word::Const,
-                ..
-            },
-        ) => Some(()),
-        (
-            Fixed::Print,
-            Token::Word {
-                word: Word::Print,
-                ..
-            },
-        ) => Some(()),
-        (Fixed::If, Token::Word { word: Word::If, .. }) => Some(()),
-        (
-            Fixed::Else,
-            Token::Word {
-                word: Word::Else,
-                ..
-            },
-        ) => Some(()),
-        (
-            Fixed::For,
-            Token::Word {
-                word: Word::For,
-                ..
-            },
-        ) => Some(()),
-        _ => None,
+    match (fixed, mark) {
+        (Fixed::OpenParen, Mark::OpenParen) => true,
+        (Fixed::CloseParen, Mark::CloseParen) => true,
+        (Fixed::CloseBracket, Mark::CloseBracket) => true,
+        (Fixed::OpenBrace, Mark::OpenBrace) => true,
+        (Fixed::CloseBrace, Mark::CloseBrace) => true,
+        (Fixed::Comma, Mark::Comma) => true,
+        (Fixed::Point, Mark::Point) => true,
+        (Fixed::Semicolon, Mark::Semicolon) => true,
+        (Fixed::Question, Mark::Question) => true,
+        (Fixed::Colon, Mark::Colon) => true,
+        (Fixed::Less, Mark::Less) => true,
+        (Fixed::Assign, Mark::Assign) => true,
+        (Fixed::Increment, Mark::Increment) => !after_line,
+        _ => false,
+    }
+}
+
+fn is_word(fixed: Fixed, word: Word) -> bool
+    ensures { (at : ℕ) → terminal fixed (token.Word at word) ≡ when result tt }
+{
+    match (fixed, word) {
+        (Fixed::Let, Word::Let) => true,
+        (Fixed::Const, Word::Const) => true,
+        (Fixed::Print, Word::Print) => true,
+        (Fixed::If, Word::If) => true,
+        (Fixed::Else, Word::Else) => true,
+        (Fixed::For, Word::For) => true,
+        _ => false,
+    }
+}
+
+fn is(fixed: Fixed, token: Token) -> bool
+    ensures { terminal fixed token ≡ when result tt }
+{
+    match token {
+        Token::Mark {
+            mark,
+            after_line,
+            ..
+        } => is_mark(fixed, mark, after_line),
+        Token::Word { word, .. } => is_word(fixed, word),
+        Token::Number { value, .. } => matches!(fixed, Fixed::Nought) && value == 0,
+        Token::Directive { .. } => matches!(fixed, Fixed::Directive),
+        Token::Text { .. } | Token::Name { .. } => false,
     }
 }
 
@@ -207,9 +121,10 @@ pub fn take(tokens: &[Token], fixed: Fixed) -> Result<&[Token], Fault<'_>>
     let Some((token, rest)) = next(tokens) else {
         return Err(refused(tokens));
     };
-    match is(fixed, token) {
-        Some(()) => Ok(rest),
-        None => Err(refused(tokens)),
+    if is(fixed, token) {
+        Ok(rest)
+    } else {
+        Err(refused(tokens))
     }
 }
 
@@ -219,10 +134,7 @@ pub fn behind(tokens: &[Token], fixed: Fixed) -> Option<&[Token]>
         (λ rest. one_of (terminal fixed) tokens.now ≡ Got tt rest.now) }
 {
     let (token, rest) = next(tokens)?;
-    match is(fixed, token) {
-        Some(()) => Some(rest),
-        None => None,
-    }
+    if is(fixed, token) { Some(rest) } else { None }
 }
 
 pub fn begins_step(tokens: &[Token]) -> bool

@@ -1,10 +1,11 @@
 //! The program `store_bench STORE WORD COUNT`: does one thing as often as it is told with one of
 //! the two stores, so that it can be timed from outside, and writes the sum of what it found.
 //!
-//! STORE is `plain` or `heap`. `read` reads the units of a string of 1,000,000 in turn, and `seek`
-//! looks in it for a unit that it hasn't. The others stand on a table of 50,000 lists of 20 units:
-//! `make` makes strings of such units, `known` makes and interns them, and `new` makes and interns
-//! COUNT different ones on an empty table. `repeat` repeats a unit to the greatest length, which a
+//! STORE is `plain` or `heap`. `read` reads the units of a string of 1,000,000 in turn, `blocks` by
+//! 250 at once, and `seek` looks in it for a unit that it hasn't. On a table of 50,000 lists of 20
+//! units `make` makes strings of such units and `known` makes and interns them. On an empty table
+//! `new` makes and interns COUNT different ones; `keys` makes as many of 40 units, and `forty` makes
+//! and interns these. `repeat` repeats a unit to the greatest length, which a
 //! session does by ropes alone, and settles nothing. Anything else ends with 3, and want of room or
 //! memory with 6.
 #![tactic(auto)]
@@ -33,10 +34,13 @@ fn asked(rt: &HostRuntime) -> io::Result<Option<(Kept, Measure, u32)>> {
     };
     let measure = match words[2].as_str() {
         "read" => Measure::Read,
+        "blocks" => Measure::Blocks,
         "seek" => Measure::Seek,
         "make" => Measure::Make,
         "known" => Measure::Known,
         "new" => Measure::New,
+        "keys" => Measure::Keys,
+        "forty" => Measure::Forty,
         "repeat" => Measure::Repeat,
         _ => return Ok(None),
     };

@@ -13,6 +13,8 @@ use std::alloc::Global;
 pub enum Measure {
     /// A unit of a string of 1,000,000 is read.
     Read,
+    /// The same by blocks of 250 units.
+    Blocks,
     /// A unit that it hasn't is looked for in it.
     Seek,
     /// A string of 20 units is made.
@@ -21,6 +23,10 @@ pub enum Measure {
     Known,
     /// The same with units that aren't there.
     New,
+    /// A string of 40 units is made.
+    Keys,
+    /// The same, and it is interned; its units aren't in the table.
+    Forty,
     /// A unit is repeated to the greatest length.
     Repeat,
 }
@@ -33,6 +39,8 @@ const LISTS: u32 = 50_000;
 
 const UNITS: u32 = 1_000_000;
 
+const BLOCK: u32 = 250;
+
 /// Does it, and answers the sum of what was found.
 pub fn run_on<S: Strings>(
     alloc: Global,
@@ -42,6 +50,7 @@ pub fn run_on<S: Strings>(
 ) -> Result<u64, Refusal> {
     match what {
         Measure::Read => read(alloc, store, count),
+        Measure::Blocks => blocks(alloc, store, count),
         Measure::Seek => seek(alloc, store, count),
         Measure::Make => {
             intern_all(store, LISTS, LISTS)?;
@@ -52,6 +61,8 @@ pub fn run_on<S: Strings>(
             intern_all(store, count, LISTS)
         }
         Measure::New => intern_all(store, count, u32::MAX),
+        Measure::Keys => keys(store, count, false),
+        Measure::Forty => keys(store, count, true),
         Measure::Repeat => repeat_unit(store, count),
     }
 }
@@ -108,6 +119,33 @@ fn intern_all<S: Strings>(store: &mut S, count: u32, lists: u32) -> Result<u64, 
     Ok(made)
 }
 
+// A list of 40 units that no other number has.
+fn key(number: u32) -> [u16; 40] {
+    let mut units = [120; 40];
+    for k in 0..8 {
+        units[k as usize] = letter(number, 4 * k);
+    }
+    units
+}
+
+// Strings of 40 units with the numbers from 0 on, made, and interned where it is asked.
+fn keys<S: Strings>(store: &mut S, count: u32, interned: bool) -> Result<u64, Refusal> {
+    let mut made = 0u64;
+    for number in 0..count {
+        let units = key(number);
+        let Ok(s) = store.from_units(units.as_slice()) else {
+            return Err(Refusal);
+        };
+        if interned {
+            let Ok(_) = store.intern(s) else {
+                return Err(Refusal);
+            };
+        }
+        made = made.wrapping_add(1);
+    }
+    Ok(made)
+}
+
 // The long string.
 fn long<S: Strings>(alloc: Global, store: &mut S) -> Result<S::Ref, Refusal>
     ensures { IfOk result (λ s. IsSettled (S.state store.new) (S.number s) × IsKnown (S.state store.new) (S.number s) × (length (text (S.state store.new) (S.number s)) ≡ 1000000)) }
@@ -130,6 +168,17 @@ fn read<S: Strings>(alloc: Global, store: &mut S, count: u32) -> Result<u64, Ref
     for i in 0..count {
         let unit = store.unit_at(s, i % UNITS);
         sum = sum.wrapping_add(u64::from(unit));
+    }
+    Ok(sum)
+}
+
+fn blocks<S: Strings>(alloc: Global, store: &mut S, count: u32) -> Result<u64, Refusal> {
+    let s = long(alloc, store)?;
+    let mut block = [0; BLOCK as usize];
+    let mut sum = 0u64;
+    for turn in 0..count / BLOCK {
+        store.read(s, turn % (UNITS / BLOCK) * BLOCK, block.as_mut_slice());
+        sum = sum.wrapping_add(u64::from(block[0]));
     }
     Ok(sum)
 }

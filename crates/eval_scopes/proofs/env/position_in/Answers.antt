@@ -1,4 +1,4 @@
-use Rattle.std.proofs.Common.{arith, ap, sym, ◌∙◌, bytes_eq}
+use Rattle.std.proofs.Common.{◌≡◌, false, arith, ap, sym, ◌∙◌, bytes_eq}
 use Rattle.eval_scopes.specs.declared.env.Binding.{Binding}
 use Rattle.eval_scopes.proofs.Places.{first_at, one_more}
 use Rattle.eval_scopes.proofs.env.position_in.Goals as goal

@@ -1,4 +1,4 @@
-use Rattle.std.proofs.Common.{arith, sym, ◌∙◌}
+use Rattle.std.proofs.Common.{◌≡◌, false, arith, sym, ◌∙◌, bytes_eq}
 use Rattle.eval_scopes.proofs.Indexes.{name_found}
 use Rattle.eval_scopes.proofs.Places.{one_more}
 use Rattle.eval_scopes.proofs.index.is_one_of.Goals as goal

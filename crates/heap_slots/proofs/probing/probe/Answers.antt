@@ -4,8 +4,9 @@ use Rattle.heap_rule.specs.declared.view.View.{View}
 use Rattle.heap_rule.proofs.MapLemmas.{has_key, key_of}
 use Rattle.heap_rule.proofs.Possible.{possible_inside, possible_lawful}
 use Rattle.heap_slots.specs.declared.probing.Visit.{Visit}
+use Rattle.heap_slots.specs.Answers.{IsBehind}
 use Rattle.heap_slots.specs.Headers.{header_plan}
-use Rattle.heap_slots.specs.Visits.{IsBehind, IsMade, IsUnmade, LoadsOne, Visited, entries}
+use Rattle.heap_slots.specs.Visits.{IsMade, IsUnmade, LoadsOne, Visited, entries}
 use Rattle.heap_slots.proofs.Going.{forms_trans}
 use Rattle.heap_slots.proofs.Loading.{walked_all, walked_to, walking_first, walking_next, walking_none}
 use Rattle.heap_slots.proofs.Visiting.{first_key, first_now, next_behind, next_inside, next_rank, only_units, next_probing, probed_all, probed_unmade, probed_to, probing_none}
@@ -39,7 +40,7 @@ visit_slot-requires-clause-header g c us h = let a : View = c.args.agent.now.sea
 pub returns-in-Err-clause-interns : goal.returns-in-Err-clause-interns
 returns-in-Err-clause-interns g c us h = let a : View = c.args.agent.now.seat.me.0 in let v : View = c.loop-r.agent.seat.me.0 in let w : View = c.visit_slot.new.agent.seat.me.0 in let s = c.args.s in let i = c.loop-r.invariant.1 us h in
     let n = c.size-n.result.slots in let slots : n ≡ a.sizes.slots = ap (λ (z : HeapSize). z.slots) (c.size-n.ensures ∙ sym c.requires.belongs.1) in
-    probed_unmade a v s us (header_plan s us) c.loop-r.r c.loop-r.header i n c.args.hash slots (c.requires.hash us h) w c.in-Err.full c.loop-r-test.true (c.in-Err.ensures.visits us i.units)
+    probed_unmade a v s us (header_plan s us) c.loop-r.r c.loop-r.header i n c.args.hash slots (c.requires.hash us h) w c.in-Err.full c.loop-r.invariant.0.5 c.loop-r-test.true (c.in-Err.ensures.visits us i.units)
 
 pub returns-in-Answer-clause-interns : goal.returns-in-Answer-clause-interns
 returns-in-Answer-clause-interns g c us h = let a : View = c.args.agent.now.seat.me.0 in let v : View = c.loop-r.agent.seat.me.0 in let w : View = c.visit_slot.new.agent.seat.me.0 in let s = c.args.s in let i = c.loop-r.invariant.1 us h in
