@@ -1,5 +1,5 @@
 // The bytes of a line.
-ghost use Rattle.std.specs.Prelude.{◌≡◌, ◌+◌, ◌<◌, ◌≤◌, ◌++◌, ◌∷◌, [], drop, length, take, All, vec_capacity, vec_len, None, OnOk, OnErr, IfErr};
+ghost use Rattle.std.specs.Prelude.{◌≡◌, ◌+◌, ◌≤◌, ◌++◌, ◌∷◌, [], drop, length, take, vec_capacity, vec_len, None, OnOk, OnErr, IfErr};
 ghost use Rattle.js_units.specs.Text.{utf8};
 ghost use Rattle.js_store.specs.State.{IsKnown, IsSettled, text};
 ghost use Rattle.js_store.specs.Faults.{Step, NeverSlots};
@@ -106,11 +106,7 @@ fn append_settled<S: Strings>(
     append_behind(alloc, store, s, ascii, line)
 }
 
-// Units of a block.
-const SIZE: u32 = 256;
-
 // Adds the ASCII units in front of a settled string, a byte each, and answers how many they are.
-#[tactic(auto, using(crate::proofs::Fronts::front_on, js_texts::proofs::Delimited::kept_trans))]
 fn push_ascii<S: Strings>(store: &mut S, s: S::Ref, len: u32, line: &mut Vec<u8>) -> u32
     requires known { IsKnown (S.state store.old) (S.number s) }
     requires settled { IsSettled (S.state store.old) (S.number s) }
@@ -123,39 +119,14 @@ fn push_ascii<S: Strings>(store: &mut S, s: S::Ref, len: u32, line: &mut Vec<u8>
     ensures step { Step (S.state store.old) (S.state store.new) None 0 0 }
     ensures history { (S.state store.new).history ≡ (S.state store.old).history }
 {
-    let mut block = [0; 256];
-    let mut done = 0;
-    while done < len {
-        let count = SIZE.min(len - done);
-        let part = &mut block[..count as usize];
-        store.read(s, done, part);
-        let ascii = push_front(part, line);
-        done += ascii;
-        if ascii < count {
-            return done;
+    for i in 0..len {
+        let unit = store.unit_at(s, i);
+        if unit >= 0x80 {
+            return i;
         }
+        line.push_reserved(unit as u8);
     }
     len
-}
-
-// Adds the ASCII units in front of a block, a byte each, and answers how many they are.
-#[tactic(auto, using(js_units::proofs::Ascii::ascii_next))]
-fn push_front(units: &[u16], line: &mut Vec<u8>) -> u32
-    requires short { length units.now ≤ 256 }
-    requires room { vec_len line.old + length units.now ≤ vec_capacity line.old }
-    ensures bound { result ≤ length units.now }
-    ensures ascii { All (λ u. u < 0x80) (take result units.now) }
-    ensures added { line.new.items ≡ line.old.items ++ take result units.now }
-    ensures kept { take (length line.old.items) line.new.items ≡ line.old.items }
-    ensures room { vec_capacity line.new ≡ vec_capacity line.old }
-{
-    for i in 0..units.len() {
-        if units[i] >= 0x80 {
-            return i as u32;
-        }
-        line.push_reserved(units[i] as u8);
-    }
-    units.len() as u32
 }
 
 // Adds the UTF-8 of the units of a settled string from place `from` on.
