@@ -3,7 +3,7 @@ ghost use Rattle.std.specs.Prelude.{◌≤◌};
 
 use crate::host::text;
 use crate::running::code_of;
-use js_io::{FreeGate, MemFiles, MemSink};
+use js_io::{FILE_MAX, FreeGate, MemFiles, MemSink};
 use std::alloc::Global;
 use std::test::Fail;
 use std::thread::Threads;
@@ -143,7 +143,7 @@ const AMPLE: Room = Room {
 fn a_file_has_at_most_so_many_bytes(rt: HostRuntime) -> Result<(), Fail> {
     for more in 0..2 {
         let mut files = MemFiles::new(rt.alloc());
-        files.put("a.js", text(rt.alloc(), 1024, more)?.as_slice())?;
+        files.put("a.js", text(rt.alloc(), FILE_MAX + more)?.as_slice())?;
         let ran = run_on(&rt, rt.alloc(), WORDS, &mut files, AMPLE)?;
         let large = ran.is(3, b"", b"a.js: larger than 1048576 bytes\n");
         assert!(rt;
