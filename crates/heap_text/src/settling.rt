@@ -105,7 +105,8 @@ impl<'h> Text<'h> {
         ensures used { IfOk result (λ u. (us : List ℕ) → Has (view_of self.old.agent).units s.id us → IsSettling (view_of self.old.agent) (view_of self.new.agent) s.id us) }
         ensures refused { IfErr result (λ f. (us : List ℕ) → Has (view_of self.old.agent).units s.id us → (wide : Bool) × IsBitOf (view_of self.old.agent) s.id wide × IsNoRoom (view_of self.old.agent) (view_of self.new.agent) (size_of self.old.heap.now) us f wide) }
         ensures again { IsSettled (view_of self.old.agent) s.id → IsOk result × Reads (view_of self.old.agent) (view_of self.new.agent) }
-        ensures later { IsSettled (view_of self.old.agent) s.id → IsSeenLater (view_of self.old.agent) (view_of self.new.agent) s.id }
+        ensures later { IsSettled (view_of self.old.agent) s.id
+            → IsSeenLater (view_of self.old.agent) (view_of self.new.agent) s.id }
         ensures loads { (view_of self.new.agent).form_loads ≡ added_loads (view_of self.old.agent).form_loads (steps.new - steps.old) }
         ensures more { steps.old ≤ steps.new }
         ensures steps { (us : List ℕ) → Has (view_of self.old.agent).units s.id us → 0 < length us → steps.new ≤ steps.old + 8 * length us }
@@ -133,7 +134,8 @@ impl<'h> Text<'h> {
         ensures used { IfOk result (λ u. (us : List ℕ) → Has (view_of self.old.agent).units s.id us → IsSettling (view_of self.old.agent) (view_of self.new.agent) s.id us) }
         ensures refused { IfErr result (λ f. (us : List ℕ) → Has (view_of self.old.agent).units s.id us → (wide : Bool) × IsBitOf (view_of self.old.agent) s.id wide × IsNoRoom (view_of self.old.agent) (view_of self.new.agent) (size_of self.old.heap.now) us f wide) }
         ensures again { IsSettled (view_of self.old.agent) s.id → IsOk result × Reads (view_of self.old.agent) (view_of self.new.agent) }
-        ensures later { IsSettled (view_of self.old.agent) s.id → IsSeenLater (view_of self.old.agent) (view_of self.new.agent) s.id }
+        ensures later { IsSettled (view_of self.old.agent) s.id
+            → IsSeenLater (view_of self.old.agent) (view_of self.new.agent) s.id }
         ensures loads { (us : List ℕ) → Has (view_of self.old.agent).units s.id us → 0 < length us → (view_of self.new.agent).form_loads ≤ (view_of self.old.agent).form_loads + 8 * length us }
     {
         let mut steps = Steps::<L>::start(blank);
@@ -152,7 +154,8 @@ impl<'h> Text<'h> {
         ensures used { IfOk result (λ u. (us : List ℕ) → Has (view_of self.old.agent).units s.id us → IsSettling (view_of self.old.agent) (view_of self.new.agent) s.id us) }
         ensures refused { IfErr result (λ f. (us : List ℕ) → Has (view_of self.old.agent).units s.id us → (wide : Bool) × IsBitOf (view_of self.old.agent) s.id wide × IsNoRoom (view_of self.old.agent) (view_of self.new.agent) (size_of self.old.heap.now) us f wide) }
         ensures again { IsSettled (view_of self.old.agent) s.id → IsOk result × Reads (view_of self.old.agent) (view_of self.new.agent) }
-        ensures later { IsSettled (view_of self.old.agent) s.id → IsSeenLater (view_of self.old.agent) (view_of self.new.agent) s.id }
+        ensures later { IsSettled (view_of self.old.agent) s.id
+            → IsSeenLater (view_of self.old.agent) (view_of self.new.agent) s.id }
         ensures loads { (us : List ℕ) → Has (view_of self.old.agent).units s.id us → 0 < length us → (view_of self.new.agent).form_loads ≤ (view_of self.old.agent).form_loads + 8 * length us }
     {
         self.settle_by::<Brand>(s, Blank::new(1))

@@ -1,13 +1,18 @@
 // Files and sinks in memory.
 use crate::rows::parted;
-use js_io::{FILE_MAX, Files, MemFiles, MemSink, NullSink, Sink, write_all};
+use js_io::{Files, MemFiles, MemSink, NullSink, Sink, write_all};
 use std::alloc::{AllocError, Global};
 use std::test::Fail;
 
-// A text of so many bytes.
-fn text(alloc: Global, len: u32) -> Result<Vec<u8>, Fail> {
+// A text of so many times 1,024 bytes and so many bytes more.
+fn text(alloc: Global, pieces: u32, more: u32) -> Result<Vec<u8>, AllocError> {
     let mut bytes = Vec::new(alloc);
-    bytes.resize(len as usize, b'x')?;
+    for _piece in 0..pieces {
+        bytes.extend_from_slice(&[b'x'; 1024])?;
+    }
+    for _byte in 0..more {
+        bytes.push(b'x')?;
+    }
     Ok(bytes)
 }
 
@@ -33,8 +38,8 @@ none -> Failed";
 fn files_in_memory(rt: HostRuntime) -> Result<(), Fail> {
     let alloc = rt.alloc();
     let mut files = MemFiles::new(alloc);
-    files.put("full", text(alloc, FILE_MAX)?.as_slice())?;
-    files.put("over", text(alloc, FILE_MAX + 1)?.as_slice())?;
+    files.put("full", text(alloc, 1024, 0)?.as_slice())?;
+    files.put("over", text(alloc, 1024, 1)?.as_slice())?;
     files.put("twice", b"first")?;
     files.put("twice", b"then")?;
     files.fail_at(4)?;

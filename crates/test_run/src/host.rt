@@ -1,13 +1,18 @@
 // Files and streams of the process.
-use js_io::{FILE_MAX, Files, HostErr, HostFiles, HostOut, Sink, write_all};
+use js_io::{Files, HostErr, HostFiles, HostOut, Sink, write_all};
 use std::alloc::{AllocError, Global};
 use std::fs;
 use std::test::Fail;
 
-// A text of so many bytes.
-fn text(alloc: Global, len: u32) -> Result<Vec<u8>, AllocError> {
+// A text of so many times 1,024 bytes and so many bytes more.
+pub(crate) fn text(alloc: Global, pieces: u32, more: u32) -> Result<Vec<u8>, AllocError> {
     let mut bytes = Vec::new(alloc);
-    bytes.resize(len as usize, b'x')?;
+    for _piece in 0..pieces {
+        bytes.extend_from_slice(&[b' '; 1024])?;
+    }
+    for _byte in 0..more {
+        bytes.push(b' ')?;
+    }
     Ok(bytes)
 }
 
@@ -28,8 +33,8 @@ none Failed";
 #[test]
 fn files_of_the_process(rt: HostRuntime) -> Result<(), Fail> {
     let alloc = rt.alloc();
-    fs::write(&rt, "full", text(alloc, FILE_MAX)?.as_slice())?;
-    fs::write(&rt, "over", text(alloc, FILE_MAX + 1)?.as_slice())?;
+    fs::write(&rt, "full", text(alloc, 1024, 0)?.as_slice())?;
+    fs::write(&rt, "over", text(alloc, 1024, 1)?.as_slice())?;
     fs::write(&rt, "empty", "")?;
     fs::create_dir(&rt, "folder")?;
     let mut files = HostFiles::new(&rt, alloc);
