@@ -147,7 +147,6 @@ fn push_front(units: &[u16], line: &mut Vec<u8>) -> u32
     ensures ascii { All (λ u. u < 0x80) (take result units.now) }
     ensures added { line.new.items ≡ line.old.items ++ take result units.now }
     ensures kept { take (length line.old.items) line.new.items ≡ line.old.items }
-    ensures len { vec_len line.new ≡ vec_len line.old + result }
     ensures room { vec_capacity line.new ≡ vec_capacity line.old }
     ensures len { vec_len line.new ≡ vec_len line.old + result }
 {

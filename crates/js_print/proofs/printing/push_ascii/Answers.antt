@@ -1,4 +1,4 @@
-use Rattle.std.proofs.Common.{rules, arith, ◌≡◌, ◌+◌, ◌≤◌, ◌∙◌}
+use Rattle.std.proofs.Common.{rules, ◌≡◌, ◌+◌, ◌≤◌, ◌∙◌}
 use Rattle.std.specs.Prelude.{slice_range}
 use Rattle.js_store.specs.State.{text}
 use Rattle.js_texts.proofs.Delimited.{kept_trans}
@@ -18,7 +18,7 @@ loop-done-preserved g c =
       most = search rules;
       added = front_on units line more c.read.new.into c.loop-done.done n a part fits c.push_front-ascii.ensures.ascii c.push_front-ascii.ensures.added ∙ c.loop-done.invariant.added;
       kept = kept_trans c.args.line.now.items line more c.loop-done.invariant.kept c.push_front-ascii.ensures.kept;
-      room = omega (arith, c.loop-done.invariant.room, c.push_front-ascii.ensures.len, c.push_front-ascii.ensures.room);
+      room = search rules;
       step = search rules;
       history = search rules;
     }
