@@ -174,9 +174,9 @@ fn read<S: Strings>(alloc: Global, store: &mut S, count: u32) -> Result<u64, Ref
 
 fn blocks<S: Strings>(alloc: Global, store: &mut S, count: u32) -> Result<u64, Refusal> {
     let s = long(alloc, store)?;
-    let mut block = [0; BLOCK as usize];
     let mut sum = 0u64;
     for turn in 0..count / BLOCK {
+        let mut block = [0; BLOCK as usize];
         store.read(s, turn % (UNITS / BLOCK) * BLOCK, block.as_mut_slice());
         sum = sum.wrapping_add(u64::from(block[0]));
     }
