@@ -1,6 +1,5 @@
 -- The arguments that a method takes.
-use Rattle.std.proofs.Common.{◌≡◌, ℕ, zero, suc, ◌≤◌, List, [], ◌∷◌, length, map, take, ap, sym, ◌∙◌, refl}
-use Rattle.std.proofs.Math.Seq.{take-length}
+use Rattle.std.proofs.Common.{arith, ◌≡◌, ℕ, zero, suc, ◌≤◌, List, [], ◌∷◌, length, map, take, ap, sym, ◌∙◌, refl}
 use Rattle.std.proofs.lemmas.List.{length-map, take-map}
 use Rattle.eval_tree.specs.declared.tree.Method.{Method}
 use Rattle.js_store.specs.State.{State}
@@ -12,8 +11,8 @@ use Rattle.js_values.specs.Seen.{seen, IsFine, all_seen, AllFine}
 pub all_taken : {A : Type 0} (n : ℕ) (xs : List A) → length xs ≤ n → xs ≡ take n xs
 all_taken zero [] l = refl
 all_taken (suc n) [] l = refl
-all_taken zero (x ∷ xs) l = absurd (omega l)
-all_taken (suc n) (x ∷ xs) l = ap (λ ys. x ∷ ys) (all_taken n xs (omega l))
+all_taken zero (x ∷ xs) l = absurd (omega (arith, l))
+all_taken (suc n) (x ∷ xs) l = ap (λ ys. x ∷ ys) (all_taken n xs (omega (arith, l)))
 
 taken_map : {A B : Type 0} (f : A → B) (m : Method) (xs : List A) → map f (operands m xs) ≡ operands m (map f xs)
 taken_map f m xs = sym (take-map f (most_taken m (length xs)) xs) ∙ ap (λ n. take (most_taken m n) (map f xs)) (sym (length-map xs f))

@@ -29,7 +29,6 @@ fn most_taken(method: Method, count: usize) -> usize
 }
 
 // The first ones of these, as many as a method takes.
-#[tactic(auto, using(crate::proofs::Taken::all_taken))]
 fn taken<T>(method: Method, args: &[T]) -> &[T]
     ensures { result.now ≡ operands_of method args.now }
 {
