@@ -10,7 +10,7 @@ import time
 import proving
 
 # So many runs are at work at a time. The cases are run in parts, since one takes long; each part has so many seconds.
-AT_A_TIME, PARTS, SECONDS = 4, 2, 160
+AT_A_TIME, PARTS, SECONDS = 4, 3, 160
 # The program that runs the cases. Its `args` names the files in its `data`, and it tells of each in a line, and at last of all.
 CASES, TOTAL = "jsstr_cases", re.compile(r"(\d+) cases, \d+ differ")
 # A run's crate, whether all of it is well, what it told, how many tests and cases it ran, what rt said, and how long it took.

@@ -13,8 +13,8 @@ impl<'h> Strings for Session<'h> {
     ghost use Rattle.js_store.specs.Faults.{SlotsShut, Step, fault_of};
     ghost use Rattle.js_store.specs.Rows.{intern_words};
     ghost use Rattle.js_store.specs.State.{Has, IsKnown, IsSettled, text};
-    ghost use Rattle.heap_slots.specs.Answers.{IsForwarded};
-    ghost use Rattle.heap_slots.specs.SlotLoads.{loads_at};
+    ghost use Rattle.heap_string_table.specs.Answers.{IsForwarded};
+    ghost use Rattle.heap_string_table.specs.SlotLoads.{loads_at};
     ghost use Rattle.heap_intern.specs.Counted.{FoundFree, GoesByPlan};
     ghost use Rattle.heap_intern.specs.Sessions.{SessionFrame, state_in, view_in};
     ghost use Rattle.heap_table.specs.Agents.{view_of};
@@ -91,7 +91,8 @@ impl<'h> Strings for Session<'h> {
         ensures grown { IfOk result (λ r. (state_in self.new).history ≡ (state_in self.old).history ++ (text (state_in self.old) s.id, r.id) ∷ []) }
         ensures kept { OnErr result ((state_in self.new).history ≡ (state_in self.old).history) }
         ensures shut { SlotsShut (state_in self.new) (fault_of result) (text (state_in self.old) s.id) }
-        ensures free { FoundFree (view_in self.old) (view_in self.new) (text (state_in self.old) s.id) (fault_of result) }
+        ensures free { FoundFree (view_in self.old) (view_in self.new) (text (state_in self.old) s.id)
+            (fault_of result) }
         ensures plan { GoesByPlan (view_in self.old) (view_in self.new) s.id (text (state_in self.old) s.id) result }
         ensures few { (k : ℕ) → loads_at (view_in self.new) k ≤ loads_at (view_in self.old) k + 2 }
     {

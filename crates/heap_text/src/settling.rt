@@ -109,7 +109,8 @@ impl<'h> Text<'h> {
         ensures rope { IfErr result (λ f. (us : List ℕ) → Has (view_of self.old.agent).units s.id us
             → HasSides (view_of self.new.agent) s.id us) }
         ensures again { IsSettled (view_of self.old.agent) s.id → IsOk result × Reads (view_of self.old.agent) (view_of self.new.agent) }
-        ensures later { IsSettled (view_of self.old.agent) s.id → IsSeenLater (view_of self.old.agent) (view_of self.new.agent) s.id }
+        ensures later { IsSettled (view_of self.old.agent) s.id
+            → IsSeenLater (view_of self.old.agent) (view_of self.new.agent) s.id }
         ensures loads { (view_of self.new.agent).form_loads ≡ added_loads (view_of self.old.agent).form_loads (steps.new - steps.old) }
         ensures more { steps.old ≤ steps.new }
         ensures steps { (us : List ℕ) → Has (view_of self.old.agent).units s.id us → 0 < length us → steps.new ≤ steps.old + 8 * length us }
@@ -139,7 +140,8 @@ impl<'h> Text<'h> {
         ensures rope { IfErr result (λ f. (us : List ℕ) → Has (view_of self.old.agent).units s.id us
             → HasSides (view_of self.new.agent) s.id us) }
         ensures again { IsSettled (view_of self.old.agent) s.id → IsOk result × Reads (view_of self.old.agent) (view_of self.new.agent) }
-        ensures later { IsSettled (view_of self.old.agent) s.id → IsSeenLater (view_of self.old.agent) (view_of self.new.agent) s.id }
+        ensures later { IsSettled (view_of self.old.agent) s.id
+            → IsSeenLater (view_of self.old.agent) (view_of self.new.agent) s.id }
         ensures loads { (us : List ℕ) → Has (view_of self.old.agent).units s.id us → 0 < length us → (view_of self.new.agent).form_loads ≤ (view_of self.old.agent).form_loads + 8 * length us }
     {
         let mut steps = Steps::<L>::start(blank);
@@ -160,7 +162,8 @@ impl<'h> Text<'h> {
         ensures rope { IfErr result (λ f. (us : List ℕ) → Has (view_of self.old.agent).units s.id us
             → HasSides (view_of self.new.agent) s.id us) }
         ensures again { IsSettled (view_of self.old.agent) s.id → IsOk result × Reads (view_of self.old.agent) (view_of self.new.agent) }
-        ensures later { IsSettled (view_of self.old.agent) s.id → IsSeenLater (view_of self.old.agent) (view_of self.new.agent) s.id }
+        ensures later { IsSettled (view_of self.old.agent) s.id
+            → IsSeenLater (view_of self.old.agent) (view_of self.new.agent) s.id }
         ensures loads { (us : List ℕ) → Has (view_of self.old.agent).units s.id us → 0 < length us → (view_of self.new.agent).form_loads ≤ (view_of self.old.agent).form_loads + 8 * length us }
     {
         self.settle_by::<Brand>(s, Blank::new(1))

@@ -21,7 +21,8 @@ impl<'h> Text<'h> {
         ensures limit { self.new.limit ≡ self.old.limit }
         ensures reads { Reads (view_of self.old.agent) (view_of self.new.agent) }
         ensures forms { KeepsForms (view_of self.old.agent) (view_of self.new.agent) }
-        ensures units { (us : List ℕ) → IsWindow (view_of self.old.agent) w us → into.new ≡ slice_range us from (from + length into.old) }
+        ensures units { (us : List ℕ) → IsWindow (view_of self.old.agent) w us
+            → into.new ≡ slice_range us from (from + length into.old) }
     {
         let mut done = 0;
         while done < into.len() {

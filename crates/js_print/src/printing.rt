@@ -110,7 +110,7 @@ fn append_settled<S: Strings>(
 const SIZE: u32 = 256;
 
 // Adds the ASCII units in front of a settled string, a byte each, and answers how many they are.
-#[tactic(auto, using(crate::proofs::Fronts::front_on, js_texts::proofs::Delimited::kept_trans))]
+#[tactic(auto, using(js_texts::proofs::Delimited::kept_trans))]
 fn push_ascii<S: Strings>(store: &mut S, s: S::Ref, len: u32, line: &mut Vec<u8>) -> u32
     requires known { IsKnown (S.state store.old) (S.number s) }
     requires settled { IsSettled (S.state store.old) (S.number s) }
@@ -148,6 +148,7 @@ fn push_front(units: &[u16], line: &mut Vec<u8>) -> u32
     ensures added { line.new.items ≡ line.old.items ++ take result units.now }
     ensures kept { take (length line.old.items) line.new.items ≡ line.old.items }
     ensures room { vec_capacity line.new ≡ vec_capacity line.old }
+    ensures len { vec_len line.new ≡ vec_len line.old + result }
 {
     for i in 0..units.len() {
         if units[i] >= 0x80 {

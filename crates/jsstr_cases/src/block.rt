@@ -178,7 +178,10 @@ impl Block {
             return Ok(String::from_str(alloc, word)?);
         }
         let bytes = bytes_of(alloc, word.strip_suffix('%').unwrap_or(word))?;
-        String::from_utf8(bytes).map_err(|_| Fault::Form("a word that isn't UTF-8"))
+        match String::from_utf8(bytes) {
+            Ok(word) => Ok(word),
+            Err(_) => Err(Fault::Form("a word that isn't UTF-8")),
+        }
     }
 
     // An ending that is wanted has this status. Says whether the block is whole: else another ending may come.

@@ -5,9 +5,11 @@ use std::alloc::{AllocError, Global};
 use std::test::Fail;
 
 // A text of so many bytes.
-fn text(alloc: Global, len: u32) -> Result<Vec<u8>, Fail> {
+fn text(alloc: Global, len: u32) -> Result<Vec<u8>, AllocError> {
     let mut bytes = Vec::new(alloc);
-    bytes.resize(len as usize, b'x')?;
+    for _byte in 0..len {
+        bytes.push(b'x')?;
+    }
     Ok(bytes)
 }
 

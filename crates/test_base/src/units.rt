@@ -36,29 +36,31 @@ fn units_as_bytes(rt: HostRuntime) -> Result<(), Fail> {
     Ok(())
 }
 
-// Adds a code point, a trailing surrogate alone, and two units more.
-fn add(units: &mut Units, c: char) -> Result<(), NoMemory> {
-    units.push_code_point(c)?;
+// Code points, a trailing surrogate alone, and two units more.
+fn pushed(alloc: Global) -> Result<Units, NoMemory> {
+    let mut units = Units::new(alloc);
+    for c in [
+        'a',
+        '\u{E9}',
+        '\u{FFFF}',
+        '\u{10000}',
+        '\u{1F600}',
+        '\u{10FFFF}',
+    ] {
+        units.push_code_point(c)?;
+    }
     units.push(0xDC00)?;
-    units.extend_from_slice(&[1, 2])
+    units.extend_from_slice(&[1, 2])?;
+    Ok(units)
 }
-
-const POINTS: &str = "a -> [97, 56320, 1, 2]
-\u{E9} -> [233, 56320, 1, 2]
-\u{FFFF} -> [65535, 56320, 1, 2]
-\u{10000} -> [55296, 56320, 56320, 1, 2]
-\u{1F600} -> [55357, 56832, 56320, 1, 2]
-\u{10FFFF} -> [56319, 57343, 56320, 1, 2]";
 
 #[test]
 fn code_points_as_units(rt: HostRuntime) -> Result<(), Fail> {
-    for row in POINTS.lines() {
-        let (given, want) = parted(row, " -> ")?;
-        let mut units = Units::new(rt.alloc());
-        add(&mut units, given.chars().next().ok_or("no code point")?)?;
-        let found = format!(in rt.alloc(); "{:?}", units.as_slice())?;
-        assert_eq!(rt; found.as_str(), want, "{row}");
-    }
+    let units = pushed(rt.alloc())?;
+    let want = [
+        0x61, 0xE9, 0xFFFF, 0xD800, 0xDC00, 0xD83D, 0xDE00, 0xDBFF, 0xDFFF, 0xDC00, 1, 2,
+    ];
+    assert_eq!(rt; units.as_slice(), want.as_slice());
     Ok(())
 }
 
@@ -126,7 +128,6 @@ const WORDS: &str = "0 -> 0 0
 
 #[test]
 fn words_for_units(rt: HostRuntime) -> Result<(), Fail> {
-    assert_eq!(rt; (lanes(true), lanes(false)), (4, 8));
     for row in WORDS.lines() {
         let (given, want) = parted(row, " -> ")?;
         let n = given.parse::<u32>()?;
@@ -134,6 +135,12 @@ fn words_for_units(rt: HostRuntime) -> Result<(), Fail> {
         assert_eq!(rt; found.as_str(), want, "{row}");
     }
     Ok(())
+}
+
+#[test]
+fn lanes_of_both_widths(rt: HostRuntime) {
+    assert_eq!(rt; lanes(true), 4);
+    assert_eq!(rt; lanes(false), 8);
 }
 
 // abc in one-byte lanes, and with nothing in the second lane.

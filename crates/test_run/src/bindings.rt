@@ -4,29 +4,34 @@ use js_number::Num;
 use std::alloc::Global;
 use std::test::Fail;
 
-fn told(alloc: Global, value: &Value<u32>) -> Result<String, Fail> {
-    Ok(format!(in alloc; "{:?}", value.copy(alloc)?)?)
+// The copy of a value.
+fn told(alloc: Global, value: Value<u32>) -> Result<String, Fail> {
+    let copy = value.copy(alloc)?;
+    Ok(format!(in alloc; "{copy:?}")?)
 }
 
 #[test]
 fn values_are_copied(rt: HostRuntime) -> Result<(), Fail> {
     let alloc = rt.alloc();
-    let list = Value::List([3u32, 4].to_vec(alloc)?);
-    assert_eq!(rt; told(alloc, &list)?.as_str(), "List([3, 4])");
-    let found = format!(in alloc;
-        "{} {} {}",
-        told(alloc, &Value::Text(7))?,
-        told(alloc, &Value::Symbol(8))?,
-        told(alloc, &Value::Number(Num::Int(5)))?
-    )?;
-    assert_eq!(rt; found.as_str(), "Text(7) Symbol(8) Number(Int(5))");
-    let found = format!(in alloc;
-        "{} {} {}",
-        told(alloc, &Value::Bool(true))?,
-        told(alloc, &Value::Null)?,
-        told(alloc, &Value::Undefined)?
-    )?;
-    assert_eq!(rt; found.as_str(), "Bool(true) Null Undefined");
+    let list = told(alloc, Value::List([3u32, 4].to_vec(alloc)?))?;
+    assert_eq!(rt; list.as_str(), "List([3, 4])");
+    let text = told(alloc, Value::Text(7))?;
+    assert_eq!(rt; text.as_str(), "Text(7)");
+    let symbol = told(alloc, Value::Symbol(8))?;
+    assert_eq!(rt; symbol.as_str(), "Symbol(8)");
+    let number = told(alloc, Value::Number(Num::Int(5)))?;
+    assert_eq!(rt; number.as_str(), "Number(Int(5))");
+    let truth = told(alloc, Value::Bool(true))?;
+    assert_eq!(rt; truth.as_str(), "Bool(true)");
+    Ok(())
+}
+
+#[test]
+fn values_of_nothing_are_copied(rt: HostRuntime) -> Result<(), Fail> {
+    let null = told(rt.alloc(), Value::Null)?;
+    assert_eq!(rt; null.as_str(), "Null");
+    let undefined = told(rt.alloc(), Value::Undefined)?;
+    assert_eq!(rt; undefined.as_str(), "Undefined");
     Ok(())
 }
 

@@ -65,7 +65,13 @@ fn counts_behind(out: &[u8], lines: &[u8]) -> bool {
     let Some(rest) = out.strip_prefix(lines) else {
         return false;
     };
-    rest.starts_with(b"interned ") && rest.iter().filter(|byte| **byte == b'\n').count() == 1
+    let mut ends = 0u64;
+    for byte in rest {
+        if *byte == b'\n' {
+            ends = ends.saturating_add(1);
+        }
+    }
+    rest.starts_with(b"interned ") && ends == 1
 }
 
 // Whatever the number of jobs, each text prints what it prints by itself, and a number is told.

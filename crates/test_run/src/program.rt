@@ -1,7 +1,7 @@
-// The program over files and sinks in memory: sinks that fail, the longest file, and no words. What
-// comes of a run is one text: the status, what `out` took and what `err` took.
+// The program over files and sinks in memory: sinks that fail, the longest file, and no words.
 ghost use Rattle.std.specs.Prelude.{◌≤◌};
 
+use crate::host::text;
 use crate::running::code_of;
 use js_io::{FILE_MAX, FreeGate, MemFiles, MemSink};
 use std::alloc::Global;
@@ -19,71 +19,64 @@ pub(crate) struct Ran {
     pub(crate) err: MemSink,
 }
 
-// Runs the program with these words, one blank apart, over the files, with sinks that take `most` bytes
-// a write and so many in all.
-pub(crate) fn ran<R: Threads + Sync>(
+impl Ran {
+    fn is(&self, code: u8, out: &[u8], err: &[u8]) -> bool {
+        self.code == code && self.out.taken() == out && self.err.taken() == err
+    }
+}
+
+// The bytes of a write and those of all writes that a sink takes.
+#[derive(Clone, Copy)]
+pub(crate) struct Room {
+    pub(crate) most: u32,
+    pub(crate) out: u32,
+    pub(crate) err: u32,
+}
+
+// Runs the program with these words, one blank apart, over the files.
+pub(crate) fn run_on<R: Threads + Sync>(
     rt: &R,
     alloc: Global,
     words: &str,
     files: &mut MemFiles,
-    most: u32,
-    rooms: (u32, u32),
+    room: Room,
 ) -> Result<Ran, Fail>
-    requires { 1 ≤ most }
+    requires { 1 ≤ room.most }
 {
-    let mut out = MemSink::new(alloc, most, rooms.0)?;
-    let mut err = MemSink::new(alloc, most, rooms.1)?;
+    let mut out = MemSink::new(alloc, room.most, room.out)?;
+    let mut err = MemSink::new(alloc, room.most, room.err)?;
     let code = code_of(rt, alloc, words, files, &mut out, &mut err, &FreeGate)?;
     Ok(Ran { code, out, err })
 }
 
-// The same as a text.
-fn told<R: Threads + Sync>(
-    rt: &R,
-    alloc: Global,
-    words: &str,
-    files: &mut MemFiles,
-    most: u32,
-    rooms: (u32, u32),
-) -> Result<String, Fail>
-    requires { 1 ≤ most }
-{
-    let ran = ran(rt, alloc, words, files, most, rooms)?;
-    let code = ran.code;
-    let (out, err) = (
-        ran.out.taken().escape_ascii(),
-        ran.err.taken().escape_ascii(),
-    );
-    Ok(format!(in alloc; "{code} \"{out}\" \"{err}\"")?)
-}
-
-// Files of each name and text.
-fn files_of(alloc: Global, text: &str) -> Result<MemFiles, Fail> {
+// One file of this text.
+fn file_of(alloc: Global, text: &str) -> Result<MemFiles, Fail> {
     let mut files = MemFiles::new(alloc);
-    for file in text.split(" ~ ") {
-        if let Some((name, text)) = file.split_once(": ") {
-            files.put(name, text.as_bytes())?;
-        }
-    }
+    files.put("a.js", text.as_bytes())?;
     Ok(files)
 }
 
 // The first bytes of a text, so many as there is room for.
-fn first(text: &str, room: u32) -> &str {
+fn first(text: &[u8], room: u32) -> &[u8] {
     text.get(..room as usize).unwrap_or(text)
 }
 
 #[test]
 fn a_sink_fails_at_any_place(rt: HostRuntime) -> Result<(), Fail> {
-    let alloc = rt.alloc();
-    let mut files = files_of(alloc, "a.js: print('hel' + 'lo'); print('you');")?;
+    let mut files = file_of(rt.alloc(), "print('hel' + 'lo'); print('you');")?;
     for most in 1..4 {
-        for room in 0..11 {
-            let found = told(&rt, alloc, WORDS, &mut files, most, (room, room))?;
-            let written = first("hello~you~", room);
-            let code = if room < 10 { 7 } else { 0 };
-            let want = format!(in alloc; "{code} \"{written}\" \"\"")?.replace(alloc, "~", "\\n")?;
-            assert_eq!(rt; found.as_str(), want.as_str(), "room for {room}");
+        for bytes in 0..11 {
+            let room = Room {
+                most,
+                out: bytes,
+                err: bytes,
+            };
+            let ran = run_on(&rt, rt.alloc(), WORDS, &mut files, room)?;
+            let code = if bytes < 10 { 7 } else { 0 };
+            assert!(rt;
+                ran.is(code, first(b"hello\nyou\n", bytes), b""),
+                "room for {bytes}"
+            );
         }
     }
     Ok(())
@@ -91,110 +84,122 @@ fn a_sink_fails_at_any_place(rt: HostRuntime) -> Result<(), Fail> {
 
 #[test]
 fn err_fails_at_any_place(rt: HostRuntime) -> Result<(), Fail> {
-    let alloc = rt.alloc();
-    let mut files = files_of(alloc, "a.js: let")?;
+    let mut files = file_of(rt.alloc(), "let")?;
     for most in 1..4 {
-        for room in 0..11 {
-            let found = told(&rt, alloc, WORDS, &mut files, most, (room, room))?;
-            let line = first("a.js:3: refused: unexpected", room);
-            let want = format!(in alloc; "4 \"\" \"{line}\"")?;
-            assert_eq!(rt; found.as_str(), want.as_str(), "room for {room}");
+        for bytes in 0..11 {
+            let room = Room {
+                most,
+                out: bytes,
+                err: bytes,
+            };
+            let ran = run_on(&rt, rt.alloc(), WORDS, &mut files, room)?;
+            let told = first(b"a.js:3: refused: unexpected\n", bytes);
+            assert!(rt; ran.is(4, b"", told), "room for {bytes}");
         }
     }
+    Ok(())
+}
+
+// A line breaks off where there is no more room.
+#[test]
+fn a_line_breaks_off(rt: HostRuntime) -> Result<(), Fail> {
+    let mut files = file_of(rt.alloc(), "print('abcdefgh');")?;
+    let room = Room {
+        most: 3,
+        out: 5,
+        err: 5,
+    };
+    let ran = run_on(&rt, rt.alloc(), WORDS, &mut files, room)?;
+    assert!(rt; ran.is(7, b"abcde", b""));
     Ok(())
 }
 
 // A line on `err` that isn't taken to its end, behind a whole `out`.
 #[test]
 fn a_line_on_err_fails_behind_the_lines(rt: HostRuntime) -> Result<(), Fail> {
-    let alloc = rt.alloc();
-    let mut files = files_of(alloc, "a.js: print('x'); print(undefined.length);")?;
-    for room in 0..26 {
-        let found = told(&rt, alloc, WORDS, &mut files, 7, (100, room))?;
-        let line = first("a.js: uncaught TypeError~", room);
-        let code = if room < 25 { 7 } else { 1 };
-        let want = format!(in alloc; "{code} \"x~\" \"{line}\"")?.replace(alloc, "~", "\\n")?;
-        assert_eq!(rt; found.as_str(), want.as_str(), "room for {room}");
+    let mut files = file_of(rt.alloc(), "print('x'); print(undefined.length);")?;
+    for bytes in 0..26 {
+        let room = Room {
+            most: 7,
+            out: 100,
+            err: bytes,
+        };
+        let ran = run_on(&rt, rt.alloc(), WORDS, &mut files, room)?;
+        let code = if bytes < 25 { 7 } else { 1 };
+        let told = first(b"a.js: uncaught TypeError\n", bytes);
+        assert!(rt; ran.is(code, b"x\n", told), "room for {bytes}");
     }
     Ok(())
 }
 
-// Words, files, and the bytes that both sinks take a write and in all, with what comes of it: a line
-// breaks off where there is no more room, and not even the program's name is among the words.
-const RUNS: &str =
-    r#"jsstr --ids 64 --heap-words 256 --slots 16 a.js | a.js: print('abcdefgh'); | 3 5 | 7 "abcde" ""
- | | 3 100 | 2 "" "jsstr: the words are refused\n""#;
+const AMPLE: Room = Room {
+    most: 100,
+    out: 100,
+    err: 100,
+};
 
-// What comes of a row's run, and what is wanted.
-fn compared<'a, R: Threads + Sync>(
-    rt: &R,
-    alloc: Global,
-    row: &'a str,
-) -> Result<(String, &'a str), Fail> {
-    let (words, rest) = row.split_once(" | ").ok_or("no words")?;
-    let (files, rest) = rest.split_once("| ").ok_or("no files")?;
-    let (sinks, want) = rest.split_once(" | ").ok_or("no sinks")?;
-    let (most, room) = sinks.split_once(' ').ok_or("no room")?;
-    let room = room.parse::<u32>()?;
-    let most = most.parse::<u32>()?.max(1);
-    let mut files = files_of(alloc, files)?;
-    let found = told(rt, alloc, words, &mut files, most, (room, room))?;
-    Ok((found, want))
-}
-
-#[test]
-fn runs_with_little_room(rt: HostRuntime) -> Result<(), Fail> {
-    for row in RUNS.lines() {
-        let (found, want) = compared(&rt, rt.alloc(), row)?;
-        assert_eq!(rt; found.as_str(), want, "{row}");
-    }
-    Ok(())
-}
-
+// A file has at most 1,048,576 bytes.
 #[test]
 fn a_file_has_at_most_so_many_bytes(rt: HostRuntime) -> Result<(), Fail> {
-    let alloc = rt.alloc();
-    let mut text = Vec::new(alloc);
-    text.resize(FILE_MAX as usize, b' ')?;
-    let mut files = MemFiles::new(alloc);
-    files.put("a.js", text.as_slice())?;
-    let found = told(&rt, alloc, WORDS, &mut files, 100, (100, 100))?;
-    assert_eq!(rt; found.as_str(), r#"0 "" """#);
-    text.push(b' ')?;
-    files.put("a.js", text.as_slice())?;
-    let found = told(&rt, alloc, WORDS, &mut files, 100, (100, 100))?;
-    assert_eq!(rt;
-        found.as_str(),
-        r#"3 "" "a.js: larger than 1048576 bytes\n""#
-    );
+    for more in 0..2 {
+        let mut files = MemFiles::new(rt.alloc());
+        files.put("a.js", text(rt.alloc(), FILE_MAX + more)?.as_slice())?;
+        let ran = run_on(&rt, rt.alloc(), WORDS, &mut files, AMPLE)?;
+        let large = ran.is(3, b"", b"a.js: larger than 1048576 bytes\n");
+        assert!(rt;
+            if more == 0 {
+                ran.is(0, b"", b"")
+            } else {
+                large
+            },
+            "{more} too many"
+        );
+    }
     Ok(())
 }
 
 // The first read fails, and the second, of another run, doesn't.
 #[test]
 fn a_read_fails(rt: HostRuntime) -> Result<(), Fail> {
-    let alloc = rt.alloc();
-    let mut files = files_of(alloc, "a.js: print('x');")?;
+    let mut files = file_of(rt.alloc(), "print('x');")?;
     files.fail_at(0)?;
-    for want in [r#"3 "" "a.js: cannot be read\n""#, r#"0 "x\n" """#] {
-        let found = told(&rt, alloc, WORDS, &mut files, 7, (100, 100))?;
-        assert_eq!(rt; found.as_str(), want);
-    }
+    let failed = run_on(&rt, rt.alloc(), WORDS, &mut files, AMPLE)?;
+    assert!(rt; failed.is(3, b"", b"a.js: cannot be read\n"));
+    let done = run_on(&rt, rt.alloc(), WORDS, &mut files, AMPLE)?;
+    assert!(rt; done.is(0, b"x\n", b""));
     Ok(())
+}
+
+// Three files, of which one is no script, and the read of one fails.
+fn ran_of_three<R: Threads + Sync>(rt: &R, alloc: Global, failing: u32) -> Result<Ran, Fail> {
+    let mut files = file_of(alloc, "print('x');")?;
+    files.put("b.js", b"no script")?;
+    files.put("c.js", b"print('y');")?;
+    files.fail_at(failing)?;
+    run_on(rt, alloc, "jsstr a.js b.js c.js", &mut files, AMPLE)
 }
 
 // One of three reads fails: its file is named, and nothing is printed.
 #[test]
 fn a_read_fails_among_several(rt: HostRuntime) -> Result<(), Fail> {
-    let alloc = rt.alloc();
-    for (call, name) in ["a", "b", "c"].iter().enumerate() {
-        let text = "a.js: print('x'); ~ b.js: no script ~ c.js: print('y');";
-        let mut files = files_of(alloc, text)?;
-        files.fail_at(call as u32)?;
-        let words = "jsstr a.js b.js c.js";
-        let found = told(&rt, alloc, words, &mut files, 7, (100, 100))?;
-        let want = format!(in alloc; "3 \"\" \"{name}.js: cannot be read\\n\"")?;
-        assert_eq!(rt; found.as_str(), want.as_str(), "at {call}");
+    let mut call = 0u32;
+    for told in [
+        "a.js: cannot be read\n",
+        "b.js: cannot be read\n",
+        "c.js: cannot be read\n",
+    ] {
+        let ran = ran_of_three(&rt, rt.alloc(), call)?;
+        assert!(rt; ran.is(3, b"", told.as_bytes()), "{told}");
+        call = call.saturating_add(1);
     }
+    Ok(())
+}
+
+// Not even the program's name.
+#[test]
+fn no_words(rt: HostRuntime) -> Result<(), Fail> {
+    let mut files = MemFiles::new(rt.alloc());
+    let ran = run_on(&rt, rt.alloc(), "", &mut files, AMPLE)?;
+    assert!(rt; ran.is(2, b"", b"jsstr: the words are refused\n"));
     Ok(())
 }

@@ -1,5 +1,5 @@
 // A report from a table, which prints 273 bytes, to sinks that fail at any place.
-use crate::program::ran;
+use crate::program::{Room, run_on};
 use js_io::MemFiles;
 use std::test::Fail;
 
@@ -49,14 +49,24 @@ fn a_report_breaks_off_at_any_place(rt: HostRuntime) -> Result<(), Fail> {
     let alloc = rt.alloc();
     let mut files = MemFiles::new(alloc);
     files.put("a.js", REPORT.as_bytes())?;
-    let whole = ran(&rt, alloc, WORDS, &mut files, 100, (PRINTED, PRINTED))?;
+    let ample = Room {
+        most: 100,
+        out: PRINTED,
+        err: PRINTED,
+    };
+    let whole = run_on(&rt, alloc, WORDS, &mut files, ample)?;
     let lines = whole.out.taken();
     assert_eq!(rt; (whole.code, lines.len()), (0, PRINTED as usize));
     for most in [1, 7] {
-        for room in 0..PRINTED {
-            let found = ran(&rt, alloc, WORDS, &mut files, most, (room, room))?;
-            let as_wanted = lines.get(..room as usize) == Some(found.out.taken());
-            assert!(rt; as_wanted && found.code == 7, "room for {room}");
+        for bytes in 0..PRINTED {
+            let room = Room {
+                most,
+                out: bytes,
+                err: bytes,
+            };
+            let found = run_on(&rt, alloc, WORDS, &mut files, room)?;
+            let as_wanted = lines.get(..bytes as usize) == Some(found.out.taken());
+            assert!(rt; as_wanted && found.code == 7, "room for {bytes}");
         }
     }
     Ok(())

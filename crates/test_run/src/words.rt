@@ -62,10 +62,26 @@ p.js a.js b.js, 4, 262144 4194304 65536, false, Bits64 ~ a.js --prelude=p.js b.j
 - a.js, 4, 262144 4194304 65536, false, Bits64 ~ --limit=64 a.js\n\
 - --jobs -h, 4, 262144 4194304 65536, false, Bits64 ~ -- --jobs -h\n\
 0, 4, 262144 4194304 65536, false, Bits64 ~ --generate 0\n\
+- a.js, 5, 262144 4194304 65536, false, Bits64 ~ --jobs +5 a.js\n\
+- a.js, 5, 262144 4194304 65536, false, Bits64 ~ --jobs=+5 a.js\n\
+- a.js, 5, 262144 4194304 65536, false, Bits64 ~ --jobs 05 a.js\n\
+- a.js, 5, 262144 4194304 65536, false, Bits64 ~ --jobs 0000000000000000000005 a.js\n\
+- a.js, 4, 1 4194304 65536, false, Bits64 ~ --ids +1 a.js\n\
+- a.js, 4, 1 4194304 65536, false, Bits64 ~ --ids 01 a.js\n\
+- a.js, 4, 262144 1 65536, false, Bits64 ~ --heap-words +1 a.js\n\
+- a.js, 4, 262144 1 65536, false, Bits64 ~ --heap-words 01 a.js\n\
+- a.js, 4, 262144 4194304 1, false, Bits64 ~ --slots +1 a.js\n\
+- a.js, 4, 262144 4194304 1, false, Bits64 ~ --slots 01 a.js\n\
+- a.js, 4, 262144 4194304 65536, false, Bits32 ~ --limit 032 a.js\n\
+- a.js, 4, 262144 4194304 65536, false, Bits64 ~ --limit +64 a.js\n\
+0, 4, 262144 4194304 65536, false, Bits64 ~ --generate=-0\n\
+0, 4, 262144 4194304 65536, false, Bits64 ~ --generate +0\n\
+0, 4, 262144 4194304 65536, false, Bits64 ~ --generate 00\n\
+1, 4, 262144 4194304 65536, false, Bits64 ~ --generate 01\n\
 4294967295, 2, 9 262144 7, true, Bits32 ~ --generate 4294967295 --jobs 2 --ids 9 --heap-words 262144 --slots 7 --summary --limit 32";
 
 // Words that are refused: the number of files; numbers out of their ranges, of other letters, with no
-// digit, with a sign or a leading zero, or too large for every type; sizes that are too much together; options given twice, without a
+// digit, or too large for every type; sizes that are too much together; options given twice, without a
 // value, with one too many, or unknown; requests for help; files or a prelude beside a number.
 const REFUSED: &str = "\n\
 --\n\
@@ -76,10 +92,6 @@ const REFUSED: &str = "\n\
 --jobs=-1 a.js\n\
 --jobs=-0 a.js\n\
 --jobs +-1 a.js\n\
---jobs +5 a.js\n\
---jobs=+5 a.js\n\
---jobs 05 a.js\n\
---jobs 0000000000000000000005 a.js\n\
 --jobs + a.js\n\
 --jobs 4x a.js\n\
 --jobs 0x4 a.js\n\
@@ -95,27 +107,15 @@ const REFUSED: &str = "\n\
 --heap-words 536870912 a.js\n\
 --slots 0 a.js\n\
 --slots 536870912 a.js\n\
---ids +1 a.js\n\
---ids 01 a.js\n\
---heap-words +1 a.js\n\
---heap-words 01 a.js\n\
---slots +1 a.js\n\
---slots 01 a.js\n\
 --ids 536870910 --heap-words 2 --slots 1 a.js\n\
 --ids 536870911 --heap-words 536870911 --slots 536870911 a.js\n\
 --limit 33 a.js\n\
---limit 032 a.js\n\
---limit +64 a.js\n\
 --limit 48 a.js\n\
 --limit 0 a.js\n\
 --limit 128 a.js\n\
 --limit big a.js\n\
 --generate 4294967296\n\
 --generate -1\n\
---generate=-0\n\
---generate +0\n\
---generate 00\n\
---generate 01\n\
 --generate x\n\
 --generate=\n\
 --generate\n\

@@ -4,9 +4,9 @@ use Rattle.js_header.specs.declared.form.Form.TheVariants.{Flat}
 use Rattle.heap_rule.specs.declared.view.View.{View}
 use Rattle.heap_rule.specs.Maps.{Has}
 use Rattle.heap_rule.proofs.MapLemmas.{insert_same}
-use Rattle.heap_slots.proofs.Copies.{some_words}
-use Rattle.heap_slots.proofs.Going.{forms_same}
-use Rattle.heap_slots.proofs.Stretching.{form_there}
+use Rattle.heap_string_table.proofs.Copies.{some_words}
+use Rattle.heap_string_table.proofs.Going.{forms_same}
+use Rattle.heap_string_table.proofs.Stretching.{form_there}
 use Rattle.heap_intern_tests.proofs.slices.first_word.Goals as goal
 
 pub load_word-requires-clause-may : goal.load_word-requires-clause-may

@@ -22,3 +22,14 @@ loop-done-preserved g c =
       step = search rules;
       history = search rules;
     }
+
+pub returns-then-ascii-count-clause-added : goal.returns-then-ascii-count-clause-added
+returns-then-ascii-count-clause-added g c =
+    let units = text (g.S.Strings.state c.args.store.now) (g.S.Strings.number c.args.s) in
+    let line = c.loop-done.line.items in
+    let more = c.push_front-ascii.new.line.items in
+    let a = c.push_front-ascii.result in
+    let n = c.min-count.result in
+    let part : c.read.new.into ≡ slice_range units c.loop-done.done (c.loop-done.done + n) = search rules in
+    let fits : a ≤ n = search rules in
+    front_on units line more c.read.new.into c.loop-done.done n a part fits c.push_front-ascii.ensures.ascii c.push_front-ascii.ensures.added ∙ c.loop-done.invariant.added

@@ -13,10 +13,10 @@ use Rattle.heap_rule.specs.Maps.{Has}
 use Rattle.heap_rule.proofs.MapLemmas.{has_key}
 use Rattle.heap_table.specs.Agents.{size_of}
 use Rattle.heap_text.specs.Settling.{IsBitOf, IsNoRoom}
-use Rattle.heap_slots.specs.declared.faults.TableFull.{TableFull}
-use Rattle.heap_slots.specs.Answers.{HasLeft, IsPlan, IsRefused, Plan}
-use Rattle.heap_slots.proofs.Visiting.{left_after, refused_after}
-use Rattle.heap_slots.proofs.Loading.{slots_few, slots_from, slots_most, slots_none}
+use Rattle.heap_string_table.specs.declared.faults.TableFull.{TableFull}
+use Rattle.heap_string_table.specs.Answers.{HasLeft, IsPlan, IsRefused, Plan}
+use Rattle.heap_string_table.proofs.Visiting.{left_after, refused_after}
+use Rattle.heap_string_table.proofs.Loading.{slots_few, slots_from, slots_most, slots_none}
 use Rattle.heap_intern.specs.Counted.{FoundFree}
 use Rattle.heap_intern.specs.Faults.{fault_in_table, fault_in_text}
 use Rattle.heap_intern.specs.Sessions.{is_settled, state_by, table_of}
