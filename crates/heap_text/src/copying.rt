@@ -88,6 +88,8 @@ impl<'h> Text<'h> {
         ensures ids { (view_of self.new.agent).used.ids ≡ (view_of self.old.agent).used.ids }
         ensures own_ids { (view_of self.new.agent).own_ids ≡ (view_of self.old.agent).own_ids }
         ensures own_words { (c : ℕ) → HasKey (view_of self.old.agent).own_words c → HasKey (view_of self.new.agent).own_words c }
+        ensures fresh { IfOk result (λ start. (q : ℕ) → q < words_over wide n
+            → HasKey (view_of self.old.agent).own_words (start + q) → ⊥) }
         ensures ok { IfOk result (λ start. IsWritten (view_of self.new.agent) wide start (listed (view_of self.old.agent) source.now) × ((view_of self.new.agent).used.words ≡ (view_of self.old.agent).used.words + words_over wide n)) }
         ensures refused { IfErr result (λ f. IsFull f (words_over wide n) (size_of self.old.heap.now).words × ((view_of self.new.agent).low.words ≡ f.at) × ((view_of self.new.agent).used.words ≡ (view_of self.old.agent).used.words)) }
     {

@@ -9,7 +9,7 @@ ghost use Rattle.heap_rule.specs.Loads.{added_loads};
 ghost use Rattle.heap_rule.specs.Maps.{Has, HasKey};
 ghost use Rattle.heap_rule.specs.Views.{IsKnown, IsSettled};
 ghost use Rattle.heap_table.specs.Agents.{Belongs, size_of, view_of};
-ghost use Rattle.heap_text.specs.Settling.{IsBitOf, IsFlattened, IsNoRoom, IsSeenLater, IsSettling, KnowsSide};
+ghost use Rattle.heap_text.specs.Settling.{HasSides, IsBitOf, IsFlattened, IsNoRoom, IsSeenLater, IsSettling, KnowsSide};
 ghost use Rattle.heap_text.specs.Texts.{Continues, Reads};
 
 use crate::faults::TextFull;
@@ -64,6 +64,8 @@ impl<'h> Text<'h> {
         ensures settled { IfOk result (λ u. IsSettled (view_of self.new.agent) s.id) }
         ensures flat { IfOk result (λ u. (us : List ℕ) → Has (view_of self.old.agent).units s.id us → IsFlattened (view_of self.old.agent) (view_of self.new.agent) s.id us wide) }
         ensures refused { IfErr result (λ f. (us : List ℕ) → Has (view_of self.old.agent).units s.id us → IsNoRoom (view_of self.old.agent) (view_of self.new.agent) (size_of self.old.heap.now) us f wide) }
+        ensures rope { IfErr result (λ f. (us : List ℕ) → Has (view_of self.old.agent).units s.id us
+            → HasSides (view_of self.new.agent) s.id us) }
         ensures loads { (l j : ℕ) → (view_of self.old.agent).form_loads ≡ added_loads l j → (view_of self.new.agent).form_loads ≡ added_loads l (j + (steps.new - steps.old)) }
         ensures more { steps.old ≤ steps.new }
         ensures steps { (us : List ℕ) → Has (view_of self.old.agent).units s.id us → steps.new + 1 ≤ steps.old + 8 * length us }
@@ -104,6 +106,8 @@ impl<'h> Text<'h> {
         ensures settled { IfOk result (λ u. IsSettled (view_of self.new.agent) s.id) }
         ensures used { IfOk result (λ u. (us : List ℕ) → Has (view_of self.old.agent).units s.id us → IsSettling (view_of self.old.agent) (view_of self.new.agent) s.id us) }
         ensures refused { IfErr result (λ f. (us : List ℕ) → Has (view_of self.old.agent).units s.id us → (wide : Bool) × IsBitOf (view_of self.old.agent) s.id wide × IsNoRoom (view_of self.old.agent) (view_of self.new.agent) (size_of self.old.heap.now) us f wide) }
+        ensures rope { IfErr result (λ f. (us : List ℕ) → Has (view_of self.old.agent).units s.id us
+            → HasSides (view_of self.new.agent) s.id us) }
         ensures again { IsSettled (view_of self.old.agent) s.id → IsOk result × Reads (view_of self.old.agent) (view_of self.new.agent) }
         ensures later { IsSettled (view_of self.old.agent) s.id
             → IsSeenLater (view_of self.old.agent) (view_of self.new.agent) s.id }
@@ -133,6 +137,8 @@ impl<'h> Text<'h> {
         ensures settled { IfOk result (λ u. IsSettled (view_of self.new.agent) s.id) }
         ensures used { IfOk result (λ u. (us : List ℕ) → Has (view_of self.old.agent).units s.id us → IsSettling (view_of self.old.agent) (view_of self.new.agent) s.id us) }
         ensures refused { IfErr result (λ f. (us : List ℕ) → Has (view_of self.old.agent).units s.id us → (wide : Bool) × IsBitOf (view_of self.old.agent) s.id wide × IsNoRoom (view_of self.old.agent) (view_of self.new.agent) (size_of self.old.heap.now) us f wide) }
+        ensures rope { IfErr result (λ f. (us : List ℕ) → Has (view_of self.old.agent).units s.id us
+            → HasSides (view_of self.new.agent) s.id us) }
         ensures again { IsSettled (view_of self.old.agent) s.id → IsOk result × Reads (view_of self.old.agent) (view_of self.new.agent) }
         ensures later { IsSettled (view_of self.old.agent) s.id
             → IsSeenLater (view_of self.old.agent) (view_of self.new.agent) s.id }
@@ -153,6 +159,8 @@ impl<'h> Text<'h> {
         ensures settled { IfOk result (λ u. IsSettled (view_of self.new.agent) s.id) }
         ensures used { IfOk result (λ u. (us : List ℕ) → Has (view_of self.old.agent).units s.id us → IsSettling (view_of self.old.agent) (view_of self.new.agent) s.id us) }
         ensures refused { IfErr result (λ f. (us : List ℕ) → Has (view_of self.old.agent).units s.id us → (wide : Bool) × IsBitOf (view_of self.old.agent) s.id wide × IsNoRoom (view_of self.old.agent) (view_of self.new.agent) (size_of self.old.heap.now) us f wide) }
+        ensures rope { IfErr result (λ f. (us : List ℕ) → Has (view_of self.old.agent).units s.id us
+            → HasSides (view_of self.new.agent) s.id us) }
         ensures again { IsSettled (view_of self.old.agent) s.id → IsOk result × Reads (view_of self.old.agent) (view_of self.new.agent) }
         ensures later { IsSettled (view_of self.old.agent) s.id
             → IsSeenLater (view_of self.old.agent) (view_of self.new.agent) s.id }

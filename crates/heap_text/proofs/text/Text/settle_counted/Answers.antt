@@ -6,7 +6,7 @@ use Rattle.heap_rule.specs.declared.view.View.{View}
 use Rattle.heap_rule.specs.Forms.{IsCons}
 use Rattle.heap_rule.specs.Maps.{Has}
 use Rattle.heap_table.specs.Agents.{size_of}
-use Rattle.heap_text.specs.Settling.{IsBitOf, IsFlattened, IsNoRoom, IsSettling}
+use Rattle.heap_text.specs.Settling.{HasSides, IsBitOf, IsFlattened, IsNoRoom, IsSettling}
 use Rattle.heap_text.proofs.Going.{continues_reads, continues_trans}
 use Rattle.heap_text.proofs.Settled.{err_then, flattened_after, no_room_after, ok_then, same_bit}
 use Rattle.heap_text.proofs.text.Text.settle_counted.Goals as goal
@@ -35,3 +35,7 @@ returns-in-Cons-clause-refused g c = let v : View = c.args.self.now.agent.seat.m
     subst (λ (z : HeapSize). IfErr c.flatten.result (λ f. (us : List ℕ) → Has v.units i us → (b : Bool) × IsBitOf v i b × IsNoRoom v w z us f b)) same
     (err_then c.flatten.result (λ f. (us : List ℕ) → Has u.units i us → IsNoRoom u w (size_of c.form_now-form.new.self.heap.now) us f wide) (λ f. (us : List ℕ) → Has v.units i us → (b : Bool) × IsBitOf v i b × IsNoRoom v w (size_of c.form_now-form.new.self.heap.now) us f b)
     (λ f h us k. (wide, bit, no_room_after v u w r (size_of c.form_now-form.new.self.heap.now) us f wide (h us (r.known.units i us k)))) c.flatten.ensures.refused)
+
+pub returns-in-Cons-clause-rope : goal.returns-in-Cons-clause-rope
+returns-in-Cons-clause-rope g c = let v : View = c.args.self.now.agent.seat.me.0 in let u : View = c.form_now-form.new.self.agent.seat.me.0 in let w : View = c.flatten.new.self.agent.seat.me.0 in let i = c.args.s.id in let r = c.form_now-form.ensures.reads in
+    err_then c.flatten.result (λ f. (us : List ℕ) → Has u.units i us → HasSides w i us) (λ f. (us : List ℕ) → Has v.units i us → HasSides w i us) (λ f h us k. h us (r.known.units i us k)) c.flatten.ensures.rope
