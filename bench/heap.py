@@ -4,7 +4,7 @@ making the whole heap; ropes and slices, each as a ratio with what it is to be a
 plain store, through the trait that both meet.
 
 Usage: bench/heap.py [flat | ropes | stores]. With a word only that part is measured. Build the programs first: rt run in
-crates/heap_bench and in crates/store_bench. It belongs to no gate: run it on a machine that does nothing else. Each
+crates/bench_heap and in crates/bench_store. It belongs to no gate: run it on a machine that does nothing else. Each
 figure is the difference of two medians of many runs, of a large count and of a small one, so that start-up isn't counted.
 """
 
@@ -14,7 +14,7 @@ import sys
 from speed import seconds
 
 ROOT = os.path.dirname(os.path.dirname(os.path.abspath(__file__)))
-PROGRAM = os.path.join(ROOT, "crates", "heap_bench", "out", "heap_bench")
+PROGRAM = os.path.join(ROOT, "crates", "bench_heap", "out", "bench_heap")
 RUNS = 11
 
 # the word for the program, what one turn is, the small count and the large one
@@ -25,7 +25,7 @@ MEASURES = [
     ("index", "a unit of a list read", 1_000, 20_001_000),
 ]
 WORDS = 4_194_304
-STORES = os.path.join(ROOT, "crates", "store_bench", "out", "store_bench")
+STORES = os.path.join(ROOT, "crates", "bench_store", "out", "bench_store")
 # the word for the program, what one turn is, the small count and the large one
 OVER_STORES = [
     ("read", "a unit of a string of 1,000,000 read", 1_000, 20_001_000),
@@ -62,7 +62,7 @@ def spent(word, count, runs=RUNS):
 
 
 def turn(word, small, large):
-    """The time of one turn of heap_bench, in seconds."""
+    """The time of one turn of bench_heap, in seconds."""
     return (spent(word, large) - spent(word, small)) / (large - small)
 
 
@@ -120,7 +120,7 @@ PARTS = {"flat": flat, "ropes": ropes, "stores": over_stores}
 
 
 def main():
-    for program, crate in [(PROGRAM, "heap_bench"), (STORES, "store_bench")]:
+    for program, crate in [(PROGRAM, "bench_heap"), (STORES, "bench_store")]:
         if not os.access(program, os.X_OK):
             sys.exit(f"the program isn't built: run rt run in crates/{crate}")
     parts = sys.argv[1:] or list(PARTS)

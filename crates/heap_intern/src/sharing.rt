@@ -71,7 +71,8 @@ impl<'h> Session<'h> {
     pub fn count_interned(&mut self) -> u32
         requires whole { IsWhole (state_in self.old) }
         ensures count { result ≡ different (state_in self.old).history }
-        ensures used { result ≡ count_below (λ k. contains_key (view_in self.new).slots k) (view_in self.new).sizes.slots }
+        ensures used { result ≡ count_below (λ k. contains_key (view_in self.new).slots k)
+            (view_in self.new).sizes.slots }
         ensures step { Step (state_in self.old) (state_in self.new) None 0 0 }
         ensures history { (state_in self.new).history ≡ (state_in self.old).history }
     {

@@ -84,16 +84,21 @@ impl<'h> Strings for Session<'h> {
     /// exactly where every slot was found used with other units.
     fn intern(&mut self, s: JsStr) -> Result<JsStr, StoreFault>
         requires { IsKnown (state_in self.old) s.id }
-        ensures ok { IfOk result (λ r. Has (state_in self.new) r.id (text (state_in self.old) s.id) × IsSettled (state_in self.new) r.id × IsSettled (state_in self.new) s.id) }
+        ensures ok { IfOk result
+            (λ r. Has (state_in self.new) r.id (text (state_in self.old) s.id)
+            × IsSettled (state_in self.new) r.id × IsSettled (state_in self.new) s.id) }
         ensures forwards { IfOk result (λ r. IsForwarded (view_in self.new) s.id r.id) }
         ensures step { Step (state_in self.old) (state_in self.new) (fault_of result) 1
             (intern_words ((state_in self.old).settled s.id) (length (text (state_in self.old) s.id))) }
-        ensures grown { IfOk result (λ r. (state_in self.new).history ≡ (state_in self.old).history ++ (text (state_in self.old) s.id, r.id) ∷ []) }
+        ensures grown { IfOk result
+            (λ r. (state_in self.new).history
+            ≡ (state_in self.old).history ++ (text (state_in self.old) s.id, r.id) ∷ []) }
         ensures kept { OnErr result ((state_in self.new).history ≡ (state_in self.old).history) }
         ensures shut { SlotsShut (state_in self.new) (fault_of result) (text (state_in self.old) s.id) }
         ensures free { FoundFree (view_in self.old) (view_in self.new) (text (state_in self.old) s.id)
             (fault_of result) }
-        ensures plan { GoesByPlan (view_in self.old) (view_in self.new) s.id (text (state_in self.old) s.id) result }
+        ensures plan { GoesByPlan (view_in self.old) (view_in self.new) s.id
+            (text (state_in self.old) s.id) result }
         ensures few { (k : ℕ) → loads_at (view_in self.new) k ≤ loads_at (view_in self.old) k + 2 }
     {
         self.intern_by::<Brand>(s, Blank::new(1))

@@ -78,9 +78,15 @@ pub(crate) fn copy_units(
     ensures ids { (view_of agent.new).used.ids ≡ (view_of agent.old).used.ids }
     ensures room { IfOk result (λ start. start + words_over wide s.len ≤ (view_of agent.new).sizes.words) }
     ensures above { IfOk result (λ start. (c : ℕ) → HasKey (view_of agent.old).own_words c → c < start) }
-    ensures used { IfOk result (λ start. (view_of agent.new).used.words ≡ (view_of agent.old).used.words + words_over wide s.len) }
-    ensures ok { IfOk result (λ start. (us : List ℕ) → Has (view_of agent.old).units s.id us → AreWords (view_of agent.new) wide start us (words_over wide s.len)) }
-    ensures err { IfErr result (λ f. IsFull f (words_over wide s.len) (view_of agent.new).sizes.words × ((view_of agent.new).low.words ≡ f.at) × ((view_of agent.new).used.words ≡ (view_of agent.old).used.words)) }
+    ensures used { IfOk result
+        (λ start. (view_of agent.new).used.words ≡ (view_of agent.old).used.words + words_over wide s.len) }
+    ensures ok { IfOk result
+        (λ start. (us : List ℕ) → Has (view_of agent.old).units s.id us
+        → AreWords (view_of agent.new) wide start us (words_over wide s.len)) }
+    ensures err { IfErr result
+        (λ f. IsFull f (words_over wide s.len) (view_of agent.new).sizes.words
+        × ((view_of agent.new).low.words ≡ f.at)
+        × ((view_of agent.new).used.words ≡ (view_of agent.old).used.words)) }
 {
     let want = words_for(s.len, wide);
     let start = match agent.claim_words(heap, want) {

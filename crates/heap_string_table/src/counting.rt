@@ -18,7 +18,8 @@ fn used(agent: &mut Agent, heap: &Heap, k: u32) -> u32
     ensures belongs { Belongs agent.new heap.now }
     ensures looks { Looks (view_of agent.old) (view_of agent.new) }
     ensures one { result ≤ 1 }
-    ensures counts { (a : View) (count : ℕ) → Counted a (view_of agent.old) k count → Counted a (view_of agent.new) (k + 1) (count + result) }
+    ensures counts { (a : View) (count : ℕ) → Counted a (view_of agent.old) k count
+        → Counted a (view_of agent.new) (k + 1) (count + result) }
 {
     match agent.load_slot(heap, k, false) {
         Some(_) => 1,
@@ -34,7 +35,8 @@ pub fn count_interned(agent: &mut Agent, heap: &Heap) -> u32
     ensures belongs { Belongs agent.new heap.now }
     ensures looks { Looks (view_of agent.old) (view_of agent.new) }
     ensures count { result ≡ different (history (view_of agent.old)) }
-    ensures used { result ≡ count_below (λ k. contains_key (view_of agent.new).slots k) (size_of heap.now).slots }
+    ensures used { result ≡ count_below (λ k. contains_key (view_of agent.new).slots k)
+        (size_of heap.now).slots }
 {
     let n = heap.size().slots;
     let mut count = 0;

@@ -31,7 +31,8 @@ pub(crate) fn forward(agent: &mut Agent, heap: &Heap, s: Sought, answer: u32)
     requires belongs { Belongs agent.old heap.now }
     requires lies { IsSought (view_of agent.old) s }
     requires stands { (k : ℕ) × Has (view_of agent.old).slots k answer }
-    requires units { (us : List ℕ) × Has (view_of agent.old).units s.id us × Has (view_of agent.old).units answer us }
+    requires units { (us : List ℕ) × Has (view_of agent.old).units s.id us
+        × Has (view_of agent.old).units answer us }
     ensures belongs { Belongs agent.new heap.now }
     ensures looks { Looks (view_of agent.old) (view_of agent.new) }
     ensures loads { (view_of agent.new).slot_loads ≡ (view_of agent.old).slot_loads }

@@ -28,14 +28,21 @@ fn bear(
     requires belongs { Belongs agent.old heap.now }
     requires over { (us : List ℕ) × MayBeOver (view_of agent.old) wide start len us }
     ensures belongs { Belongs agent.new heap.now }
-    ensures goes { (a : View) → Goes a (view_of agent.old) [] → ((c : ℕ) → start ≤ c → c < start + words_over wide len → HasKey a.own_words c → ⊥) → Goes a (view_of agent.new) [] }
+    ensures goes { (a : View) → Goes a (view_of agent.old) []
+        → ((c : ℕ) → start ≤ c → c < start + words_over wide len → HasKey a.own_words c → ⊥)
+        → Goes a (view_of agent.new) [] }
     ensures forms { KeepsForms (view_of agent.old) (view_of agent.new) }
     ensures slots { (view_of agent.new).slots ≡ (view_of agent.old).slots }
     ensures loads { (view_of agent.new).slot_loads ≡ (view_of agent.old).slot_loads }
     ensures words { (view_of agent.new).used.words ≡ (view_of agent.old).used.words }
-    ensures ok { IfOk result (λ i. (us : List ℕ) → MayBeOver (view_of agent.old) wide start len us → IsFlat (view_of agent.new) wide start us i) }
+    ensures ok { IfOk result
+        (λ i. (us : List ℕ) → MayBeOver (view_of agent.old) wide start len us
+        → IsFlat (view_of agent.new) wide start us i) }
     ensures used { IfOk result (λ i. (view_of agent.new).used.ids ≡ (view_of agent.old).used.ids + 1) }
-    ensures err { IfErr result (λ f. IsFull f 1 (view_of agent.new).sizes.ids × ((view_of agent.new).low.ids ≡ f.at) × ((view_of agent.new).used.ids ≡ (view_of agent.old).used.ids) × ((view_of agent.new).own_words ≡ (view_of agent.old).own_words)) }
+    ensures err { IfErr result
+        (λ f. IsFull f 1 (view_of agent.new).sizes.ids × ((view_of agent.new).low.ids ≡ f.at)
+        × ((view_of agent.new).used.ids ≡ (view_of agent.old).used.ids)
+        × ((view_of agent.new).own_words ≡ (view_of agent.old).own_words)) }
 {
     let id = match agent.claim_id(heap) {
         Ok(id) => id,
@@ -62,9 +69,14 @@ fn copied_header(agent: &mut Agent, heap: &Heap, s: Sought) -> Result<u32, Table
     ensures forms { KeepsForms (view_of agent.old) (view_of agent.new) }
     ensures slots { (view_of agent.new).slots ≡ (view_of agent.old).slots }
     ensures loads { (view_of agent.new).slot_loads ≡ (view_of agent.old).slot_loads }
-    ensures ok { IfOk result (λ i. (us : List ℕ) → Has (view_of agent.old).units s.id us → IsHeader (view_of agent.new) (copy_plan us) us i × ((view_of agent.new).used.words ≡ (view_of agent.old).used.words + copy_words us)) }
+    ensures ok { IfOk result
+        (λ i. (us : List ℕ) → Has (view_of agent.old).units s.id us
+        → IsHeader (view_of agent.new) (copy_plan us) us i
+        × ((view_of agent.new).used.words ≡ (view_of agent.old).used.words + copy_words us)) }
     ensures used { IfOk result (λ i. (view_of agent.new).used.ids ≡ (view_of agent.old).used.ids + 1) }
-    ensures err { IfErr result (λ f. (us : List ℕ) → Has (view_of agent.old).units s.id us → IsNoHeader (view_of agent.old) (view_of agent.new) (copy_words us) f) }
+    ensures err { IfErr result
+        (λ f. (us : List ℕ) → Has (view_of agent.old).units s.id us
+        → IsNoHeader (view_of agent.old) (view_of agent.new) (copy_words us) f) }
 {
     let wide = has_wide(agent, heap, s);
     let start = match copy_units(agent, heap, s, wide) {
@@ -88,9 +100,14 @@ pub(crate) fn make_header(agent: &mut Agent, heap: &Heap, s: Sought) -> Result<u
     ensures forms { KeepsForms (view_of agent.old) (view_of agent.new) }
     ensures slots { (view_of agent.new).slots ≡ (view_of agent.old).slots }
     ensures loads { (view_of agent.new).slot_loads ≡ (view_of agent.old).slot_loads }
-    ensures ok { IfOk result (λ i. (us : List ℕ) → Has (view_of agent.old).units s.id us → IsHeader (view_of agent.new) (header_plan s us) us i × ((view_of agent.new).used.words ≡ (view_of agent.old).used.words + (header_plan s us).words)) }
+    ensures ok { IfOk result
+        (λ i. (us : List ℕ) → Has (view_of agent.old).units s.id us
+        → IsHeader (view_of agent.new) (header_plan s us) us i
+        × ((view_of agent.new).used.words ≡ (view_of agent.old).used.words + (header_plan s us).words)) }
     ensures used { IfOk result (λ i. (view_of agent.new).used.ids ≡ (view_of agent.old).used.ids + 1) }
-    ensures err { IfErr result (λ f. (us : List ℕ) → Has (view_of agent.old).units s.id us → IsNoHeader (view_of agent.old) (view_of agent.new) (header_plan s us).words f) }
+    ensures err { IfErr result
+        (λ f. (us : List ℕ) → Has (view_of agent.old).units s.id us
+        → IsNoHeader (view_of agent.old) (view_of agent.new) (header_plan s us).words f) }
 {
     if let Form::Sliced { .. } = s.form {
         return copied_header(agent, heap, s);

@@ -44,9 +44,11 @@ fn visit_used<L: Ledger>(
     requires known { HasKey (view_of agent.old).units s.id }
     requires inside { k < (size_of heap.now).slots }
     requires used { Has (view_of agent.old).slots k t × IsKnown (view_of agent.old) t }
-    requires header { (us : List ℕ) → Has (view_of agent.old).units s.id us → IsMade (view_of agent.old) (header_plan s us) us header }
+    requires header { (us : List ℕ) → Has (view_of agent.old).units s.id us
+        → IsMade (view_of agent.old) (header_plan s us) us header }
     ensures belongs { Belongs agent.new heap.now }
-    ensures visited { (us : List ℕ) → Has (view_of agent.old).units s.id us → Visited (view_of agent.old) (view_of agent.new) us (header_plan s us) k header result }
+    ensures visited { (us : List ℕ) → Has (view_of agent.old).units s.id us
+        → Visited (view_of agent.old) (view_of agent.new) us (header_plan s us) k header result }
     ensures loads { LoadsOne (view_of agent.old) (view_of agent.new) k (entries result) steps.old steps.new }
     ensures count { steps.new ≡ steps.old + entries result }
 {
@@ -71,10 +73,13 @@ fn put<L: Ledger>(
     requires lies { IsSought (view_of agent.old) s }
     requires known { HasKey (view_of agent.old).units s.id }
     requires inside { k < (size_of heap.now).slots }
-    requires behind { (us : List ℕ) → Has (view_of agent.old).units s.id us → IsBehind (view_of agent.old) us k }
-    requires header { (us : List ℕ) → Has (view_of agent.old).units s.id us → IsMade (view_of agent.old) (header_plan s us) us (Some id) }
+    requires behind { (us : List ℕ) → Has (view_of agent.old).units s.id us
+        → IsBehind (view_of agent.old) us k }
+    requires header { (us : List ℕ) → Has (view_of agent.old).units s.id us
+        → IsMade (view_of agent.old) (header_plan s us) us (Some id) }
     ensures belongs { Belongs agent.new heap.now }
-    ensures visited { (us : List ℕ) → Has (view_of agent.old).units s.id us → Visited (view_of agent.old) (view_of agent.new) us (header_plan s us) k (Some id) result }
+    ensures visited { (us : List ℕ) → Has (view_of agent.old).units s.id us
+        → Visited (view_of agent.old) (view_of agent.new) us (header_plan s us) k (Some id) result }
     ensures loads { LoadsOne (view_of agent.old) (view_of agent.new) k (entries result) steps.old steps.new }
 {
     match agent.claim_slot(heap, k, id) {
@@ -101,11 +106,15 @@ fn take<L: Ledger>(
     requires frozen { s.offset ≡ 0 → AreFrozen (view_of agent.old) s.wide s.start s.len }
     requires inside { k < (size_of heap.now).slots }
     requires free { get (view_of agent.old).slots k ≡ None }
-    requires behind { (us : List ℕ) → Has (view_of agent.old).units s.id us → IsBehind (view_of agent.old) us k }
-    requires header { (us : List ℕ) → Has (view_of agent.old).units s.id us → IsMade (view_of agent.old) (header_plan s us) us header }
+    requires behind { (us : List ℕ) → Has (view_of agent.old).units s.id us
+        → IsBehind (view_of agent.old) us k }
+    requires header { (us : List ℕ) → Has (view_of agent.old).units s.id us
+        → IsMade (view_of agent.old) (header_plan s us) us header }
     ensures belongs { Belongs agent.new heap.now }
-    ensures visits { (us : List ℕ) → Has (view_of agent.old).units s.id us → Visits (view_of agent.old) (view_of agent.new) us (header_plan s us) k header result }
-    ensures loads { LoadsOne (view_of agent.old) (view_of agent.new) k (entries_in result) steps.old steps.new }
+    ensures visits { (us : List ℕ) → Has (view_of agent.old).units s.id us
+        → Visits (view_of agent.old) (view_of agent.new) us (header_plan s us) k header result }
+    ensures loads { LoadsOne (view_of agent.old) (view_of agent.new) k
+        (entries_in result) steps.old steps.new }
 {
     if let Some(id) = header {
         return Ok(put(agent, heap, s, k, id, steps));
@@ -131,11 +140,15 @@ fn visit_slot<L: Ledger>(
     requires known { HasKey (view_of agent.old).units s.id }
     requires frozen { s.offset ≡ 0 → AreFrozen (view_of agent.old) s.wide s.start s.len }
     requires inside { k < (size_of heap.now).slots }
-    requires behind { (us : List ℕ) → Has (view_of agent.old).units s.id us → IsBehind (view_of agent.old) us k }
-    requires header { (us : List ℕ) → Has (view_of agent.old).units s.id us → IsMade (view_of agent.old) (header_plan s us) us header }
+    requires behind { (us : List ℕ) → Has (view_of agent.old).units s.id us
+        → IsBehind (view_of agent.old) us k }
+    requires header { (us : List ℕ) → Has (view_of agent.old).units s.id us
+        → IsMade (view_of agent.old) (header_plan s us) us header }
     ensures belongs { Belongs agent.new heap.now }
-    ensures visits { (us : List ℕ) → Has (view_of agent.old).units s.id us → Visits (view_of agent.old) (view_of agent.new) us (header_plan s us) k header result }
-    ensures loads { LoadsOne (view_of agent.old) (view_of agent.new) k (entries_in result + 1) steps.old steps.new }
+    ensures visits { (us : List ℕ) → Has (view_of agent.old).units s.id us
+        → Visits (view_of agent.old) (view_of agent.new) us (header_plan s us) k header result }
+    ensures loads { LoadsOne (view_of agent.old) (view_of agent.new) k
+        (entries_in result + 1) steps.old steps.new }
     ensures again { HasKey (view_of agent.old).slots k → steps.new ≡ steps.old + (entries_in result + 1) }
 {
     steps.tick();
@@ -160,9 +173,11 @@ fn probe<L: Ledger>(
     requires hash { (us : List ℕ) → Has (view_of agent.old).units s.id us → hash ≡ hash_of us }
     ensures belongs { Belongs agent.new heap.now }
     ensures forms { KeepsForms (view_of agent.old) (view_of agent.new) }
-    ensures interns { (us : List ℕ) → Has (view_of agent.old).units s.id us → Interns (view_of agent.old) (view_of agent.new) us (header_plan s us) result }
+    ensures interns { (us : List ℕ) → Has (view_of agent.old).units s.id us
+        → Interns (view_of agent.old) (view_of agent.new) us (header_plan s us) result }
     ensures loads { LoadsSlots (view_of agent.old) (view_of agent.new) (answered result) steps.old steps.new }
-    ensures first { (us : List ℕ) → Has (view_of agent.old).units s.id us → IsFirst (view_of agent.old) us → steps.new ≡ steps.old + 2 }
+    ensures first { (us : List ℕ) → Has (view_of agent.old).units s.id us → IsFirst (view_of agent.old) us
+        → steps.new ≡ steps.old + 2 }
 {
     let n = heap.size().slots;
     let start = hash % n;
@@ -195,10 +210,13 @@ pub fn intern_counted<L: Ledger>(
     requires known { HasKey (view_of agent.old).units id }
     requires settled { IsSettled (view_of agent.old) id }
     ensures belongs { Belongs agent.new heap.now }
-    ensures interns { (us : List ℕ) → Has (view_of agent.old).units id us → (plan : Plan) × IsPlan (view_of agent.old) (view_of agent.new) id us plan × Interns (view_of agent.old) (view_of agent.new) us plan result }
+    ensures interns { (us : List ℕ) → Has (view_of agent.old).units id us
+        → (plan : Plan) × IsPlan (view_of agent.old) (view_of agent.new) id us plan
+        × Interns (view_of agent.old) (view_of agent.new) us plan result }
     ensures forwards { IfOk result (λ i. IsForwarded (view_of agent.new) id i) }
     ensures loads { LoadsSlots (view_of agent.old) (view_of agent.new) (answered result) steps.old steps.new }
-    ensures first { (us : List ℕ) → Has (view_of agent.old).units id us → IsFirst (view_of agent.old) us → steps.new ≡ steps.old + 2 }
+    ensures first { (us : List ℕ) → Has (view_of agent.old).units id us → IsFirst (view_of agent.old) us
+        → steps.new ≡ steps.old + 2 }
     ensures few { (k : ℕ) → loads_at (view_of agent.new) k ≤ loads_at (view_of agent.old) k + 2 }
     ensures most { steps.new ≤ steps.old + 2 * (size_of heap.now).slots }
 {
@@ -226,7 +244,9 @@ fn intern_by<L: Ledger>(
     requires known { HasKey (view_of agent.old).units id }
     requires settled { IsSettled (view_of agent.old) id }
     ensures belongs { Belongs agent.new heap.now }
-    ensures interns { (us : List ℕ) → Has (view_of agent.old).units id us → (plan : Plan) × IsPlan (view_of agent.old) (view_of agent.new) id us plan × Interns (view_of agent.old) (view_of agent.new) us plan result }
+    ensures interns { (us : List ℕ) → Has (view_of agent.old).units id us
+        → (plan : Plan) × IsPlan (view_of agent.old) (view_of agent.new) id us plan
+        × Interns (view_of agent.old) (view_of agent.new) us plan result }
     ensures forwards { IfOk result (λ i. IsForwarded (view_of agent.new) id i) }
     ensures few { (k : ℕ) → loads_at (view_of agent.new) k ≤ loads_at (view_of agent.old) k + 2 }
 {
@@ -245,7 +265,9 @@ pub fn intern(agent: &mut Agent, heap: &Heap, id: u32) -> Result<u32, TableFull>
     requires known { HasKey (view_of agent.old).units id }
     requires settled { IsSettled (view_of agent.old) id }
     ensures belongs { Belongs agent.new heap.now }
-    ensures interns { (us : List ℕ) → Has (view_of agent.old).units id us → (plan : Plan) × IsPlan (view_of agent.old) (view_of agent.new) id us plan × Interns (view_of agent.old) (view_of agent.new) us plan result }
+    ensures interns { (us : List ℕ) → Has (view_of agent.old).units id us
+        → (plan : Plan) × IsPlan (view_of agent.old) (view_of agent.new) id us plan
+        × Interns (view_of agent.old) (view_of agent.new) us plan result }
     ensures forwards { IfOk result (λ i. IsForwarded (view_of agent.new) id i) }
     ensures few { (k : ℕ) → loads_at (view_of agent.new) k ≤ loads_at (view_of agent.old) k + 2 }
 {

@@ -33,11 +33,14 @@ pub(crate) struct Sought {
 fn parent_words(agent: &mut Agent, heap: &Heap, parent: u32) -> (bool, u32)
     requires belongs { Belongs agent.old heap.now }
     requires known { IsKnown (view_of agent.old) parent }
-    requires cut { (j : ℕ) × (wide : Bool) × (offset : ℕ) × Has (view_of agent.old).forms j (Sliced wide parent offset) }
+    requires cut { (j : ℕ) × (wide : Bool) × (offset : ℕ)
+        × Has (view_of agent.old).forms j (Sliced wide parent offset) }
     ensures belongs { Belongs agent.new heap.now }
     ensures looks { Looks (view_of agent.old) (view_of agent.new) }
     ensures loads { (view_of agent.new).slot_loads ≡ (view_of agent.old).slot_loads }
-    ensures cuts { (j : ℕ) (wide : Bool) (offset : ℕ) → Has (view_of agent.old).forms j (Sliced wide parent offset) → Has (view_of agent.new).forms j (Sliced wide parent offset) }
+    ensures cuts { (j : ℕ) (wide : Bool) (offset : ℕ)
+        → Has (view_of agent.old).forms j (Sliced wide parent offset)
+        → Has (view_of agent.new).forms j (Sliced wide parent offset) }
     ensures words { HasWords (view_of agent.new) parent result.0 result.1 }
 {
     match agent.load_form(heap, parent) {
@@ -202,7 +205,8 @@ fn has_same_units(agent: &mut Agent, heap: &Heap, s: Sought, t: Stretch) -> bool
     ensures looks { Looks (view_of agent.old) (view_of agent.new) }
     ensures forms { KeepsForms (view_of agent.old) (view_of agent.new) }
     ensures loads { (view_of agent.new).slot_loads ≡ (view_of agent.old).slot_loads }
-    ensures same { (us : List ℕ) → Has (view_of agent.old).units s.id us → MatchBool result (Has (view_of agent.new).units t.id us) (Differs (view_of agent.new) us t.id) }
+    ensures same { (us : List ℕ) → Has (view_of agent.old).units s.id us
+        → MatchBool result (Has (view_of agent.new).units t.id us) (Differs (view_of agent.new) us t.id) }
 {
     let mut i = 0;
     while i < s.len {
@@ -228,7 +232,8 @@ pub(crate) fn is_same(agent: &mut Agent, heap: &Heap, s: Sought, id: u32) -> boo
     ensures looks { Looks (view_of agent.old) (view_of agent.new) }
     ensures forms { KeepsForms (view_of agent.old) (view_of agent.new) }
     ensures loads { (view_of agent.new).slot_loads ≡ (view_of agent.old).slot_loads }
-    ensures same { (us : List ℕ) → Has (view_of agent.old).units s.id us → MatchBool result (Has (view_of agent.new).units id us) (Differs (view_of agent.new) us id) }
+    ensures same { (us : List ℕ) → Has (view_of agent.old).units s.id us
+        → MatchBool result (Has (view_of agent.new).units id us) (Differs (view_of agent.new) us id) }
     ensures form { (wide : Bool) × (start : ℕ) × Has (view_of agent.new).forms id (Flat wide start true) }
 {
     let t = stretch_of(agent, heap, id);

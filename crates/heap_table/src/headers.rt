@@ -40,7 +40,8 @@ impl Agent {
         ensures belongs { Belongs self.new heap.now }
         ensures known { KeepsKnown (view_of self.old) (view_of self.new) }
         ensures step { IsMoved old result }
-        ensures view { view_of self.new ≡ learned_all (flattened (view_of self.old) id old new (header_found old result)) }
+        ensures view { view_of self.new
+            ≡ learned_all (flattened (view_of self.old) id old new (header_found old result)) }
         ensures settled { IsSettled (view_of self.new) id }
     {
         let word = self.try_flatten(heap, id, old, new);
@@ -77,7 +78,8 @@ impl Agent {
         ensures belongs { Belongs self.new heap.now }
         ensures known { KeepsKnown (view_of self.old) (view_of self.new) }
         ensures step { IsMoved old result }
-        ensures view { view_of self.new ≡ learned_all (thinned (view_of self.old) id old target (header_found old result)) }
+        ensures view { view_of self.new
+            ≡ learned_all (thinned (view_of self.old) id old target (header_found old result)) }
         ensures forwards { Has (view_of self.new).forms id (Thin target) }
     {
         let found = self.try_thin(heap, id, old, target);

@@ -108,7 +108,8 @@ impl<'h> Text<'h> {
         ensures reads { Reads (view_of self.old.agent) (view_of self.new.agent) }
         ensures forms { KeepsForms (view_of self.old.agent) (view_of self.new.agent) }
         ensures shows { Shows (view_of self.new.agent) source.now }
-        ensures listed { listed (view_of self.new.agent) source.now ≡ listed (view_of self.old.agent) source.now }
+        ensures listed { listed (view_of self.new.agent) source.now
+            ≡ listed (view_of self.old.agent) source.now }
         ensures has { (result.from ≤ i) × (i < result.from + result.count) }
         ensures holds { Holds (listed (view_of self.old.agent) source.now) result }
     {
@@ -150,7 +151,8 @@ impl<'h> Text<'h> {
         ensures reads { Reads (view_of self.old.agent) (view_of self.new.agent) }
         ensures forms { KeepsForms (view_of self.old.agent) (view_of self.new.agent) }
         ensures shows { Shows (view_of self.new.agent) source.now }
-        ensures listed { listed (view_of self.new.agent) source.now ≡ listed (view_of self.old.agent) source.now }
+        ensures listed { listed (view_of self.new.agent) source.now
+            ≡ listed (view_of self.old.agent) source.now }
         ensures holds { Holds (listed (view_of self.old.agent) source.now) held.new }
         ensures fits { result < 65536 }
         ensures unit { result ≡ slice_index (listed (view_of self.old.agent) source.now) i }
@@ -174,7 +176,8 @@ impl<'h> Text<'h> {
         ensures limit { self.new.limit ≡ self.old.limit }
         ensures reads { Reads (view_of self.old.agent) (view_of self.new.agent) }
         ensures shows { Shows (view_of self.new.agent) source.now }
-        ensures listed { listed (view_of self.new.agent) source.now ≡ listed (view_of self.old.agent) source.now }
+        ensures listed { listed (view_of self.new.agent) source.now
+            ≡ listed (view_of self.old.agent) source.now }
         ensures holds { Holds (listed (view_of self.old.agent) source.now) held.new }
         ensures fits { result < 65536 }
         ensures unit { result ≡ slice_index (listed (view_of self.old.agent) source.now) i }

@@ -46,7 +46,8 @@ impl<'h> Text<'h> {
         ensures limit { self.new.limit ≡ self.old.limit }
         ensures reads { Reads (view_of self.old.agent) (view_of self.new.agent) }
         ensures forms { KeepsForms (view_of self.old.agent) (view_of self.new.agent) }
-        ensures least { (us : List ℕ) → IsWindow (view_of self.old.agent) w us → IsFirstUnit us unit from result }
+        ensures least { (us : List ℕ) → IsWindow (view_of self.old.agent) w us
+            → IsFirstUnit us unit from result }
     {
         let mut i = from;
         while i < w.len {

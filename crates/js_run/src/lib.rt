@@ -14,7 +14,7 @@ mod stages;
 mod status;
 mod telling;
 
-pub use js_jobs::{Job, Outcome, run_all, run_group};
-pub use js_program::Kept;
 pub use run::run_words;
+pub use run_jobs::{Job, Outcome, run_all, run_group};
+pub use run_program::Kept;
 pub use status::Status;

@@ -40,7 +40,9 @@ pub fn copied<S: Strings>(alloc: Global, store: &mut S, s: S::Ref) -> Result<Uni
 pub fn read<S: Strings>(alloc: Global, store: &mut S, s: S::Ref) -> Result<Units, StoreFault>
     requires { IsKnown (S.state store.old) (S.number s) }
     ensures value { IfOk result (λ u. u ≡ text (S.state store.old) (S.number s)) }
-    ensures step { Step (S.state store.old) (S.state store.new) (full_fault_of result) 0 (settle_words ((S.state store.old).settled (S.number s)) (length (text (S.state store.old) (S.number s)))) }
+    ensures step { Step (S.state store.old) (S.state store.new) (full_fault_of result) 0
+        (settle_words ((S.state store.old).settled (S.number s))
+        (length (text (S.state store.old) (S.number s)))) }
     ensures slots { NeverSlots (full_fault_of result) }
     ensures history { (S.state store.new).history ≡ (S.state store.old).history }
 {

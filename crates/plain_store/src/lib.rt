@@ -54,7 +54,8 @@ impl PlainStore {
         ensures number { IfOk result (λ n. n ≡ length self.old.strings.items) }
         ensures ok { IfOk result (λ _. self.new.strings.items ≡ self.old.strings.items ++ units ∷ []) }
         ensures err { OnErr result (self.new.strings.items ≡ self.old.strings.items) }
-        ensures history { history_of self.new.strings.items self.new.answers.items ≡ history_of self.old.strings.items self.old.answers.items }
+        ensures history { history_of self.new.strings.items self.new.answers.items
+            ≡ history_of self.old.strings.items self.old.answers.items }
         ensures answers { self.new.answers.items ≡ self.old.answers.items }
         ensures limit { self.new.limit ≡ self.old.limit }
     {
@@ -75,7 +76,8 @@ impl PlainStore {
         ensures answers { self.new.answers.items ≡ self.old.answers.items }
         ensures limit { self.new.limit ≡ self.old.limit }
         ensures ok { IfOk result (λ n. map.get self.new.table (units_at self.old.strings.items s) ≡ Some n) }
-        ensures units { IfOk result (λ n. slice_get self.old.strings.items n ≡ Some (units_at self.old.strings.items s)) }
+        ensures units { IfOk result
+            (λ n. slice_get self.old.strings.items n ≡ Some (units_at self.old.strings.items s)) }
     {
         let units = self.strings[s as usize].as_slice();
         if let Some(number) = self.table.get(units) {

@@ -1,7 +1,7 @@
 // The texts that are made from a number are scripts.
 use eval_tree::{Names, Script};
-use js_generate::{Text, texts_from};
 use js_parse::{ParseFault, Role, parse};
+use run_generate::{Text, texts_from};
 use std::alloc::Global;
 use std::test::Fail;
 

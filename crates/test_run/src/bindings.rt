@@ -1,5 +1,5 @@
 // Values and bindings once more.
-use js_evaluator::{Env, Value};
+use js_eval::{Env, Value};
 use js_number::Num;
 use std::alloc::Global;
 use std::test::Fail;

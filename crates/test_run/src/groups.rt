@@ -5,7 +5,7 @@ use crate::gate::HoldsFirst;
 use crate::outcomes::{alike, all_done, counts, numbered, run, run_in_order};
 use crate::scripts::prelude;
 use heap_rule::HeapSize;
-use js_evaluator::End;
+use js_eval::End;
 use js_io::FreeGate;
 use js_store::FullReport;
 use std::alloc::Global;

@@ -2,8 +2,8 @@
 use heap_intern::Session;
 use heap_rule::HeapSize;
 use heap_table::Heap;
-use js_fits::{ends_tell, files_are_run};
 use js_store::Limit;
+use run_fits::{ends_tell, files_are_run};
 use std::alloc::Global;
 
 // On a new heap nothing was run, and nothing is used.

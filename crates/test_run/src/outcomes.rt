@@ -1,18 +1,18 @@
 // Jobs by their text, and what comes of them.
 ghost use Rattle.std.specs.Prelude.{◌≡◌, ◌≤◌, All, IfSome, length};
 ghost use Rattle.heap_intern.specs.Sessions.{state_in};
-ghost use Rattle.js_jobs.specs.Jobs.{HasNoLines};
+ghost use Rattle.run_jobs.specs.Jobs.{HasNoLines};
 
 use crate::scripts::script;
 use eval_tree::{Names, Script};
 use heap_intern::Session;
 use heap_rule::HeapSize;
 use heap_table::Heap;
-use js_evaluator::{End, Env, Lines, eval};
+use js_eval::{End, Env, Lines, eval};
 use js_io::Gate;
-use js_jobs::{Job, Outcome, run_all, run_group};
 use js_parse::Role;
 use js_store::Limit;
+use run_jobs::{Job, Outcome, run_all, run_group};
 use std::alloc::Global;
 use std::marker::Sync;
 use std::thread::Threads;

@@ -1,7 +1,7 @@
 // A prelude and scripts from files in memory, and from texts that were made.
-use js_generate::texts_from;
 use js_io::MemFiles;
-use js_sources::{Scripts, Stop, made_sources, parse_sources, read_sources};
+use run_generate::texts_from;
+use run_sources::{Scripts, Stop, made_sources, parse_sources, read_sources};
 use std::alloc::{AllocError, Global};
 use std::test::Fail;
 

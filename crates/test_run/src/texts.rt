@@ -1,5 +1,5 @@
 // The texts against what tools/generate.py makes of their definition.
-use js_generate::{Text, texts_from};
+use run_generate::{Text, texts_from};
 use std::test::Fail;
 
 // For each number the FNV-1a hash of the texts in order, each behind its name and a line end.

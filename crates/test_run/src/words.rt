@@ -1,6 +1,6 @@
 //! What words ask for. What is wanted follows from the ranges and the defaults of the options, and from
 //! what is read as a number or a flag.
-use js_words::{Plan, Source, read_words};
+use run_command::{Plan, Source, read_words};
 use std::alloc::{AllocError, Global};
 use std::test::Fail;
 

@@ -1,5 +1,5 @@
 use Rattle.std.proofs.Common.{◌≡◌, length, All}
-use Rattle.js_jobs.specs.Jobs.{HasNoLines}
+use Rattle.run_jobs.specs.Jobs.{HasNoLines}
 use Rattle.test_run.proofs.outcomes.places.Given as goal
 
 abbrev pub invariant-loop-turn : goal.invariant-loop-turn
