@@ -1,9 +1,9 @@
 #!/usr/bin/env python3
 """Plays a schedule: the atomic steps of some agents on one heap of strings, one after the other.
 
-    tools/play_schedule.py FILE     prints what the program jssched prints, and ends with its status
+    tools/play_schedule.py FILE     prints what each step found and what all strings hold, and ends with the status of the play
 
-It is a second implementation, written from docs/HEAP.md and from nothing else: the sections "What an agent knows" and "The atomic steps"
+It is an implementation of the heap's machine by itself, written from docs/HEAP.md and from nothing else: the sections "What an agent knows" and "The atomic steps"
 have the conditions and effects, "Schedules" has the form of the file and what is printed.
 """
 
