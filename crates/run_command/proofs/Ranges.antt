@@ -1,6 +1,7 @@
 -- Every request of lawful words is in its ranges.
-use Rattle.std.proofs.Common.{◌≡◌, ◌&&◌, ◌||◌, ◌+◌, ◌<◌, ◌≤◌, ◌^◌, ◌≤ℤ◌, ℕ, zero, suc, pos, neg_ℤ, cond, Bool, true, false, not, List, length, None, Some, refl, ap, sym, ◌∙◌, codes, is_some, option_map, unwrap_or, arith, subst, if◌then◌else◌}
+use Rattle.std.proofs.Common.{◌≡◌, ◌&&◌, ◌||◌, ◌+◌, ◌<◌, ◌≤◌, ◌^◌, ◌≤ℤ◌, ℕ, zero, suc, pos, negsuc, neg_ℤ, cond, Bool, true, false, not, List, length, None, Some, refl, ap, sym, ◌∙◌, codes, is_some, option_map, unwrap_or, arith, subst, if◌then◌else◌}
 use Rattle.std.proofs.lemmas.Bool.{leb-true}
+use Rattle.std.proofs.lemmas.Int.{ints}
 use Rattle.std.specs.declared.option.Option.{Option}
 use Rattle.std.specs.Prelude.{nat_le, option_and_then}
 use Rattle.std.specs.Str.Parse.{digits_value, starts_with_minus, without_leading_sign}
@@ -22,12 +23,17 @@ same x y is = ap (λ o. unwrap_or o x) is
 
 -- the digits of a number that is at least `least` and at most `most`
 digits_between : (b : Bool) (d least most : ℕ) → pos least ≤ℤ cond b (neg_ℤ (pos d)) (pos d) → cond b (neg_ℤ (pos d)) (pos d) ≤ℤ pos most → (least ≤ d) × (d ≤ most)
-digits_between true zero least most low high = (omega (arith, low), omega (arith, high))
-digits_between true (suc d) least most low high = absurd (omega (arith, low))
+digits_between true zero least most low high =
+    let low' : pos least ≤ℤ pos zero = low in
+    let high' : pos zero ≤ℤ pos most = high in
+    (grind (arith, ints, low'), grind (arith, ints, high'))
+digits_between true (suc d) least most low high =
+    let low' : pos least ≤ℤ negsuc d = low in
+    absurd (grind (arith, ints, low'))
 digits_between false d least most low high =
     let low' : pos least ≤ℤ pos d = low in
     let high' : pos d ≤ℤ pos most = high in
-    (omega (arith, low'), omega (arith, high'))
+    (grind (arith, ints, low'), grind (arith, ints, high'))
 
 number_between : (least most : ℕ) (text : Text) (n : ℕ) → number_in least most text ≡ Some n → (least ≤ n) × (n ≤ most)
 number_between least most text n is = go (is_signed_in (pos least) (pos most) text) refl
