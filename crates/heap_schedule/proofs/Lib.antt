@@ -1,0 +1,6 @@
+pub mod Pieces
+pub mod Numbers
+pub mod Turns
+pub mod Entered
+pub mod Played
+pub mod Written

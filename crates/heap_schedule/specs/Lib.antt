@@ -1,0 +1,6 @@
+pub mod Fields
+pub mod Lines
+pub mod Text
+pub mod Play
+pub mod Shown
+pub mod Outcome
