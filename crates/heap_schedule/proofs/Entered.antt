@@ -1,7 +1,8 @@
 -- What a view knows of the string that it saw in a slot.
 use Rattle.std.proofs.Common.{◌≡◌, ◌⊎◌, inl, inr, ℕ, zero, suc, ◌<◌, ◌≤◌, List, [], ◌∷◌, length, get_or, refl, sym, ap, ◌∙◌, subst, arith, Option, Some, None}
 use Rattle.std.specs.Prelude.{option_and_then}
-use Rattle.std.specs.FinMap.{get}
+use Rattle.std.specs.FinMap.{get, get-empty}
+use Rattle.std.specs.Ordering.{nat_cmp}
 use Rattle.std.proofs.lemmas.Bool.{cases_lt}
 use Rattle.heap_rule.specs.declared.view.View.{View}
 use Rattle.heap_rule.specs.Agents.{spent}
@@ -42,5 +43,6 @@ no_entry s j k none = elim (cases_lt j (length s.views)) [
     | inr us ↦ (let p = parts (λ i. get (view_at s j).units i) (get (view_at s j).slots k) us.0 us.1 in
         absurd (none us.0 (view_at s j, p.0, at_own s.views j spent l, p.1, p.2)))
   ]
-  | inr g ↦ subst (λ (w : View). option_and_then (λ i. get w.units i) (get w.slots k) ≡ None) (sym (past_end s.views j spent g)) refl
+  | inr g ↦ subst (λ (w : View). option_and_then (λ i. get w.units i) (get w.slots k) ≡ None) (sym (past_end s.views j spent g))
+      (ap (option_and_then (λ i. get spent.units i)) (get-empty nat_cmp k))
 ]

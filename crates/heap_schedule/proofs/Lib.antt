@@ -4,3 +4,4 @@ pub mod Turns
 pub mod Entered
 pub mod Played
 pub mod Written
+pub mod Told

@@ -133,9 +133,9 @@ pub record ArePlayed (ts : List Turn) (i : ℕ) (s t : Core) (xs : List ℕ) : T
   pub found : xs ≡ words_for (take i ts) s
   pub sound : IsSoundCore t
 
-pub one_played : (ls : List Line) (i : ℕ) (x d : Line) (s t u : Core) (xs ys : List ℕ) (w : ℕ) → i < length ls → x ≡ get_or ls i d
+played_next : (ls : List Line) (i : ℕ) (x d : Line) (s t u : Core) (xs ys : List ℕ) (w : ℕ) → i < length ls → x ≡ get_or ls i d
     → ArePlayed (map named ls) i s t xs → IsPlayed t (named x) u (Ok w) → ys ≡ xs ++ w ∷ [] → ArePlayed (map named ls) (suc i) s u ys
-one_played ls i x d s t u xs ys w h e p q added =
+played_next ls i x d s t u xs ys w h e p q added =
     let front = take i (map named ls) in
     let step = take_line ls i x d h e in
     let here : CanPlay (all_played front s) (named x) = subst (λ c. CanPlay c (named x)) p.after q.0 in
@@ -148,6 +148,12 @@ one_played ls i x d s t u xs ys w h e p q added =
           ∙ sym (ap (λ ts. words_for ts s) step ∙ words_more front (named x) s);
       sound = q.3;
     }
+
+pub one_played : (ls : List Line) (i : ℕ) (x d : Line) (s t u : Core) (xs ys : List ℕ) (w : ℕ) → i < length ls → x ≡ get_or ls i d
+    → ArePlayed (map named ls) i s t xs → IsPlayed t (named x) u (Ok w) → ys ≡ xs ++ w ∷ [] → ArePlayed (map named ls) (i + 1) s u ys
+one_played ls i x d s t u xs ys w h e p q added =
+    let one : suc i ≡ i + 1 = omega arith in
+    subst (λ n. ArePlayed (map named ls) n s u ys) one (played_next ls i x d s t u xs ys w h e p q added)
 
 -- the next line may not be played
 pub ends_here : (ls : List Line) (i : ℕ) (x d : Line) (s t u : Core) (xs : List ℕ) → i < length ls → x ≡ get_or ls i d

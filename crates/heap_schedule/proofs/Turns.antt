@@ -85,8 +85,8 @@ first_open bs n e at = ap schedule_by (pieces_whole 10 bs (e ∙ at))
 
 -- the other lines
 pub lines_stop : (r : Reading) (m : Making) (ls : Lines) (stop : TextStop) → r ≡ lines_after m ls → GivesLines (Err stop) ls → GivesSchedule (Err stop) r
-lines_stop r m ls (stop.Refused k) is refused = is ∙ ap (lines_after m) refused
-lines_stop r m ls stop.Memory is refused = tt
+lines_stop r m ls (stop.Refused k) is bad = is ∙ ap (lines_after m) bad
+lines_stop r m ls stop.Memory is bad = tt
 
 pub lines_whole : (r : Reading) (m : Making) (ls : Lines) (ts : List Turn) → r ≡ lines_after m ls → ls ≡ turns ts → r ≡ reads m ts
 lines_whole r m ls ts is whole = is ∙ ap (lines_after m) whole
