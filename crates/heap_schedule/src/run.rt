@@ -78,7 +78,10 @@ fn file_name(words: &[String]) -> Option<&str>
 
 // Plays a schedule, and gives all that is shown of it.
 #[tactic(auto, using(crate::proofs::Told::lawful_size, crate::proofs::Told::lawful_agents))]
-fn play(alloc: Global, schedule: &Schedule) -> Result<Shown, NoMemory> {
+fn play(alloc: Global, schedule: &Schedule) -> Result<Shown, NoMemory>
+    ensures { IfOk result (λ shown. IsShown schedule.now.making (turns_of schedule.now)
+        shown.bytes.items shown.played) }
+{
     let mut state = CoreState::new(alloc);
     let making = Event::Make {
         size: schedule.making.size,
@@ -102,7 +105,11 @@ fn play(alloc: Global, schedule: &Schedule) -> Result<Shown, NoMemory> {
 }
 
 // Writes what is shown, and where a line isn't enabled its number.
-fn tell_play<O: Sink, E: Sink>(shown: &Shown, lines: usize, out: &mut O, err: &mut E) -> u8 {
+fn tell_play<O: Sink, E: Sink>(shown: &Shown, lines: usize, out: &mut O, err: &mut E) -> u8
+    ensures { IsEnd (printed (play_status lines shown.now.played) shown.now.bytes.items
+        (stop_line lines shown.now.played)) result
+        (sinks (O.state out.old) (E.state err.old)) (sinks (O.state out.new) (E.state err.new)) }
+{
     match write_all(out, &shown.bytes) {
         Ok(()) => {
             if shown.played == lines {
