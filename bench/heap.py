@@ -4,7 +4,7 @@ making the whole heap; ropes and slices, each as a ratio with what it is to be a
 plain store, through the trait that both meet.
 
 Usage: bench/heap.py [flat | ropes | stores]. With a word only that part is measured. Build the programs first: rt run in
-crates/heap_bench and in crates/store_bench. It belongs to no gate: run it on a machine that does nothing else. Each
+crates/bench_heap and in crates/bench_store. It belongs to no gate: run it on a machine that does nothing else. Each
 figure is the difference of two medians of many runs, of a large count and of a small one, so that start-up isn't counted.
 """
 
@@ -14,7 +14,7 @@ import sys
 from speed import seconds
 
 ROOT = os.path.dirname(os.path.dirname(os.path.abspath(__file__)))
-PROGRAM = os.path.join(ROOT, "crates", "heap_bench", "out", "heap_bench")
+PROGRAM = os.path.join(ROOT, "crates", "bench_heap", "out", "bench_heap")
 RUNS = 11
 
 # the word for the program, what one turn is, the small count and the large one
@@ -25,14 +25,23 @@ MEASURES = [
     ("index", "a unit of a list read", 1_000, 20_001_000),
 ]
 WORDS = 4_194_304
-STORES = os.path.join(ROOT, "crates", "store_bench", "out", "store_bench")
+STORES = os.path.join(ROOT, "crates", "bench_store", "out", "bench_store")
 # the word for the program, what one turn is, the small count and the large one
 OVER_STORES = [
     ("read", "a unit of a string of 1,000,000 read", 1_000, 20_001_000),
+    ("blocks", "the same by blocks of 250 units", 1_000, 200_001_000),
     ("seek", "a unit that isn't there sought in it", 1, 21),
     ("make", "a string of 20 units made", 1_000, 501_000),
     ("known", "the same made and interned, where it is there", 1_000, 501_000),
     ("new", "the same made and interned, where it is new", 1_000, 501_000),
+    ("keys", "a string of 40 units made", 1_000, 101_000),
+    ("forty", "the same made and interned, where it is new", 1_000, 101_000),
+]
+# a measure with interning, the same without, and what their difference is
+INTERNINGS = [
+    ("known", "make", "interning 20 units alone, where they are there"),
+    ("new", "make", "interning 20 units alone, where they are new"),
+    ("forty", "keys", "interning 40 units alone, where they are new"),
 ]
 # what takes ten times as long for ten times the count, within these bounds
 LINEAR = (8, 14)
@@ -53,7 +62,7 @@ def spent(word, count, runs=RUNS):
 
 
 def turn(word, small, large):
-    """The time of one turn of heap_bench, in seconds."""
+    """The time of one turn of bench_heap, in seconds."""
     return (spent(word, large) - spent(word, small)) / (large - small)
 
 
@@ -99,8 +108,8 @@ def over_stores():
             many = seconds([STORES, store, word, str(large)], RUNS, 0)
             took[word, store] = (many - few) / (large - small) * 1e9
         told(what, took[word, "plain"], took[word, "heap"])
-    for word, what in [("known", "interning alone, where it is there"), ("new", "interning alone, where it is new")]:
-        told(what, *(took[word, store] - took["make", store] for store in ["plain", "heap"]))
+    for word, less, what in INTERNINGS:
+        told(what, *(took[word, store] - took[less, store] for store in ["plain", "heap"]))
 
 
 def told(what, plain, heap):
@@ -111,7 +120,7 @@ PARTS = {"flat": flat, "ropes": ropes, "stores": over_stores}
 
 
 def main():
-    for program, crate in [(PROGRAM, "heap_bench"), (STORES, "store_bench")]:
+    for program, crate in [(PROGRAM, "bench_heap"), (STORES, "bench_store")]:
         if not os.access(program, os.X_OK):
             sys.exit(f"the program isn't built: run rt run in crates/{crate}")
     parts = sys.argv[1:] or list(PARTS)

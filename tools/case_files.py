@@ -107,6 +107,12 @@ def cases(path):
             raise SystemExit(f"{os.path.relpath(path)}:{first + 1}: no case") from None
 
 
+def one_script(case):
+    """The script of a case that runs one, that is not refused for its size."""
+    known = case.status in (0, 1, 4) and len(case.words) == 1 and case.words[0] in case.files
+    return case.files[case.words[0]] if known else None
+
+
 # What isn't seen in a file of cases, or isn't what it seems.
 UNSEEN = r"\x00-\x1f\x7f\x85\xa0\u1680\u2000-\u200f\u2028\u2029\u202f\u205f\u3000\ufeff\udc80-\udcff"
 

@@ -4,6 +4,7 @@ import bisect
 import random
 import re
 
+import methods
 import reading
 
 TEXTS = ["''", "'a'", "'abc'", "\"it's\"", "'abab'", "' \\t a b\\uFEFF'", "'\\u{1F600}x'", "'\\ud800'", "'$&$1$$'", "'a,b,,c'", "'é\\x41'", "'k'", "'12'", "','"]
@@ -12,12 +13,6 @@ ODD = ["undefined", "null", "true", "false", "NaN", "''", "0", "'0'", "Symbol.fo
 # Words that are names here and something else at another place, or near a word that is none.
 NAMES = ["a", "b", "s", "n", "list", "at", "length", "of", "let1", "$", "_", "keyFor", "slice", "x1", "async", "get", "i", "j", "k"]
 OPERATORS = ["===", "!==", "<", ">", "<=", ">="]
-# Of each method: what it is asked of, its arguments (n number, t text, s small number), what it gives.
-METHODS = [("at", "n", "text"), ("charAt", "n", "text"), ("charCodeAt", "n", "number"), ("codePointAt", "n", "number"), ("concat", "tt", "text"),
-           ("endsWith", "tn", "truth"), ("includes", "tn", "truth"), ("indexOf", "tn", "number"), ("isWellFormed", "", "truth"), ("lastIndexOf", "tn", "number"),
-           ("padEnd", "st", "text"), ("padStart", "st", "text"), ("repeat", "s", "text"), ("replace", "tt", "text"), ("replaceAll", "tt", "text"), ("slice", "nn", "text"),
-           ("split", "tn", "list"), ("startsWith", "tn", "truth"), ("substr", "nn", "text"), ("substring", "nn", "text"), ("toWellFormed", "", "text"),
-           ("trim", "", "text"), ("trimEnd", "", "text"), ("trimStart", "", "text")]
 KINDS = ["text", "number", "truth", "list", "symbol"]
 # What is put into a text to damage it.
 PIECES = reading.MARKS + ["let", "const", "if", "else", "for", "print", "String", "Symbol", "JSON", "var", "length", "at", "i", "a", "'", "\"", "\\", "0", "1.5", "'b'", "1000001",
@@ -58,14 +53,14 @@ class Maker:
         return value if re.fullmatch(r"[\w$]+|'[^'\\]*'|[A-Z]\w+\.\w+\([^()]*\)", value) and not value[0].isdigit() else f"({value})"
 
     def call(self, gives, room):
-        method, takes, _ = self.rng.choice([it for it in METHODS if it[2] == gives])
+        method, takes, *_ = self.rng.choice([it for it in methods.OF_STRINGS if it.gives == gives])
         count = self.rng.choice([len(takes)] * 3 + list(range(len(takes) + 2)))
         return f"{self.asked('text', room)}.{method}({', '.join(self.argument(it, room - 1) for it in (takes + 'tt')[:count])})"
 
     def argument(self, kind, room):
         if kind == "s":
             return self.rng.choice(["0", "1", "2", "3", "7", "12", "NaN"] * 4 + ["-1", "Infinity"])
-        return self.value({"n": "number", "t": "text"}[kind], room)
+        return self.value("number" if kind == "n" else "text", room)
 
     def text(self, room):
         anything = self.rng.choice(KINDS[:4] * 5 + KINDS)

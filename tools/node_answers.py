@@ -8,18 +8,14 @@ import json
 import subprocess
 import sys
 
+import methods
 import reading
 
 LEVELS = (("||",), ("&&",), ("===", "!=="), ("<", ">", "<=", ">="), ("+", "-"))
 
-# The methods of strings, and what each makes of its arguments: n a number, t a text.
-ARGUMENTS = dict(at="n", charAt="n", charCodeAt="n", codePointAt="n", concat="", endsWith="tn", includes="tn", indexOf="tn", isWellFormed="",
-                 lastIndexOf="tn", padEnd="nt", padStart="nt", repeat="n", replace="tt", replaceAll="tt", slice="nn", split="tn", startsWith="tn",
-                 substr="nn", substring="nn", toWellFormed="", trim="", trimEnd="", trimStart="")
-
 NODE = r"""
 const vm = require('vm');
-const { scripts, kinds } = JSON.parse(require('fs').readFileSync(0, 'utf8'));
+const { scripts, numbers, leftOut } = JSON.parse(require('fs').readFileSync(0, 'utf8'));
 class Unsupported extends Error { constructor(at) { super(); this.name = `unsupported at ${at}`; } }
 const isList = Array.isArray, isNothing = (v) => v === undefined || v === null;
 const isLeftOut = (v) => typeof v === 'string' || isList(v);
@@ -53,9 +49,9 @@ const profile = {
   call(at, v, method, list) {
     if (isNothing(v)) throw new TypeError();
     const args = list();
-    if (isList(v) && ['at', 'concat', 'includes', 'indexOf', 'lastIndexOf', 'slice'].includes(method)) throw new Unsupported(at);
+    if (isList(v) && leftOut.includes(method)) throw new Unsupported(at);
     if (method === 'join' ? !isList(v) : typeof v !== 'string') throw new TypeError();
-    return v[method](...args.map((it, place) => (kinds[method] ?? '')[place] === 'n' ? asNumber(at, it) : it));
+    return v[method](...args.map((it, place) => numbers[method]?.[place] ? asNumber(at, it) : it));
   },
   codes(at, which, args) { return String[which](...args.map((it) => asNumber(at, it))); },
 };
@@ -199,5 +195,6 @@ def answers(scripts):
     """Of each script, which has to be one: the bytes that it prints, and what stands behind `FILE: ` on standard error, or nothing."""
     sys.setrecursionlimit(100000)
     kept = sorted(reading.NO_NAMES)
-    ran = run_node(NODE, {"scripts": [{"text": Rewriter(it.decode("utf-8")).script(), "kept": kept} for it in scripts], "kinds": ARGUMENTS})
+    given = [{"text": Rewriter(it.decode("utf-8")).script(), "kept": kept} for it in scripts]
+    ran = run_node(NODE, {"scripts": given, "numbers": methods.NUMBERS, "leftOut": methods.LEFT_OUT})
     return [(out.encode("utf-8"), error if not error or error.startswith("unsupported at ") else f"uncaught {error}") for out, error in ran]

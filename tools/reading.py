@@ -10,6 +10,8 @@ The rules on names are asked of the list of tokens, by matching braces. docs/LAN
 import collections
 import re
 
+import methods
+
 MOST_OPEN, MOST_TURNS, MOST_NUMBER = 200, 1000000, 9007199254740991
 
 # `<` and `>` hold what counts as one more that is open. Same is the name that the loop began with; every other name
@@ -44,8 +46,7 @@ Primary   = Text | Number | Name | 'undefined' | 'null' | 'true' | 'false' | 'Na
           | 'JSON' '.' 'stringify' Test
 """
 
-METHODS = frozenset("""at charAt charCodeAt codePointAt concat endsWith includes indexOf isWellFormed join lastIndexOf padEnd padStart repeat
-replace replaceAll slice split startsWith substr substring toWellFormed trim trimEnd trimStart""".split())
+NAMES_OF_METHODS = frozenset(it.name for it in methods.METHODS)
 
 # The words that are no names: those that strict code reserves, and those of the profile's own.
 NO_NAMES = frozenset("""break case catch class const continue debugger default delete do else enum export extends false finally for function if
@@ -166,7 +167,7 @@ def kinds(token):
         return ("Number",) + (("Zero",) if value == 0 else ()) + (("Bound",) if value <= MOST_TURNS else ())
     if token.kind == "mark":
         return (f"'{token.spelling}'",) + (("Increment",) if token.spelling == "++" and not token.fresh else ())
-    return (f"'{token.spelling}'",) + (("Name",) if is_name(token) else ()) + (("Method",) if token.spelling in METHODS else ())
+    return (f"'{token.spelling}'",) + (("Name",) if is_name(token) else ()) + (("Method",) if token.spelling in NAMES_OF_METHODS else ())
 
 
 # ---- The grammar
@@ -392,3 +393,8 @@ def declared_at_top(data):
         if before.spelling in ("let", "const") and open_ones == 0:
             names.add(token.spelling)
     return names
+
+
+def told(fault):
+    """What stands behind `FILE:` on standard error, nothing for a script."""
+    return f"{fault[1]}: refused: {fault[0]}" if fault else ""

@@ -16,10 +16,10 @@ use Rattle.heap_rule.specs.HeaderMoves.{seen_form, MayFlatten, flattened, MayThi
 use Rattle.heap_rule.specs.Kinds.{Keeps, flatten, thin, left_by, access_of}
 use Rattle.heap_rule.specs.Sound.{At, AreStanding, IsSound, KnowsForm}
 use Rattle.heap_rule.specs.Agents.{spent}
-use Rattle.heap_views.specs.declared.load.Load.{Load}
-use Rattle.heap_views.specs.Loading.{loaded_by, HasRoom}
-use Rattle.heap_views.specs.Probing.{HasShorts}
-use Rattle.heap_births.specs.Moving.{Stays}
+use Rattle.heap_core_views.specs.declared.load.Load.{Load}
+use Rattle.heap_core_views.specs.Loading.{loaded_by, HasRoom}
+use Rattle.heap_core_views.specs.Probing.{HasShorts}
+use Rattle.heap_core_births.specs.Moving.{Stays}
 use Rattle.heap_core.specs.declared.event.Refusal.{Refusal}
 use Rattle.heap_core.specs.declared.event.Refusal.TheVariants.{NotEnabled, Memory}
 use Rattle.heap_core.specs.declared.event.Event.TheVariants as event

@@ -5,7 +5,7 @@ use Rattle.js_units.specs.Lanes.{words_over}
 use Rattle.js_header.specs.declared.form.Form.TheVariants.{Flat}
 use Rattle.std.specs.Global.{Vec}
 use Rattle.heap_rule.specs.declared.view.View.{View}
-use Rattle.heap_views.specs.declared.load.Load.{Load}
+use Rattle.heap_core_views.specs.declared.load.Load.{Load}
 use Rattle.heap_rule.specs.declared.size.HeapSize.{HeapSize}
 use Rattle.heap_core.specs.declared.event.Refusal.{Refusal}
 use Rattle.heap_core.specs.declared.event.Refusal.TheVariants.{NotEnabled, Memory}
@@ -14,7 +14,7 @@ use Rattle.heap_rule.specs.Layout.{IsLawful, IsBorn, form, length_word, form_at,
 use Rattle.heap_rule.specs.Views.{IsKnown}
 use Rattle.heap_rule.specs.Learning.{learned, MayLearn}
 use Rattle.heap_rule.specs.Loads.{with_form, added_loads, loaded_form, loaded_length, MayLoadWord, loaded_word}
-use Rattle.heap_views.specs.Loading.{loaded_by, HasRoom, IsRun}
+use Rattle.heap_core_views.specs.Loading.{loaded_by, HasRoom, IsRun}
 use Rattle.heap_core.specs.Headers.{IsHeaderLoad}
 use Rattle.heap_rule.specs.Agents.{spent}
 use Rattle.heap_rule.specs.Sound.{At, IsSound, AreStanding}

@@ -14,8 +14,8 @@ use Rattle.heap_rule.specs.Learning.{learned}
 use Rattle.heap_rule.specs.Slots.{loaded_slot, took_slot}
 use Rattle.heap_rule.specs.Sound.{At}
 use Rattle.heap_rule.specs.Agents.{spent}
-use Rattle.heap_views.specs.Loading.{HasRoom}
-use Rattle.heap_views.specs.Probing.{HasForms, HasShorts}
+use Rattle.heap_core_views.specs.Loading.{HasRoom}
+use Rattle.heap_core_views.specs.Probing.{HasForms, HasShorts}
 use Rattle.heap_core.specs.declared.event.Refusal.{Refusal}
 use Rattle.heap_core.specs.declared.event.Refusal.TheVariants.{NotEnabled, Memory}
 use Rattle.heap_core.specs.declared.event.Event.TheVariants.{LoadSlot, TakeSlot}

@@ -4,8 +4,8 @@ use Rattle.js_header.specs.Form.{form_of}
 use Rattle.js_header.specs.declared.form.Form.{Form}
 use Rattle.heap_rule.specs.declared.size.HeapSize.{HeapSize}
 use Rattle.heap_rule.specs.Layout.{form, length_word}
-use Rattle.heap_views.specs.declared.load.Load.{Load}
-use Rattle.heap_views.specs.declared.load.Load.TheVariants.{SeenForm, SeenLength}
+use Rattle.heap_core_views.specs.declared.load.Load.{Load}
+use Rattle.heap_core_views.specs.declared.load.Load.TheVariants.{SeenForm, SeenLength}
 
 -- what a load of a header word finds
 abbrev pub IsHeaderLoad : HeapSize → List ℕ → ℕ → Bool → Load → Type 0

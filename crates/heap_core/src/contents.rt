@@ -7,8 +7,8 @@ ghost use Rattle.heap_rule.specs.Forms.{IsSolidForm};
 ghost use Rattle.heap_rule.specs.Sound.{AreStanding};
 ghost use Rattle.heap_core.specs.Headers.{IsHeaderLoad};
 
+use heap_core_views::load::Load;
 use heap_rule::HeapSize;
-use heap_views::load::Load;
 use js_header::{Form, decode};
 use js_units::{NoMemory, Units, lane, lanes};
 
@@ -68,7 +68,9 @@ fn add_span(
 fn solid(size: HeapSize, words: &[u64], id: u32) -> Option<(bool, u32, u32)>
     requires stand { AreStanding size words.now }
     requires born { IsBorn size words.now id }
-    ensures some { IfSome result (λ r. (units_of size words.now id ≡ span (content size words.now) r.0 r.1 0 r.2) × (r.1 < 2 ^ 29) × (r.2 ≤ MAX)) }
+    ensures some { IfSome result
+        (λ r. (units_of size words.now id ≡ span (content size words.now) r.0 r.1 0 r.2) × (r.1 < 2 ^ 29)
+        × (r.2 ≤ MAX)) }
     ensures none { IsSolidForm (form_of (form size words.now id)) → IsSome result }
 {
     let found = header(size, words, id);

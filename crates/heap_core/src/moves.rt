@@ -3,7 +3,7 @@ ghost use Rattle.std.specs.Prelude.{◌≡◌, ◌==◌, if◌then◌else◌, �
 ghost use Rattle.js_header.specs.Form.{IsInRange, word_of};
 ghost use Rattle.js_header.specs.declared.form.Form.TheVariants as form;
 ghost use Rattle.heap_rule.specs.HeaderMoves.{MayFlatten, flattened, MayThin, thinned};
-ghost use Rattle.heap_births.specs.Moving.{Stays};
+ghost use Rattle.heap_core_births.specs.Moving.{Stays};
 ghost use Rattle.heap_core.specs.Core.{core};
 ghost use Rattle.heap_core.specs.Events.{IsCore, Applied, CanFlatten, CanThinTo, Moved};
 ghost use Rattle.heap_core.specs.declared.event.Event.TheVariants as event;
@@ -11,9 +11,9 @@ ghost use Rattle.heap_core.specs.declared.event.Event.TheVariants as event;
 use crate::contents::header;
 use crate::event::Refusal;
 use crate::play::is_live;
-use heap_births::moves;
+use heap_core_births::moves;
+use heap_core_views::learning;
 use heap_rule::{HeapSize, View};
-use heap_views::learning;
 use js_header::{Form, encode};
 use std::alloc::Global;
 
@@ -100,7 +100,8 @@ pub(crate) fn flatten(
     names: &[u32],
 ) -> Result<u64, Refusal>
     requires { IsCore (core size agents words.old views.old) }
-    ensures { Moved (core size agents words.old views.old) view id (λ v. MayFlatten v id old new) (λ v x. flattened v id old new x) old new names.now (core size agents words.new views.new) result }
+    ensures { Moved (core size agents words.old views.old) view id (λ v. MayFlatten v id old new)
+        (λ v x. flattened v id old new x) old new names.now (core size agents words.new views.new) result }
 {
     if !may_flatten(size, agents, words, views, view, id, old, new, names) {
         return Err(Refusal::NotEnabled);
@@ -131,7 +132,9 @@ pub(crate) fn thin(
     names: &[u32],
 ) -> Result<u64, Refusal>
     requires { IsCore (core size agents words.old views.old) }
-    ensures { Moved (core size agents words.old views.old) view id (λ v. MayThin v id old target) (λ v x. thinned v id old target x) old (form.Thin target) names.now (core size agents words.new views.new) result }
+    ensures { Moved (core size agents words.old views.old) view id (λ v. MayThin v id old target)
+        (λ v x. thinned v id old target x) old (form.Thin target) names.now
+        (core size agents words.new views.new) result }
 {
     if !may_thin(size, agents, words, views, view, id, old, target, names) {
         return Err(Refusal::NotEnabled);
@@ -162,7 +165,8 @@ pub(crate) fn play_flatten(
     names: &Vec<u32>,
 ) -> Result<u64, Refusal>
     requires { IsCore (core size agents words.old views.old) }
-    ensures { Applied (core size agents words.old views.old) (event.Flatten view id old new names.now) (core size agents words.new views.new) result }
+    ensures { Applied (core size agents words.old views.old) (event.Flatten view id old new names.now)
+        (core size agents words.new views.new) result }
 {
     flatten(
         alloc,
@@ -191,7 +195,8 @@ pub(crate) fn play_thin(
     names: &Vec<u32>,
 ) -> Result<u64, Refusal>
     requires { IsCore (core size agents words.old views.old) }
-    ensures { Applied (core size agents words.old views.old) (event.Thin view id old target names.now) (core size agents words.new views.new) result }
+    ensures { Applied (core size agents words.old views.old) (event.Thin view id old target names.now)
+        (core size agents words.new views.new) result }
 {
     thin(
         alloc,

@@ -14,9 +14,9 @@ ghost use Rattle.heap_core.specs.declared.event.Event.TheVariants as event;
 use crate::contents::header_load;
 use crate::event::{Event, Refusal};
 use crate::{moves, slots};
-use heap_births::births;
+use heap_core_births::births;
+use heap_core_views::{agents, claims, learning};
 use heap_rule::{Counter, HeapSize, View};
-use heap_views::{agents, claims, learning};
 use js_header::{Form, encode};
 use js_units::NoMemory;
 use std::alloc::Global;
@@ -43,7 +43,8 @@ pub(crate) fn may_split(views: &[View], view: u32, give: u32) -> bool
 
 /// Whether the one live view may take over the other one.
 pub(crate) fn may_join(views: &[View], view: u32, other: u32) -> bool
-    ensures { IsTrue result ↔ ((view ≢ other) × LiveIn views.now view (λ v. LiveIn views.now other (λ b. MayJoin v b))) }
+    ensures { IsTrue result ↔
+        ((view ≢ other) × LiveIn views.now view (λ v. LiveIn views.now other (λ b. MayJoin v b))) }
 {
     if view == other {
         return false;
@@ -180,7 +181,9 @@ pub(crate) fn make(
 ) -> Result<(), NoMemory>
     requires lawful { IsLawful size }
     requires none { views.old.items ≡ [] }
-    ensures ok { OnOk result ((words.new.items ≡ replicate (word_count size) 0) × (views.new.items ≡ first_view size agents ∷ [])) }
+    ensures ok { OnOk result
+        ((words.new.items ≡ replicate (word_count size) 0)
+        × (views.new.items ≡ first_view size agents ∷ [])) }
     ensures err { OnErr result ((words.new.items ≡ words.old.items) × (views.new.items ≡ views.old.items)) }
 {
     let Ok(zeros) = vec![in alloc; 0u64; size.word_count()] else {
@@ -204,7 +207,8 @@ pub(crate) fn split(
     give: u32,
 ) -> Result<u64, Refusal>
     requires { IsCore (core size agents words.now views.old.items) }
-    ensures { Applied (core size agents words.now views.old.items) (event.Split view give) (core size agents words.now views.new.items) result }
+    ensures { Applied (core size agents words.now views.old.items) (event.Split view give)
+        (core size agents words.now views.new.items) result }
 {
     if !may_split(views.as_slice(), view, give) {
         return Err(Refusal::NotEnabled);
@@ -230,7 +234,8 @@ pub(crate) fn join(
     other: u32,
 ) -> Result<u64, Refusal>
     requires { IsCore (core size agents words.now views.old) }
-    ensures { Applied (core size agents words.now views.old) (event.Join view other) (core size agents words.now views.new) result }
+    ensures { Applied (core size agents words.now views.old) (event.Join view other)
+        (core size agents words.now views.new) result }
 {
     if !may_join(views, view, other) {
         return Err(Refusal::NotEnabled);
@@ -253,7 +258,8 @@ pub(crate) fn load_counter(
     counter: Counter,
 ) -> Result<u64, Refusal>
     requires { IsCore (core size agents words.now views.old) }
-    ensures { Applied (core size agents words.now views.old) (event.LoadCounter view counter) (core size agents words.now views.new) result }
+    ensures { Applied (core size agents words.now views.old) (event.LoadCounter view counter)
+        (core size agents words.now views.new) result }
 {
     if !is_live(views, view) {
         return Err(Refusal::NotEnabled);
@@ -275,7 +281,8 @@ pub(crate) fn claim(
     want: u32,
 ) -> Result<u64, Refusal>
     requires { IsCore (core size agents words.old views.old) }
-    ensures { Applied (core size agents words.old views.old) (event.Claim view counter at want) (core size agents words.new views.new) result }
+    ensures { Applied (core size agents words.old views.old) (event.Claim view counter at want)
+        (core size agents words.new views.new) result }
 {
     if !may_claim(views, view, counter, at, want) {
         return Err(Refusal::NotEnabled);
@@ -303,7 +310,8 @@ pub(crate) fn store_word(
     word: u64,
 ) -> Result<u64, Refusal>
     requires { IsCore (core size agents words.old views.old) }
-    ensures { Applied (core size agents words.old views.old) (event.StoreWord view at word) (core size agents words.new views.new) result }
+    ensures { Applied (core size agents words.old views.old) (event.StoreWord view at word)
+        (core size agents words.new views.new) result }
 {
     if !may_store_word(views, view, at) {
         return Err(Refusal::NotEnabled);
@@ -328,7 +336,8 @@ pub(crate) fn store_length(
     length: u32,
 ) -> Result<u64, Refusal>
     requires { IsCore (core size agents words.old views.old) }
-    ensures { Applied (core size agents words.old views.old) (event.StoreLength view id length) (core size agents words.new views.new) result }
+    ensures { Applied (core size agents words.old views.old) (event.StoreLength view id length)
+        (core size agents words.new views.new) result }
 {
     if !may_store_length(views, view, id, length) {
         return Err(Refusal::NotEnabled);
@@ -354,7 +363,8 @@ pub(crate) fn birth(
     form: Form,
 ) -> Result<u64, Refusal>
     requires { IsCore (core size agents words.old views.old) }
-    ensures { Applied (core size agents words.old views.old) (event.Birth view id form) (core size agents words.new views.new) result }
+    ensures { Applied (core size agents words.old views.old) (event.Birth view id form)
+        (core size agents words.new views.new) result }
 {
     if !may_bear(size, agents, words, views, view, id, form) {
         return Err(Refusal::NotEnabled);
@@ -385,7 +395,8 @@ pub(crate) fn load_header(
     names: &[u32],
 ) -> Result<u64, Refusal>
     requires { IsCore (core size agents words.now views.old) }
-    ensures { LoadedHeader (core size agents words.now views.old) view id length names.now (core size agents words.now views.new) result }
+    ensures { LoadedHeader (core size agents words.now views.old) view id length names.now
+        (core size agents words.now views.new) result }
 {
     if !may_load_header(size, agents, words, views, view, id, length, names) {
         return Err(Refusal::NotEnabled);
@@ -410,7 +421,8 @@ pub(crate) fn load_word(
     names: &[u32],
 ) -> Result<u64, Refusal>
     requires { IsCore (core size agents words.now views.old) }
-    ensures { LoadedWord (core size agents words.now views.old) view at names.now (core size agents words.now views.new) result }
+    ensures { LoadedWord (core size agents words.now views.old) view at names.now
+        (core size agents words.now views.new) result }
 {
     if !may_load_word(size, agents, words, views, view, at, names) {
         return Err(Refusal::NotEnabled);
@@ -437,7 +449,8 @@ fn play_load_header(
     names: &Vec<u32>,
 ) -> Result<u64, Refusal>
     requires { IsCore (core size agents words.now views.old) }
-    ensures { Applied (core size agents words.now views.old) (event.LoadHeader view id length names.now) (core size agents words.now views.new) result }
+    ensures { Applied (core size agents words.now views.old) (event.LoadHeader view id length names.now)
+        (core size agents words.now views.new) result }
 {
     load_header(
         alloc,
@@ -463,7 +476,8 @@ fn play_load_word(
     names: &Vec<u32>,
 ) -> Result<u64, Refusal>
     requires { IsCore (core size agents words.now views.old) }
-    ensures { Applied (core size agents words.now views.old) (event.LoadWord view at names.now) (core size agents words.now views.new) result }
+    ensures { Applied (core size agents words.now views.old) (event.LoadWord view at names.now)
+        (core size agents words.now views.new) result }
 {
     load_word(
         alloc,
@@ -498,7 +512,8 @@ pub(crate) fn step(
     event: &Event,
 ) -> Result<u64, Refusal>
     requires { IsCore (core size.old agents.old words.old.items views.old.items) }
-    ensures { Applied (core size.old agents.old words.old.items views.old.items) event.now (core size.new agents.new words.new.items views.new.items) result }
+    ensures { Applied (core size.old agents.old words.old.items views.old.items) event.now
+        (core size.new agents.new words.new.items views.new.items) result }
 {
     match event {
         Event::Make {

@@ -6,8 +6,8 @@ ghost use Rattle.heap_core.specs.declared.event.Event.TheVariants as event;
 
 use crate::event::Refusal;
 use crate::play::is_live;
+use heap_core_views::slots;
 use heap_rule::{HeapSize, View};
-use heap_views::slots;
 use js_units::Units;
 use std::alloc::Global;
 
@@ -23,7 +23,8 @@ pub(crate) fn may_load_slot(
     names: &[u32],
 ) -> bool
     requires { IsCore (core size agents words.now views.now) }
-    ensures { IsTrue result ↔ CanLoadSlot (core size agents words.now views.now) view slot entry.now names.now }
+    ensures { IsTrue result ↔ CanLoadSlot
+        (core size agents words.now views.now) view slot entry.now names.now }
 {
     if !is_live(views, view) {
         return false;
@@ -64,7 +65,8 @@ pub(crate) fn load_slot(
     names: &[u32],
 ) -> Result<u64, Refusal>
     requires { IsCore (core size agents words.now views.old) }
-    ensures { LoadedSlot (core size agents words.now views.old) view slot entry.now names.now (core size agents words.now views.new) result }
+    ensures { LoadedSlot (core size agents words.now views.old) view slot entry.now names.now
+        (core size agents words.now views.new) result }
 {
     if !may_load_slot(size, agents, words, views, view, slot, entry, names) {
         return Err(Refusal::NotEnabled);
@@ -91,7 +93,8 @@ pub(crate) fn take_slot(
     names: &[u32],
 ) -> Result<u64, Refusal>
     requires { IsCore (core size agents words.old views.old) }
-    ensures { TookSlot (core size agents words.old views.old) view slot id names.now (core size agents words.new views.new) result }
+    ensures { TookSlot (core size agents words.old views.old) view slot id names.now
+        (core size agents words.new views.new) result }
 {
     if !may_take_slot(size, agents, words, views, view, slot, id, names) {
         return Err(Refusal::NotEnabled);
@@ -129,7 +132,8 @@ pub(crate) fn play_load_slot(
     names: &Vec<u32>,
 ) -> Result<u64, Refusal>
     requires { IsCore (core size agents words.now views.old) }
-    ensures { Applied (core size agents words.now views.old) (event.LoadSlot view slot entry.now names.now) (core size agents words.now views.new) result }
+    ensures { Applied (core size agents words.now views.old) (event.LoadSlot view slot entry.now names.now)
+        (core size agents words.now views.new) result }
 {
     load_slot(
         alloc,
@@ -156,7 +160,8 @@ pub(crate) fn play_take_slot(
     names: &Vec<u32>,
 ) -> Result<u64, Refusal>
     requires { IsCore (core size agents words.old views.old) }
-    ensures { Applied (core size agents words.old views.old) (event.TakeSlot view slot id names.now) (core size agents words.new views.new) result }
+    ensures { Applied (core size agents words.old views.old) (event.TakeSlot view slot id names.now)
+        (core size agents words.new views.new) result }
 {
     take_slot(
         alloc,

@@ -60,8 +60,10 @@ fn greet_both(
     ensures heaps { (left.new.heap ≡ left.old.heap) × (right.new.heap ≡ right.old.heap) }
     ensures left { GoesOn (view_of left.old.agent) left.new.agent left.new.heap.now }
     ensures right { GoesOn (view_of right.old.agent) right.new.agent right.new.heap.now }
-    ensures first { IfOk result.0 (λ s. Greets (view_of left.old.agent) (view_of left.new.agent) hello first.now s) }
-    ensures second { IfOk result.1 (λ s. Greets (view_of right.old.agent) (view_of right.new.agent) hello second.now s) }
+    ensures first { IfOk result.0
+        (λ s. Greets (view_of left.old.agent) (view_of left.new.agent) hello first.now s) }
+    ensures second { IfOk result.1
+        (λ s. Greets (view_of right.old.agent) (view_of right.new.agent) hello second.now s) }
 {
     join_mut(
         rt,
@@ -77,7 +79,8 @@ fn greet(text: &mut Text, hello: JsStr, name: &[u16]) -> Result<JsStr, Refusal>
     requires short { length name.now ≤ MAX }
     ensures heap { text.new.heap ≡ text.old.heap }
     ensures goes_on { GoesOn (view_of text.old.agent) text.new.agent text.new.heap.now }
-    ensures greets { IfOk result (λ s. Greets (view_of text.old.agent) (view_of text.new.agent) hello name.now s) }
+    ensures greets { IfOk result
+        (λ s. Greets (view_of text.old.agent) (view_of text.new.agent) hello name.now s) }
 {
     let name = text.make_flat(name)?;
     Ok(text.concat(hello, name)?)

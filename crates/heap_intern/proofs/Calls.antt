@@ -1,5 +1,5 @@
 -- What each call on a text or on the string table is as a step of a store.
-use Rattle.std.proofs.Common.{◌≡◌, ℕ, zero, suc, ◌+◌, ◌-◌, ◌<◌, ◌≤◌, ◌⊎◌, ⊎_elim, inl, inr, Bool, true, false, List, [], ◌++◌, drop, length, length-drop, length-take-le, sym, refl, ap, subst, arith, Some, None, Result, Ok, Err}
+use Rattle.std.proofs.Common.{◌≡◌, ◌∙◌, ℕ, zero, suc, ◌+◌, ◌-◌, ◌<◌, ◌≤◌, ◌⊎◌, ⊎_elim, inl, inr, Bool, true, false, List, [], ◌++◌, drop, length, length-drop, length-take-le, sym, refl, ap, subst, arith, Some, None, Result, Ok, Err}
 use Rattle.std.proofs.lemmas.List.{length-append}
 use mathlib.Core.Logic.{dite}
 use native.Mathlib.Decide.{ℕ_discrete, dec_le}
@@ -16,19 +16,22 @@ use Rattle.heap_rule.specs.Sound.{IsPossible}
 use Rattle.heap_rule.specs.Views.{IsSettled}
 use Rattle.heap_table.specs.declared.claims.CounterFull.{CounterFull}
 use Rattle.std.specs.FinMap.{get}
-use Rattle.heap_slots.specs.declared.faults.TableFull.{TableFull}
-use Rattle.heap_slots.specs.declared.faults.TableFull.TheVariants as table
-use Rattle.heap_slots.specs.Answers.{HasLeft, IsPlan, IsRefused, Plan}
-use Rattle.heap_slots.specs.Answers as slots
-use Rattle.heap_slots.specs.Goes.{Goes}
-use Rattle.heap_slots.proofs.Planning.{plan_words}
+use Rattle.heap_string_table.specs.declared.faults.TableFull.{TableFull}
+use Rattle.heap_string_table.specs.declared.faults.TableFull.TheVariants as table
+use Rattle.heap_string_table.specs.Answers.{HasLeft, IsPlan, IsRefused, Plan}
+use Rattle.heap_string_table.specs.Answers as slots
+use Rattle.heap_string_table.specs.Goes.{Goes}
+use Rattle.js_header.specs.declared.form.Form.{Form}
+use Rattle.heap_rule.specs.Forms.{IsLater}
+use Rattle.heap_rule.proofs.Carried.{latest}
+use Rattle.heap_string_table.proofs.Planning.{plan_words}
 use Rattle.heap_text.specs.declared.faults.JoinFault.{JoinFault}
 use Rattle.heap_text.specs.declared.faults.JoinFault.TheVariants as join
 use Rattle.heap_text.specs.declared.faults.TextFull.{TextFull}
 use Rattle.heap_text.specs.declared.faults.TextFull.TheVariants as text
 use Rattle.heap_text.specs.declared.string.JsStr.{JsStr}
 use Rattle.heap_text.specs.Joins.{IsCut, IsJoined}
-use Rattle.heap_text.specs.Settling.{IsBitOf, IsFlattened, IsNoRoom, IsSettling}
+use Rattle.heap_text.specs.Settling.{IsBitOf, IsFlattened, IsNoRoom, IsSeenLater, IsSettling}
 use Rattle.heap_text.specs.Texts.{Continues, IsSpared, Reads, Told, Uses}
 use Rattle.heap_text.specs.Texts as texts
 use Rattle.heap_intern.specs.Counted.{FoundFree}
@@ -261,12 +264,22 @@ interned_shut v w us plan l t (table.Slots n) h = h.1
 pub interned_ok : (v w : View) (l : ℕ) (t : TableId) (calls : Calls) (words most : ℕ) → words ≤ most → IsPossible v → Goes v w calls → w.used.ids ≤ v.used.ids + 1 → w.used.words ≤ v.used.words + words → Step (state_by v l t) (state_by w l t) None 1 most
 interned_ok v w l t calls words most le p g u c = record { grows = grows_goes v w calls l t p g; honest = tt; within_ids = omega arith; within_words = omega arith }
 
+-- the plan after a load that left the string settled
+pub planned_then : (v x w : View) (id : ℕ) (us : List ℕ) (plan : Plan) → IsSeenLater v x id → IsPlan x w id us plan → IsPlan v w id us plan
+planned_then v x w id us plan later h = (h.0, λ g seen. let t = later g seen in onward g t.0 h.0 t.2 (h.1 t.0 t.1), h.2)
+  where
+    onward : (f g k : Form) → (f ≡ g) ⊎ IsLater f g → (g ≡ k) ⊎ IsLater g k → (f ≡ k) ⊎ IsLater f k
+    onward f g k a b = ⊎_elim
+        (λ (e : f ≡ g). ⊎_elim (λ (d : g ≡ k). inl (e ∙ d)) (λ (l : IsLater g k). inr (subst (λ (y : Form). IsLater y k) (sym e) l)) b)
+        (λ (l : IsLater f g). ⊎_elim (λ (d : g ≡ k). inr (subst (λ (y : Form). IsLater f y) d l)) (λ (m : IsLater g k). inr (latest f g k l m)) b)
+        a
+
 -- the slot that was found free
-pub interned_free : (v w : View) (us : List ℕ) (plan : Plan) (x : View) (f : TableFull) → IsRefused v w us plan f → FoundFree x w (Some (fault_in_table f))
+pub interned_free : (v w : View) (us : List ℕ) (plan : Plan) (x : View) (f : TableFull) → IsRefused v w us plan f → FoundFree x w us (Some (fault_in_table f))
 interned_free v w us plan x (table.Ids f) h = h.4
 interned_free v w us plan x (table.Words f) h = inl h.4
 interned_free v w us plan x (table.Slots n) h = tt
 
 -- no slot was loaded
-pub settle_free : (v w : View) (us : List ℕ) (wide : Bool) (f : TextFull) → IsNoRoom v w w.sizes us f wide → w.slot_loads ≡ v.slot_loads → FoundFree v w (Some (fault_in_text f))
-settle_free v w us wide f h e = let is = h.words.1 in subst (λ (g : TextFull). FoundFree v w (Some (fault_in_text g))) (sym is) (inr e)
+pub settle_free : (v w : View) (us : List ℕ) (wide : Bool) (f : TextFull) → IsNoRoom v w w.sizes us f wide → w.slot_loads ≡ v.slot_loads → FoundFree v w us (Some (fault_in_text f))
+settle_free v w us wide f h e = let is = h.words.1 in subst (λ (g : TextFull). FoundFree v w us (Some (fault_in_text g))) (sym is) (inr e)

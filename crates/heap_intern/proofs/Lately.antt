@@ -4,8 +4,8 @@ use Rattle.heap_rule.specs.declared.view.View.{View}
 use Rattle.heap_rule.specs.Maps.{Has}
 use Rattle.heap_rule.proofs.MapLemmas.{has_key, key_of}
 use Rattle.heap_table.specs.Known.{KeepsKnown}
-use Rattle.heap_slots.specs.declared.faults.TableFull.{TableFull}
-use Rattle.heap_slots.specs.Answers.{Interns, Plan}
+use Rattle.heap_string_table.specs.declared.faults.TableFull.{TableFull}
+use Rattle.heap_string_table.specs.Answers.{Interns, Plan}
 use Rattle.heap_intern.specs.declared.kept.Kept.{Kept}
 use Rattle.heap_intern.specs.Lately.{HoldsUnits, IsKept}
 

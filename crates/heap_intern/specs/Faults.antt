@@ -1,11 +1,11 @@
--- What a refusal of the heap is as a fault of a store. No public contract cites these.
+-- What a refusal of the heap is as a fault of a store.
 use Rattle.js_store.specs.declared.faults.ConcatFault.{ConcatFault}
 use Rattle.js_store.specs.declared.faults.ConcatFault.TheVariants.{Store, TooLong}
 use Rattle.js_store.specs.declared.faults.FullReport.TheVariants as report
 use Rattle.js_store.specs.declared.faults.StoreFault.{StoreFault}
 use Rattle.js_store.specs.declared.faults.StoreFault.TheVariants.{Full}
-use Rattle.heap_slots.specs.declared.faults.TableFull.{TableFull}
-use Rattle.heap_slots.specs.declared.faults.TableFull.TheVariants as table
+use Rattle.heap_string_table.specs.declared.faults.TableFull.{TableFull}
+use Rattle.heap_string_table.specs.declared.faults.TableFull.TheVariants as table
 use Rattle.heap_text.specs.declared.faults.JoinFault.{JoinFault}
 use Rattle.heap_text.specs.declared.faults.JoinFault.TheVariants as join
 use Rattle.heap_text.specs.declared.faults.TextFull.{TextFull}

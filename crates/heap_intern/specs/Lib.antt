@@ -1,7 +1,8 @@
 pub mod Sessions
+pub mod Faults
 pub mod Counted
 pub mod Shares
 pub mod Whole
-pub mod Faults
+pub mod Ranges
 pub mod Sound
 pub mod Lately

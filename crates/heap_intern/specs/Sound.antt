@@ -19,6 +19,7 @@ use Rattle.heap_rule.proofs.Possible.{possible_lawful, possible_short}
 use Rattle.heap_rule.proofs.SlotTests.{possible_apart}
 use Rattle.heap_rule.proofs.Steps.{possible_within}
 use Rattle.heap_intern.specs.Sessions.{state_by}
+use Rattle.heap_intern.specs.Ranges.{possible_range}
 
 legal_in : (v : View) → StandsIn v → IsLegal (history v)
 legal_in v (z, agents, W, vs, j, s, at, live) = legal z agents W vs s j v at live j v at live
@@ -49,6 +50,7 @@ sound_of v l t p = record {
   shut_apart = λ u n h a. possible_apart v p u h n a;
   numbers = λ n u h. let a = (possible_within v p).known n (inl (key_of v.units n u h)) in let b = (possible_lawful v p).1 in omega arith;
   lengths = λ n u h. possible_short v p n u h;
+  units = λ n u h. possible_range v p n u h;
   low = limit_low l;
   high = limit_high l;
 }

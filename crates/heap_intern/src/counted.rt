@@ -3,15 +3,15 @@ ghost use Rattle.std.specs.Prelude.{◌≡◌, ℕ, [], ◌∷◌, ◌++◌, ◌
 ghost use Rattle.js_store.specs.Faults.{SlotsShut, Step, fault_of};
 ghost use Rattle.js_store.specs.Rows.{intern_words};
 ghost use Rattle.js_store.specs.State.{Has, IsKnown, IsSettled, text};
-ghost use Rattle.heap_slots.specs.Answers.{IsForwarded};
-ghost use Rattle.heap_slots.specs.SlotLoads.{LoadsSlots, loads_at};
-ghost use Rattle.heap_intern.specs.Counted.{FoundFree, answered};
+ghost use Rattle.heap_string_table.specs.Answers.{IsForwarded};
+ghost use Rattle.heap_string_table.specs.SlotLoads.{LoadsSlots, loads_at};
+ghost use Rattle.heap_intern.specs.Counted.{FoundFree, GoesByPlan, answered};
 ghost use Rattle.heap_intern.specs.Sessions.{state_in, view_in};
 
 use crate::faults::{table_fault, text_fault};
 use crate::session::Session;
-use heap_slots::intern_counted;
 use heap_steps::Steps;
+use heap_string_table::intern_counted;
 use heap_text::JsStr;
 use js_store::StoreFault;
 use std::sync::ledger::{Blank, Ledger};
@@ -28,15 +28,23 @@ impl<'h> Session<'h> {
         steps: &mut Steps<L>,
     ) -> Result<JsStr, StoreFault>
         requires { IsKnown (state_in self.old) s.id }
-        ensures ok { IfOk result (λ r. Has (state_in self.new) r.id (text (state_in self.old) s.id) × IsSettled (state_in self.new) r.id × IsSettled (state_in self.new) s.id) }
+        ensures ok { IfOk result
+            (λ r. Has (state_in self.new) r.id (text (state_in self.old) s.id)
+            × IsSettled (state_in self.new) r.id × IsSettled (state_in self.new) s.id) }
         ensures forwards { IfOk result (λ r. IsForwarded (view_in self.new) s.id r.id) }
         ensures step { Step (state_in self.old) (state_in self.new) (fault_of result) 1
             (intern_words ((state_in self.old).settled s.id) (length (text (state_in self.old) s.id))) }
-        ensures grown { IfOk result (λ r. (state_in self.new).history ≡ (state_in self.old).history ++ (text (state_in self.old) s.id, r.id) ∷ []) }
+        ensures grown { IfOk result
+            (λ r. (state_in self.new).history
+            ≡ (state_in self.old).history ++ (text (state_in self.old) s.id, r.id) ∷ []) }
         ensures kept { OnErr result ((state_in self.new).history ≡ (state_in self.old).history) }
         ensures shut { SlotsShut (state_in self.new) (fault_of result) (text (state_in self.old) s.id) }
-        ensures free { FoundFree (view_in self.old) (view_in self.new) (fault_of result) }
-        ensures loads { LoadsSlots (view_in self.old) (view_in self.new) (answered result) steps.old steps.new }
+        ensures free { FoundFree (view_in self.old) (view_in self.new) (text (state_in self.old) s.id)
+            (fault_of result) }
+        ensures plan { GoesByPlan (view_in self.old) (view_in self.new) s.id
+            (text (state_in self.old) s.id) result }
+        ensures loads { LoadsSlots (view_in self.old) (view_in self.new)
+            (answered result) steps.old steps.new }
         ensures few { (k : ℕ) → loads_at (view_in self.new) k ≤ loads_at (view_in self.old) k + 2 }
         ensures most { steps.new ≤ steps.old + 2 * (state_in self.old).sizes.slots }
     {
@@ -62,14 +70,21 @@ impl<'h> Session<'h> {
         requires parts { blank.parts ≡ L.parts }
         requires some { 0 < blank.parts }
         requires known { IsKnown (state_in self.old) s.id }
-        ensures ok { IfOk result (λ r. Has (state_in self.new) r.id (text (state_in self.old) s.id) × IsSettled (state_in self.new) r.id × IsSettled (state_in self.new) s.id) }
+        ensures ok { IfOk result
+            (λ r. Has (state_in self.new) r.id (text (state_in self.old) s.id)
+            × IsSettled (state_in self.new) r.id × IsSettled (state_in self.new) s.id) }
         ensures forwards { IfOk result (λ r. IsForwarded (view_in self.new) s.id r.id) }
         ensures step { Step (state_in self.old) (state_in self.new) (fault_of result) 1
             (intern_words ((state_in self.old).settled s.id) (length (text (state_in self.old) s.id))) }
-        ensures grown { IfOk result (λ r. (state_in self.new).history ≡ (state_in self.old).history ++ (text (state_in self.old) s.id, r.id) ∷ []) }
+        ensures grown { IfOk result
+            (λ r. (state_in self.new).history
+            ≡ (state_in self.old).history ++ (text (state_in self.old) s.id, r.id) ∷ []) }
         ensures kept { OnErr result ((state_in self.new).history ≡ (state_in self.old).history) }
         ensures shut { SlotsShut (state_in self.new) (fault_of result) (text (state_in self.old) s.id) }
-        ensures free { FoundFree (view_in self.old) (view_in self.new) (fault_of result) }
+        ensures free { FoundFree (view_in self.old) (view_in self.new) (text (state_in self.old) s.id)
+            (fault_of result) }
+        ensures plan { GoesByPlan (view_in self.old) (view_in self.new) s.id
+            (text (state_in self.old) s.id) result }
         ensures few { (k : ℕ) → loads_at (view_in self.new) k ≤ loads_at (view_in self.old) k + 2 }
     {
         let mut steps = Steps::<L>::start(blank);

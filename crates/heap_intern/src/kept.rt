@@ -32,7 +32,9 @@ impl Kept {
 
     // Unit `i` of a string, where it is one of these.
     pub(crate) fn get(&self, s: JsStr, i: u32) -> Option<u16>
-        ensures { IfSome result (λ unit. (self.now.id ≡ s.id) × (k : ℕ) × (k < self.now.count) × (s.id * 4294967296 + i ≡ self.now.place + k) × (unit ≡ slice_index self.now.units k)) }
+        ensures { IfSome result
+            (λ unit. (self.now.id ≡ s.id) × (k : ℕ) × (k < self.now.count)
+            × (s.id * 4294967296 + i ≡ self.now.place + k) × (unit ≡ slice_index self.now.units k)) }
     {
         let k = place_of(s.id, i).wrapping_sub(self.place);
         if k < self.count {

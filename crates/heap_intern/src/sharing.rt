@@ -5,13 +5,13 @@ ghost use Rattle.js_store.specs.Faults.{Step};
 ghost use Rattle.js_store.specs.Limits.{limit_units};
 ghost use Rattle.heap_rule.specs.Agents.{joined, left_after_split, right_after_split};
 ghost use Rattle.heap_table.specs.Agents.{Belongs, view_of};
-ghost use Rattle.heap_slots.specs.Counting.{count_below, different};
+ghost use Rattle.heap_string_table.specs.Counting.{count_below, different};
 ghost use Rattle.heap_intern.specs.Sessions.{state_by, state_in, table_of, view_in};
 ghost use Rattle.heap_intern.specs.Shares.{BelongsAs, IsJoined, IsWhole, MayJoin, left_by, right_by, total_by};
 
 use crate::kept::Kept;
 use crate::session::Session;
-use heap_slots::count_interned;
+use heap_string_table::count_interned;
 use heap_table::{Agent, Heap};
 use heap_text::Text;
 use js_store::Limit;
@@ -71,7 +71,8 @@ impl<'h> Session<'h> {
     pub fn count_interned(&mut self) -> u32
         requires whole { IsWhole (state_in self.old) }
         ensures count { result ≡ different (state_in self.old).history }
-        ensures used { result ≡ count_below (λ k. contains_key (view_in self.new).slots k) (view_in self.new).sizes.slots }
+        ensures used { result ≡ count_below (λ k. contains_key (view_in self.new).slots k)
+            (view_in self.new).sizes.slots }
         ensures step { Step (state_in self.old) (state_in self.new) None 0 0 }
         ensures history { (state_in self.new).history ≡ (state_in self.old).history }
     {

@@ -13,9 +13,9 @@ impl<'h> Strings for Session<'h> {
     ghost use Rattle.js_store.specs.Faults.{SlotsShut, Step, fault_of};
     ghost use Rattle.js_store.specs.Rows.{intern_words};
     ghost use Rattle.js_store.specs.State.{Has, IsKnown, IsSettled, text};
-    ghost use Rattle.heap_slots.specs.Answers.{IsForwarded};
-    ghost use Rattle.heap_slots.specs.SlotLoads.{loads_at};
-    ghost use Rattle.heap_intern.specs.Counted.{FoundFree};
+    ghost use Rattle.heap_string_table.specs.Answers.{IsForwarded};
+    ghost use Rattle.heap_string_table.specs.SlotLoads.{loads_at};
+    ghost use Rattle.heap_intern.specs.Counted.{FoundFree, GoesByPlan};
     ghost use Rattle.heap_intern.specs.Sessions.{SessionFrame, state_in, view_in};
     ghost use Rattle.heap_table.specs.Agents.{view_of};
     ghost use Rattle.heap_intern.specs.Sessions.{table_of};
@@ -55,6 +55,16 @@ impl<'h> Strings for Session<'h> {
         self.unit_by_loads(s, i)
     }
 
+    fn read(&mut self, s: JsStr, from: u32, into: &mut [u16]) {
+        let window = self.text.window(s);
+        self.text.read_in(window, from, into);
+    }
+
+    fn find_unit(&mut self, s: JsStr, unit: u16, from: u32) -> Option<u32> {
+        let window = self.text.window(s);
+        self.text.find_in(window, unit, from)
+    }
+
     fn concat(&mut self, a: JsStr, b: JsStr) -> Result<JsStr, ConcatFault> {
         match self.text.concat(a, b) {
             Ok(s) => Ok(s),
@@ -74,14 +84,21 @@ impl<'h> Strings for Session<'h> {
     /// exactly where every slot was found used with other units.
     fn intern(&mut self, s: JsStr) -> Result<JsStr, StoreFault>
         requires { IsKnown (state_in self.old) s.id }
-        ensures ok { IfOk result (λ r. Has (state_in self.new) r.id (text (state_in self.old) s.id) × IsSettled (state_in self.new) r.id × IsSettled (state_in self.new) s.id) }
+        ensures ok { IfOk result
+            (λ r. Has (state_in self.new) r.id (text (state_in self.old) s.id)
+            × IsSettled (state_in self.new) r.id × IsSettled (state_in self.new) s.id) }
         ensures forwards { IfOk result (λ r. IsForwarded (view_in self.new) s.id r.id) }
         ensures step { Step (state_in self.old) (state_in self.new) (fault_of result) 1
             (intern_words ((state_in self.old).settled s.id) (length (text (state_in self.old) s.id))) }
-        ensures grown { IfOk result (λ r. (state_in self.new).history ≡ (state_in self.old).history ++ (text (state_in self.old) s.id, r.id) ∷ []) }
+        ensures grown { IfOk result
+            (λ r. (state_in self.new).history
+            ≡ (state_in self.old).history ++ (text (state_in self.old) s.id, r.id) ∷ []) }
         ensures kept { OnErr result ((state_in self.new).history ≡ (state_in self.old).history) }
         ensures shut { SlotsShut (state_in self.new) (fault_of result) (text (state_in self.old) s.id) }
-        ensures free { FoundFree (view_in self.old) (view_in self.new) (fault_of result) }
+        ensures free { FoundFree (view_in self.old) (view_in self.new) (text (state_in self.old) s.id)
+            (fault_of result) }
+        ensures plan { GoesByPlan (view_in self.old) (view_in self.new) s.id
+            (text (state_in self.old) s.id) result }
         ensures few { (k : ℕ) → loads_at (view_in self.new) k ≤ loads_at (view_in self.old) k + 2 }
     {
         self.intern_by::<Brand>(s, Blank::new(1))

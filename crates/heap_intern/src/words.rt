@@ -1,6 +1,5 @@
 // Reading a word of a string, and the units in it.
-ghost use Rattle.std.specs.Prelude.{◌≡◌, ℕ, List, true, false, ◌+◌, ◌/◌, ◌%◌, ◌≤◌, ◌<◌, length, slice_index};
-ghost use Rattle.js_units.specs.Lanes.{lane_count, lane_of};
+ghost use Rattle.std.specs.Prelude.{◌≡◌, ℕ, List, ◌+◌, ◌≤◌, ◌<◌, length, slice_index};
 ghost use Rattle.heap_rule.specs.Maps.{Has};
 ghost use Rattle.heap_rule.specs.Views.{IsSettled};
 ghost use Rattle.heap_table.specs.Agents.{Belongs, view_of};
@@ -12,7 +11,7 @@ ghost use Rattle.heap_intern.specs.Sessions.{view_in};
 use crate::kept::{Kept, place_of};
 use crate::session::Session;
 use heap_text::{JsStr, Text, Window};
-use js_units::lanes;
+use js_units::{lanes, lanes_from, word_and_lane};
 
 impl<'h> Session<'h> {
     // Unit `i` of a settled string, by loads. The units of its word are kept in the place of what
@@ -70,7 +69,7 @@ fn units_in(text: &mut Text, w: Window, s: JsStr, i: u32) -> (Kept, u16)
     let back = k.min(i);
     let skip = k - back;
     let word = text.agent.load_word(text.heap, w.start + at);
-    let units = units_of(word, w.wide, skip);
+    let units = lanes_from(word, w.wide, skip);
     let kept = Kept {
         id: s.id,
         place: place_of(s.id, i - back),
@@ -78,53 +77,4 @@ fn units_in(text: &mut Text, w: Window, s: JsStr, i: u32) -> (Kept, u16)
         units,
     };
     (kept, units[back as usize])
-}
-
-// The number of the word that has a lane, and of the lane in it.
-fn word_and_lane(wide: bool, o: u32) -> (u32, u32)
-    ensures { (result.0 ≡ o / lane_count wide) × (result.1 ≡ o % lane_count wide) }
-{
-    if wide { (o / 4, o % 4) } else { (o / 8, o % 8) }
-}
-
-// The lanes of a word from number `skip` on.
-fn units_of(word: u64, wide: bool, skip: u32) -> [u16; 8]
-    requires { skip < lane_count wide }
-    ensures { (k : ℕ) → skip + k < lane_count wide → slice_index result k ≡ lane_of wide word (skip + k) }
-{
-    if wide {
-        wide_units(word >> (16 * skip))
-    } else {
-        narrow_units(word >> (8 * skip))
-    }
-}
-
-fn wide_units(word: u64) -> [u16; 8]
-    ensures { (k : ℕ) → k < 4 → slice_index result k ≡ lane_of true word k }
-{
-    [
-        (word % 65536) as u16,
-        (word / 65536 % 65536) as u16,
-        (word / 4294967296 % 65536) as u16,
-        (word / 281474976710656 % 65536) as u16,
-        0,
-        0,
-        0,
-        0,
-    ]
-}
-
-fn narrow_units(word: u64) -> [u16; 8]
-    ensures { (k : ℕ) → k < 8 → slice_index result k ≡ lane_of false word k }
-{
-    [
-        (word % 256) as u16,
-        (word / 256 % 256) as u16,
-        (word / 65536 % 256) as u16,
-        (word / 16777216 % 256) as u16,
-        (word / 4294967296 % 256) as u16,
-        (word / 1099511627776 % 256) as u16,
-        (word / 281474976710656 % 256) as u16,
-        (word / 72057594037927936 % 256) as u16,
-    ]
 }

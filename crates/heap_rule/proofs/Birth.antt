@@ -159,6 +159,9 @@ module _ (z : HeapSize) (agents : ℕ) (W : List ℕ) (vs : List View) (s : IsSo
   narrow_now : IsNarrow wide (units_of z W' i)
   narrow_now = subst (IsNarrow wide) (sym units_now) (narrow_span (content z W') wide start 0 (length_word z W' i))
 
+  start_now : length_word z W' i ≡ 0 → start ≡ 0
+  start_now e = fits.3 (sym length_now ∙ e)
+
   standing : IsStanding z W' vs' i
   standing = record {
     now = f;
@@ -166,7 +169,7 @@ module _ (z : HeapSize) (agents : ℕ) (W : List ℕ) (vs : List View) (s : IsSo
     below = (let a = ids_same in let b = mine.0 in omega arith);
     length_is = sym (ap length units_now ∙ length_span (content z W') wide start 0 (length_word z W' i));
     short = subst (λ (m : ℕ). m ≤ MAX) (sym length_now) mine.3;
-    stands = (kept_now, zeros_now, narrow_now);
+    stands = (kept_now, zeros_now, narrow_now, start_now);
   }
 
   moved_ids : (m : FinMap nat_cmp ℕ) → ((k : ℕ) → HasKey m k → k ≢ i) → OwnsIds z W m → OwnsIds z W' m
@@ -198,7 +201,7 @@ module _ (z : HeapSize) (agents : ℕ) (W : List ℕ) (vs : List View) (s : IsSo
     knows = record {
       of_met = k.of_met;
       of_units = λ q us h. ⊎_elim (λ (t : (q ≡ i) × (units_for v n f ≡ us)). (subst (IsBorn z W') (sym t.0) born_now, ap (units_of z W') t.0 ∙ (units_are ∙ t.1))) (λ (t : (q ≢ i) × Has v.units q us). k.of_units q us t.1) (has_insert v.units i q (units_for v n f) us h);
-      of_forms = λ q g h. ⊎_elim (λ (t : (q ≡ i) × (f ≡ g)). subst (λ (y : ℕ × Form). KnowsForm z W' vs' y.0 y.1) (λ d. (sym t.0 d, t.1 d)) record { born = born_now; now = f; decodes = decodes; later = inl refl; shows = (units_now, kept_now, zeros_now, narrow_now) })
+      of_forms = λ q g h. ⊎_elim (λ (t : (q ≡ i) × (f ≡ g)). subst (λ (y : ℕ × Form). KnowsForm z W' vs' y.0 y.1) (λ d. (sym t.0 d, t.1 d)) record { born = born_now; now = f; decodes = decodes; later = inl refl; shows = (units_now, kept_now, zeros_now, narrow_now, start_now) })
           (λ (t : (q ≢ i) × Has v.forms q g). k.of_forms q g t.1) (has_insert v.forms i q f g h);
       of_lengths = λ q m h. ⊎_elim (λ (t : (q ≡ i) × (n ≡ m)). (subst (IsBorn z W') (sym t.0) born_now, ap (λ (y : ℕ). length_word z W' y) t.0 ∙ (length_now ∙ t.1))) (λ (t : (q ≢ i) × Has v.lengths q m). k.of_lengths q m t.1) (has_insert v.lengths i q n m h);
       of_frozen = λ c x h. ⊎_elim (λ (t : (start ≤ c) × (c < start + words_over wide n) × Has v.own_words c x). (kept c t.0 t.1, contents c ∙ ((s.own_words j v at live).each c x t.2).1)) (λ t. k.of_frozen c x t) (has_frozen v.own_words v.frozen start (words_over wide n) c x h);

@@ -17,7 +17,7 @@ use Rattle.heap_rule.proofs.Agreement.{Agrees, Turned, born_then, kept_then, sol
 pub false_true : false ≡ true → ⊥
 false_true e = cc
 
-latest : (f g h : Form) → IsLater f g → IsLater g h → IsLater f h
+pub latest : (f g h : Form) → IsLater f g → IsLater g h → IsLater f h
 latest (Cons w l r) (Flat b s false) (Thin t) p q = refl
 latest (Cons w l r) (Flat b s false) Unborn p q = q
 latest (Cons w l r) (Flat b s false) (Flat b' s' x) p q = absurd (false_true q)
@@ -81,7 +81,7 @@ module _ (z : HeapSize) (W : List ℕ) (vs : List View) (stand : (i : ℕ) → I
 
   stands_then : (i : ℕ) (f : Form) → IsBorn z W i → Stands z W vs i f → Stands z W' vs' i f
   stands_then i Unborn b s = absurd s
-  stands_then i (Flat wide start fixed) b s = (kept_span i wide start b s.0, lanes_then i wide start b s.0 s.1, narrow_then i wide b s.2)
+  stands_then i (Flat wide start fixed) b s = (kept_span i wide start b s.0, lanes_then i wide start b s.0 s.1, narrow_then i wide b s.2, λ e. s.3 (sym (a.lengths i b) ∙ e))
   stands_then i (Cons wide left right) b s = (
     s.0,
     s.1,
@@ -127,6 +127,7 @@ module _ (z : HeapSize) (W : List ℕ) (vs : List View) (stand : (i : ℕ) → I
     kept_span i wide start b s.1,
     lanes_then i wide start b s.1 s.2,
     narrow_then i wide b s.3,
+    λ e. s.4 (sym (a.lengths i b) ∙ e),
   )
   shows_then i (Cons wide left right) b s = (
     born left s.0,

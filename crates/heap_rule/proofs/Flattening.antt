@@ -16,7 +16,7 @@ use Rattle.heap_rule.specs.Contents.{whole, solid_by, shape, shape_by, units_by,
 use Rattle.heap_rule.specs.Maps.{Has, HasKey}
 use Rattle.heap_rule.specs.Forms.{IsCons, IsNarrow, IsLater}
 use Rattle.heap_rule.specs.Views.{shown}
-use Rattle.heap_rule.specs.Sound.{At, IsKept, OwnsIds, OwnsWords, IsStanding, KnowsForm, IsSound}
+use Rattle.heap_rule.specs.Sound.{At, IsKept, OwnsIds, OwnsWords, IsStanding, KnowsForm, IsSound, Shows}
 use Rattle.heap_rule.specs.Births.{freeze}
 use Rattle.heap_rule.proofs.Carried.{false_true}
 use Rattle.heap_rule.proofs.MapLemmas.{has_insert, has_key, key_of}
@@ -50,6 +50,14 @@ cons_then Unborn wide start h = absurd h
 cons_then (Flat a b c) wide start h = absurd h
 cons_then (Sliced a b c) wide start h = absurd h
 cons_then (Thin a) wide start h = absurd h
+
+-- a rope is not empty
+rope_long : (z : HeapSize) (W : List ℕ) (vs : List View) (i : ℕ) (old : Form) → IsCons old → Shows z W vs i old → 13 ≤ length_word z W i
+rope_long z W vs i (Cons wide left right) h s = s.7
+rope_long z W vs i Unborn h s = absurd h
+rope_long z W vs i (Flat a b c) h s = absurd h
+rope_long z W vs i (Sliced a b c) h s = absurd h
+rope_long z W vs i (Thin a) h s = absurd h
 
 no_flat : (old : Form) (wide : Bool) (start : ℕ) → IsCons old → old ≡ Flat wide start true → ⊥
 no_flat old wide start h e = subst IsCons e h
@@ -150,6 +158,9 @@ module _ (z : HeapSize) (agents : ℕ) (W : List ℕ) (vs : List View) (s : IsSo
   narrow_now : IsNarrow wide (units_of z W' i)
   narrow_now = subst (IsNarrow wide) (sym units_now) (narrow_span (content z W') wide start 0 (length_word z W' i))
 
+  start_now : length_word z W' i ≡ 0 → start ≡ 0
+  start_now e = let long = rope_long z W vs i old cons known.shows in let same = lengths i in absurd (omega arith)
+
   standing : IsStanding z W' vs' i
   standing = record {
     now = f;
@@ -157,7 +168,7 @@ module _ (z : HeapSize) (agents : ℕ) (W : List ℕ) (vs : List View) (s : IsSo
     below = (let a = ids_same in let b = (s.standing i known.born).below in omega arith);
     length_is = sym (ap length units_now ∙ length_span (content z W') wide start 0 (length_word z W' i));
     short = subst (λ (m : ℕ). m ≤ MAX) (sym (lengths i)) (s.standing i known.born).short;
-    stands = (kept_now, zeros_now, narrow_now);
+    stands = (kept_now, zeros_now, narrow_now, start_now);
   }
 
   turned : Turned z W W' vs' i
@@ -213,7 +224,7 @@ module _ (z : HeapSize) (agents : ℕ) (W : List ℕ) (vs : List View) (s : IsSo
     knows = record {
       of_met = k.of_met;
       of_units = k.of_units;
-      of_forms = λ q g h. ⊎_elim (λ (t : (q ≡ i) × (f ≡ g)). subst (λ (y : ℕ × Form). KnowsForm z W' vs' y.0 y.1) (λ d. (sym t.0 d, t.1 d)) record { born = (inside, turned.born); now = f; decodes = decodes; later = inl refl; shows = (units_now, kept_now, zeros_now, narrow_now) })
+      of_forms = λ q g h. ⊎_elim (λ (t : (q ≡ i) × (f ≡ g)). subst (λ (y : ℕ × Form). KnowsForm z W' vs' y.0 y.1) (λ d. (sym t.0 d, t.1 d)) record { born = (inside, turned.born); now = f; decodes = decodes; later = inl refl; shows = (units_now, kept_now, zeros_now, narrow_now, start_now) })
           (λ (t : (q ≢ i) × Has v.forms q g). k.of_forms q g t.1) (has_insert v.forms i q f g h);
       of_lengths = k.of_lengths;
       of_frozen = λ c x h. ⊎_elim (λ (t : (start ≤ c) × (c < start + words_over wide n) × Has v.own_words c x). (kept c t.0 t.1, contents c ∙ ((s.own_words j v at live).each c x t.2).1)) (λ t. k.of_frozen c x t) (has_frozen v.own_words v.frozen start (words_over wide n) c x h);

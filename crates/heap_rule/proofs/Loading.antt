@@ -44,7 +44,7 @@ module _ (z : HeapSize) (W : List ℕ) (vs : List View) (stand : (i : ℕ) → I
   -- the form that stands shows the units
   pub stands_shows : (i : ℕ) (f : Form) → form_of (form z W i) ≡ Some f → Stands z W vs i f → Shows z W vs i f
   stands_shows i Unborn e s = s
-  stands_shows i (Flat wide start fixed) e s = (step_at i (Flat wide start fixed) e, s.0, s.1, s.2)
+  stands_shows i (Flat wide start fixed) e s = (step_at i (Flat wide start fixed) e, s.0, s.1, s.2, s.3)
   stands_shows i (Cons wide left right) e s = (s.2, s.3, step_at i (Cons wide left right) e ∙ if_both [] [] (units_of z W) left right (nat_lt left i) (nat_lt right i) (lt-ltb left i s.0) (lt-ltb right i s.1), s.0, s.1, s.4, s.5, s.6, s.7)
   stands_shows i (Sliced wide parent offset) e s = (s.1, s.2, step_at i (Sliced wide parent offset) e ∙ ap (λ (us : List ℕ). take (length_word z W i) (drop offset us)) (solid_is parent s.1 s.2), s.3, s.0, s.4, s.5)
   stands_shows i (Thin target) e s = (s.0, s.2, s.1)

@@ -64,7 +64,7 @@ AreApart m n = (k : ℕ) → HasKey m k → HasKey n k → ⊥
 
 module _ (z : HeapSize) (W : List ℕ) (vs : List View) where
   -- What a form asks of its string.
-  -- A Flat: its words change no more, their lanes past the length are 0, and without the wide bit its units are below 256.
+  -- A Flat: its words change no more, their lanes past the length are 0, without the wide bit its units are below 256, and an empty one starts at 0.
   -- A Cons: two born strings with smaller ids, neither empty, at least 13 units, and narrow as a Flat is.
   -- A Sliced: a born parent with a smaller id that is Flat or Thin and long enough, at least 13 units, and narrow as a Flat is.
   -- A Thin: a fixed Flat with the same units, which stands in a slot.
@@ -72,7 +72,7 @@ module _ (z : HeapSize) (W : List ℕ) (vs : List View) where
   Stands i Unborn = ⊥
   Stands i (Flat wide start fixed) = ((c : ℕ) → start ≤ c → c < start + words_over wide (length_word z W i) → IsKept W vs c)
       × ((o : ℕ) → length_word z W i ≤ o → o < words_over wide (length_word z W i) * lane_count wide → lane_in (content z W) wide start o ≡ 0)
-      × IsNarrow wide (units_of z W i)
+      × IsNarrow wide (units_of z W i) × (length_word z W i ≡ 0 → start ≡ 0)
   Stands i (Cons wide left right) = (left < i) × (right < i) × IsBorn z W left × IsBorn z W right × (1 ≤ length (units_of z W left)) × (1 ≤ length (units_of z W right))
       × (13 ≤ length_word z W i) × IsNarrow wide (units_of z W i)
   Stands i (Sliced wide parent offset) = (parent < i) × IsBorn z W parent × IsSolidForm (form_of (form z W parent)) × (offset + length_word z W i ≤ length (units_of z W parent))
@@ -90,7 +90,7 @@ module _ (z : HeapSize) (W : List ℕ) (vs : List View) where
     pub stands : Stands i now
 
   -- What a form that was seen still says of its string, whatever form stands by now: all that it asks of its string and that never changes.
-  -- A Flat: its words, which change no more, show the units, and their lanes past the length are 0.
+  -- A Flat: its words, which change no more, show the units, their lanes past the length are 0, and an empty one starts at 0.
   -- A Cons: its children, which are smaller and not empty, join to at least 13 units.
   -- A Sliced: the units, at least 13, are that part of its smaller parent, which is Flat or Thin and has room for it.
   -- A Thin: its target, a fixed Flat, has the units. Without the wide bit all units are below 256.
@@ -99,7 +99,7 @@ module _ (z : HeapSize) (W : List ℕ) (vs : List View) where
   Shows i (Flat wide start fixed) = (units_of z W i ≡ span (content z W) wide start 0 (length_word z W i))
       × ((c : ℕ) → start ≤ c → c < start + words_over wide (length_word z W i) → IsKept W vs c)
       × ((o : ℕ) → length_word z W i ≤ o → o < words_over wide (length_word z W i) * lane_count wide → lane_in (content z W) wide start o ≡ 0)
-      × IsNarrow wide (units_of z W i)
+      × IsNarrow wide (units_of z W i) × (length_word z W i ≡ 0 → start ≡ 0)
   Shows i (Cons wide left right) = IsBorn z W left × IsBorn z W right × (units_of z W i ≡ units_of z W left ++ units_of z W right)
       × (left < i) × (right < i) × (1 ≤ length (units_of z W left)) × (1 ≤ length (units_of z W right)) × (13 ≤ length_word z W i) × IsNarrow wide (units_of z W i)
   Shows i (Sliced wide parent offset) = IsBorn z W parent × IsSolidForm (form_of (form z W parent))

@@ -38,7 +38,10 @@ pub fn every_path()
 /// slot is left for were never interned. The call does nothing.
 pub fn every_slot()
     ensures differs { (v : View) (us : List ℕ) (i : ℕ) → IsTrue (differs v us i) ↔ Differs v us i }
-    ensures shut { (v : View) (us : List ℕ) (n : ℕ) → IsTrue (shut v us n) ↔ ((k : ℕ) → k < n → IsShutAt v us k) }
-    ensures fixed { (v : View) → IsPossible v → (k i : ℕ) (f : Form) → Has v.slots k i → Has v.forms i f → (wide : Bool) × (start : ℕ) × (f ≡ Flat wide start true) }
-    ensures apart { (v : View) → IsPossible v → (us : List ℕ) → IsTrue (shut v us v.sizes.slots) → (i : ℕ) → Contains (history v) (us, i) → ⊥ }
+    ensures shut { (v : View) (us : List ℕ) (n : ℕ)
+        → IsTrue (shut v us n) ↔ ((k : ℕ) → k < n → IsShutAt v us k) }
+    ensures fixed { (v : View) → IsPossible v → (k i : ℕ) (f : Form) → Has v.slots k i → Has v.forms i f
+        → (wide : Bool) × (start : ℕ) × (f ≡ Flat wide start true) }
+    ensures apart { (v : View) → IsPossible v → (us : List ℕ) → IsTrue (shut v us v.sizes.slots) → (i : ℕ)
+        → Contains (history v) (us, i) → ⊥ }
 {}

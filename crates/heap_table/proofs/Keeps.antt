@@ -4,13 +4,15 @@ use Rattle.std.specs.Prelude.{unwrap_or, is_some}
 use Rattle.std.proofs.lemmas.List.{set-get_or}
 use mathlib.Core.Option.{none, some, some-injective}
 use lib.ListN.{get_elem?}
+use mathlib.Core.Logic.{dite}
 use native.Mathlib.Decide.{ℕ_discrete}
+use Rattle.js_units.specs.Lanes.{words_over}
 use prog.Atomic.{either}
 use Rattle.atomic_table.specs.Table.{State, step, keeps, Allows, Joins, Splits}
 use Rattle.heap_rule.specs.declared.view.View.{View}
 use Rattle.heap_rule.specs.declared.size.Counter.{Counter}
 use Rattle.heap_rule.specs.declared.size.Counter.TheVariants.{Ids, Words}
-use Rattle.heap_rule.specs.Layout.{IsLawful, counter_at, end_of, content_at, form_at, length_at, slot_at, word_count, IsBorn, MAX}
+use Rattle.heap_rule.specs.Layout.{IsLawful, counter_at, end_of, content_at, form_at, length_at, length_word, slot_at, word_count, IsBorn, MAX}
 use Rattle.heap_rule.specs.declared.size.HeapSize.{HeapSize}
 use Rattle.heap_rule.specs.Agents.{joined, spent, noted, left_after_split, right_after_split}
 use Rattle.heap_rule.specs.Loads.{with_form, added_loads, loaded_form, loaded_length, loaded_word, MayLoadWord}
@@ -18,7 +20,7 @@ use Rattle.heap_rule.specs.Slots.{MayEnter, units_by, entry_in, loaded_slot, May
 use Rattle.heap_rule.specs.Learning.{learned_all, all_named}
 use Rattle.heap_rule.specs.Claims.{loaded_counter, claimed, won_claim, MayClaim}
 use Rattle.heap_rule.specs.Births.{stored_word, MayStoreLength, stored_length, Fits, MayBear, freeze_form, born, born_with}
-use Rattle.heap_rule.specs.HeaderMoves.{MayFlatten, MayThin, flattened, seen_form, thinned}
+use Rattle.heap_rule.specs.HeaderMoves.{CanThin, MayFlatten, MayThin, flattened, seen_form, thinned}
 use Rattle.heap_rule.specs.Forms.{IsCons, IsLater, IsSliced, IsSolidForm}
 use Rattle.heap_rule.specs.Kinds.{Keeps, flatten, thin}
 use Rattle.std.proofs.Math.Logic.{∥∥₁_elim}
@@ -491,6 +493,28 @@ cons_in_range v p i Unborn h cons = absurd cons
 cons_in_range v p i (Flat wide start fixed) h cons = absurd cons
 cons_in_range v p i (Sliced wide parent offset) h cons = absurd cons
 cons_in_range v p i (Thin target) h cons = absurd cons
+
+-- So is a form that may come to forward. A Flat's first word lies in the heap, and an empty one starts at 0; a Sliced lies in its parent.
+first_word : (wide : Bool) (start n : ℕ) → n ≢ 0 → start < start + words_over wide n
+first_word true start n h = omega arith
+first_word false start n h = omega arith
+
+flat_in : (v : View) → StandsIn v → (i : ℕ) (wide : Bool) (start : ℕ) → Has v.forms i (Flat wide start false) → start < 2 ^ 29
+flat_in v (z, agents, W, vs, j, s, at, live) i wide start h = let k = (s.knows j v at live).of_forms i (Flat wide start false) h in
+    dite (ℕ_discrete (length_word z W i) 0) (λ e. let none : start ≡ 0 = k.shows.4 e in omega arith)
+    (λ some. let below = (k.shows.1 start (omega arith) (first_word wide start (length_word z W i) some)).below in let inside = s.counted.words_end in let small = s.lawful.3 in omega arith)
+
+cut_in : (v : View) → StandsIn v → (i : ℕ) (wide : Bool) (parent offset : ℕ) → Has v.forms i (Sliced wide parent offset) → (parent < 2 ^ 29) × (offset < 2 ^ 29)
+cut_in v (z, agents, W, vs, j, s, at, live) i wide parent offset h = let k = (s.knows j v at live).of_forms i (Sliced wide parent offset) h in
+    let room = k.shows.3 in let st = s.standing parent k.shows.0 in let long = st.length_is in let short = st.short in let inside = k.shows.0.0 in let small = s.lawful.1 in (omega arith, omega arith)
+
+pub thin_in_range : (v : View) → IsPossible v → (i : ℕ) (old : Form) → Has v.forms i old → CanThin old → IsInRange old
+thin_in_range v p i (Flat wide start false) h can = ∥∥₁_elim p (Prim.hlevel props) (λ t. flat_in v t i wide start h)
+thin_in_range v p i (Sliced wide parent offset) h can = ∥∥₁_elim p (Prim.hlevel props) (λ t. cut_in v t i wide parent offset h)
+thin_in_range v p i (Flat wide start true) h can = absurd can
+thin_in_range v p i Unborn h can = absurd can
+thin_in_range v p i (Cons wide left right) h can = absurd can
+thin_in_range v p i (Thin target) h can = absurd can
 
 -- an id of which a form was seen lies in the heap
 form_in : (v : View) → StandsIn v → (i : ℕ) (f : Form) → Has v.forms i f → i < v.sizes.ids

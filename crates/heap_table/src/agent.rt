@@ -33,7 +33,8 @@ impl Agent {
         requires belongs { Belongs self.old heap.now }
         requires whole { (view_of self.old).share ≡ (view_of self.old).agents }
         ensures belongs { Belongs self.new heap.now }
-        ensures view { view_of self.new ≡ loaded_counter (loaded_counter (view_of self.old) Counter.Ids result.0) Counter.Words result.1 }
+        ensures view { view_of self.new
+            ≡ loaded_counter (loaded_counter (view_of self.old) Counter.Ids result.0) Counter.Words result.1 }
         ensures used { (result.0 ≡ (view_of self.old).used.ids) × (result.1 ≡ (view_of self.old).used.words) }
     {
         let ids = self.load_counter(heap, Counter::Ids);

@@ -54,10 +54,14 @@ impl Agent {
         requires belongs { Belongs self.old heap.now }
         requires some { (1 ≤ want) × (counter ≡ Counter.Ids → want ≡ 1) }
         ensures belongs { Belongs self.new heap.now }
-        ensures ok { IfOk result (λ at. (view_of self.new ≡ won_claim (view_of self.old) counter at want) × FoundCounter (view_of self.old) counter at) }
+        ensures ok { IfOk result
+            (λ at. (view_of self.new ≡ won_claim (view_of self.old) counter at want)
+            × FoundCounter (view_of self.old) counter at) }
         ensures room { IfOk result (λ at. at + want ≤ end_of (size_of heap.now) counter) }
         ensures low { count_in (view_of self.old).low counter ≤ count_in (view_of self.new).low counter }
-        ensures err { IfErr result (λ f. (view_of self.new ≡ loaded_counter (view_of self.old) counter f.at) × IsFull f want (end_of (size_of heap.now) counter)) }
+        ensures err { IfErr result
+            (λ f. (view_of self.new ≡ loaded_counter (view_of self.old) counter f.at)
+            × IsFull f want (end_of (size_of heap.now) counter)) }
     {
         let end = heap.size.end(counter);
         let mut at = self.load_counter(heap, counter);
@@ -84,7 +88,9 @@ impl Agent {
         ensures low { (view_of self.old).low.ids ≤ (view_of self.new).low.ids }
         ensures above { IfOk result (λ id. (i : ℕ) → IsKnown (view_of self.old) i → i < id) }
         ensures above_own { IfOk result (λ id. (i : ℕ) → HasKey (view_of self.old).own_ids i → i < id) }
-        ensures refused { IfErr result (λ f. (view_of self.new ≡ loaded_counter (view_of self.old) Counter.Ids f.at) × IsFull f 1 (size_of heap.now).ids) }
+        ensures refused { IfErr result
+            (λ f. (view_of self.new ≡ loaded_counter (view_of self.old) Counter.Ids f.at)
+            × IsFull f 1 (size_of heap.now).ids) }
     {
         self.claim(heap, Counter::Ids, 1)
     }
@@ -95,11 +101,14 @@ impl Agent {
         requires belongs { Belongs self.old heap.now }
         requires some { 1 ≤ want }
         ensures belongs { Belongs self.new heap.now }
-        ensures view { IfOk result (λ at. view_of self.new ≡ won_claim (view_of self.old) Counter.Words at want) }
+        ensures view { IfOk result
+            (λ at. view_of self.new ≡ won_claim (view_of self.old) Counter.Words at want) }
         ensures room { IfOk result (λ at. at + want ≤ (size_of heap.now).words) }
         ensures above_own { IfOk result (λ at. (c : ℕ) → HasKey (view_of self.old).own_words c → c < at) }
         ensures low { (view_of self.old).low.words ≤ (view_of self.new).low.words }
-        ensures refused { IfErr result (λ f. (view_of self.new ≡ loaded_counter (view_of self.old) Counter.Words f.at) × IsFull f want (size_of heap.now).words) }
+        ensures refused { IfErr result
+            (λ f. (view_of self.new ≡ loaded_counter (view_of self.old) Counter.Words f.at)
+            × IsFull f want (size_of heap.now).words) }
     {
         self.claim(heap, Counter::Words, want)
     }

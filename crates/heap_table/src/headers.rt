@@ -1,6 +1,5 @@
 // Compare-exchanges that move a header to a later form.
 ghost use Rattle.std.specs.Prelude.{◌≡◌, ℕ, ◌+◌, ◌*◌, ◌≤◌, ◌<◌, ◌^◌};
-ghost use Rattle.js_header.specs.Form.{IsInRange};
 ghost use Rattle.heap_rule.specs.HeaderMoves.{MayFlatten, MayThin, flattened, thinned};
 ghost use Rattle.js_header.specs.declared.form.Form.TheVariants.{Thin};
 ghost use Rattle.heap_rule.specs.Maps.{Has};
@@ -41,7 +40,8 @@ impl Agent {
         ensures belongs { Belongs self.new heap.now }
         ensures known { KeepsKnown (view_of self.old) (view_of self.new) }
         ensures step { IsMoved old result }
-        ensures view { view_of self.new ≡ learned_all (flattened (view_of self.old) id old new (header_found old result)) }
+        ensures view { view_of self.new
+            ≡ learned_all (flattened (view_of self.old) id old new (header_found old result)) }
         ensures settled { IsSettled (view_of self.new) id }
     {
         let word = self.try_flatten(heap, id, old, new);
@@ -56,7 +56,6 @@ impl Agent {
     fn try_thin(&mut self, heap: &Heap, id: u32, old: Form, target: u32) -> u64
         requires belongs { Belongs self.old heap.now }
         requires may { MayThin (view_of self.old) id old target }
-        requires range { IsInRange old }
         ensures belongs { Belongs self.new heap.now }
         ensures known { KeepsKnown (view_of self.old) (view_of self.new) }
         ensures view { view_of self.new ≡ learned_all (thinned (view_of self.old) id old target result) }
@@ -76,11 +75,11 @@ impl Agent {
     pub fn thin_step(&mut self, heap: &Heap, id: u32, old: Form, target: u32) -> Step
         requires belongs { Belongs self.old heap.now }
         requires may { MayThin (view_of self.old) id old target }
-        requires range { IsInRange old }
         ensures belongs { Belongs self.new heap.now }
         ensures known { KeepsKnown (view_of self.old) (view_of self.new) }
         ensures step { IsMoved old result }
-        ensures view { view_of self.new ≡ learned_all (thinned (view_of self.old) id old target (header_found old result)) }
+        ensures view { view_of self.new
+            ≡ learned_all (thinned (view_of self.old) id old target (header_found old result)) }
         ensures forwards { Has (view_of self.new).forms id (Thin target) }
     {
         let found = self.try_thin(heap, id, old, target);

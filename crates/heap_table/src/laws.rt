@@ -26,16 +26,21 @@ pub fn every_moment()
 /// kind does to it by the word found. The call does nothing.
 pub fn every_play()
     ensures counter { (k : Counter) → IsOfKind ⟦<LoadsCounter as Play<(), View>>⟧.then (load_counter k) }
-    ensures claim { (k : Counter) (at want : ℕ) → IsOfKind ⟦<Claims as Play<(), View>>⟧.then (claim k at want) }
+    ensures claim { (k : Counter) (at want : ℕ)
+        → IsOfKind ⟦<Claims as Play<(), View>>⟧.then (claim k at want) }
     ensures word { (c n : ℕ) → IsOfKind ⟦<StoresWord as Play<(), View>>⟧.then (store_word c n) }
     ensures length { (i n : ℕ) → IsOfKind ⟦<StoresLength as Play<(), View>>⟧.then (store_length i n) }
-    ensures birth { (i : ℕ) (f : Form) → IsInRange f → IsOfKind ⟦<GivesBirth as Play<(), View>>⟧.then (birth i f) }
+    ensures birth { (i : ℕ) (f : Form) → IsInRange f
+        → IsOfKind ⟦<GivesBirth as Play<(), View>>⟧.then (birth i f) }
     ensures load_form { (i : ℕ) → IsOfKind ⟦<LoadsForm as Play<(), View>>⟧.then (load_form i) }
     ensures load_length { (i : ℕ) → IsOfKind ⟦<LoadsLength as Play<(), View>>⟧.then (load_length i) }
     ensures load_word { (c : ℕ) → IsOfKind ⟦<LoadsWord as Play<(), View>>⟧.then (load_word c) }
-    ensures flatten { (i : ℕ) (old new : Form) → IsInRange old → IsInRange new → IsOfKind ⟦<Flattens as Play<(), View>>⟧.then (flatten i old new) }
-    ensures thin { (i t : ℕ) (old : Form) → IsInRange old → t < 2 ^ 29 → IsOfKind ⟦<Thins as Play<(), View>>⟧.then (thin i old t) }
+    ensures flatten { (i : ℕ) (old new : Form) → IsInRange old → IsInRange new
+        → IsOfKind ⟦<Flattens as Play<(), View>>⟧.then (flatten i old new) }
+    ensures thin { (i t : ℕ) (old : Form) → IsInRange old → t < 2 ^ 29
+        → IsOfKind ⟦<Thins as Play<(), View>>⟧.then (thin i old t) }
     ensures load_slot { (k : ℕ) → IsOfKind ⟦<LoadsSlot as Play<(), View>>⟧.then (load_slot k None) }
-    ensures enter_slot { (k : ℕ) → IsOfKindBy ⟦<EntersSlot as Play<(), View>>⟧.then (λ v. load_slot k (entry_in v k)) }
+    ensures enter_slot { (k : ℕ) → IsOfKindBy ⟦<EntersSlot as Play<(), View>>⟧.then
+        (λ v. load_slot k (entry_in v k)) }
     ensures take_slot { (k i : ℕ) → IsOfKind ⟦<TakesSlot as Play<(), View>>⟧.then (take_slot k i) }
 {}

@@ -26,12 +26,15 @@ impl Agent {
         requires known { IsKnown (view_of self.old) id }
         ensures belongs { Belongs self.new heap.now }
         ensures known { KeepsKnown (view_of self.old) (view_of self.new) }
-        ensures view { (word : ℕ) × (form_of word ≡ Some result) × (view_of self.new ≡ learned_all (loaded_form (view_of self.old) id word)) }
+        ensures view { (word : ℕ) × (form_of word ≡ Some result)
+            × (view_of self.new ≡ learned_all (loaded_form (view_of self.old) id word)) }
         ensures born { result ≢ Unborn }
         ensures range { IsInRange result }
         ensures settled { IsSettled (view_of self.old) id → ¬ IsCons result }
-        ensures later { (f : form.Form) → Has (view_of self.old).forms id f → (f ≡ result) ⊎ IsLater f result }
-        ensures solid { (j : ℕ) (wide : Bool) (offset : ℕ) → Has (view_of self.old).forms j (Sliced wide id offset) → IsSolid result }
+        ensures later { (f : form.Form) → Has (view_of self.old).forms id f
+            → (f ≡ result) ⊎ IsLater f result }
+        ensures solid { (j : ℕ) (wide : Bool) (offset : ℕ)
+            → Has (view_of self.old).forms j (Sliced wide id offset) → IsSolid result }
     {
         let word = heap
             .table

@@ -21,7 +21,9 @@ impl Agent {
         ensures belongs { Belongs self.new heap.now }
         ensures known { KeepsKnown (view_of self.old) (view_of self.new) }
         ensures forms { (view_of self.new).forms ≡ (view_of self.old).forms }
-        ensures view { view_of self.new ≡ learned_all (loaded_slot (view_of self.old) slot (entry_if enter (view_of self.old) slot) result) }
+        ensures view { view_of self.new
+            ≡ learned_all
+            (loaded_slot (view_of self.old) slot (entry_if enter (view_of self.old) slot) result) }
         ensures found { FoundSlot (view_of self.old) slot result }
     {
         let place = heap.size.slot_place(slot);
@@ -40,7 +42,10 @@ impl Agent {
         ensures belongs { Belongs self.new heap.now }
         ensures known { KeepsKnown (view_of self.old) (view_of self.new) }
         ensures forms { (view_of self.new).forms ≡ (view_of self.old).forms }
-        ensures view { view_of self.new ≡ learned_all (loaded_slot (view_of self.old) slot (entry_if enter (view_of self.old) slot) (slot_word result)) }
+        ensures view { view_of self.new
+            ≡ learned_all
+            (loaded_slot (view_of self.old) slot (entry_if enter (view_of self.old) slot)
+            (slot_word result)) }
         ensures found { FoundSlot (view_of self.old) slot (slot_word result) }
     {
         let word = self.look_at_slot(heap, slot, enter);
@@ -77,7 +82,8 @@ impl Agent {
         ensures known { KeepsKnown (view_of self.old) (view_of self.new) }
         ensures forms { (view_of self.new).forms ≡ (view_of self.old).forms }
         ensures taken { IsTaken result }
-        ensures view { view_of self.new ≡ learned_all (took_slot (view_of self.old) slot id (word_found result)) }
+        ensures view { view_of self.new
+            ≡ learned_all (took_slot (view_of self.old) slot id (word_found result)) }
         ensures found { FoundSlot (view_of self.old) slot (word_found result) }
     {
         let word = self.try_slot(heap, slot, id);

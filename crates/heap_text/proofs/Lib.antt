@@ -21,3 +21,4 @@ pub mod Cutting
 pub mod Flattened
 pub mod Joined
 pub mod Settled
+pub mod WindowLemmas

@@ -1,5 +1,5 @@
 -- What settling answers after a load.
-use Rattle.std.proofs.Common.{◌≡◌, ◌⊎◌, ⊎_elim, ℕ, Bool, List, length, sym, refl, subst, ◌∙◌}
+use Rattle.std.proofs.Common.{◌≡◌, ◌<◌, ◌⊎◌, ⊎_elim, ℕ, Bool, List, length, sym, refl, subst, ◌∙◌, arith}
 use Rattle.std.specs.Prelude.{Result, Ok, Err, IfOk, IfErr}
 use Rattle.std.specs.FinMap.{FinMap}
 use Rattle.std.specs.Ordering.{nat_cmp}
@@ -11,7 +11,10 @@ use Rattle.heap_rule.specs.declared.view.View.{View}
 use Rattle.heap_rule.specs.Forms.{IsLater}
 use Rattle.heap_rule.specs.Maps.{HasKey}
 use Rattle.heap_text.specs.declared.faults.TextFull.{TextFull}
-use Rattle.heap_text.specs.Settling.{IsFlattened, IsNoRoom}
+use Rattle.heap_table.specs.Known.{KeepsKnown}
+use Rattle.heap_text.specs.Filling.{IsBoth, units_at}
+use Rattle.heap_text.specs.Settling.{HasSides, IsFlattened, IsNoRoom}
+use Rattle.heap_text.proofs.Sides.{units_there}
 use Rattle.heap_text.specs.Texts.{Reads}
 use Rattle.heap_text.proofs.Pieces.{spared_after, uses_after}
 
@@ -30,6 +33,20 @@ same_bit seen wide l r left right f is h = ⊎_elim
     (λ (e : Cons seen l r ≡ f). let same : Cons seen l r ≡ Cons wide left right = e ∙ is in cc)
     (λ (k : IsLater (Cons seen l r) f). let never : IsLater (Cons seen l r) (Cons wide left right) = subst (IsLater (Cons seen l r)) is k in absurd (cc)) h
 
+pub sides_of : (b x : View) (i left right m : ℕ) (us : List ℕ) → KeepsKnown b x → (left < i) × (right < i) → HasKey b.units left × HasKey b.units right → IsBoth us (units_at b left) (units_at b right) m (length us) → HasSides x i us
+sides_of b x i left right m us k below known both = let e = both.left_count in let e' = both.right_count in let s = both.left_some in let s' = both.right_some in record {
+  left = left;
+  right = right;
+  below = below;
+  front = units_at b left;
+  back = units_at b right;
+  left_units = k.units left (units_at b left) (units_there b left known.0);
+  right_units = k.units right (units_at b right) (units_there b right known.1);
+  left_some = omega arith;
+  right_some = omega arith;
+  joined = both.both;
+}
+
 module _ (v u w : View) (read : Reads v u) where
   pub flattened_after : (i : ℕ) (us : List ℕ) (wide : Bool) → IsFlattened u w i us wide → IsFlattened v w i us wide
   flattened_after i us wide h = let n : ℕ = words_over wide (length us) in record {
@@ -37,6 +54,7 @@ module _ (v u w : View) (read : Reads v u) where
     used = uses_after v u w 0 n n read.used refl h.used;
     own_ids = h.own_ids ∙ read.own_ids;
     own_words = λ c k. h.own_words c (subst (λ (m : FinMap nat_cmp ℕ). HasKey m c) (sym read.own_words) k);
+    sides = h.sides;
     words = h.words;
   }
 

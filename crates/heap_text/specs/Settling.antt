@@ -1,11 +1,11 @@
 -- What settling a string answers.
-use Rattle.std.specs.Prelude.{◌≡◌, ℕ, ◌+◌, ◌<◌, ◌⊎◌, Bool, false, List, length}
+use Rattle.std.specs.Prelude.{◌≡◌, ℕ, ◌+◌, ◌++◌, ◌<◌, ◌⊎◌, Bool, false, List, length}
 use Rattle.js_units.specs.Lanes.{words_over}
 use Rattle.js_header.specs.declared.form.Form.{Form}
 use Rattle.js_header.specs.declared.form.Form.TheVariants.{Cons, Flat, Sliced, Thin}
 use Rattle.heap_rule.specs.declared.size.HeapSize.{HeapSize}
 use Rattle.heap_rule.specs.declared.view.View.{View}
-use Rattle.heap_rule.specs.Forms.{IsNarrow}
+use Rattle.heap_rule.specs.Forms.{IsLater, IsNarrow}
 use Rattle.heap_rule.specs.Maps.{Has, HasKey}
 use Rattle.heap_rule.specs.Views.{IsKnown}
 use Rattle.heap_table.specs.declared.claims.CounterFull.{CounterFull}
@@ -25,6 +25,19 @@ abbrev pub target_loads : Form → ℕ
 target_loads (Thin target) = 1
 target_loads _ = 0
 
+-- Two strings that are known, neither of them empty, with smaller numbers than i, have the units us between them.
+pub record HasSides (w : View) (i : ℕ) (us : List ℕ) : Type 0 where
+  pub left : ℕ
+  pub right : ℕ
+  pub below : (left < i) × (right < i)
+  pub front : List ℕ
+  pub back : List ℕ
+  pub left_units : Has w.units left front
+  pub right_units : Has w.units right back
+  pub left_some : 0 < length front
+  pub right_some : 0 < length back
+  pub joined : us ≡ front ++ back
+
 -- A Cons with this wide bit became flat. The content words that were claimed are those of the Flat, which has the wide bit of the Cons; or they
 -- stay the agent's own, where another agent's Flat stands. What was own is so still.
 pub record IsFlattened (v w : View) (i : ℕ) (us : List ℕ) (wide : Bool) : Type 0 where
@@ -32,11 +45,16 @@ pub record IsFlattened (v w : View) (i : ℕ) (us : List ℕ) (wide : Bool) : Ty
   pub used : Uses v w 0 (words_over wide (length us))
   pub own_ids : w.own_ids ≡ v.own_ids
   pub own_words : (c : ℕ) → HasKey v.own_words c → HasKey w.own_words c
+  pub sides : HasSides w i us
   pub words : (start : ℕ) × (Has w.forms i (Flat wide start false) ⊎ ((q : ℕ) → q < words_over wide (length us) → HasKey w.own_words (start + q)))
 
 -- the wide bit is that of the Cons, where the string was seen as one
 abbrev pub IsBitOf : View → ℕ → Bool → Type 0
 IsBitOf v i wide = (seen : Bool) (left right : ℕ) → Has v.forms i (Cons seen left right) → wide ≡ seen
+
+-- the form that was seen of the string is the one that the view has now, or an earlier one
+abbrev pub IsSeenLater : View → View → ℕ → Type 0
+IsSeenLater v w i = (f : Form) → Has v.forms i f → (g : Form) × Has w.forms i g × ((f ≡ g) ⊎ IsLater f g)
 
 -- no Cons was loaded, and nothing used; or a Cons was, and became flat with its wide bit
 abbrev pub IsSettling : View → View → ℕ → List ℕ → Type 0

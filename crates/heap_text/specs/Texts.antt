@@ -61,13 +61,14 @@ words_wanted (Ids f) = 0
 words_wanted (Words f) = f.want
 
 -- A refused call used no id, and the words that it used are, with those that its report wants, at most the words of its row. What was the agent's
--- own is so still, and so are the words that the call claimed: the n words from `start` on, which are in no string.
+-- own is so still, and so are the words that the call claimed: the n words from `start` on, which were not its own before and are in no string.
 pub record IsSpared (v w : View) (words : ℕ) (f : TextFull) : Type 0 where
   pub used_ids : w.used.ids ≡ v.used.ids
   pub used_words : w.used.words + words_wanted f ≤ v.used.words + words
   pub own_ids : w.own_ids ≡ v.own_ids
   pub own_words : (c : ℕ) → HasKey v.own_words c → HasKey w.own_words c
   pub claimed : (start : ℕ) × (n : ℕ) × (w.used.words ≡ v.used.words + n) × ((q : ℕ) → q < n → HasKey w.own_words (start + q))
+      × ((q : ℕ) → q < n → HasKey v.own_words (start + q) → ⊥)
 
 -- two-byte lanes are taken exactly where a unit is over 255
 abbrev pub is_wide : List ℕ → Bool

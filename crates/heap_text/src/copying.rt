@@ -29,7 +29,8 @@ impl<'h> Text<'h> {
         ensures limit { self.new.limit ≡ self.old.limit }
         ensures reads { Reads (view_of self.old.agent) (view_of self.new.agent) }
         ensures shows { Shows (view_of self.new.agent) source.now }
-        ensures listed { listed (view_of self.new.agent) source.now ≡ listed (view_of self.old.agent) source.now }
+        ensures listed { listed (view_of self.new.agent) source.now
+            ≡ listed (view_of self.old.agent) source.now }
         ensures wide { result ≡ is_wide (listed (view_of self.old.agent) source.now) }
     {
         if let Source::Units(units) = source {
@@ -57,7 +58,8 @@ impl<'h> Text<'h> {
         ensures limit { self.new.limit ≡ self.old.limit }
         ensures reads { Reads (view_of self.old.agent) (view_of self.new.agent) }
         ensures shows { Shows (view_of self.new.agent) source.now }
-        ensures listed { listed (view_of self.new.agent) source.now ≡ listed (view_of self.old.agent) source.now }
+        ensures listed { listed (view_of self.new.agent) source.now
+            ≡ listed (view_of self.old.agent) source.now }
         ensures holds { Holds (listed (view_of self.old.agent) source.now) held.new }
         ensures word { IsWordOf wide (listed (view_of self.old.agent) source.now) at result }
     {
@@ -87,9 +89,19 @@ impl<'h> Text<'h> {
         ensures continues { Continues (view_of self.old.agent) (view_of self.new.agent) }
         ensures ids { (view_of self.new.agent).used.ids ≡ (view_of self.old.agent).used.ids }
         ensures own_ids { (view_of self.new.agent).own_ids ≡ (view_of self.old.agent).own_ids }
-        ensures own_words { (c : ℕ) → HasKey (view_of self.old.agent).own_words c → HasKey (view_of self.new.agent).own_words c }
-        ensures ok { IfOk result (λ start. IsWritten (view_of self.new.agent) wide start (listed (view_of self.old.agent) source.now) × ((view_of self.new.agent).used.words ≡ (view_of self.old.agent).used.words + words_over wide n)) }
-        ensures refused { IfErr result (λ f. IsFull f (words_over wide n) (size_of self.old.heap.now).words × ((view_of self.new.agent).low.words ≡ f.at) × ((view_of self.new.agent).used.words ≡ (view_of self.old.agent).used.words)) }
+        ensures own_words { (c : ℕ) → HasKey (view_of self.old.agent).own_words c
+            → HasKey (view_of self.new.agent).own_words c }
+        ensures fresh { IfOk result (λ start. (q : ℕ) → q < words_over wide n
+            → HasKey (view_of self.old.agent).own_words (start + q) → ⊥) }
+        ensures ok { IfOk result
+            (λ start. IsWritten (view_of self.new.agent) wide start
+            (listed (view_of self.old.agent) source.now)
+            × ((view_of self.new.agent).used.words
+            ≡ (view_of self.old.agent).used.words + words_over wide n)) }
+        ensures refused { IfErr result
+            (λ f. IsFull f (words_over wide n) (size_of self.old.heap.now).words
+            × ((view_of self.new.agent).low.words ≡ f.at)
+            × ((view_of self.new.agent).used.words ≡ (view_of self.old.agent).used.words)) }
     {
         let want = words_for(n, wide);
         if want == 0 {
@@ -115,11 +127,21 @@ impl<'h> Text<'h> {
         ensures heap { self.new.heap ≡ self.old.heap }
         ensures limit { self.new.limit ≡ self.old.limit }
         ensures continues { Continues (view_of self.old.agent) (view_of self.new.agent) }
-        ensures units { IfOk result (λ s. Has (view_of self.new.agent).units s.id (listed (view_of self.old.agent) source.now)) }
-        ensures form { IfOk result (λ s. (start : ℕ) × Has (view_of self.new.agent).forms s.id (Flat (is_wide (listed (view_of self.old.agent) source.now)) start false)) }
-        ensures used { IfOk result (λ s. Uses (view_of self.old.agent) (view_of self.new.agent) 1 (words_over (is_wide (listed (view_of self.old.agent) source.now)) n)) }
-        ensures refused { IfErr result (λ f. Told (view_of self.new.agent) (size_of self.old.heap.now) (words_over (is_wide (listed (view_of self.old.agent) source.now)) n) f) }
-        ensures spared { IfErr result (λ f. IsSpared (view_of self.old.agent) (view_of self.new.agent) (words_over (is_wide (listed (view_of self.old.agent) source.now)) n) f) }
+        ensures units { IfOk result
+            (λ s. Has (view_of self.new.agent).units s.id (listed (view_of self.old.agent) source.now)) }
+        ensures form { IfOk result
+            (λ s. (start : ℕ)
+            × Has (view_of self.new.agent).forms s.id
+            (Flat (is_wide (listed (view_of self.old.agent) source.now)) start false)) }
+        ensures used { IfOk result
+            (λ s. Uses (view_of self.old.agent) (view_of self.new.agent) 1
+            (words_over (is_wide (listed (view_of self.old.agent) source.now)) n)) }
+        ensures refused { IfErr result
+            (λ f. Told (view_of self.new.agent) (size_of self.old.heap.now)
+            (words_over (is_wide (listed (view_of self.old.agent) source.now)) n) f) }
+        ensures spared { IfErr result
+            (λ f. IsSpared (view_of self.old.agent) (view_of self.new.agent)
+            (words_over (is_wide (listed (view_of self.old.agent) source.now)) n) f) }
     {
         let wide = self.has_wide(source, n);
         let start = match self.write(source, n, wide) {

@@ -35,8 +35,10 @@ impl<'h> Text<'h> {
         ensures reads { Reads (view_of self.old.agent) (view_of self.new.agent) }
         ensures forms { KeepsForms (view_of self.old.agent) (view_of self.new.agent) }
         ensures below { (left < id) × (right < id) }
-        ensures known { HasKey (view_of self.new.agent).units left × HasKey (view_of self.new.agent).units right }
-        ensures sides { IsBoth (units_at (view_of self.old.agent) id) (units_at (view_of self.new.agent) left) (units_at (view_of self.new.agent) right) result (length (units_at (view_of self.old.agent) id)) }
+        ensures known { HasKey (view_of self.new.agent).units left
+            × HasKey (view_of self.new.agent).units right }
+        ensures sides { IsBoth (units_at (view_of self.old.agent) id) (units_at (view_of self.new.agent) left)
+            (units_at (view_of self.new.agent) right) result (length (units_at (view_of self.old.agent) id)) }
     {
         self.agent.load_length(self.heap, left)
     }
@@ -55,8 +57,10 @@ impl<'h> Text<'h> {
         ensures limit { self.new.limit ≡ self.old.limit }
         ensures reads { Reads (view_of self.old.agent) (view_of self.new.agent) }
         ensures above { HoldsAbove (view_of self.old.agent) (view_of self.new.agent) of.id }
-        ensures shows { (us : List ℕ) → Has (view_of self.old.agent).units of.id us → IsWindow (view_of self.new.agent) result us × (result.len ≡ length us) }
-        ensures loads { (l j : ℕ) → (view_of self.old.agent).form_loads ≡ added_loads l j → (view_of self.new.agent).form_loads ≡ added_loads l (j + (steps.new - steps.old)) }
+        ensures shows { (us : List ℕ) → Has (view_of self.old.agent).units of.id us
+            → IsWindow (view_of self.new.agent) result us × (result.len ≡ length us) }
+        ensures loads { (l j : ℕ) → (view_of self.old.agent).form_loads ≡ added_loads l j
+            → (view_of self.new.agent).form_loads ≡ added_loads l (j + (steps.new - steps.old)) }
         ensures more { steps.old ≤ steps.new }
         ensures steps { steps.new ≤ steps.old + 2 }
     {
@@ -78,14 +82,18 @@ impl<'h> Text<'h> {
         requires whole { window.len ≡ n }
         requires count { length (units_at (view_of self.old.agent) of.id) ≡ n }
         requires short { at + n ≤ MAX }
-        requires own { (o : ℕ) → at ≤ o → o < at + n → HasKey (view_of self.old.agent).own_words (to.start + o / lane_count to.wide) }
-        requires fits { to.wide ≡ false → (k : ℕ) → k < n → slice_index (units_at (view_of self.old.agent) of.id) k < 256 }
+        requires own { (o : ℕ) → at ≤ o → o < at + n
+            → HasKey (view_of self.old.agent).own_words (to.start + o / lane_count to.wide) }
+        requires fits { to.wide ≡ false → (k : ℕ) → k < n
+            → slice_index (units_at (view_of self.old.agent) of.id) k < 256 }
         ensures text { Belongs self.new.agent self.new.heap.now }
         ensures heap { self.new.heap ≡ self.old.heap }
         ensures limit { self.new.limit ≡ self.old.limit }
         ensures writes { Writes (view_of self.old.agent) (view_of self.new.agent) }
         ensures forms { KeepsForms (view_of self.old.agent) (view_of self.new.agent) }
-        ensures filled { IsFilled to.wide to.start (own_word (view_of self.old.agent).own_words) (own_word (view_of self.new.agent).own_words) at n (slice_index (units_at (view_of self.old.agent) of.id)) }
+        ensures filled { IsFilled to.wide to.start (own_word (view_of self.old.agent).own_words)
+            (own_word (view_of self.new.agent).own_words) at n
+            (slice_index (units_at (view_of self.old.agent) of.id)) }
     {
         let source = Source::Piece(Piece {
             of,
@@ -110,15 +118,20 @@ impl<'h> Text<'h> {
         requires count { length (units_at (view_of self.old.agent) id) ≡ n }
         requires some { 0 < n }
         requires short { at + n ≤ MAX }
-        requires own { (o : ℕ) → at ≤ o → o < at + n → HasKey (view_of self.old.agent).own_words (to.start + o / lane_count to.wide) }
-        requires fits { to.wide ≡ false → (k : ℕ) → k < n → slice_index (units_at (view_of self.old.agent) id) k < 256 }
+        requires own { (o : ℕ) → at ≤ o → o < at + n
+            → HasKey (view_of self.old.agent).own_words (to.start + o / lane_count to.wide) }
+        requires fits { to.wide ≡ false → (k : ℕ) → k < n
+            → slice_index (units_at (view_of self.old.agent) id) k < 256 }
         ensures text { Belongs self.new.agent self.new.heap.now }
         ensures heap { self.new.heap ≡ self.old.heap }
         ensures limit { self.new.limit ≡ self.old.limit }
         ensures writes { Writes (view_of self.old.agent) (view_of self.new.agent) }
         ensures above { HoldsAbove (view_of self.old.agent) (view_of self.new.agent) id }
-        ensures filled { IsFilled to.wide to.start (own_word (view_of self.old.agent).own_words) (own_word (view_of self.new.agent).own_words) at n (slice_index (units_at (view_of self.old.agent) id)) }
-        ensures loads { (view_of self.new.agent).form_loads ≡ added_loads (view_of self.old.agent).form_loads (steps.new - steps.old) }
+        ensures filled { IsFilled to.wide to.start (own_word (view_of self.old.agent).own_words)
+            (own_word (view_of self.new.agent).own_words) at n
+            (slice_index (units_at (view_of self.old.agent) id)) }
+        ensures loads { (view_of self.new.agent).form_loads
+            ≡ added_loads (view_of self.old.agent).form_loads (steps.new - steps.old) }
         ensures more { steps.old ≤ steps.new }
         ensures steps { steps.new + 4 ≤ steps.old + 8 * n }
     {

@@ -37,7 +37,8 @@ impl<'h> Text<'h> {
         requires shows { Shows (view_of self.old.agent) source.now }
         requires within { first + lane_count wide ≤ length (listed (view_of self.old.agent) source.now) }
         requires short { length (listed (view_of self.old.agent) source.now) ≤ MAX }
-        requires fits { wide ≡ false → (k : ℕ) → k < length (listed (view_of self.old.agent) source.now) → slice_index (listed (view_of self.old.agent) source.now) k < 256 }
+        requires fits { wide ≡ false → (k : ℕ) → k < length (listed (view_of self.old.agent) source.now)
+            → slice_index (listed (view_of self.old.agent) source.now) k < 256 }
         requires holds { Holds (listed (view_of self.old.agent) source.now) held.old }
         ensures text { Belongs self.new.agent self.new.heap.now }
         ensures heap { self.new.heap ≡ self.old.heap }
@@ -45,9 +46,11 @@ impl<'h> Text<'h> {
         ensures reads { Reads (view_of self.old.agent) (view_of self.new.agent) }
         ensures forms { KeepsForms (view_of self.old.agent) (view_of self.new.agent) }
         ensures shows { Shows (view_of self.new.agent) source.now }
-        ensures listed { listed (view_of self.new.agent) source.now ≡ listed (view_of self.old.agent) source.now }
+        ensures listed { listed (view_of self.new.agent) source.now
+            ≡ listed (view_of self.old.agent) source.now }
         ensures holds { Holds (listed (view_of self.old.agent) source.now) held.new }
-        ensures word { (k : ℕ) → k < lane_count wide → lane_of wide result k ≡ slice_index (listed (view_of self.old.agent) source.now) (first + k) }
+        ensures word { (k : ℕ) → k < lane_count wide
+            → lane_of wide result k ≡ slice_index (listed (view_of self.old.agent) source.now) (first + k) }
     {
         let lanes = lanes(wide);
         let base = lane_size(wide);
@@ -66,7 +69,8 @@ impl<'h> Text<'h> {
         requires lanes { patch.low + patch.count ≤ lane_count patch.wide }
         requires within { patch.first + patch.count ≤ length (listed (view_of self.old.agent) source.now) }
         requires short { length (listed (view_of self.old.agent) source.now) ≤ MAX }
-        requires fits { patch.wide ≡ false → (k : ℕ) → k < length (listed (view_of self.old.agent) source.now) → slice_index (listed (view_of self.old.agent) source.now) k < 256 }
+        requires fits { patch.wide ≡ false → (k : ℕ) → k < length (listed (view_of self.old.agent) source.now)
+            → slice_index (listed (view_of self.old.agent) source.now) k < 256 }
         requires holds { Holds (listed (view_of self.old.agent) source.now) held.old }
         ensures text { Belongs self.new.agent self.new.heap.now }
         ensures heap { self.new.heap ≡ self.old.heap }
@@ -74,9 +78,11 @@ impl<'h> Text<'h> {
         ensures reads { Reads (view_of self.old.agent) (view_of self.new.agent) }
         ensures forms { KeepsForms (view_of self.old.agent) (view_of self.new.agent) }
         ensures shows { Shows (view_of self.new.agent) source.now }
-        ensures listed { listed (view_of self.new.agent) source.now ≡ listed (view_of self.old.agent) source.now }
+        ensures listed { listed (view_of self.new.agent) source.now
+            ≡ listed (view_of self.old.agent) source.now }
         ensures holds { Holds (listed (view_of self.old.agent) source.now) held.new }
-        ensures placed { IsPlaced patch.wide word result patch.low patch.count (λ k. slice_index (listed (view_of self.old.agent) source.now) (patch.first + k)) }
+        ensures placed { IsPlaced patch.wide word result patch.low patch.count
+            (λ k. slice_index (listed (view_of self.old.agent) source.now) (patch.first + k)) }
     {
         let mut changed = word;
         for k in 0..patch.count {
@@ -94,7 +100,8 @@ impl<'h> Text<'h> {
         requires lanes { patch.low + patch.count ≤ lane_count patch.wide }
         requires within { patch.first + patch.count ≤ length (listed (view_of self.old.agent) source.now) }
         requires short { length (listed (view_of self.old.agent) source.now) ≤ MAX }
-        requires fits { patch.wide ≡ false → (k : ℕ) → k < length (listed (view_of self.old.agent) source.now) → slice_index (listed (view_of self.old.agent) source.now) k < 256 }
+        requires fits { patch.wide ≡ false → (k : ℕ) → k < length (listed (view_of self.old.agent) source.now)
+            → slice_index (listed (view_of self.old.agent) source.now) k < 256 }
         requires holds { Holds (listed (view_of self.old.agent) source.now) held.old }
         ensures text { Belongs self.new.agent self.new.heap.now }
         ensures heap { self.new.heap ≡ self.old.heap }
@@ -102,9 +109,12 @@ impl<'h> Text<'h> {
         ensures reads { Reads (view_of self.old.agent) (view_of self.new.agent) }
         ensures forms { KeepsForms (view_of self.old.agent) (view_of self.new.agent) }
         ensures shows { Shows (view_of self.new.agent) source.now }
-        ensures listed { listed (view_of self.new.agent) source.now ≡ listed (view_of self.old.agent) source.now }
+        ensures listed { listed (view_of self.new.agent) source.now
+            ≡ listed (view_of self.old.agent) source.now }
         ensures holds { Holds (listed (view_of self.old.agent) source.now) held.new }
-        ensures placed { IsPlaced patch.wide (own_word (view_of self.old.agent).own_words at) result patch.low patch.count (λ k. slice_index (listed (view_of self.old.agent) source.now) (patch.first + k)) }
+        ensures placed { IsPlaced patch.wide
+            (own_word (view_of self.old.agent).own_words at) result patch.low patch.count
+            (λ k. slice_index (listed (view_of self.old.agent) source.now) (patch.first + k)) }
     {
         if patch.count == lanes(patch.wide) {
             return self.pack_word(source, patch.wide, patch.first, held);
@@ -119,14 +129,18 @@ impl<'h> Text<'h> {
         requires shows { Shows (view_of self.old.agent) source.now }
         requires count { length (listed (view_of self.old.agent) source.now) ≡ n }
         requires short { at + n ≤ MAX }
-        requires own { (o : ℕ) → at ≤ o → o < at + n → HasKey (view_of self.old.agent).own_words (to.start + o / lane_count to.wide) }
-        requires fits { to.wide ≡ false → (k : ℕ) → k < n → slice_index (listed (view_of self.old.agent) source.now) k < 256 }
+        requires own { (o : ℕ) → at ≤ o → o < at + n
+            → HasKey (view_of self.old.agent).own_words (to.start + o / lane_count to.wide) }
+        requires fits { to.wide ≡ false → (k : ℕ) → k < n
+            → slice_index (listed (view_of self.old.agent) source.now) k < 256 }
         ensures text { Belongs self.new.agent self.new.heap.now }
         ensures heap { self.new.heap ≡ self.old.heap }
         ensures limit { self.new.limit ≡ self.old.limit }
         ensures writes { Writes (view_of self.old.agent) (view_of self.new.agent) }
         ensures forms { KeepsForms (view_of self.old.agent) (view_of self.new.agent) }
-        ensures filled { IsFilled to.wide to.start (own_word (view_of self.old.agent).own_words) (own_word (view_of self.new.agent).own_words) at n (slice_index (listed (view_of self.old.agent) source.now)) }
+        ensures filled { IsFilled to.wide to.start (own_word (view_of self.old.agent).own_words)
+            (own_word (view_of self.new.agent).own_words) at n
+            (slice_index (listed (view_of self.old.agent) source.now)) }
     {
         let mut held = Held::none();
         let mut done = 0;

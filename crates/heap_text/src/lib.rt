@@ -17,6 +17,7 @@ mod making;
 mod reading;
 mod settling;
 mod source;
+mod spans;
 mod string;
 mod text;
 mod windows;

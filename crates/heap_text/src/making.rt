@@ -32,10 +32,18 @@ impl<'h> Text<'h> {
         ensures limit { self.new.limit ≡ self.old.limit }
         ensures continues { Continues (view_of self.old.agent) (view_of self.new.agent) }
         ensures units { IfOk result (λ s. Has (view_of self.new.agent).units s.id units.now) }
-        ensures form { IfOk result (λ s. (start : ℕ) × Has (view_of self.new.agent).forms s.id (Flat (is_wide units.now) start false)) }
-        ensures used { IfOk result (λ s. Uses (view_of self.old.agent) (view_of self.new.agent) 1 (words_over (is_wide units.now) (length units.now))) }
-        ensures refused { IfErr result (λ f. Told (view_of self.new.agent) (size_of self.old.heap.now) (words_over (is_wide units.now) (length units.now)) f) }
-        ensures spared { IfErr result (λ f. IsSpared (view_of self.old.agent) (view_of self.new.agent) (words_over (is_wide units.now) (length units.now)) f) }
+        ensures form { IfOk result
+            (λ s. (start : ℕ)
+            × Has (view_of self.new.agent).forms s.id (Flat (is_wide units.now) start false)) }
+        ensures used { IfOk result
+            (λ s. Uses (view_of self.old.agent) (view_of self.new.agent) 1
+            (words_over (is_wide units.now) (length units.now))) }
+        ensures refused { IfErr result
+            (λ f. Told (view_of self.new.agent) (size_of self.old.heap.now)
+            (words_over (is_wide units.now) (length units.now)) f) }
+        ensures spared { IfErr result
+            (λ f. IsSpared (view_of self.old.agent) (view_of self.new.agent)
+            (words_over (is_wide units.now) (length units.now)) f) }
     {
         self.copy(&Source::Units(units), units.len() as u32)
     }
@@ -49,7 +57,10 @@ impl<'h> Text<'h> {
         ensures heap { self.new.heap ≡ self.old.heap }
         ensures limit { self.new.limit ≡ self.old.limit }
         ensures continues { Continues (view_of self.old.agent) (view_of self.new.agent) }
-        ensures copied { (us vs : List ℕ) → Has (view_of self.old.agent).units a.id us → Has (view_of self.old.agent).units b.id vs → IsCopied (view_of self.old.agent) (view_of self.new.agent) (size_of self.old.heap.now) (us ++ vs) result }
+        ensures copied { (us vs : List ℕ) → Has (view_of self.old.agent).units a.id us
+            → Has (view_of self.old.agent).units b.id vs
+            → IsCopied (view_of self.old.agent) (view_of self.new.agent) (size_of self.old.heap.now)
+            (us ++ vs) result }
     {
         let (left, right) = self.side_forms(a, b);
         let front = self.solid_window(a, left);
@@ -72,14 +83,17 @@ impl<'h> Text<'h> {
     // The forms of two strings, by one load where they are one string.
     fn side_forms(&mut self, a: JsStr, b: JsStr) -> (Form, Form)
         requires text { Belongs self.old.agent self.old.heap.now }
-        requires known { HasKey (view_of self.old.agent).units a.id × HasKey (view_of self.old.agent).units b.id }
+        requires known { HasKey (view_of self.old.agent).units a.id
+            × HasKey (view_of self.old.agent).units b.id }
         ensures text { Belongs self.new.agent self.new.heap.now }
         ensures heap { self.new.heap ≡ self.old.heap }
         ensures limit { self.new.limit ≡ self.old.limit }
         ensures reads { Reads (view_of self.old.agent) (view_of self.new.agent) }
-        ensures seen { Has (view_of self.new.agent).forms a.id result.0 × Has (view_of self.new.agent).forms b.id result.1 }
+        ensures seen { Has (view_of self.new.agent).forms a.id result.0
+            × Has (view_of self.new.agent).forms b.id result.1 }
         ensures born { (result.0 ≢ Unborn) × (result.1 ≢ Unborn) }
-        ensures sides { KnowsSide (view_of self.new.agent) result.0 × KnowsSide (view_of self.new.agent) result.1 }
+        ensures sides { KnowsSide (view_of self.new.agent) result.0
+            × KnowsSide (view_of self.new.agent) result.1 }
     {
         let front = self.form_now(a.id);
         if a.id == b.id {
@@ -115,7 +129,10 @@ impl<'h> Text<'h> {
         ensures heap { self.new.heap ≡ self.old.heap }
         ensures limit { self.new.limit ≡ self.old.limit }
         ensures continues { Continues (view_of self.old.agent) (view_of self.new.agent) }
-        ensures linked { (us vs : List ℕ) → Has (view_of self.old.agent).units a.id us → Has (view_of self.old.agent).units b.id vs → IsLinked (view_of self.old.agent) (view_of self.new.agent) (size_of self.old.heap.now) a b (us ++ vs) result }
+        ensures linked { (us vs : List ℕ) → Has (view_of self.old.agent).units a.id us
+            → Has (view_of self.old.agent).units b.id vs
+            → IsLinked (view_of self.old.agent) (view_of self.new.agent) (size_of self.old.heap.now) a b
+            (us ++ vs) result }
     {
         let (front, back) = self.side_forms(a, b);
         let left = self.is_wide_side(a.id, front);
@@ -144,8 +161,14 @@ impl<'h> Text<'h> {
         ensures heap { self.new.heap ≡ self.old.heap }
         ensures limit { self.new.limit ≡ self.old.limit }
         ensures continues { Continues (view_of self.old.agent) (view_of self.new.agent) }
-        ensures copied { n < MIN_CONS → (us vs : List ℕ) → Has (view_of self.old.agent).units a.id us → Has (view_of self.old.agent).units b.id vs → IsCopied (view_of self.old.agent) (view_of self.new.agent) (size_of self.old.heap.now) (us ++ vs) result }
-        ensures linked { MIN_CONS ≤ n → (us vs : List ℕ) → Has (view_of self.old.agent).units a.id us → Has (view_of self.old.agent).units b.id vs → IsLinked (view_of self.old.agent) (view_of self.new.agent) (size_of self.old.heap.now) a b (us ++ vs) result }
+        ensures copied { n < MIN_CONS → (us vs : List ℕ) → Has (view_of self.old.agent).units a.id us
+            → Has (view_of self.old.agent).units b.id vs
+            → IsCopied (view_of self.old.agent) (view_of self.new.agent) (size_of self.old.heap.now)
+            (us ++ vs) result }
+        ensures linked { MIN_CONS ≤ n → (us vs : List ℕ) → Has (view_of self.old.agent).units a.id us
+            → Has (view_of self.old.agent).units b.id vs
+            → IsLinked (view_of self.old.agent) (view_of self.new.agent) (size_of self.old.heap.now) a b
+            (us ++ vs) result }
     {
         if n < MIN_CONS {
             return self.copy_both(a, b, n);
@@ -159,13 +182,20 @@ impl<'h> Text<'h> {
     /// on the answer is a rope, which takes one id and no content word.
     pub fn concat(&mut self, a: JsStr, b: JsStr) -> Result<JsStr, JoinFault>
         requires text { Belongs self.old.agent self.old.heap.now }
-        requires known { HasKey (view_of self.old.agent).units a.id × HasKey (view_of self.old.agent).units b.id }
+        requires known { HasKey (view_of self.old.agent).units a.id
+            × HasKey (view_of self.old.agent).units b.id }
         ensures text { Belongs self.new.agent self.new.heap.now }
         ensures heap { self.new.heap ≡ self.old.heap }
         ensures limit { self.new.limit ≡ self.old.limit }
         ensures continues { Continues (view_of self.old.agent) (view_of self.new.agent) }
-        ensures units { IfOk result (λ s. (us vs : List ℕ) → Has (view_of self.old.agent).units a.id us → Has (view_of self.old.agent).units b.id vs → Has (view_of self.new.agent).units s.id (us ++ vs)) }
-        ensures joined { (us vs : List ℕ) → Has (view_of self.old.agent).units a.id us → Has (view_of self.old.agent).units b.id vs → IsJoined (view_of self.old.agent) (view_of self.new.agent) (size_of self.old.heap.now) self.old.limit a b us vs result }
+        ensures units { IfOk result
+            (λ s. (us vs : List ℕ) → Has (view_of self.old.agent).units a.id us
+            → Has (view_of self.old.agent).units b.id vs
+            → Has (view_of self.new.agent).units s.id (us ++ vs)) }
+        ensures joined { (us vs : List ℕ) → Has (view_of self.old.agent).units a.id us
+            → Has (view_of self.old.agent).units b.id vs
+            → IsJoined (view_of self.old.agent) (view_of self.new.agent)
+            (size_of self.old.heap.now) self.old.limit a b us vs result }
     {
         let left = self.len(a);
         let right = self.len(b);
@@ -188,12 +218,15 @@ impl<'h> Text<'h> {
     fn copy_part(&mut self, s: JsStr, from: u32, n: u32) -> Result<JsStr, TextFull>
         requires text { Belongs self.old.agent self.old.heap.now }
         requires settled { IsSettled (view_of self.old.agent) s.id }
-        requires within { (us : List ℕ) × Has (view_of self.old.agent).units s.id us × (from + n ≤ length us) }
+        requires within { (us : List ℕ) × Has (view_of self.old.agent).units s.id us
+            × (from + n ≤ length us) }
         ensures text { Belongs self.new.agent self.new.heap.now }
         ensures heap { self.new.heap ≡ self.old.heap }
         ensures limit { self.new.limit ≡ self.old.limit }
         ensures continues { Continues (view_of self.old.agent) (view_of self.new.agent) }
-        ensures copied { (us : List ℕ) → Has (view_of self.old.agent).units s.id us → IsCopied (view_of self.old.agent) (view_of self.new.agent) (size_of self.old.heap.now) (part from n us) result }
+        ensures copied { (us : List ℕ) → Has (view_of self.old.agent).units s.id us
+            → IsCopied (view_of self.old.agent) (view_of self.new.agent) (size_of self.old.heap.now)
+            (part from n us) result }
     {
         let window = self.window_on(s);
         let part = Window {
@@ -214,13 +247,16 @@ impl<'h> Text<'h> {
     fn link_part(&mut self, s: JsStr, from: u32, n: u32) -> Result<JsStr, TextFull>
         requires text { Belongs self.old.agent self.old.heap.now }
         requires settled { IsSettled (view_of self.old.agent) s.id }
-        requires within { (us : List ℕ) × Has (view_of self.old.agent).units s.id us × (from + n ≤ length us) }
+        requires within { (us : List ℕ) × Has (view_of self.old.agent).units s.id us
+            × (from + n ≤ length us) }
         requires long { MIN_CONS ≤ n }
         ensures text { Belongs self.new.agent self.new.heap.now }
         ensures heap { self.new.heap ≡ self.old.heap }
         ensures limit { self.new.limit ≡ self.old.limit }
         ensures continues { Continues (view_of self.old.agent) (view_of self.new.agent) }
-        ensures linked { (us : List ℕ) → Has (view_of self.old.agent).units s.id us → IsPartCut (view_of self.old.agent) (view_of self.new.agent) (size_of self.old.heap.now) s from (part from n us) result }
+        ensures linked { (us : List ℕ) → Has (view_of self.old.agent).units s.id us
+            → IsPartCut (view_of self.old.agent) (view_of self.new.agent) (size_of self.old.heap.now) s from
+            (part from n us) result }
     {
         let whole = self.form_now(s.id);
         let wide = self.is_wide_side(s.id, whole);
@@ -244,13 +280,18 @@ impl<'h> Text<'h> {
     fn cut(&mut self, s: JsStr, from: u32, n: u32) -> Result<JsStr, TextFull>
         requires text { Belongs self.old.agent self.old.heap.now }
         requires settled { IsSettled (view_of self.old.agent) s.id }
-        requires within { (us : List ℕ) × Has (view_of self.old.agent).units s.id us × (from + n ≤ length us) }
+        requires within { (us : List ℕ) × Has (view_of self.old.agent).units s.id us
+            × (from + n ≤ length us) }
         ensures text { Belongs self.new.agent self.new.heap.now }
         ensures heap { self.new.heap ≡ self.old.heap }
         ensures limit { self.new.limit ≡ self.old.limit }
         ensures continues { Continues (view_of self.old.agent) (view_of self.new.agent) }
-        ensures copied { n < MIN_CONS → (us : List ℕ) → Has (view_of self.old.agent).units s.id us → IsCopied (view_of self.old.agent) (view_of self.new.agent) (size_of self.old.heap.now) (part from n us) result }
-        ensures linked { MIN_CONS ≤ n → (us : List ℕ) → Has (view_of self.old.agent).units s.id us → IsPartCut (view_of self.old.agent) (view_of self.new.agent) (size_of self.old.heap.now) s from (part from n us) result }
+        ensures copied { n < MIN_CONS → (us : List ℕ) → Has (view_of self.old.agent).units s.id us
+            → IsCopied (view_of self.old.agent) (view_of self.new.agent) (size_of self.old.heap.now)
+            (part from n us) result }
+        ensures linked { MIN_CONS ≤ n → (us : List ℕ) → Has (view_of self.old.agent).units s.id us
+            → IsPartCut (view_of self.old.agent) (view_of self.new.agent) (size_of self.old.heap.now) s from
+            (part from n us) result }
     {
         if n < MIN_CONS {
             return self.copy_part(s, from, n);
@@ -265,14 +306,19 @@ impl<'h> Text<'h> {
     pub fn slice(&mut self, s: JsStr, from: u32, to: u32) -> Result<JsStr, TextFull>
         requires text { Belongs self.old.agent self.old.heap.now }
         requires settled { IsSettled (view_of self.old.agent) s.id }
-        requires within { (us : List ℕ) × Has (view_of self.old.agent).units s.id us × (from ≤ to) × (to ≤ length us) }
+        requires within { (us : List ℕ) × Has (view_of self.old.agent).units s.id us × (from ≤ to)
+            × (to ≤ length us) }
         ensures text { Belongs self.new.agent self.new.heap.now }
         ensures heap { self.new.heap ≡ self.old.heap }
         ensures limit { self.new.limit ≡ self.old.limit }
         ensures continues { Continues (view_of self.old.agent) (view_of self.new.agent) }
-        ensures units { IfOk result (λ t. (us : List ℕ) → Has (view_of self.old.agent).units s.id us → Has (view_of self.new.agent).units t.id (part from (to - from) us)) }
+        ensures units { IfOk result
+            (λ t. (us : List ℕ) → Has (view_of self.old.agent).units s.id us
+            → Has (view_of self.new.agent).units t.id (part from (to - from) us)) }
         ensures settled { IfOk result (λ t. IsSettled (view_of self.new.agent) t.id) }
-        ensures cut { (us : List ℕ) → Has (view_of self.old.agent).units s.id us → IsCut (view_of self.old.agent) (view_of self.new.agent) (size_of self.old.heap.now) s from to us result }
+        ensures cut { (us : List ℕ) → Has (view_of self.old.agent).units s.id us
+            → IsCut (view_of self.old.agent) (view_of self.new.agent)
+            (size_of self.old.heap.now) s from to us result }
     {
         let n = self.len(s);
         if from == 0 && to == n {

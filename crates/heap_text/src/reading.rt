@@ -37,7 +37,8 @@ impl<'h> Text<'h> {
         ensures heap { self.new.heap ≡ self.old.heap }
         ensures limit { self.new.limit ≡ self.old.limit }
         ensures reads { Reads (view_of self.old.agent) (view_of self.new.agent) }
-        ensures shows { (us : List ℕ) → Has (view_of self.old.agent).units s.id us → IsWindow (view_of self.new.agent) result us × (result.len ≡ length us) }
+        ensures shows { (us : List ℕ) → Has (view_of self.old.agent).units s.id us
+            → IsWindow (view_of self.new.agent) result us × (result.len ≡ length us) }
         ensures frozen { IsFrozenWindow (view_of self.new.agent) result }
     {
         self.window_on(s)
@@ -75,7 +76,8 @@ impl<'h> Text<'h> {
         ensures heap { self.new.heap ≡ self.old.heap }
         ensures limit { self.new.limit ≡ self.old.limit }
         ensures reads { Reads (view_of self.old.agent) (view_of self.new.agent) }
-        ensures unit { (us : List ℕ) → Has (view_of self.old.agent).units s.id us → result ≡ slice_index us i }
+        ensures unit { (us : List ℕ) → Has (view_of self.old.agent).units s.id us
+            → result ≡ slice_index us i }
     {
         let window = self.window(s);
         self.unit_in(window, i)

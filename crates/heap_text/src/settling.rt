@@ -9,7 +9,7 @@ ghost use Rattle.heap_rule.specs.Loads.{added_loads};
 ghost use Rattle.heap_rule.specs.Maps.{Has, HasKey};
 ghost use Rattle.heap_rule.specs.Views.{IsKnown, IsSettled};
 ghost use Rattle.heap_table.specs.Agents.{Belongs, size_of, view_of};
-ghost use Rattle.heap_text.specs.Settling.{IsBitOf, IsFlattened, IsNoRoom, IsSettling, KnowsSide};
+ghost use Rattle.heap_text.specs.Settling.{HasSides, IsBitOf, IsFlattened, IsNoRoom, IsSeenLater, IsSettling, KnowsSide};
 ghost use Rattle.heap_text.specs.Texts.{Continues, Reads};
 
 use crate::faults::TextFull;
@@ -32,14 +32,18 @@ impl<'h> Text<'h> {
         ensures limit { self.new.limit ≡ self.old.limit }
         ensures reads { Reads (view_of self.old.agent) (view_of self.new.agent) }
         ensures seen { Has (view_of self.new.agent).forms id result }
-        ensures others { (i : ℕ) → i ≢ id → get (view_of self.new.agent).forms i ≡ get (view_of self.old.agent).forms i }
+        ensures others { (i : ℕ) → i ≢ id
+            → get (view_of self.new.agent).forms i ≡ get (view_of self.old.agent).forms i }
         ensures side { KnowsSide (view_of self.new.agent) result }
-        ensures loads { (view_of self.new.agent).form_loads ≡ added_loads (view_of self.old.agent).form_loads 1 }
+        ensures loads { (view_of self.new.agent).form_loads
+            ≡ added_loads (view_of self.old.agent).form_loads 1 }
         ensures born { result ≢ Unborn }
         ensures range { IsInRange result }
         ensures settled { IsSettled (view_of self.old.agent) id → ¬ IsCons result }
-        ensures later { (f : form.Form) → Has (view_of self.old.agent).forms id f → (f ≡ result) ⊎ IsLater f result }
-        ensures solid { (j : ℕ) (wide : Bool) (offset : ℕ) → Has (view_of self.old.agent).forms j (Sliced wide id offset) → IsSolid result }
+        ensures later { (f : form.Form) → Has (view_of self.old.agent).forms id f
+            → (f ≡ result) ⊎ IsLater f result }
+        ensures solid { (j : ℕ) (wide : Bool) (offset : ℕ)
+            → Has (view_of self.old.agent).forms j (Sliced wide id offset) → IsSolid result }
     {
         self.agent.load_form(self.heap, id)
     }
@@ -62,11 +66,20 @@ impl<'h> Text<'h> {
         ensures limit { self.new.limit ≡ self.old.limit }
         ensures continues { Continues (view_of self.old.agent) (view_of self.new.agent) }
         ensures settled { IfOk result (λ u. IsSettled (view_of self.new.agent) s.id) }
-        ensures flat { IfOk result (λ u. (us : List ℕ) → Has (view_of self.old.agent).units s.id us → IsFlattened (view_of self.old.agent) (view_of self.new.agent) s.id us wide) }
-        ensures refused { IfErr result (λ f. (us : List ℕ) → Has (view_of self.old.agent).units s.id us → IsNoRoom (view_of self.old.agent) (view_of self.new.agent) (size_of self.old.heap.now) us f wide) }
-        ensures loads { (l j : ℕ) → (view_of self.old.agent).form_loads ≡ added_loads l j → (view_of self.new.agent).form_loads ≡ added_loads l (j + (steps.new - steps.old)) }
+        ensures flat { IfOk result
+            (λ u. (us : List ℕ) → Has (view_of self.old.agent).units s.id us
+            → IsFlattened (view_of self.old.agent) (view_of self.new.agent) s.id us wide) }
+        ensures refused { IfErr result
+            (λ f. (us : List ℕ) → Has (view_of self.old.agent).units s.id us
+            → IsNoRoom (view_of self.old.agent) (view_of self.new.agent)
+            (size_of self.old.heap.now) us f wide) }
+        ensures rope { IfErr result (λ f. (us : List ℕ) → Has (view_of self.old.agent).units s.id us
+            → HasSides (view_of self.new.agent) s.id us) }
+        ensures loads { (l j : ℕ) → (view_of self.old.agent).form_loads ≡ added_loads l j
+            → (view_of self.new.agent).form_loads ≡ added_loads l (j + (steps.new - steps.old)) }
         ensures more { steps.old ≤ steps.new }
-        ensures steps { (us : List ℕ) → Has (view_of self.old.agent).units s.id us → steps.new + 1 ≤ steps.old + 8 * length us }
+        ensures steps { (us : List ℕ) → Has (view_of self.old.agent).units s.id us
+            → steps.new + 1 ≤ steps.old + 8 * length us }
     {
         let n = self.agent.load_length(self.heap, s.id);
         let m = self.left_length(s.id, left, right);
@@ -102,12 +115,25 @@ impl<'h> Text<'h> {
         ensures limit { self.new.limit ≡ self.old.limit }
         ensures continues { Continues (view_of self.old.agent) (view_of self.new.agent) }
         ensures settled { IfOk result (λ u. IsSettled (view_of self.new.agent) s.id) }
-        ensures used { IfOk result (λ u. (us : List ℕ) → Has (view_of self.old.agent).units s.id us → IsSettling (view_of self.old.agent) (view_of self.new.agent) s.id us) }
-        ensures refused { IfErr result (λ f. (us : List ℕ) → Has (view_of self.old.agent).units s.id us → (wide : Bool) × IsBitOf (view_of self.old.agent) s.id wide × IsNoRoom (view_of self.old.agent) (view_of self.new.agent) (size_of self.old.heap.now) us f wide) }
-        ensures again { IsSettled (view_of self.old.agent) s.id → IsOk result × Reads (view_of self.old.agent) (view_of self.new.agent) }
-        ensures loads { (view_of self.new.agent).form_loads ≡ added_loads (view_of self.old.agent).form_loads (steps.new - steps.old) }
+        ensures used { IfOk result
+            (λ u. (us : List ℕ) → Has (view_of self.old.agent).units s.id us
+            → IsSettling (view_of self.old.agent) (view_of self.new.agent) s.id us) }
+        ensures refused { IfErr result
+            (λ f. (us : List ℕ) → Has (view_of self.old.agent).units s.id us
+            → (wide : Bool) × IsBitOf (view_of self.old.agent) s.id wide
+            × IsNoRoom (view_of self.old.agent) (view_of self.new.agent)
+            (size_of self.old.heap.now) us f wide) }
+        ensures rope { IfErr result (λ f. (us : List ℕ) → Has (view_of self.old.agent).units s.id us
+            → HasSides (view_of self.new.agent) s.id us) }
+        ensures again { IsSettled (view_of self.old.agent) s.id
+            → IsOk result × Reads (view_of self.old.agent) (view_of self.new.agent) }
+        ensures later { IsSettled (view_of self.old.agent) s.id
+            → IsSeenLater (view_of self.old.agent) (view_of self.new.agent) s.id }
+        ensures loads { (view_of self.new.agent).form_loads
+            ≡ added_loads (view_of self.old.agent).form_loads (steps.new - steps.old) }
         ensures more { steps.old ≤ steps.new }
-        ensures steps { (us : List ℕ) → Has (view_of self.old.agent).units s.id us → 0 < length us → steps.new ≤ steps.old + 8 * length us }
+        ensures steps { (us : List ℕ) → Has (view_of self.old.agent).units s.id us → 0 < length us
+            → steps.new ≤ steps.old + 8 * length us }
     {
         let form = self.form_now(s.id);
         steps.tick();
@@ -129,10 +155,22 @@ impl<'h> Text<'h> {
         ensures limit { self.new.limit ≡ self.old.limit }
         ensures continues { Continues (view_of self.old.agent) (view_of self.new.agent) }
         ensures settled { IfOk result (λ u. IsSettled (view_of self.new.agent) s.id) }
-        ensures used { IfOk result (λ u. (us : List ℕ) → Has (view_of self.old.agent).units s.id us → IsSettling (view_of self.old.agent) (view_of self.new.agent) s.id us) }
-        ensures refused { IfErr result (λ f. (us : List ℕ) → Has (view_of self.old.agent).units s.id us → (wide : Bool) × IsBitOf (view_of self.old.agent) s.id wide × IsNoRoom (view_of self.old.agent) (view_of self.new.agent) (size_of self.old.heap.now) us f wide) }
-        ensures again { IsSettled (view_of self.old.agent) s.id → IsOk result × Reads (view_of self.old.agent) (view_of self.new.agent) }
-        ensures loads { (us : List ℕ) → Has (view_of self.old.agent).units s.id us → 0 < length us → (view_of self.new.agent).form_loads ≤ (view_of self.old.agent).form_loads + 8 * length us }
+        ensures used { IfOk result
+            (λ u. (us : List ℕ) → Has (view_of self.old.agent).units s.id us
+            → IsSettling (view_of self.old.agent) (view_of self.new.agent) s.id us) }
+        ensures refused { IfErr result
+            (λ f. (us : List ℕ) → Has (view_of self.old.agent).units s.id us
+            → (wide : Bool) × IsBitOf (view_of self.old.agent) s.id wide
+            × IsNoRoom (view_of self.old.agent) (view_of self.new.agent)
+            (size_of self.old.heap.now) us f wide) }
+        ensures rope { IfErr result (λ f. (us : List ℕ) → Has (view_of self.old.agent).units s.id us
+            → HasSides (view_of self.new.agent) s.id us) }
+        ensures again { IsSettled (view_of self.old.agent) s.id
+            → IsOk result × Reads (view_of self.old.agent) (view_of self.new.agent) }
+        ensures later { IsSettled (view_of self.old.agent) s.id
+            → IsSeenLater (view_of self.old.agent) (view_of self.new.agent) s.id }
+        ensures loads { (us : List ℕ) → Has (view_of self.old.agent).units s.id us → 0 < length us
+            → (view_of self.new.agent).form_loads ≤ (view_of self.old.agent).form_loads + 8 * length us }
     {
         let mut steps = Steps::<L>::start(blank);
         self.settle_counted(s, &mut steps)
@@ -147,10 +185,22 @@ impl<'h> Text<'h> {
         ensures limit { self.new.limit ≡ self.old.limit }
         ensures continues { Continues (view_of self.old.agent) (view_of self.new.agent) }
         ensures settled { IfOk result (λ u. IsSettled (view_of self.new.agent) s.id) }
-        ensures used { IfOk result (λ u. (us : List ℕ) → Has (view_of self.old.agent).units s.id us → IsSettling (view_of self.old.agent) (view_of self.new.agent) s.id us) }
-        ensures refused { IfErr result (λ f. (us : List ℕ) → Has (view_of self.old.agent).units s.id us → (wide : Bool) × IsBitOf (view_of self.old.agent) s.id wide × IsNoRoom (view_of self.old.agent) (view_of self.new.agent) (size_of self.old.heap.now) us f wide) }
-        ensures again { IsSettled (view_of self.old.agent) s.id → IsOk result × Reads (view_of self.old.agent) (view_of self.new.agent) }
-        ensures loads { (us : List ℕ) → Has (view_of self.old.agent).units s.id us → 0 < length us → (view_of self.new.agent).form_loads ≤ (view_of self.old.agent).form_loads + 8 * length us }
+        ensures used { IfOk result
+            (λ u. (us : List ℕ) → Has (view_of self.old.agent).units s.id us
+            → IsSettling (view_of self.old.agent) (view_of self.new.agent) s.id us) }
+        ensures refused { IfErr result
+            (λ f. (us : List ℕ) → Has (view_of self.old.agent).units s.id us
+            → (wide : Bool) × IsBitOf (view_of self.old.agent) s.id wide
+            × IsNoRoom (view_of self.old.agent) (view_of self.new.agent)
+            (size_of self.old.heap.now) us f wide) }
+        ensures rope { IfErr result (λ f. (us : List ℕ) → Has (view_of self.old.agent).units s.id us
+            → HasSides (view_of self.new.agent) s.id us) }
+        ensures again { IsSettled (view_of self.old.agent) s.id
+            → IsOk result × Reads (view_of self.old.agent) (view_of self.new.agent) }
+        ensures later { IsSettled (view_of self.old.agent) s.id
+            → IsSeenLater (view_of self.old.agent) (view_of self.new.agent) s.id }
+        ensures loads { (us : List ℕ) → Has (view_of self.old.agent).units s.id us → 0 < length us
+            → (view_of self.new.agent).form_loads ≤ (view_of self.old.agent).form_loads + 8 * length us }
     {
         self.settle_by::<Brand>(s, Blank::new(1))
     }

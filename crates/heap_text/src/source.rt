@@ -32,11 +32,11 @@ pub(crate) enum Source<'u> {
 /// `count` units from number `from` on, the first in lane `lane`.
 #[derive(Clone, Copy)]
 pub(crate) struct Held {
-    word: u64,
-    wide: bool,
-    lane: u32,
-    from: u32,
-    count: u32,
+    pub(crate) word: u64,
+    pub(crate) wide: bool,
+    pub(crate) lane: u32,
+    pub(crate) from: u32,
+    pub(crate) count: u32,
 }
 
 impl Held {
@@ -71,7 +71,7 @@ impl Held {
 
 impl<'h> Text<'h> {
     // The word with unit `i` of a window, and all units of the window that it shows.
-    fn hold_in(&mut self, w: Window, i: u32) -> Held
+    pub(crate) fn hold_in(&mut self, w: Window, i: u32) -> Held
         requires text { Belongs self.old.agent self.old.heap.now }
         requires frozen { IsFrozenWindow (view_of self.old.agent) w }
         requires within { i < w.len }
@@ -108,7 +108,8 @@ impl<'h> Text<'h> {
         ensures reads { Reads (view_of self.old.agent) (view_of self.new.agent) }
         ensures forms { KeepsForms (view_of self.old.agent) (view_of self.new.agent) }
         ensures shows { Shows (view_of self.new.agent) source.now }
-        ensures listed { listed (view_of self.new.agent) source.now ≡ listed (view_of self.old.agent) source.now }
+        ensures listed { listed (view_of self.new.agent) source.now
+            ≡ listed (view_of self.old.agent) source.now }
         ensures has { (result.from ≤ i) × (i < result.from + result.count) }
         ensures holds { Holds (listed (view_of self.old.agent) source.now) result }
     {
@@ -150,7 +151,8 @@ impl<'h> Text<'h> {
         ensures reads { Reads (view_of self.old.agent) (view_of self.new.agent) }
         ensures forms { KeepsForms (view_of self.old.agent) (view_of self.new.agent) }
         ensures shows { Shows (view_of self.new.agent) source.now }
-        ensures listed { listed (view_of self.new.agent) source.now ≡ listed (view_of self.old.agent) source.now }
+        ensures listed { listed (view_of self.new.agent) source.now
+            ≡ listed (view_of self.old.agent) source.now }
         ensures holds { Holds (listed (view_of self.old.agent) source.now) held.new }
         ensures fits { result < 65536 }
         ensures unit { result ≡ slice_index (listed (view_of self.old.agent) source.now) i }
@@ -174,7 +176,8 @@ impl<'h> Text<'h> {
         ensures limit { self.new.limit ≡ self.old.limit }
         ensures reads { Reads (view_of self.old.agent) (view_of self.new.agent) }
         ensures shows { Shows (view_of self.new.agent) source.now }
-        ensures listed { listed (view_of self.new.agent) source.now ≡ listed (view_of self.old.agent) source.now }
+        ensures listed { listed (view_of self.new.agent) source.now
+            ≡ listed (view_of self.old.agent) source.now }
         ensures holds { Holds (listed (view_of self.old.agent) source.now) held.new }
         ensures fits { result < 65536 }
         ensures unit { result ≡ slice_index (listed (view_of self.old.agent) source.now) i }

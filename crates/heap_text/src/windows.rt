@@ -29,7 +29,8 @@ impl<'h> Text<'h> {
         ensures limit { self.new.limit ≡ self.old.limit }
         ensures reads { Reads (view_of self.old.agent) (view_of self.new.agent) }
         ensures forms { KeepsForms (view_of self.old.agent) (view_of self.new.agent) }
-        ensures shows { (us : List ℕ) → Has (view_of self.old.agent).units of.id us → IsWindow (view_of self.new.agent) result us × (result.len ≡ length us) }
+        ensures shows { (us : List ℕ) → Has (view_of self.old.agent).units of.id us
+            → IsWindow (view_of self.new.agent) result us × (result.len ≡ length us) }
     {
         Window {
             wide: run.wide,
@@ -51,7 +52,8 @@ impl<'h> Text<'h> {
         ensures reads { Reads (view_of self.old.agent) (view_of self.new.agent) }
         ensures held { HoldsForms (view_of self.old.agent) (view_of self.new.agent) }
         ensures flat { Has (view_of self.new.agent).forms target (Flat result.wide result.start true) }
-        ensures loads { (view_of self.new.agent).form_loads ≡ added_loads (view_of self.old.agent).form_loads 1 }
+        ensures loads { (view_of self.new.agent).form_loads
+            ≡ added_loads (view_of self.old.agent).form_loads 1 }
     {
         match self.form_now(target) {
             Form::Flat { wide, start, .. } => Run { start, wide },
@@ -70,8 +72,10 @@ impl<'h> Text<'h> {
         ensures limit { self.new.limit ≡ self.old.limit }
         ensures reads { Reads (view_of self.old.agent) (view_of self.new.agent) }
         ensures held { HoldsForms (view_of self.old.agent) (view_of self.new.agent) }
-        ensures flat { (i : ℕ) × (fixed : Bool) × StandsFor (view_of self.new.agent) id i × Has (view_of self.new.agent).forms i (Flat result.wide result.start fixed) }
-        ensures loads { (l j : ℕ) → (view_of self.old.agent).form_loads ≡ added_loads l j → (view_of self.new.agent).form_loads ≡ added_loads l (j + target_loads form) }
+        ensures flat { (i : ℕ) × (fixed : Bool) × StandsFor (view_of self.new.agent) id i
+            × Has (view_of self.new.agent).forms i (Flat result.wide result.start fixed) }
+        ensures loads { (l j : ℕ) → (view_of self.old.agent).form_loads ≡ added_loads l j
+            → (view_of self.new.agent).form_loads ≡ added_loads l (j + target_loads form) }
     {
         match form {
             Form::Flat { wide, start, .. } => Run { start, wide },
@@ -92,8 +96,10 @@ impl<'h> Text<'h> {
         ensures limit { self.new.limit ≡ self.old.limit }
         ensures reads { Reads (view_of self.old.agent) (view_of self.new.agent) }
         ensures held { HoldsForms (view_of self.old.agent) (view_of self.new.agent) }
-        ensures shows { (us : List ℕ) → Has (view_of self.old.agent).units of.id us → IsWindow (view_of self.new.agent) result us × (result.len ≡ length us) }
-        ensures loads { (l j : ℕ) → (view_of self.old.agent).form_loads ≡ added_loads l j → (view_of self.new.agent).form_loads ≡ added_loads l (j + target_loads form) }
+        ensures shows { (us : List ℕ) → Has (view_of self.old.agent).units of.id us
+            → IsWindow (view_of self.new.agent) result us × (result.len ≡ length us) }
+        ensures loads { (l j : ℕ) → (view_of self.old.agent).form_loads ≡ added_loads l j
+            → (view_of self.new.agent).form_loads ≡ added_loads l (j + target_loads form) }
     {
         match form {
             Form::Flat { wide, start, .. } => {
@@ -112,7 +118,8 @@ impl<'h> Text<'h> {
     pub(crate) fn part_window(&mut self, of: JsStr, parent: u32, offset: u32, under: Form) -> Window
         requires text { Belongs self.old.agent self.old.heap.now }
         requires known { HasKey (view_of self.old.agent).units of.id }
-        requires sliced { (wide : Bool) × Has (view_of self.old.agent).forms of.id (Sliced wide parent offset) }
+        requires sliced { (wide : Bool)
+            × Has (view_of self.old.agent).forms of.id (Sliced wide parent offset) }
         requires seen { Has (view_of self.old.agent).forms parent under }
         requires solid { IsSolid under }
         requires side { KnowsSide (view_of self.old.agent) under }
@@ -121,8 +128,10 @@ impl<'h> Text<'h> {
         ensures limit { self.new.limit ≡ self.old.limit }
         ensures reads { Reads (view_of self.old.agent) (view_of self.new.agent) }
         ensures held { HoldsForms (view_of self.old.agent) (view_of self.new.agent) }
-        ensures shows { (us : List ℕ) → Has (view_of self.old.agent).units of.id us → IsWindow (view_of self.new.agent) result us × (result.len ≡ length us) }
-        ensures loads { (l j : ℕ) → (view_of self.old.agent).form_loads ≡ added_loads l j → (view_of self.new.agent).form_loads ≡ added_loads l (j + target_loads under) }
+        ensures shows { (us : List ℕ) → Has (view_of self.old.agent).units of.id us
+            → IsWindow (view_of self.new.agent) result us × (result.len ≡ length us) }
+        ensures loads { (l j : ℕ) → (view_of self.old.agent).form_loads ≡ added_loads l j
+            → (view_of self.new.agent).form_loads ≡ added_loads l (j + target_loads under) }
     {
         let run = self.solid_run(parent, under);
         self.window_over(of, of.id, run, offset)
@@ -137,7 +146,8 @@ impl<'h> Text<'h> {
         ensures heap { self.new.heap ≡ self.old.heap }
         ensures limit { self.new.limit ≡ self.old.limit }
         ensures reads { Reads (view_of self.old.agent) (view_of self.new.agent) }
-        ensures shows { (us : List ℕ) → Has (view_of self.old.agent).units of.id us → IsWindow (view_of self.new.agent) result us × (result.len ≡ length us) }
+        ensures shows { (us : List ℕ) → Has (view_of self.old.agent).units of.id us
+            → IsWindow (view_of self.new.agent) result us × (result.len ≡ length us) }
     {
         let form = self.form_now(of.id);
         if let Form::Sliced { parent, offset, .. } = form {

@@ -1,5 +1,5 @@
 //! Strings, and lists of strings, as JSON text (ECMA-262, "QuoteJSONString",
-//! "SerializeJSONArray"), over any store of strings.
+//! "SerializeJSONArray"), and as printed lines, over any store of strings.
 //!
 //! Each call settles what it reads, keeps what the store knows and the history of interned
 //! strings, and never finds the string table full. Every fault but a RangeError is one that the
@@ -10,5 +10,6 @@ mod escapes;
 mod lists;
 mod quoting;
 
+pub use js_print::print_line;
 pub use lists::stringify_list;
 pub use quoting::quote;

@@ -23,8 +23,11 @@ pub fn stringify_list<S: Strings>(
     parts: &[S::Ref],
 ) -> Result<S::Ref, MethodFault>
     requires { AllKnown (S.state store.old) S.number parts.now }
-    ensures value { IfOk result (λ r. Has (S.state store.new) (S.number r) (list_text (texts (S.state store.old) S.number parts.now))) }
-    ensures throws { ThrowsLong result (S.state store.old).limit (length (list_text (texts (S.state store.old) S.number parts.now))) }
+    ensures value { IfOk result
+        (λ r. Has (S.state store.new) (S.number r)
+        (list_text (texts (S.state store.old) S.number parts.now))) }
+    ensures throws { ThrowsLong result (S.state store.old).limit
+        (length (list_text (texts (S.state store.old) S.number parts.now))) }
     ensures step { Step (S.state store.old) (S.state store.new) (full_of result)
         1 (2 * settle_most (S.state store.old) S.number parts.now + flat_words (list_text (texts (S.state store.old) S.number parts.now))) }
     ensures slots { NeverSlots (full_of result) }
@@ -43,7 +46,8 @@ pub fn stringify_list<S: Strings>(
 fn list_len<S: Strings>(alloc: Global, store: &mut S, parts: &[S::Ref]) -> Result<u128, StoreFault>
     requires { AllKnown (S.state store.old) S.number parts.now }
     ensures value { IfOk result (λ n. n ≡ length (list_text (texts (S.state store.old) S.number parts.now))) }
-    ensures step { Step (S.state store.old) (S.state store.new) (full_fault_of result) 0 (settle_most (S.state store.old) S.number parts.now) }
+    ensures step { Step (S.state store.old) (S.state store.new) (full_fault_of result) 0
+        (settle_most (S.state store.old) S.number parts.now) }
     ensures slots { NeverSlots (full_fault_of result) }
     ensures history { (S.state store.new).history ≡ (S.state store.old).history }
 {
@@ -56,7 +60,8 @@ fn list_len<S: Strings>(alloc: Global, store: &mut S, parts: &[S::Ref]) -> Resul
 fn rest_len<S: Strings>(alloc: Global, store: &mut S, rest: &[S::Ref]) -> Result<u128, StoreFault>
     requires { AllKnown (S.state store.old) S.number rest.now }
     ensures value { IfOk result (λ n. n ≡ length (list_rest (texts (S.state store.old) S.number rest.now))) }
-    ensures step { Step (S.state store.old) (S.state store.new) (full_fault_of result) 0 (settle_most (S.state store.old) S.number rest.now) }
+    ensures step { Step (S.state store.old) (S.state store.new) (full_fault_of result) 0
+        (settle_most (S.state store.old) S.number rest.now) }
     ensures slots { NeverSlots (full_fault_of result) }
     ensures history { (S.state store.new).history ≡ (S.state store.old).history }
 {
@@ -72,7 +77,9 @@ fn element_len<S: Strings>(alloc: Global, store: &mut S, s: S::Ref) -> Result<u1
     requires { IsKnown (S.state store.old) (S.number s) }
     ensures value { IfOk result (λ n. n ≡ length (quoted (text_of (S.state store.old) (S.number s)))) }
     ensures most { IfOk result (λ n. n ≤ 2 + 6 * length (text_of (S.state store.old) (S.number s))) }
-    ensures step { Step (S.state store.old) (S.state store.new) (full_fault_of result) 0 (settle_words ((S.state store.old).settled (S.number s)) (length (text_of (S.state store.old) (S.number s)))) }
+    ensures step { Step (S.state store.old) (S.state store.new) (full_fault_of result) 0
+        (settle_words ((S.state store.old).settled (S.number s))
+        (length (text_of (S.state store.old) (S.number s)))) }
     ensures slots { NeverSlots (full_fault_of result) }
     ensures history { (S.state store.new).history ≡ (S.state store.old).history }
 {
@@ -87,7 +94,8 @@ fn list_units<S: Strings>(
 ) -> Result<Units, StoreFault>
     requires { AllKnown (S.state store.old) S.number parts.now }
     ensures value { IfOk result (λ u. u ≡ list_text (texts (S.state store.old) S.number parts.now)) }
-    ensures step { Step (S.state store.old) (S.state store.new) (full_fault_of result) 0 (settle_most (S.state store.old) S.number parts.now) }
+    ensures step { Step (S.state store.old) (S.state store.new) (full_fault_of result) 0
+        (settle_most (S.state store.old) S.number parts.now) }
     ensures slots { NeverSlots (full_fault_of result) }
     ensures history { (S.state store.new).history ≡ (S.state store.old).history }
 {
@@ -105,8 +113,10 @@ fn append_elements<S: Strings>(
     text: &mut Units,
 ) -> Result<(), StoreFault>
     requires { AllKnown (S.state store.old) S.number parts.now }
-    ensures added { OnOk result (text.new ≡ text.old ++ elements (texts (S.state store.old) S.number parts.now)) }
-    ensures step { Step (S.state store.old) (S.state store.new) (full_fault_of result) 0 (settle_most (S.state store.old) S.number parts.now) }
+    ensures added { OnOk result
+        (text.new ≡ text.old ++ elements (texts (S.state store.old) S.number parts.now)) }
+    ensures step { Step (S.state store.old) (S.state store.new) (full_fault_of result) 0
+        (settle_most (S.state store.old) S.number parts.now) }
     ensures slots { NeverSlots (full_fault_of result) }
     ensures history { (S.state store.new).history ≡ (S.state store.old).history }
 {
@@ -127,8 +137,10 @@ fn append_rest<S: Strings>(
     text: &mut Units,
 ) -> Result<(), StoreFault>
     requires { AllKnown (S.state store.old) S.number rest.now }
-    ensures added { OnOk result (text.new ≡ text.old ++ list_rest (texts (S.state store.old) S.number rest.now)) }
-    ensures step { Step (S.state store.old) (S.state store.new) (full_fault_of result) 0 (settle_most (S.state store.old) S.number rest.now) }
+    ensures added { OnOk result
+        (text.new ≡ text.old ++ list_rest (texts (S.state store.old) S.number rest.now)) }
+    ensures step { Step (S.state store.old) (S.state store.new) (full_fault_of result) 0
+        (settle_most (S.state store.old) S.number rest.now) }
     ensures slots { NeverSlots (full_fault_of result) }
     ensures history { (S.state store.new).history ≡ (S.state store.old).history }
 {
@@ -148,7 +160,9 @@ fn append_quoted<S: Strings>(
 ) -> Result<(), StoreFault>
     requires { IsKnown (S.state store.old) (S.number s) }
     ensures added { OnOk result (text.new ≡ text.old ++ quoted (text_of (S.state store.old) (S.number s))) }
-    ensures step { Step (S.state store.old) (S.state store.new) (full_fault_of result) 0 (settle_words ((S.state store.old).settled (S.number s)) (length (text_of (S.state store.old) (S.number s)))) }
+    ensures step { Step (S.state store.old) (S.state store.new) (full_fault_of result) 0
+        (settle_words ((S.state store.old).settled (S.number s))
+        (length (text_of (S.state store.old) (S.number s)))) }
     ensures slots { NeverSlots (full_fault_of result) }
     ensures history { (S.state store.new).history ≡ (S.state store.old).history }
 {

@@ -8,8 +8,8 @@ ghost use Rattle.js_lex.specs.Reader.{lookahead_of};
 
 use crate::mark::mark_front;
 use crate::token::Mark;
-use js_literal::{begins_number, is_word_start, split_char};
-use js_units::is_trimmed;
+use js_literal::{begins_number, is_word_start};
+use js_units::{is_trimmed, split_char};
 
 /// The end, what separates tokens, what a token begins with, an open comment or a character that
 /// begins nothing. With what follows it, but for literals, which are read by their place.

@@ -88,8 +88,10 @@ pub fn tokens(alloc: Global, bytes: &[u8]) -> Result<Vec<Token>, LexFault>
     requires { length bytes.now ≤ 1048576 }
     ensures ok { IfOk result (λ v. TokensOf bytes.now v.items) }
     ensures err { IfErr result (λ e. (e ≡ Memory) ⊎ LexFaultOf bytes.now e) }
-    ensures found { (ts : List Token) → TokensOf bytes.now ts → IfOk result (λ v. v.items ≡ ts) × IfErr result (λ e. e ≡ Memory) }
-    ensures faults { (f : LexFault) → LexFaultOf bytes.now f → IfOk result (λ v. ⊥) × IfErr result (λ e. (e ≡ f) ⊎ (e ≡ Memory)) }
+    ensures found { (ts : List Token) → TokensOf bytes.now ts
+        → IfOk result (λ v. v.items ≡ ts) × IfErr result (λ e. e ≡ Memory) }
+    ensures faults { (f : LexFault) → LexFaultOf bytes.now f
+        → IfOk result (λ v. ⊥) × IfErr result (λ e. (e ≡ f) ⊎ (e ≡ Memory)) }
     ensures spans { IfOk result (λ v. InOrder bytes.now 0 v.items) }
     ensures within { IfOk result (λ v. All (IsWithin bytes.now) v.items) }
     ensures texts { IfOk result (λ v. All (IsSpelled bytes.now) v.items) }
@@ -99,22 +101,27 @@ pub fn tokens(alloc: Global, bytes: &[u8]) -> Result<Vec<Token>, LexFault>
 
 /// Bytes have one list of tokens or one fault, and not both.
 pub fn one_answer()
-    ensures one_list { (bytes : List ℕ) (ts us : List Token) → TokensOf bytes ts → TokensOf bytes us → ts ≡ us }
+    ensures one_list { (bytes : List ℕ) (ts us : List Token) → TokensOf bytes ts → TokensOf bytes us
+        → ts ≡ us }
     ensures one_fault { (bytes : List ℕ) (f e : LexFault) → LexFaultOf bytes f → LexFaultOf bytes e → f ≡ e }
-    ensures not_both { (bytes : List ℕ) (ts : List Token) (f : LexFault) → TokensOf bytes ts → LexFaultOf bytes f → ⊥ }
-    ensures some_answer { (bytes : List ℕ) → ((ts : List Token) × TokensOf bytes ts) ⊎ ((f : LexFault) × LexFaultOf bytes f) }
+    ensures not_both { (bytes : List ℕ) (ts : List Token) (f : LexFault) → TokensOf bytes ts
+        → LexFaultOf bytes f → ⊥ }
+    ensures some_answer { (bytes : List ℕ) → ((ts : List Token) × TokensOf bytes ts)
+        ⊎ ((f : LexFault) × LexFaultOf bytes f) }
 {}
 
 /// From a place on, one thing comes next: two answers are the same, unless one is want of memory.
 pub fn one_next()
-    ensures { (text : List ℕ) (at : ℕ) (r s : Result (Option Token) LexFault) → IsUtf8 text → GivesToken text at r → GivesToken text at s → (r ≡ s) ⊎ ((r ≡ Err Memory) ⊎ (s ≡ Err Memory)) }
+    ensures { (text : List ℕ) (at : ℕ) (r s : Result (Option Token) LexFault) → IsUtf8 text
+        → GivesToken text at r → GivesToken text at s → (r ≡ s) ⊎ ((r ≡ Err Memory) ⊎ (s ≡ Err Memory)) }
 {}
 
 /// The spans of a text's tokens lie in order, each with a byte at least, within the text.
 pub fn spans_in_order()
     ensures order { (bytes : List ℕ) (ts : List Token) → TokensOf bytes ts → InOrder bytes 0 ts }
     ensures within { (bytes : List ℕ) (ts : List Token) → TokensOf bytes ts → All (IsWithin bytes) ts }
-    ensures next { (bytes : List ℕ) (ts : List Token) (i : ℕ) (d : Token) → TokensOf bytes ts → i + 1 < length ts → (slice_index_or ts i d).to ≤ (slice_index_or ts (i + 1) d).from }
+    ensures next { (bytes : List ℕ) (ts : List Token) (i : ℕ) (d : Token) → TokensOf bytes ts
+        → i + 1 < length ts → (slice_index_or ts i d).to ≤ (slice_index_or ts (i + 1) d).from }
 {}
 
 /// Each token's text is its slice of the bytes: a word's letters, a mark's spelling where no longer
@@ -125,5 +132,6 @@ pub fn token_text()
 
 /// The bytes between two places are the UTF-8 of the characters between them.
 pub fn span_text()
-    ensures { (text : List ℕ) (a b : ℕ) (w rest : List ℕ) → IsUtf8 text → StandsAt text a (w ++ rest) → StandsAt text b rest → slice text a b ≡ encode_utf8_all w }
+    ensures { (text : List ℕ) (a b : ℕ) (w rest : List ℕ) → IsUtf8 text → StandsAt text a (w ++ rest)
+        → StandsAt text b rest → slice text a b ≡ encode_utf8_all w }
 {}

@@ -5,7 +5,7 @@ ghost use Rattle.js_lex.specs.MarkReader;
 ghost use Rattle.js_lex.specs.MarkReader.{taken};
 
 use crate::token::Mark;
-use js_literal::split_char;
+use js_units::split_char;
 
 /// The mark of one character.
 fn one_mark(a: char) -> Option<Mark>

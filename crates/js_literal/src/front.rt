@@ -8,7 +8,8 @@ ghost use Rattle.js_literal.specs.Literal.{letter_unit};
 ghost use Rattle.js_literal.specs.Reader.{plain_run, after_plain, reading_of, value_units, reading, escape_of, seen, after_return};
 ghost use Rattle.js_literal.specs.Reader;
 
-use crate::text::{begins_digit, hex_value, split_char};
+use crate::text::{begins_digit, hex_value};
+use js_units::split_char;
 
 /// The units of a piece: none for a line continuation, those of a character, or one of an escape.
 #[derive(Clone, Copy)]

@@ -17,4 +17,4 @@ mod text;
 pub use fault::{LiteralFault, NumberFault};
 pub use number::{begins_number, is_word_start, one_number_answer, read_number};
 pub use string::{one_string_answer, read_string};
-pub use text::{begins_digit, byte_len, split_char};
+pub use text::{begins_digit, byte_len};

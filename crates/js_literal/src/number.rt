@@ -8,7 +8,8 @@ ghost use Rattle.js_literal.specs.NumberReader.{number_kind};
 ghost use Rattle.js_literal.specs.declared.fault.NumberFault.{NumberFault};
 
 use crate::fault::NumberFault;
-use crate::text::{begins_digit, byte_len, split_char};
+use crate::text::{begins_digit, byte_len};
+use js_units::split_char;
 
 /// The kind of the rule that refuses a number.
 #[derive(Clone, Copy)]
@@ -72,7 +73,8 @@ fn digits(text: &str) -> (u64, &str)
 
 /// The number in front and what follows it, or the rule that refuses it.
 fn number(text: &str) -> Result<(u64, &str), Refusal>
-    ensures { MatchResult result (λ p. number_at (chars text.now) ≡ Ok (p.0, chars p.1.now)) (λ e. number_at (chars text.now) ≡ Err (number_kind e)) }
+    ensures { MatchResult result (λ p. number_at (chars text.now) ≡ Ok (p.0, chars p.1.now))
+        (λ e. number_at (chars text.now) ≡ Err (number_kind e)) }
 {
     if begins_point(text) {
         return Err(Refusal::Fraction);
@@ -117,10 +119,14 @@ pub fn read_number(text: &str, at: u32) -> Result<(u64, u32), NumberFault>
 
 /// A place where a number begins has one number literal or one fault, and not both.
 pub fn one_number_answer()
-    ensures one_number { (text : List ℕ) (at v w a b : ℕ) → IsUtf8 text → NumberOf text at v a → NumberOf text at w b → (v ≡ w) × (a ≡ b) }
-    ensures one_fault { (text : List ℕ) (at : ℕ) (f e : NumberFault) → NumberFaultOf text at f → NumberFaultOf text at e → f ≡ e }
-    ensures never_both { (text : List ℕ) (at v a : ℕ) (f : NumberFault) → NumberOf text at v a → NumberFaultOf text at f → ⊥ }
-    ensures some_answer { (text : List ℕ) (at : ℕ) → IsUtf8 text → BeginsNumber text at → ((v : ℕ) × (end : ℕ) × NumberOf text at v end) ⊎ ((f : NumberFault) × NumberFaultOf text at f) }
+    ensures one_number { (text : List ℕ) (at v w a b : ℕ) → IsUtf8 text → NumberOf text at v a
+        → NumberOf text at w b → (v ≡ w) × (a ≡ b) }
+    ensures one_fault { (text : List ℕ) (at : ℕ) (f e : NumberFault) → NumberFaultOf text at f
+        → NumberFaultOf text at e → f ≡ e }
+    ensures never_both { (text : List ℕ) (at v a : ℕ) (f : NumberFault) → NumberOf text at v a
+        → NumberFaultOf text at f → ⊥ }
+    ensures some_answer { (text : List ℕ) (at : ℕ) → IsUtf8 text → BeginsNumber text at
+        → ((v : ℕ) × (end : ℕ) × NumberOf text at v end) ⊎ ((f : NumberFault) × NumberFaultOf text at f) }
 {}
 
 /// What `read_number` answers, against the relations alone.

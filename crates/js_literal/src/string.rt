@@ -34,7 +34,8 @@ fn push_value(units: &mut Units, value: Value) -> Result<(), NoMemory>
 /// The units up to the closing quote, and the number of bytes behind it.
 fn inside(alloc: Global, quote: char, text: &str) -> Result<(Units, usize), Stop>
     requires { is_quote quote ≡ true }
-    ensures ok { IfOk result (λ p. (rest : List ℕ) × Closed quote (chars text.now) p.0 rest × (length (encode_utf8_all rest) ≡ p.1)) }
+    ensures ok { IfOk result (λ p. (rest : List ℕ) × Closed quote (chars text.now) p.0 rest
+        × (length (encode_utf8_all rest) ≡ p.1)) }
     ensures err { IfErr result (IsStop quote (chars text.now)) }
 {
     let mut units = Units::new(alloc);
@@ -103,16 +104,23 @@ pub fn read_string(alloc: Global, text: &str, at: u32) -> Result<(Units, u32), L
     requires quote { BeginsString text.now at }
     ensures ok { IfOk result (λ p. LiteralOf text.now at p.0 p.1) }
     ensures err { IfErr result (λ e. (e ≡ Memory) ⊎ LiteralFaultOf text.now at e) }
-    ensures found { (us : List ℕ) (end : ℕ) → LiteralOf text.now at us end → (result ≡ Ok (us, end)) ⊎ (result ≡ Err Memory) }
-    ensures faults { (f : LiteralFault) → LiteralFaultOf text.now at f → (result ≡ Err f) ⊎ (result ≡ Err Memory) }
+    ensures found { (us : List ℕ) (end : ℕ) → LiteralOf text.now at us end
+        → (result ≡ Ok (us, end)) ⊎ (result ≡ Err Memory) }
+    ensures faults { (f : LiteralFault) → LiteralFaultOf text.now at f
+        → (result ≡ Err f) ⊎ (result ≡ Err Memory) }
 {
     literal(alloc, text, at)
 }
 
 /// A place where a quote stands has one string literal or one fault, and not both.
 pub fn one_string_answer()
-    ensures one_literal { (text : List ℕ) (at : ℕ) (us vs : List ℕ) (a b : ℕ) → IsUtf8 text → LiteralOf text at us a → LiteralOf text at vs b → (us ≡ vs) × (a ≡ b) }
-    ensures one_fault_of { (text : List ℕ) (at : ℕ) (f e : LiteralFault) → IsUtf8 text → LiteralFaultOf text at f → LiteralFaultOf text at e → f ≡ e }
-    ensures never_both { (text : List ℕ) (at : ℕ) (us : List ℕ) (a : ℕ) (f : LiteralFault) → LiteralOf text at us a → LiteralFaultOf text at f → ⊥ }
-    ensures some_answer { (text : List ℕ) (at : ℕ) → IsUtf8 text → BeginsString text at → ((us : List ℕ) × (end : ℕ) × LiteralOf text at us end) ⊎ ((f : LiteralFault) × LiteralFaultOf text at f) }
+    ensures one_literal { (text : List ℕ) (at : ℕ) (us vs : List ℕ) (a b : ℕ) → IsUtf8 text
+        → LiteralOf text at us a → LiteralOf text at vs b → (us ≡ vs) × (a ≡ b) }
+    ensures one_fault_of { (text : List ℕ) (at : ℕ) (f e : LiteralFault) → IsUtf8 text
+        → LiteralFaultOf text at f → LiteralFaultOf text at e → f ≡ e }
+    ensures never_both { (text : List ℕ) (at : ℕ) (us : List ℕ) (a : ℕ) (f : LiteralFault)
+        → LiteralOf text at us a → LiteralFaultOf text at f → ⊥ }
+    ensures some_answer { (text : List ℕ) (at : ℕ) → IsUtf8 text → BeginsString text at
+        → ((us : List ℕ) × (end : ℕ) × LiteralOf text at us end)
+        ⊎ ((f : LiteralFault) × LiteralFaultOf text at f) }
 {}

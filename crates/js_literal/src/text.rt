@@ -1,16 +1,9 @@
-// Characters off the front of a text.
-ghost use Rattle.std.specs.Prelude.{◌≡◌, [], ◌∷◌, ◌<◌, ◌+◌, length, MatchOption, encode_utf8_all};
+// Digits at the front of a text, and its length.
+ghost use Rattle.std.specs.Prelude.{◌≡◌, length, encode_utf8_all};
 ghost use Rattle.std.specs.Str.{chars};
 ghost use Rattle.js_literal.specs.Literal;
 
-/// The first character, and the text behind it.
-pub fn split_char(text: &str) -> Option<(char, &str)>
-    ensures { MatchOption result (chars text.now ≡ []) (λ p. chars text.now ≡ p.0 ∷ chars p.1.now) }
-{
-    let mut rest = text.chars();
-    let c = rest.next()?;
-    Some((c, rest.as_str()))
-}
+use js_units::split_char;
 
 /// Whether the first character is a digit `0` to `9`.
 pub fn begins_digit(text: &str) -> bool

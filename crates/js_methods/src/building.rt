@@ -109,8 +109,10 @@ pub fn to_well_formed<S: Strings>(
     s: S::Ref,
 ) -> Result<S::Ref, MethodFault>
     requires { IsKnown (S.state store.old) (S.number s) }
-    ensures value { IfOk result (λ r. Has (S.state store.new) (S.number r) (well (text (S.state store.old) (S.number s)))) }
-    ensures throws { ThrowsLong result (S.state store.old).limit (length (well (text (S.state store.old) (S.number s)))) }
+    ensures value { IfOk result
+        (λ r. Has (S.state store.new) (S.number r) (well (text (S.state store.old) (S.number s)))) }
+    ensures throws { ThrowsLong result (S.state store.old).limit
+        (length (well (text (S.state store.old) (S.number s)))) }
     ensures step { Step (S.state store.old) (S.state store.new) (full_of result)
         1 (wide_words (length (text (S.state store.old) (S.number s))) + flat_words (well (text (S.state store.old) (S.number s)))) }
     ensures slots { NeverSlots (full_of result) }
@@ -153,7 +155,8 @@ fn well_formed<S: Strings>(alloc: Global, store: &mut S, s: S::Ref) -> Result<Un
 fn push_well(units: &mut Units, waiting: Option<u16>, unit: u16) -> Result<Option<u16>, NoMemory>
     requires { IsLeadOrNone waiting }
     ensures lead { IfOk result IsLeadOrNone }
-    ensures next { (rest : List ℕ) → IfOk result (λ r. units.old ++ well_after waiting (unit ∷ rest) ≡ units.new ++ well_after r rest) }
+    ensures next { (rest : List ℕ)
+        → IfOk result (λ r. units.old ++ well_after waiting (unit ∷ rest) ≡ units.new ++ well_after r rest) }
 {
     if is_lead(unit) {
         if waiting.is_some() {

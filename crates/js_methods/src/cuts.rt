@@ -24,8 +24,11 @@ pub fn slice<S: Strings>(
     requires known { IsKnown (S.state store.old) (S.number s) }
     requires first { IsLawful start }
     requires last { IfSome end IsLawful }
-    ensures value { IfOk result (λ r. Has (S.state store.new) (S.number r) (slice_of (text (S.state store.old) (S.number s)) start end)) }
-    ensures throws { ThrowsLong result (S.state store.old).limit (length (slice_of (text (S.state store.old) (S.number s)) start end)) }
+    ensures value { IfOk result
+        (λ r. Has (S.state store.new) (S.number r)
+        (slice_of (text (S.state store.old) (S.number s)) start end)) }
+    ensures throws { ThrowsLong result (S.state store.old).limit
+        (length (slice_of (text (S.state store.old) (S.number s)) start end)) }
     ensures step { Step (S.state store.old) (S.state store.new) (method_fault_of result)
         1 (2 * wide_words (length (text (S.state store.old) (S.number s))) + 3) }
     ensures slots { NeverSlots (method_fault_of result) }
@@ -48,8 +51,11 @@ pub fn substring<S: Strings>(
     requires known { IsKnown (S.state store.old) (S.number s) }
     requires first { IsLawful start }
     requires last { IfSome end IsLawful }
-    ensures value { IfOk result (λ r. Has (S.state store.new) (S.number r) (substring_of (text (S.state store.old) (S.number s)) start end)) }
-    ensures throws { ThrowsLong result (S.state store.old).limit (length (substring_of (text (S.state store.old) (S.number s)) start end)) }
+    ensures value { IfOk result
+        (λ r. Has (S.state store.new) (S.number r)
+        (substring_of (text (S.state store.old) (S.number s)) start end)) }
+    ensures throws { ThrowsLong result (S.state store.old).limit
+        (length (substring_of (text (S.state store.old) (S.number s)) start end)) }
     ensures step { Step (S.state store.old) (S.state store.new) (method_fault_of result)
         1 (2 * wide_words (length (text (S.state store.old) (S.number s))) + 3) }
     ensures slots { NeverSlots (method_fault_of result) }
@@ -72,8 +78,11 @@ pub fn substr<S: Strings>(
     requires known { IsKnown (S.state store.old) (S.number s) }
     requires first { IsLawful start }
     requires units { IfSome count IsLawful }
-    ensures value { IfOk result (λ r. Has (S.state store.new) (S.number r) (substr_of (text (S.state store.old) (S.number s)) start count)) }
-    ensures throws { ThrowsLong result (S.state store.old).limit (length (substr_of (text (S.state store.old) (S.number s)) start count)) }
+    ensures value { IfOk result
+        (λ r. Has (S.state store.new) (S.number r)
+        (substr_of (text (S.state store.old) (S.number s)) start count)) }
+    ensures throws { ThrowsLong result (S.state store.old).limit
+        (length (substr_of (text (S.state store.old) (S.number s)) start count)) }
     ensures step { Step (S.state store.old) (S.state store.new) (method_fault_of result)
         1 (2 * wide_words (length (text (S.state store.old) (S.number s))) + 3) }
     ensures slots { NeverSlots (method_fault_of result) }
@@ -90,8 +99,11 @@ fn cut<S: Strings>(store: &mut S, s: S::Ref, from: u32, to: u32) -> Result<S::Re
     requires known { IsKnown (S.state store.old) (S.number s) }
     requires order { from ≤ to }
     requires within { to ≤ length (text (S.state store.old) (S.number s)) }
-    ensures value { IfOk result (λ r. Has (S.state store.new) (S.number r) (slice_range (text (S.state store.old) (S.number s)) from to)) }
-    ensures throws { ThrowsLong result (S.state store.old).limit (length (slice_range (text (S.state store.old) (S.number s)) from to)) }
+    ensures value { IfOk result
+        (λ r. Has (S.state store.new) (S.number r)
+        (slice_range (text (S.state store.old) (S.number s)) from to)) }
+    ensures throws { ThrowsLong result (S.state store.old).limit
+        (length (slice_range (text (S.state store.old) (S.number s)) from to)) }
     ensures step { Step (S.state store.old) (S.state store.new) (method_fault_of result)
         1 (2 * wide_words (length (text (S.state store.old) (S.number s))) + 3) }
     ensures slots { NeverSlots (method_fault_of result) }
@@ -110,8 +122,11 @@ fn cut<S: Strings>(store: &mut S, s: S::Ref, from: u32, to: u32) -> Result<S::Re
 pub fn concat<S: Strings>(store: &mut S, s: S::Ref, t: S::Ref) -> Result<S::Ref, MethodFault>
     requires left { IsKnown (S.state store.old) (S.number s) }
     requires right { IsKnown (S.state store.old) (S.number t) }
-    ensures value { IfOk result (λ r. Has (S.state store.new) (S.number r) (text (S.state store.old) (S.number s) ++ text (S.state store.old) (S.number t))) }
-    ensures throws { ThrowsLong result (S.state store.old).limit (length (text (S.state store.old) (S.number s)) + length (text (S.state store.old) (S.number t))) }
+    ensures value { IfOk result
+        (λ r. Has (S.state store.new) (S.number r)
+        (text (S.state store.old) (S.number s) ++ text (S.state store.old) (S.number t))) }
+    ensures throws { ThrowsLong result (S.state store.old).limit
+        (length (text (S.state store.old) (S.number s)) + length (text (S.state store.old) (S.number t))) }
     ensures step { Step (S.state store.old) (S.state store.new) (method_fault_of result)
         (join_ids (length (text (S.state store.old) (S.number s))) (length (text (S.state store.old) (S.number t))))
         (join_words (length (text (S.state store.old) (S.number s))) (length (text (S.state store.old) (S.number t)))) }
@@ -125,8 +140,11 @@ pub fn concat<S: Strings>(store: &mut S, s: S::Ref, t: S::Ref) -> Result<S::Ref,
 pub(crate) fn joined<S: Strings>(store: &mut S, a: S::Ref, b: S::Ref) -> Result<S::Ref, StoreFault>
     requires left { IsKnown (S.state store.old) (S.number a) }
     requires right { IsKnown (S.state store.old) (S.number b) }
-    requires short { length (text (S.state store.old) (S.number a)) + length (text (S.state store.old) (S.number b)) ≤ (S.state store.old).limit }
-    ensures value { IfOk result (λ r. Has (S.state store.new) (S.number r) (text (S.state store.old) (S.number a) ++ text (S.state store.old) (S.number b))) }
+    requires short { length (text (S.state store.old) (S.number a)) + length
+        (text (S.state store.old) (S.number b)) ≤ (S.state store.old).limit }
+    ensures value { IfOk result
+        (λ r. Has (S.state store.new) (S.number r)
+        (text (S.state store.old) (S.number a) ++ text (S.state store.old) (S.number b))) }
     ensures step { Step (S.state store.old) (S.state store.new) (fault_of result) 1 3 }
     ensures slots { NeverSlots (fault_of result) }
     ensures history { (S.state store.new).history ≡ (S.state store.old).history }

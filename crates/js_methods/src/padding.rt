@@ -21,8 +21,13 @@ pub fn pad_end<S: Strings>(
 ) -> Result<S::Ref, MethodFault>
     requires known { IsKnown (S.state store.old) (S.number s) }
     requires filler_known { IsKnown (S.state store.old) (S.number filler) }
-    ensures value { IfOk result (λ r. Has (S.state store.new) (S.number r) (pad_end_of (text (S.state store.old) (S.number s)) max (text (S.state store.old) (S.number filler)))) }
-    ensures throws { ThrowsLong result (S.state store.old).limit (length (pad_end_of (text (S.state store.old) (S.number s)) max (text (S.state store.old) (S.number filler)))) }
+    ensures value { IfOk result
+        (λ r. Has (S.state store.new) (S.number r)
+        (pad_end_of (text (S.state store.old) (S.number s)) max
+        (text (S.state store.old) (S.number filler)))) }
+    ensures throws { ThrowsLong result (S.state store.old).limit
+        (length (pad_end_of (text (S.state store.old) (S.number s)) max
+        (text (S.state store.old) (S.number filler)))) }
     ensures step { Step (S.state store.old) (S.state store.new) (method_fault_of result)
         pad_ids (pad_words (length (text (S.state store.old) (S.number filler)))) }
     ensures slots { NeverSlots (method_fault_of result) }
@@ -47,8 +52,13 @@ pub fn pad_start<S: Strings>(
 ) -> Result<S::Ref, MethodFault>
     requires known { IsKnown (S.state store.old) (S.number s) }
     requires filler_known { IsKnown (S.state store.old) (S.number filler) }
-    ensures value { IfOk result (λ r. Has (S.state store.new) (S.number r) (pad_start_of (text (S.state store.old) (S.number s)) max (text (S.state store.old) (S.number filler)))) }
-    ensures throws { ThrowsLong result (S.state store.old).limit (length (pad_start_of (text (S.state store.old) (S.number s)) max (text (S.state store.old) (S.number filler)))) }
+    ensures value { IfOk result
+        (λ r. Has (S.state store.new) (S.number r)
+        (pad_start_of (text (S.state store.old) (S.number s)) max
+        (text (S.state store.old) (S.number filler)))) }
+    ensures throws { ThrowsLong result (S.state store.old).limit
+        (length (pad_start_of (text (S.state store.old) (S.number s)) max
+        (text (S.state store.old) (S.number filler)))) }
     ensures step { Step (S.state store.old) (S.state store.new) (method_fault_of result)
         pad_ids (pad_words (length (text (S.state store.old) (S.number filler)))) }
     ensures slots { NeverSlots (method_fault_of result) }
@@ -71,8 +81,14 @@ fn missing<S: Strings>(
 ) -> Result<u32, MethodFault>
     requires known { IsKnown (S.state store.old) (S.number s) }
     requires filler_known { IsKnown (S.state store.old) (S.number filler) }
-    ensures value { IfOk result (λ r. r ≡ length (filling (text (S.state store.old) (S.number filler)) (max - length (text (S.state store.old) (S.number s))))) }
-    ensures throws { ThrowsLong result (S.state store.old).limit (length (text (S.state store.old) (S.number s)) + length (filling (text (S.state store.old) (S.number filler)) (max - length (text (S.state store.old) (S.number s))))) }
+    ensures value { IfOk result
+        (λ r. r ≡ length
+        (filling (text (S.state store.old) (S.number filler))
+        (max - length (text (S.state store.old) (S.number s))))) }
+    ensures throws { ThrowsLong result (S.state store.old).limit
+        (length (text (S.state store.old) (S.number s)) + length
+        (filling (text (S.state store.old) (S.number filler))
+        (max - length (text (S.state store.old) (S.number s))))) }
     ensures fault { method_fault_of result ≡ None }
     ensures step { Step (S.state store.old) (S.state store.new) None 0 0 }
     ensures history { (S.state store.new).history ≡ (S.state store.old).history }
@@ -101,7 +117,9 @@ fn filled<S: Strings>(store: &mut S, filler: S::Ref, room: u32) -> Result<S::Ref
     requires units { 1 ≤ length (text (S.state store.old) (S.number filler)) }
     requires some { 1 ≤ room }
     requires short { room ≤ (S.state store.old).limit }
-    ensures value { IfOk result (λ r. Has (S.state store.new) (S.number r) (filling (text (S.state store.old) (S.number filler)) room)) }
+    ensures value { IfOk result
+        (λ r. Has (S.state store.new) (S.number r)
+        (filling (text (S.state store.old) (S.number filler)) room)) }
     ensures step { Step (S.state store.old) (S.state store.new) (fault_of result)
         64 (2 * wide_words (length (text (S.state store.old) (S.number filler))) + 256) }
     ensures slots { NeverSlots (fault_of result) }
@@ -125,7 +143,8 @@ fn filled<S: Strings>(store: &mut S, filler: S::Ref, room: u32) -> Result<S::Ref
 fn front<S: Strings>(store: &mut S, s: S::Ref, size: u32) -> Result<S::Ref, StoreFault>
     requires known { IsKnown (S.state store.old) (S.number s) }
     requires within { size ≤ length (text (S.state store.old) (S.number s)) }
-    ensures value { IfOk result (λ r. Has (S.state store.new) (S.number r) (take size (text (S.state store.old) (S.number s)))) }
+    ensures value { IfOk result
+        (λ r. Has (S.state store.new) (S.number r) (take size (text (S.state store.old) (S.number s)))) }
     ensures step { Step (S.state store.old) (S.state store.new) (fault_of result)
         1 (2 * wide_words (length (text (S.state store.old) (S.number s))) + 3) }
     ensures slots { NeverSlots (fault_of result) }

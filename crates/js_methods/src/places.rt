@@ -16,7 +16,8 @@ use js_units::{code_point, is_lead, is_trail};
 pub fn at<S: Strings>(store: &mut S, s: S::Ref, i: Num) -> Result<Option<S::Ref>, MethodFault>
     requires known { IsKnown (S.state store.old) (S.number s) }
     requires lawful { IsLawful i }
-    ensures value { IfOk result (λ r. MaybeHas (S.state store.new) S.number r (at_of (text (S.state store.old) (S.number s)) i)) }
+    ensures value { IfOk result
+        (λ r. MaybeHas (S.state store.new) S.number r (at_of (text (S.state store.old) (S.number s)) i)) }
     ensures throws { NeverThrows result }
     ensures step { Step (S.state store.old) (S.state store.new) (method_fault_of result)
         1 (wide_words (length (text (S.state store.old) (S.number s))) + 3) }
@@ -38,7 +39,8 @@ pub fn at<S: Strings>(store: &mut S, s: S::Ref, i: Num) -> Result<Option<S::Ref>
 pub fn char_at<S: Strings>(store: &mut S, s: S::Ref, i: Num) -> Result<S::Ref, MethodFault>
     requires known { IsKnown (S.state store.old) (S.number s) }
     requires lawful { IsLawful i }
-    ensures value { IfOk result (λ r. Has (S.state store.new) (S.number r) (char_at_of (text (S.state store.old) (S.number s)) i)) }
+    ensures value { IfOk result
+        (λ r. Has (S.state store.new) (S.number r) (char_at_of (text (S.state store.old) (S.number s)) i)) }
     ensures throws { NeverThrows result }
     ensures step { Step (S.state store.old) (S.state store.new) (method_fault_of result)
         1 (wide_words (length (text (S.state store.old) (S.number s))) + 3) }

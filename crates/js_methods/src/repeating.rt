@@ -13,8 +13,11 @@ use js_store::{Cause, MethodFault, StoreFault, Strings};
 /// whatever the string is ("String.prototype.repeat").
 pub fn repeat<S: Strings>(store: &mut S, s: S::Ref, count: Num) -> Result<S::Ref, MethodFault>
     requires { IsKnown (S.state store.old) (S.number s) }
-    ensures value { IfOk result (λ r. Has (S.state store.new) (S.number r) (repeat_of (text (S.state store.old) (S.number s)) count)) }
-    ensures throws { ThrowsCount result (is_count count) (S.state store.old).limit (length (repeat_of (text (S.state store.old) (S.number s)) count)) }
+    ensures value { IfOk result
+        (λ r. Has (S.state store.new) (S.number r)
+        (repeat_of (text (S.state store.old) (S.number s)) count)) }
+    ensures throws { ThrowsCount result (is_count count) (S.state store.old).limit
+        (length (repeat_of (text (S.state store.old) (S.number s)) count)) }
     ensures step { Step (S.state store.old) (S.state store.new) (method_fault_of result)
         repeat_ids repeat_words }
     ensures slots { NeverSlots (method_fault_of result) }
@@ -39,7 +42,8 @@ pub fn repeat<S: Strings>(store: &mut S, s: S::Ref, count: Num) -> Result<S::Ref
 
 // How many copies are asked for, unless the number is negative or infinite.
 fn whole_count(count: Num) -> Option<u64>
-    ensures { MatchOption result (is_count count ≡ false) (λ n. (is_count count ≡ true) × (n ≡ copies count)) }
+    ensures { MatchOption result (is_count count ≡ false)
+        (λ n. (is_count count ≡ true) × (n ≡ copies count)) }
 {
     match count {
         Num::NaN => Some(0),
@@ -56,8 +60,10 @@ pub(crate) fn doubled<S: Strings>(
 ) -> Result<S::Ref, StoreFault>
     requires known { IsKnown (S.state store.old) (S.number s) }
     requires some { 1 ≤ count }
-    requires short { length (repeated count (text (S.state store.old) (S.number s))) ≤ (S.state store.old).limit }
-    ensures value { IfOk result (λ r. Has (S.state store.new) (S.number r) (repeated count (text (S.state store.old) (S.number s)))) }
+    requires short { length (repeated count (text (S.state store.old) (S.number s)))
+        ≤ (S.state store.old).limit }
+    ensures value { IfOk result
+        (λ r. Has (S.state store.new) (S.number r) (repeated count (text (S.state store.old) (S.number s)))) }
     ensures step { (k : ℕ) → count < 2 ^ (k + 1) → Step (S.state store.old) (S.state store.new) (fault_of result)
         (2 * k) (6 * k) }
     ensures slots { NeverSlots (fault_of result) }
@@ -78,9 +84,12 @@ fn twice<S: Strings>(
     count: u32,
 ) -> Result<S::Ref, StoreFault>
     requires known { IsKnown (S.state store.old) (S.number s) }
-    requires half { Has (S.state store.old) (S.number half) (repeated (count / 2) (text (S.state store.old) (S.number s))) }
-    requires short { length (repeated count (text (S.state store.old) (S.number s))) ≤ (S.state store.old).limit }
-    ensures value { IfOk result (λ r. Has (S.state store.new) (S.number r) (repeated count (text (S.state store.old) (S.number s)))) }
+    requires half { Has (S.state store.old) (S.number half)
+        (repeated (count / 2) (text (S.state store.old) (S.number s))) }
+    requires short { length (repeated count (text (S.state store.old) (S.number s)))
+        ≤ (S.state store.old).limit }
+    ensures value { IfOk result
+        (λ r. Has (S.state store.new) (S.number r) (repeated count (text (S.state store.old) (S.number s)))) }
     ensures step { Step (S.state store.old) (S.state store.new) (fault_of result) 2 6 }
     ensures slots { NeverSlots (fault_of result) }
     ensures history { (S.state store.new).history ≡ (S.state store.old).history }

@@ -21,7 +21,9 @@ pub fn ends_with<S: Strings>(
     requires known { IsKnown (S.state store.old) (S.number s) }
     requires needle_known { IsKnown (S.state store.old) (S.number w) }
     requires lawful { IfSome end IsLawful }
-    ensures value { IfOk result (λ r. r ≡ ends_at (text (S.state store.old) (S.number s)) (text (S.state store.old) (S.number w)) end) }
+    ensures value { IfOk result
+        (λ r. r ≡ ends_at (text (S.state store.old) (S.number s))
+        (text (S.state store.old) (S.number w)) end) }
     ensures throws { NeverThrows result }
     ensures settled { OnOk result (IsSettled (S.state store.new) (S.number s)) }
     ensures needle_settled { OnOk result (IsSettled (S.state store.new) (S.number w)) }
@@ -47,7 +49,9 @@ pub fn includes<S: Strings>(
     requires known { IsKnown (S.state store.old) (S.number s) }
     requires needle_known { IsKnown (S.state store.old) (S.number w) }
     requires lawful { IsLawful from }
-    ensures value { IfOk result (λ r. r ≡ includes_from (text (S.state store.old) (S.number s)) (text (S.state store.old) (S.number w)) from) }
+    ensures value { IfOk result
+        (λ r. r ≡ includes_from (text (S.state store.old) (S.number s))
+        (text (S.state store.old) (S.number w)) from) }
     ensures throws { NeverThrows result }
     ensures settled { OnOk result (IsSettled (S.state store.new) (S.number s)) }
     ensures needle_settled { OnOk result (IsSettled (S.state store.new) (S.number w)) }
@@ -69,7 +73,9 @@ pub fn index_of<S: Strings>(
     requires known { IsKnown (S.state store.old) (S.number s) }
     requires needle_known { IsKnown (S.state store.old) (S.number w) }
     requires lawful { IsLawful from }
-    ensures value { IfOk result (λ r. r ≡ index_from (text (S.state store.old) (S.number s)) (text (S.state store.old) (S.number w)) from) }
+    ensures value { IfOk result
+        (λ r. r ≡ index_from (text (S.state store.old) (S.number s))
+        (text (S.state store.old) (S.number w)) from) }
     ensures throws { NeverThrows result }
     ensures settled { OnOk result (IsSettled (S.state store.new) (S.number s)) }
     ensures needle_settled { OnOk result (IsSettled (S.state store.new) (S.number w)) }
@@ -94,7 +100,9 @@ pub fn last_index_of<S: Strings>(
     requires known { IsKnown (S.state store.old) (S.number s) }
     requires needle_known { IsKnown (S.state store.old) (S.number w) }
     requires lawful { IsLawful limit }
-    ensures value { IfOk result (λ r. r ≡ last_index_up_to (text (S.state store.old) (S.number s)) (text (S.state store.old) (S.number w)) limit) }
+    ensures value { IfOk result
+        (λ r. r ≡ last_index_up_to (text (S.state store.old) (S.number s))
+        (text (S.state store.old) (S.number w)) limit) }
     ensures throws { NeverThrows result }
     ensures settled { OnOk result (IsSettled (S.state store.new) (S.number s)) }
     ensures needle_settled { OnOk result (IsSettled (S.state store.new) (S.number w)) }
@@ -122,7 +130,9 @@ pub fn starts_with<S: Strings>(
     requires known { IsKnown (S.state store.old) (S.number s) }
     requires needle_known { IsKnown (S.state store.old) (S.number w) }
     requires lawful { IsLawful from }
-    ensures value { IfOk result (λ r. r ≡ starts_at (text (S.state store.old) (S.number s)) (text (S.state store.old) (S.number w)) from) }
+    ensures value { IfOk result
+        (λ r. r ≡ starts_at (text (S.state store.old) (S.number s))
+        (text (S.state store.old) (S.number w)) from) }
     ensures throws { NeverThrows result }
     ensures settled { OnOk result (IsSettled (S.state store.new) (S.number s)) }
     ensures needle_settled { OnOk result (IsSettled (S.state store.new) (S.number w)) }

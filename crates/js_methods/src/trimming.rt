@@ -12,10 +12,12 @@ use js_units::is_trimmed;
 /// The string without the white space at both ends ("String.prototype.trim").
 pub fn trim<S: Strings>(store: &mut S, s: S::Ref) -> Result<S::Ref, MethodFault>
     requires known { IsKnown (S.state store.old) (S.number s) }
-    ensures value { IfOk result (λ r. Has (S.state store.new) (S.number r) (trimmed (text (S.state store.old) (S.number s)))) }
+    ensures value { IfOk result
+        (λ r. Has (S.state store.new) (S.number r) (trimmed (text (S.state store.old) (S.number s)))) }
     ensures settled { OnOk result (IsSettled (S.state store.new) (S.number s)) }
     ensures result_settled { IfOk result (λ r. IsSettled (S.state store.new) (S.number r)) }
-    ensures throws { ThrowsLong result (S.state store.old).limit (length (trimmed (text (S.state store.old) (S.number s)))) }
+    ensures throws { ThrowsLong result (S.state store.old).limit
+        (length (trimmed (text (S.state store.old) (S.number s)))) }
     ensures step { Step (S.state store.old) (S.state store.new) (method_fault_of result)
         1 (2 * wide_words (length (text (S.state store.old) (S.number s))) + 3) }
     ensures slots { NeverSlots (method_fault_of result) }
@@ -30,10 +32,12 @@ pub fn trim<S: Strings>(store: &mut S, s: S::Ref) -> Result<S::Ref, MethodFault>
 /// The string without the white space at its end ("String.prototype.trimEnd").
 pub fn trim_end<S: Strings>(store: &mut S, s: S::Ref) -> Result<S::Ref, MethodFault>
     requires known { IsKnown (S.state store.old) (S.number s) }
-    ensures value { IfOk result (λ r. Has (S.state store.new) (S.number r) (trimmed_end (text (S.state store.old) (S.number s)))) }
+    ensures value { IfOk result
+        (λ r. Has (S.state store.new) (S.number r) (trimmed_end (text (S.state store.old) (S.number s)))) }
     ensures settled { OnOk result (IsSettled (S.state store.new) (S.number s)) }
     ensures result_settled { IfOk result (λ r. IsSettled (S.state store.new) (S.number r)) }
-    ensures throws { ThrowsLong result (S.state store.old).limit (length (trimmed_end (text (S.state store.old) (S.number s)))) }
+    ensures throws { ThrowsLong result (S.state store.old).limit
+        (length (trimmed_end (text (S.state store.old) (S.number s)))) }
     ensures step { Step (S.state store.old) (S.state store.new) (method_fault_of result)
         1 (2 * wide_words (length (text (S.state store.old) (S.number s))) + 3) }
     ensures slots { NeverSlots (method_fault_of result) }
@@ -47,10 +51,12 @@ pub fn trim_end<S: Strings>(store: &mut S, s: S::Ref) -> Result<S::Ref, MethodFa
 /// The string without the white space at its start ("String.prototype.trimStart").
 pub fn trim_start<S: Strings>(store: &mut S, s: S::Ref) -> Result<S::Ref, MethodFault>
     requires known { IsKnown (S.state store.old) (S.number s) }
-    ensures value { IfOk result (λ r. Has (S.state store.new) (S.number r) (trimmed_start (text (S.state store.old) (S.number s)))) }
+    ensures value { IfOk result
+        (λ r. Has (S.state store.new) (S.number r) (trimmed_start (text (S.state store.old) (S.number s)))) }
     ensures settled { OnOk result (IsSettled (S.state store.new) (S.number s)) }
     ensures result_settled { IfOk result (λ r. IsSettled (S.state store.new) (S.number r)) }
-    ensures throws { ThrowsLong result (S.state store.old).limit (length (trimmed_start (text (S.state store.old) (S.number s)))) }
+    ensures throws { ThrowsLong result (S.state store.old).limit
+        (length (trimmed_start (text (S.state store.old) (S.number s)))) }
     ensures step { Step (S.state store.old) (S.state store.new) (method_fault_of result)
         1 (2 * wide_words (length (text (S.state store.old) (S.number s))) + 3) }
     ensures slots { NeverSlots (method_fault_of result) }
@@ -85,7 +91,8 @@ fn end_of_rest<S: Strings>(store: &mut S, s: S::Ref, from: u32) -> u32
     requires known { IsKnown (S.state store.old) (S.number s) }
     requires settled { IsSettled (S.state store.old) (S.number s) }
     requires within { from ≤ length (text (S.state store.old) (S.number s)) }
-    ensures value { result + blanks (reverse (drop from (text (S.state store.old) (S.number s)))) ≡ length (text (S.state store.old) (S.number s)) }
+    ensures value { result + blanks (reverse (drop from (text (S.state store.old) (S.number s))))
+        ≡ length (text (S.state store.old) (S.number s)) }
     ensures order { from ≤ result }
     ensures step { Step (S.state store.old) (S.state store.new) None 0 0 }
     ensures history { (S.state store.new).history ≡ (S.state store.old).history }
@@ -105,7 +112,9 @@ fn part<S: Strings>(store: &mut S, s: S::Ref, from: u32, to: u32) -> Result<S::R
     requires settled { IsSettled (S.state store.old) (S.number s) }
     requires order { from ≤ to }
     requires within { to ≤ length (text (S.state store.old) (S.number s)) }
-    ensures value { IfOk result (λ r. Has (S.state store.new) (S.number r) (slice_range (text (S.state store.old) (S.number s)) from to)) }
+    ensures value { IfOk result
+        (λ r. Has (S.state store.new) (S.number r)
+        (slice_range (text (S.state store.old) (S.number s)) from to)) }
     ensures settled { IfOk result (λ r. IsSettled (S.state store.new) (S.number r)) }
     ensures throws { ThrowsLong result (S.state store.old).limit (to - from) }
     ensures step { Step (S.state store.old) (S.state store.new) (method_fault_of result)

@@ -15,7 +15,9 @@ use js_units::{is_lead, is_trail};
 pub fn is_well_formed<S: Strings>(store: &mut S, s: S::Ref) -> Result<bool, MethodFault>
     requires known { IsKnown (S.state store.old) (S.number s) }
     ensures value { IfOk result (λ r. r ≡ all_paired (text (S.state store.old) (S.number s))) }
-    ensures unchanged { IfOk result (λ r. IsTrue r ↔ (well (text (S.state store.old) (S.number s)) ≡ text (S.state store.old) (S.number s))) }
+    ensures unchanged { IfOk result
+        (λ r. IsTrue r ↔
+        (well (text (S.state store.old) (S.number s)) ≡ text (S.state store.old) (S.number s))) }
     ensures throws { NeverThrows result }
     ensures settled { OnOk result (IsSettled (S.state store.new) (S.number s)) }
     ensures step { Step (S.state store.old) (S.state store.new) (method_fault_of result)

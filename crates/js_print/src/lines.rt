@@ -39,6 +39,25 @@ impl Lines {
     {
         self.bytes.as_slice()
     }
+
+    /// Adds the line of some strings, as [`print_line`] does to bytes.
+    pub fn print_line<S: Strings>(
+        &mut self,
+        alloc: Global,
+        store: &mut S,
+        parts: &[S::Ref],
+    ) -> Result<(), StoreFault>
+        requires { AllKnown (S.state store.old) S.number parts.now }
+        ensures added { OnOk result (self.new ≡ self.old ++ line
+            (texts_seen (S.state store.old) S.number parts.now)) }
+        ensures unchanged { OnErr result (self.new ≡ self.old) }
+        ensures step { Step (S.state store.old) (S.state store.new) (full_fault_of result)
+            0 (settle_most (S.state store.old) S.number parts.now) }
+        ensures slots { NeverSlots (full_fault_of result) }
+        ensures history { (S.state store.new).history ≡ (S.state store.old).history }
+    {
+        print_line(alloc, store, parts, &mut self.bytes)
+    }
 }
 
 /// Adds the line of some strings, whole or not at all: the UTF-8 of each with U+FFFD for an unpaired
@@ -47,20 +66,22 @@ pub fn print_line<S: Strings>(
     alloc: Global,
     store: &mut S,
     parts: &[S::Ref],
-    lines: &mut Lines,
+    out: &mut Vec<u8>,
 ) -> Result<(), StoreFault>
     requires { AllKnown (S.state store.old) S.number parts.now }
-    ensures added { OnOk result (lines.new ≡ lines.old ++ line (texts_seen (S.state store.old) S.number parts.now)) }
-    ensures unchanged { OnErr result (lines.new ≡ lines.old) }
-    ensures step { Step (S.state store.old) (S.state store.new) (full_fault_of result) 0 (settle_most (S.state store.old) S.number parts.now) }
+    ensures added { OnOk result (out.new.items ≡ out.old.items ++ line
+        (texts_seen (S.state store.old) S.number parts.now)) }
+    ensures unchanged { OnErr result (out.new.items ≡ out.old.items) }
+    ensures step { Step (S.state store.old) (S.state store.new) (full_fault_of result) 0
+        (settle_most (S.state store.old) S.number parts.now) }
     ensures slots { NeverSlots (full_fault_of result) }
     ensures history { (S.state store.new).history ≡ (S.state store.old).history }
 {
-    let before = lines.bytes.len();
-    match append_line(alloc, store, parts, &mut lines.bytes) {
+    let before = out.len();
+    match append_line(alloc, store, parts, out) {
         Ok(()) => Ok(()),
         Err(fault) => {
-            lines.bytes.truncate(before);
+            out.truncate(before);
             Err(fault)
         }
     }

@@ -1,5 +1,5 @@
 // The bytes of a line.
-ghost use Rattle.std.specs.Prelude.{◌≡◌, ◌+◌, ◌≤◌, ◌++◌, ◌∷◌, [], drop, length, take, vec_capacity, vec_len, None, OnOk, OnErr, IfErr};
+ghost use Rattle.std.specs.Prelude.{◌≡◌, ◌+◌, ◌<◌, ◌≤◌, ◌++◌, ◌∷◌, [], drop, length, take, All, vec_capacity, vec_len, None, OnOk, OnErr, IfErr};
 ghost use Rattle.js_units.specs.Text.{utf8};
 ghost use Rattle.js_store.specs.State.{IsKnown, IsSettled, text};
 ghost use Rattle.js_store.specs.Faults.{Step, NeverSlots};
@@ -21,9 +21,11 @@ pub fn append_line<S: Strings>(
     line: &mut Vec<u8>,
 ) -> Result<(), StoreFault>
     requires { AllKnown (S.state store.old) S.number parts.now }
-    ensures added { OnOk result (line.new.items ≡ line.old.items ++ Printing.line (texts (S.state store.old) S.number parts.now)) }
+    ensures added { OnOk result
+        (line.new.items ≡ line.old.items ++ Printing.line (texts (S.state store.old) S.number parts.now)) }
     ensures kept { take (length line.old.items) line.new.items ≡ line.old.items }
-    ensures step { Step (S.state store.old) (S.state store.new) (full_fault_of result) 0 (settle_most (S.state store.old) S.number parts.now) }
+    ensures step { Step (S.state store.old) (S.state store.new) (full_fault_of result) 0
+        (settle_most (S.state store.old) S.number parts.now) }
     ensures slots { NeverSlots (full_fault_of result) }
     ensures history { (S.state store.new).history ≡ (S.state store.old).history }
 {
@@ -44,9 +46,11 @@ fn append_rest<S: Strings>(
     line: &mut Vec<u8>,
 ) -> Result<(), StoreFault>
     requires { AllKnown (S.state store.old) S.number rest.now }
-    ensures added { OnOk result (line.new.items ≡ line.old.items ++ line_rest (texts (S.state store.old) S.number rest.now)) }
+    ensures added { OnOk result
+        (line.new.items ≡ line.old.items ++ line_rest (texts (S.state store.old) S.number rest.now)) }
     ensures kept { take (length line.old.items) line.new.items ≡ line.old.items }
-    ensures step { Step (S.state store.old) (S.state store.new) (full_fault_of result) 0 (settle_most (S.state store.old) S.number rest.now) }
+    ensures step { Step (S.state store.old) (S.state store.new) (full_fault_of result) 0
+        (settle_most (S.state store.old) S.number rest.now) }
     ensures slots { NeverSlots (full_fault_of result) }
     ensures history { (S.state store.new).history ≡ (S.state store.old).history }
 {
@@ -65,9 +69,12 @@ fn append_string<S: Strings>(
     line: &mut Vec<u8>,
 ) -> Result<(), StoreFault>
     requires { IsKnown (S.state store.old) (S.number s) }
-    ensures added { OnOk result (line.new.items ≡ line.old.items ++ utf8 (text (S.state store.old) (S.number s))) }
+    ensures added { OnOk result
+        (line.new.items ≡ line.old.items ++ utf8 (text (S.state store.old) (S.number s))) }
     ensures kept { take (length line.old.items) line.new.items ≡ line.old.items }
-    ensures step { Step (S.state store.old) (S.state store.new) (full_fault_of result) 0 (settle_words ((S.state store.old).settled (S.number s)) (length (text (S.state store.old) (S.number s)))) }
+    ensures step { Step (S.state store.old) (S.state store.new) (full_fault_of result) 0
+        (settle_words ((S.state store.old).settled (S.number s))
+        (length (text (S.state store.old) (S.number s)))) }
     ensures slots { NeverSlots (full_fault_of result) }
     ensures history { (S.state store.new).history ≡ (S.state store.old).history }
 {
@@ -84,7 +91,8 @@ fn append_settled<S: Strings>(
 ) -> Result<(), NoMemory>
     requires known { IsKnown (S.state store.old) (S.number s) }
     requires settled { IsSettled (S.state store.old) (S.number s) }
-    ensures added { OnOk result (line.new.items ≡ line.old.items ++ utf8 (text (S.state store.old) (S.number s))) }
+    ensures added { OnOk result
+        (line.new.items ≡ line.old.items ++ utf8 (text (S.state store.old) (S.number s))) }
     ensures kept { take (length line.old.items) line.new.items ≡ line.old.items }
     ensures step { Step (S.state store.old) (S.state store.new) None 0 0 }
     ensures history { (S.state store.new).history ≡ (S.state store.old).history }
@@ -98,26 +106,57 @@ fn append_settled<S: Strings>(
     append_behind(alloc, store, s, ascii, line)
 }
 
+// Units of a block.
+const SIZE: u32 = 256;
+
 // Adds the ASCII units in front of a settled string, a byte each, and answers how many they are.
+#[tactic(auto, using(js_texts::proofs::Delimited::kept_trans))]
 fn push_ascii<S: Strings>(store: &mut S, s: S::Ref, len: u32, line: &mut Vec<u8>) -> u32
     requires known { IsKnown (S.state store.old) (S.number s) }
     requires settled { IsSettled (S.state store.old) (S.number s) }
     requires len { len ≡ length (text (S.state store.old) (S.number s)) }
     requires room { vec_len line.old + len ≤ vec_capacity line.old }
     ensures bound { result ≤ len }
-    ensures added { line.new.items ++ utf8 (drop result (text (S.state store.old) (S.number s))) ≡ line.old.items ++ utf8 (text (S.state store.old) (S.number s)) }
+    ensures added { line.new.items ++ utf8 (drop result (text (S.state store.old) (S.number s)))
+        ≡ line.old.items ++ utf8 (text (S.state store.old) (S.number s)) }
     ensures kept { take (length line.old.items) line.new.items ≡ line.old.items }
     ensures step { Step (S.state store.old) (S.state store.new) None 0 0 }
     ensures history { (S.state store.new).history ≡ (S.state store.old).history }
 {
-    for i in 0..len {
-        let unit = store.unit_at(s, i);
-        if unit >= 0x80 {
-            return i;
+    let mut block = [0; 256];
+    let mut done = 0;
+    while done < len {
+        let count = SIZE.min(len - done);
+        let part = &mut block[..count as usize];
+        store.read(s, done, part);
+        let ascii = push_front(part, line);
+        done += ascii;
+        if ascii < count {
+            return done;
         }
-        line.push_reserved(unit as u8);
     }
     len
+}
+
+// Adds the ASCII units in front of a block, a byte each, and answers how many they are.
+#[tactic(auto, using(js_units::proofs::Ascii::ascii_next))]
+fn push_front(units: &[u16], line: &mut Vec<u8>) -> u32
+    requires short { length units.now ≤ 256 }
+    requires room { vec_len line.old + length units.now ≤ vec_capacity line.old }
+    ensures bound { result ≤ length units.now }
+    ensures ascii { All (λ u. u < 0x80) (take result units.now) }
+    ensures added { line.new.items ≡ line.old.items ++ take result units.now }
+    ensures kept { take (length line.old.items) line.new.items ≡ line.old.items }
+    ensures room { vec_capacity line.new ≡ vec_capacity line.old }
+    ensures len { vec_len line.new ≡ vec_len line.old + result }
+{
+    for i in 0..units.len() {
+        if units[i] >= 0x80 {
+            return i as u32;
+        }
+        line.push_reserved(units[i] as u8);
+    }
+    units.len() as u32
 }
 
 // Adds the UTF-8 of the units of a settled string from place `from` on.
@@ -131,7 +170,8 @@ fn append_behind<S: Strings>(
     requires known { IsKnown (S.state store.old) (S.number s) }
     requires settled { IsSettled (S.state store.old) (S.number s) }
     requires within { from ≤ length (text (S.state store.old) (S.number s)) }
-    ensures added { OnOk result (line.new.items ≡ line.old.items ++ utf8 (drop from (text (S.state store.old) (S.number s)))) }
+    ensures added { OnOk result
+        (line.new.items ≡ line.old.items ++ utf8 (drop from (text (S.state store.old) (S.number s)))) }
     ensures unchanged { OnErr result (line.new.items ≡ line.old.items) }
     ensures step { Step (S.state store.old) (S.state store.new) None 0 0 }
     ensures history { (S.state store.new).history ≡ (S.state store.old).history }

@@ -22,8 +22,13 @@ pub fn places<S: Strings>(
     requires settled { IsSettled (S.state store.old) (S.number s) }
     requires needle_known { IsKnown (S.state store.old) (S.number w) }
     requires needle_settled { IsSettled (S.state store.old) (S.number w) }
-    ensures value { IfOk result (λ v. v.items ≡ first_matches most (text (S.state store.old) (S.number s)) (text (S.state store.old) (S.number w)) 0) }
-    ensures order { IfOk result (λ v. InOrder (length (text (S.state store.old) (S.number s))) (length (text (S.state store.old) (S.number w))) 0 v.items) }
+    ensures value { IfOk result
+        (λ v. v.items
+        ≡ first_matches most (text (S.state store.old) (S.number s))
+        (text (S.state store.old) (S.number w)) 0) }
+    ensures order { IfOk result
+        (λ v. InOrder (length (text (S.state store.old) (S.number s)))
+        (length (text (S.state store.old) (S.number w))) 0 v.items) }
     ensures count { IfOk result (λ v. length v.items ≤ most) }
     ensures step { Step (S.state store.old) (S.state store.new) None 0 0 }
     ensures history { (S.state store.new).history ≡ (S.state store.old).history }
@@ -43,7 +48,10 @@ fn found_places<S: Strings>(
     requires settled { IsSettled (S.state store.old) (S.number s) }
     requires needle_known { IsKnown (S.state store.old) (S.number w) }
     requires needle_settled { IsSettled (S.state store.old) (S.number w) }
-    ensures value { IfOk result (λ v. v.items ≡ first_matches most (text (S.state store.old) (S.number s)) (text (S.state store.old) (S.number w)) 0) }
+    ensures value { IfOk result
+        (λ v. v.items
+        ≡ first_matches most (text (S.state store.old) (S.number s))
+        (text (S.state store.old) (S.number w)) 0) }
     ensures step { Step (S.state store.old) (S.state store.new) None 0 0 }
     ensures history { (S.state store.new).history ≡ (S.state store.old).history }
 {
@@ -69,7 +77,8 @@ fn next_place<S: Strings>(store: &mut S, s: S::Ref, w: S::Ref, from: u32) -> Opt
     requires settled { IsSettled (S.state store.old) (S.number s) }
     requires needle_known { IsKnown (S.state store.old) (S.number w) }
     requires needle_settled { IsSettled (S.state store.old) (S.number w) }
-    ensures value { result ≡ first (text (S.state store.old) (S.number s)) (text (S.state store.old) (S.number w)) from }
+    ensures value { result ≡ first (text (S.state store.old) (S.number s))
+        (text (S.state store.old) (S.number w)) from }
     ensures step { Step (S.state store.old) (S.state store.new) None 0 0 }
     ensures history { (S.state store.new).history ≡ (S.state store.old).history }
 {

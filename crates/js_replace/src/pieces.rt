@@ -20,8 +20,11 @@ enum Piece {
 
 // The first piece, and the units behind it.
 fn split_piece(template: &[u16]) -> Option<(Piece, &[u16])>
-    ensures shorter { MatchOption result (length template.now ≡ 0) (λ p. length p.1.now < length template.now) }
-    ensures parts { (u : List ℕ) (at : ℕ) (w : List ℕ) → MatchOption result (substituted template.now u at w ≡ []) (λ p. substituted template.now u at w ≡ piece_text p.0 u at w ++ substituted p.1.now u at w) }
+    ensures shorter { MatchOption result (length template.now ≡ 0)
+        (λ p. length p.1.now < length template.now) }
+    ensures parts { (u : List ℕ) (at : ℕ) (w : List ℕ)
+        → MatchOption result (substituted template.now u at w ≡ [])
+        (λ p. substituted template.now u at w ≡ piece_text p.0 u at w ++ substituted p.1.now u at w) }
 {
     let first = *template.first()?;
     let rest = &template[1..];
@@ -36,7 +39,8 @@ fn split_piece(template: &[u16]) -> Option<(Piece, &[u16])>
 
 // What the first two units refer to, if they are a reference.
 fn reference(first: u16, second: u16) -> Option<Piece>
-    ensures { (u : List ℕ) (at : ℕ) (w : List ℕ) → option_map (λ p. piece_text p u at w) result ≡ front_reference first second u at w }
+    ensures { (u : List ℕ) (at : ℕ) (w : List ℕ)
+        → option_map (λ p. piece_text p u at w) result ≡ front_reference first second u at w }
 {
     if first != DOLLAR {
         return None;
@@ -100,7 +104,9 @@ impl Shape {
     fn with(self, piece: Piece) -> Shape
         requires { pieces_of self < 9223372036854775808 }
         ensures pieces { pieces_of result ≡ pieces_of self + 1 }
-        ensures lengths { (u : List ℕ) (at : ℕ) (w : List ℕ) → at + length w ≤ length u → len_of result (length u) at (length w) ≡ len_of self (length u) at (length w) + length (piece_text piece u at w) }
+        ensures lengths { (u : List ℕ) (at : ℕ) (w : List ℕ) → at + length w ≤ length u
+            → len_of result (length u) at (length w)
+            ≡ len_of self (length u) at (length w) + length (piece_text piece u at w) }
     {
         let mut shape = self;
         match piece {

@@ -26,9 +26,14 @@ pub fn replace<S: Strings>(
     requires known { IsKnown (S.state store.old) (S.number s) }
     requires needle_known { IsKnown (S.state store.old) (S.number w) }
     requires template_known { IsKnown (S.state store.old) (S.number template) }
-    ensures value { IfOk result (λ r. Has (S.state store.new) (S.number r) (replaced_first (text (S.state store.old) (S.number s)) (text (S.state store.old) (S.number w)) (text (S.state store.old) (S.number template)))) }
+    ensures value { IfOk result
+        (λ r. Has (S.state store.new) (S.number r)
+        (replaced_first (text (S.state store.old) (S.number s)) (text (S.state store.old) (S.number w))
+        (text (S.state store.old) (S.number template)))) }
     ensures settled { IfOk result (λ r. IsSettled (S.state store.new) (S.number r)) }
-    ensures throws { ThrowsLong result (S.state store.old).limit (length (replaced_first (text (S.state store.old) (S.number s)) (text (S.state store.old) (S.number w)) (text (S.state store.old) (S.number template)))) }
+    ensures throws { ThrowsLong result (S.state store.old).limit
+        (length (replaced_first (text (S.state store.old) (S.number s))
+        (text (S.state store.old) (S.number w)) (text (S.state store.old) (S.number template)))) }
     ensures step { Step (S.state store.old) (S.state store.new) (full_of result)
         1 (settling (S.state store.old) (S.number s) + settling (S.state store.old) (S.number w) + settling (S.state store.old) (S.number template) + made_words (S.state store.old).limit (replaced_first (text (S.state store.old) (S.number s)) (text (S.state store.old) (S.number w)) (text (S.state store.old) (S.number template)))) }
     ensures slots { NeverSlots (full_of result) }
@@ -52,10 +57,17 @@ pub fn replace_all<S: Strings>(
     requires known { IsKnown (S.state store.old) (S.number s) }
     requires needle_known { IsKnown (S.state store.old) (S.number w) }
     requires template_known { IsKnown (S.state store.old) (S.number template) }
-    ensures value { IfOk result (λ r. Has (S.state store.new) (S.number r) (replaced_all (text (S.state store.old) (S.number s)) (text (S.state store.old) (S.number w)) (text (S.state store.old) (S.number template)))) }
+    ensures value { IfOk result
+        (λ r. Has (S.state store.new) (S.number r)
+        (replaced_all (text (S.state store.old) (S.number s)) (text (S.state store.old) (S.number w))
+        (text (S.state store.old) (S.number template)))) }
     ensures settled { IfOk result (λ r. IsSettled (S.state store.new) (S.number r)) }
-    ensures places { AreMatches (text (S.state store.old) (S.number s)) (text (S.state store.old) (S.number w)) 0 (matches (text (S.state store.old) (S.number s)) (text (S.state store.old) (S.number w))) }
-    ensures throws { ThrowsLong result (S.state store.old).limit (length (replaced_all (text (S.state store.old) (S.number s)) (text (S.state store.old) (S.number w)) (text (S.state store.old) (S.number template)))) }
+    ensures places { AreMatches (text (S.state store.old) (S.number s))
+        (text (S.state store.old) (S.number w)) 0
+        (matches (text (S.state store.old) (S.number s)) (text (S.state store.old) (S.number w))) }
+    ensures throws { ThrowsLong result (S.state store.old).limit
+        (length (replaced_all (text (S.state store.old) (S.number s)) (text (S.state store.old) (S.number w))
+        (text (S.state store.old) (S.number template)))) }
     ensures step { Step (S.state store.old) (S.state store.new) (full_of result)
         1 (settling (S.state store.old) (S.number s) + settling (S.state store.old) (S.number w) + settling (S.state store.old) (S.number template) + made_words (S.state store.old).limit (replaced_all (text (S.state store.old) (S.number s)) (text (S.state store.old) (S.number w)) (text (S.state store.old) (S.number template)))) }
     ensures slots { NeverSlots (full_of result) }
@@ -80,7 +92,9 @@ fn settle_all<S: Strings>(
     ensures settled { OnOk result (IsSettled (S.state store.new) (S.number s)) }
     ensures needle_settled { OnOk result (IsSettled (S.state store.new) (S.number w)) }
     ensures template_settled { OnOk result (IsSettled (S.state store.new) (S.number template)) }
-    ensures step { Step (S.state store.old) (S.state store.new) (fault_of result) 0 (settling (S.state store.old) (S.number s) + settling (S.state store.old) (S.number w) + settling (S.state store.old) (S.number template)) }
+    ensures step { Step (S.state store.old) (S.state store.new) (fault_of result) 0
+        (settling (S.state store.old) (S.number s) + settling (S.state store.old) (S.number w) + settling
+        (S.state store.old) (S.number template)) }
     ensures slots { NeverSlots (fault_of result) }
     ensures history { (S.state store.new).history ≡ (S.state store.old).history }
 {
@@ -104,9 +118,18 @@ fn replaced<S: Strings>(
     requires needle_settled { IsSettled (S.state store.old) (S.number w) }
     requires template_known { IsKnown (S.state store.old) (S.number template) }
     requires template_settled { IsSettled (S.state store.old) (S.number template) }
-    ensures value { IfOk result (λ r. Has (S.state store.new) (S.number r) (replaced_at (text (S.state store.old) (S.number s)) (text (S.state store.old) (S.number w)) (text (S.state store.old) (S.number template)) 0 (first_matches most (text (S.state store.old) (S.number s)) (text (S.state store.old) (S.number w)) 0))) }
+    ensures value { IfOk result
+        (λ r. Has (S.state store.new) (S.number r)
+        (replaced_at (text (S.state store.old) (S.number s)) (text (S.state store.old) (S.number w))
+        (text (S.state store.old) (S.number template)) 0
+        (first_matches most (text (S.state store.old) (S.number s))
+        (text (S.state store.old) (S.number w)) 0))) }
     ensures settled { IfOk result (λ r. IsSettled (S.state store.new) (S.number r)) }
-    ensures throws { ThrowsLong result (S.state store.old).limit (length (replaced_at (text (S.state store.old) (S.number s)) (text (S.state store.old) (S.number w)) (text (S.state store.old) (S.number template)) 0 (first_matches most (text (S.state store.old) (S.number s)) (text (S.state store.old) (S.number w)) 0))) }
+    ensures throws { ThrowsLong result (S.state store.old).limit
+        (length (replaced_at (text (S.state store.old) (S.number s)) (text (S.state store.old) (S.number w))
+        (text (S.state store.old) (S.number template)) 0
+        (first_matches most (text (S.state store.old) (S.number s))
+        (text (S.state store.old) (S.number w)) 0))) }
     ensures step { Step (S.state store.old) (S.state store.new) (full_of result)
         1 (made_words (S.state store.old).limit (replaced_at (text (S.state store.old) (S.number s)) (text (S.state store.old) (S.number w)) (text (S.state store.old) (S.number template)) 0 (first_matches most (text (S.state store.old) (S.number s)) (text (S.state store.old) (S.number w)) 0))) }
     ensures slots { NeverSlots (full_of result) }
@@ -131,10 +154,16 @@ fn with_places<S: Strings>(
     requires needle_known { IsKnown (S.state store.old) (S.number w) }
     requires needle_settled { IsSettled (S.state store.old) (S.number w) }
     requires short { length template.now ≤ 536870888 }
-    requires order { InOrder (length (text (S.state store.old) (S.number s))) (length (text (S.state store.old) (S.number w))) 0 places.now }
-    ensures value { IfOk result (λ r. Has (S.state store.new) (S.number r) (replaced_at (text (S.state store.old) (S.number s)) (text (S.state store.old) (S.number w)) template.now 0 places.now)) }
+    requires order { InOrder (length (text (S.state store.old) (S.number s)))
+        (length (text (S.state store.old) (S.number w))) 0 places.now }
+    ensures value { IfOk result
+        (λ r. Has (S.state store.new) (S.number r)
+        (replaced_at (text (S.state store.old) (S.number s))
+        (text (S.state store.old) (S.number w)) template.now 0 places.now)) }
     ensures settled { IfOk result (λ r. IsSettled (S.state store.new) (S.number r)) }
-    ensures throws { ThrowsLong result (S.state store.old).limit (length (replaced_at (text (S.state store.old) (S.number s)) (text (S.state store.old) (S.number w)) template.now 0 places.now)) }
+    ensures throws { ThrowsLong result (S.state store.old).limit
+        (length (replaced_at (text (S.state store.old) (S.number s))
+        (text (S.state store.old) (S.number w)) template.now 0 places.now)) }
     ensures step { Step (S.state store.old) (S.state store.new) (full_of result)
         1 (made_words (S.state store.old).limit (replaced_at (text (S.state store.old) (S.number s)) (text (S.state store.old) (S.number w)) template.now 0 places.now)) }
     ensures slots { NeverSlots (full_of result) }
@@ -162,8 +191,11 @@ fn result_len<S: Strings>(
     requires known { IsKnown (S.state store.old) (S.number s) }
     requires needle_known { IsKnown (S.state store.old) (S.number w) }
     requires short { length template.now ≤ 536870888 }
-    requires order { InOrder (length (text (S.state store.old) (S.number s))) (length (text (S.state store.old) (S.number w))) 0 places.now }
-    ensures value { result ≡ length (replaced_at (text (S.state store.old) (S.number s)) (text (S.state store.old) (S.number w)) template.now 0 places.now) }
+    requires order { InOrder (length (text (S.state store.old) (S.number s)))
+        (length (text (S.state store.old) (S.number w))) 0 places.now }
+    ensures value { result ≡ length
+        (replaced_at (text (S.state store.old) (S.number s))
+        (text (S.state store.old) (S.number w)) template.now 0 places.now) }
     ensures step { Step (S.state store.old) (S.state store.new) None 0 0 }
     ensures history { (S.state store.new).history ≡ (S.state store.old).history }
 {
@@ -184,8 +216,11 @@ fn result_units<S: Strings>(
     requires settled { IsSettled (S.state store.old) (S.number s) }
     requires needle_known { IsKnown (S.state store.old) (S.number w) }
     requires needle_settled { IsSettled (S.state store.old) (S.number w) }
-    requires order { InOrder (length (text (S.state store.old) (S.number s))) (length (text (S.state store.old) (S.number w))) 0 places.now }
-    ensures value { IfOk result (λ u. u ≡ replaced_at (text (S.state store.old) (S.number s)) (text (S.state store.old) (S.number w)) template.now 0 places.now) }
+    requires order { InOrder (length (text (S.state store.old) (S.number s)))
+        (length (text (S.state store.old) (S.number w))) 0 places.now }
+    ensures value { IfOk result
+        (λ u. u ≡ replaced_at (text (S.state store.old) (S.number s))
+        (text (S.state store.old) (S.number w)) template.now 0 places.now) }
     ensures step { Step (S.state store.old) (S.state store.new) None 0 0 }
     ensures history { (S.state store.new).history ≡ (S.state store.old).history }
 {
@@ -201,7 +236,8 @@ fn result_units<S: Strings>(
 fn replaced_len(template: &[u16], len: u32, size: u32, places: &[u32]) -> u128
     requires short { length template.now ≤ 536870888 }
     requires order { InOrder len size 0 places.now }
-    ensures { (u w : List ℕ) → length u ≡ len → length w ≡ size → result ≡ length (replaced_at u w template.now 0 places.now) }
+    ensures { (u w : List ℕ) → length u ≡ len → length w ≡ size
+        → result ≡ length (replaced_at u w template.now 0 places.now) }
 {
     let shape = Shape::of(template);
     let mut total = 0;

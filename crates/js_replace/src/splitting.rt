@@ -28,7 +28,10 @@ pub fn split<S: Strings>(
 ) -> Result<Vec<S::Ref>, MethodFault>
     requires known { IsKnown (S.state store.old) (S.number s) }
     requires separator_known { IfSome sep (λ r. IsKnown (S.state store.old) (S.number r)) }
-    ensures value { IfOk result (λ v. texts (S.state store.new) S.number v.items ≡ Parts.parts (text (S.state store.old) (S.number s)) (option_map (λ r. text (S.state store.old) (S.number r)) sep) limit) }
+    ensures value { IfOk result
+        (λ v. texts (S.state store.new) S.number v.items
+        ≡ Parts.parts (text (S.state store.old) (S.number s))
+        (option_map (λ r. text (S.state store.old) (S.number r)) sep) limit) }
     ensures known { IfOk result (λ v. AllKnown (S.state store.new) S.number v.items) }
     ensures throws { NeverThrows result }
     ensures step { Step (S.state store.old) (S.state store.new) (full_of result)
@@ -50,7 +53,9 @@ fn whole<S: Strings>(
     limit: u32,
 ) -> Result<Vec<S::Ref>, StoreFault>
     requires { IsKnown (S.state store.now) (S.number s) }
-    ensures value { IfOk result (λ v. texts (S.state store.now) S.number v.items ≡ take limit (text (S.state store.now) (S.number s) ∷ [])) }
+    ensures value { IfOk result
+        (λ v. texts (S.state store.now) S.number v.items
+        ≡ take limit (text (S.state store.now) (S.number s) ∷ [])) }
     ensures known { IfOk result (λ v. AllKnown (S.state store.now) S.number v.items) }
     ensures fault { IfErr result (λ f. f ≡ StoreFault.Memory) }
 {
@@ -71,7 +76,10 @@ fn split_by<S: Strings>(
 ) -> Result<Vec<S::Ref>, StoreFault>
     requires known { IsKnown (S.state store.old) (S.number s) }
     requires separator_known { IsKnown (S.state store.old) (S.number sep) }
-    ensures value { IfOk result (λ v. texts (S.state store.new) S.number v.items ≡ Parts.parts (text (S.state store.old) (S.number s)) (Some (text (S.state store.old) (S.number sep))) limit) }
+    ensures value { IfOk result
+        (λ v. texts (S.state store.new) S.number v.items
+        ≡ Parts.parts (text (S.state store.old) (S.number s))
+        (Some (text (S.state store.old) (S.number sep))) limit) }
     ensures known { IfOk result (λ v. AllKnown (S.state store.new) S.number v.items) }
     ensures step { Step (S.state store.old) (S.state store.new) (full_fault_of result)
         (length (Parts.parts (text (S.state store.old) (S.number s)) (Some (text (S.state store.old) (S.number sep))) limit))
@@ -96,7 +104,10 @@ fn split_settled<S: Strings>(
     requires settled { IsSettled (S.state store.old) (S.number s) }
     requires separator_known { IsKnown (S.state store.old) (S.number sep) }
     requires separator_settled { IsSettled (S.state store.old) (S.number sep) }
-    ensures value { IfOk result (λ v. texts (S.state store.new) S.number v.items ≡ Parts.parts (text (S.state store.old) (S.number s)) (Some (text (S.state store.old) (S.number sep))) limit) }
+    ensures value { IfOk result
+        (λ v. texts (S.state store.new) S.number v.items
+        ≡ Parts.parts (text (S.state store.old) (S.number s))
+        (Some (text (S.state store.old) (S.number sep))) limit) }
     ensures known { IfOk result (λ v. AllKnown (S.state store.new) S.number v.items) }
     ensures step { Step (S.state store.old) (S.state store.new) (full_fault_of result)
         (length (Parts.parts (text (S.state store.old) (S.number s)) (Some (text (S.state store.old) (S.number sep))) limit))
@@ -122,7 +133,9 @@ fn single_units<S: Strings>(
 ) -> Result<Vec<S::Ref>, StoreFault>
     requires known { IsKnown (S.state store.old) (S.number s) }
     requires settled { IsSettled (S.state store.old) (S.number s) }
-    ensures value { IfOk result (λ v. texts (S.state store.new) S.number v.items ≡ take limit (Parts.singles (text (S.state store.old) (S.number s)))) }
+    ensures value { IfOk result
+        (λ v. texts (S.state store.new) S.number v.items
+        ≡ take limit (Parts.singles (text (S.state store.old) (S.number s)))) }
     ensures known { IfOk result (λ v. AllKnown (S.state store.new) S.number v.items) }
     ensures step { Step (S.state store.old) (S.state store.new) (full_fault_of result)
         (length (take limit (Parts.singles (text (S.state store.old) (S.number s)))))
@@ -152,7 +165,9 @@ fn cut_at<S: Strings>(
     requires settled { IsSettled (S.state store.old) (S.number s) }
     requires order { InOrder (length (text (S.state store.old) (S.number s))) size 0 places.now }
     requires count { length places.now ≤ limit }
-    ensures value { IfOk result (λ v. texts (S.state store.new) S.number v.items ≡ take limit (pieces (text (S.state store.old) (S.number s)) size 0 places.now)) }
+    ensures value { IfOk result
+        (λ v. texts (S.state store.new) S.number v.items
+        ≡ take limit (pieces (text (S.state store.old) (S.number s)) size 0 places.now)) }
     ensures known { IfOk result (λ v. AllKnown (S.state store.new) S.number v.items) }
     ensures step { Step (S.state store.old) (S.state store.new) (full_fault_of result)
         (length (take limit (pieces (text (S.state store.old) (S.number s)) size 0 places.now)))
@@ -188,9 +203,13 @@ fn push_part<S: Strings>(
     requires order { from ≤ to }
     requires within { to ≤ length (text (S.state store.old) (S.number s)) }
     requires parts_known { AllKnown (S.state store.old) S.number parts.old.items }
-    ensures added { OnOk result (texts (S.state store.new) S.number parts.new.items ≡ texts (S.state store.old) S.number parts.old.items ++ slice_range (text (S.state store.old) (S.number s)) from to ∷ []) }
+    ensures added { OnOk result
+        (texts (S.state store.new) S.number parts.new.items
+        ≡ texts (S.state store.old) S.number parts.old.items ++ slice_range
+        (text (S.state store.old) (S.number s)) from to ∷ []) }
     ensures known { OnOk result (AllKnown (S.state store.new) S.number parts.new.items) }
-    ensures step { Step (S.state store.old) (S.state store.new) (full_fault_of result) 1 (copy_words (to - from)) }
+    ensures step { Step (S.state store.old) (S.state store.new) (full_fault_of result) 1
+        (copy_words (to - from)) }
     ensures slots { NeverSlots (full_fault_of result) }
     ensures history { (S.state store.new).history ≡ (S.state store.old).history }
 {

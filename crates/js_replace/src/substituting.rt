@@ -28,10 +28,16 @@ pub fn substitution<S: Strings>(
     requires template_known { IsKnown (S.state store.old) (S.number template) }
     requires known { IsKnown (S.state store.old) (S.number s) }
     requires match_known { IsKnown (S.state store.old) (S.number w) }
-    requires stands { Stands (text (S.state store.old) (S.number s)) (text (S.state store.old) (S.number w)) at }
-    ensures value { IfOk result (λ r. Has (S.state store.new) (S.number r) (substituted (text (S.state store.old) (S.number template)) (text (S.state store.old) (S.number s)) at (text (S.state store.old) (S.number w)))) }
+    requires stands { Stands (text (S.state store.old) (S.number s))
+        (text (S.state store.old) (S.number w)) at }
+    ensures value { IfOk result
+        (λ r. Has (S.state store.new) (S.number r)
+        (substituted (text (S.state store.old) (S.number template)) (text (S.state store.old) (S.number s)) at
+        (text (S.state store.old) (S.number w)))) }
     ensures settled { IfOk result (λ r. IsSettled (S.state store.new) (S.number r)) }
-    ensures throws { ThrowsLong result (S.state store.old).limit (length (substituted (text (S.state store.old) (S.number template)) (text (S.state store.old) (S.number s)) at (text (S.state store.old) (S.number w)))) }
+    ensures throws { ThrowsLong result (S.state store.old).limit
+        (length (substituted (text (S.state store.old) (S.number template))
+        (text (S.state store.old) (S.number s)) at (text (S.state store.old) (S.number w)))) }
     ensures step { Step (S.state store.old) (S.state store.new) (full_of result)
         1 (settling (S.state store.old) (S.number template) + settling (S.state store.old) (S.number s) + settling (S.state store.old) (S.number w) + made_words (S.state store.old).limit (substituted (text (S.state store.old) (S.number template)) (text (S.state store.old) (S.number s)) at (text (S.state store.old) (S.number w)))) }
     ensures slots { NeverSlots (full_of result) }
@@ -51,8 +57,11 @@ fn match_len<S: Strings>(store: &mut S, template: &[u16], s: S::Ref, at: u32, w:
     requires short { length template.now ≤ 536870888 }
     requires known { IsKnown (S.state store.old) (S.number s) }
     requires match_known { IsKnown (S.state store.old) (S.number w) }
-    requires stands { Stands (text (S.state store.old) (S.number s)) (text (S.state store.old) (S.number w)) at }
-    ensures value { result ≡ length (substituted template.now (text (S.state store.old) (S.number s)) at (text (S.state store.old) (S.number w))) }
+    requires stands { Stands (text (S.state store.old) (S.number s))
+        (text (S.state store.old) (S.number w)) at }
+    ensures value { result ≡ length
+        (substituted template.now (text (S.state store.old) (S.number s)) at
+        (text (S.state store.old) (S.number w))) }
     ensures step { Step (S.state store.old) (S.state store.new) None 0 0 }
     ensures history { (S.state store.new).history ≡ (S.state store.old).history }
 {
@@ -71,9 +80,13 @@ fn match_units<S: Strings>(
 ) -> Result<Units, StoreFault>
     requires known { IsKnown (S.state store.old) (S.number s) }
     requires match_known { IsKnown (S.state store.old) (S.number w) }
-    requires stands { Stands (text (S.state store.old) (S.number s)) (text (S.state store.old) (S.number w)) at }
-    ensures value { IfOk result (λ u. u ≡ substituted template.now (text (S.state store.old) (S.number s)) at (text (S.state store.old) (S.number w))) }
-    ensures step { Step (S.state store.old) (S.state store.new) (full_fault_of result) 0 (settling (S.state store.old) (S.number s) + settling (S.state store.old) (S.number w)) }
+    requires stands { Stands (text (S.state store.old) (S.number s))
+        (text (S.state store.old) (S.number w)) at }
+    ensures value { IfOk result
+        (λ u. u ≡ substituted template.now (text (S.state store.old) (S.number s)) at
+        (text (S.state store.old) (S.number w))) }
+    ensures step { Step (S.state store.old) (S.state store.new) (full_fault_of result) 0
+        (settling (S.state store.old) (S.number s) + settling (S.state store.old) (S.number w)) }
     ensures slots { NeverSlots (full_fault_of result) }
     ensures history { (S.state store.new).history ≡ (S.state store.old).history }
 {

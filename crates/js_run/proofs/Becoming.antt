@@ -3,34 +3,34 @@ use Rattle.std.proofs.Common.{◌≡◌, ◌≤◌, ℕ, zero, suc, List, [], �
 use Rattle.std.proofs.lemmas.List.{length-append, length-map}
 use Rattle.heap_rule.specs.Layout.{IsLawful}
 use Rattle.heap_table.specs.MayMake.{MayMake}
-use Rattle.js_generate.specs.Draws.{listed}
-use Rattle.js_generate.specs.Texts.{Named, generated, named_script}
+use Rattle.run_generate.specs.Draws.{listed}
+use Rattle.run_generate.specs.Texts.{Named, generated, named_script}
 use Rattle.js_io.specs.FilesState.{FilesState}
-use Rattle.js_evaluator.specs.declared.ending.End.{End}
-use Rattle.js_evaluator.specs.declared.ending.End.TheVariants.{Done, Threw, Unsupported, Full, Memory}
-use Rattle.js_evaluator.specs.Script.{Flow, meaning}
-use Rattle.js_jobs.specs.declared.job.Outcome.{Outcome}
+use Rattle.js_eval.specs.declared.ending.End.{End}
+use Rattle.js_eval.specs.declared.ending.End.TheVariants.{Done, Threw, Unsupported, Full, Memory}
+use Rattle.js_eval.specs.Script.{Flow, meaning}
+use Rattle.run_jobs.specs.declared.job.Outcome.{Outcome}
 use Rattle.js_store.specs.Limits.{limit_units}
-use Rattle.js_fits.specs.Files.{RunFile, AreFilesOf, AfterPrelude}
+use Rattle.run_fits.specs.Files.{RunFile, AreFilesOf, AfterPrelude}
 use Rattle.std.specs.Borrow.{Bor}
 use Rattle.std.specs.Option.{option_copied}
-use Rattle.js_syntax.specs.declared.tree.Script.{Script}
-use Rattle.js_syntax.specs.Tree.{Tree, tree_of}
-use Rattle.js_words.specs.Words.{Asked, IsInRange, Request, files, made_from, request_of}
-use Rattle.js_sources.specs.declared.sources.Source.{Source}
-use Rattle.js_sources.specs.declared.sources.Sources.{Sources}
-use Rattle.js_sources.specs.declared.stop.Stop.{Stop}
-use Rattle.js_sources.specs.declared.stop.Stop.TheVariants as stop
-use Rattle.js_sources.specs.Answers.{RefusesFile, RefusesScript, source_for, sources_for}
-use Rattle.js_sources.specs.Program.{Name, Program, in_order, program_from}
-use Rattle.js_sources.specs.Reading as reading
-use Rattle.js_sources.specs.Reading.{AreRead, IsQuiet, KeepsFiles, Read}
-use Rattle.js_sources.specs.Spelling as spelling
-use Rattle.js_sources.specs.Spelling.{AllSpell, Spell, SpellsPrelude}
-use Rattle.js_program.specs.declared.ran.Ran.{Ran}
-use Rattle.js_program.specs.declared.ran.Setup.{Setup}
-use Rattle.js_program.specs.Meant.{left_by}
-use Rattle.js_program.specs.Ran.{HasOutcome, IsRan, all_outcomes, prelude_by, scripts_by, tree_if}
+use Rattle.eval_tree.specs.declared.tree.Script.{Script}
+use Rattle.eval_tree.specs.Tree.{Tree, tree_of}
+use Rattle.run_command.specs.Words.{Asked, IsInRange, Request, files, made_from, request_of}
+use Rattle.run_sources.specs.declared.sources.Source.{Source}
+use Rattle.run_sources.specs.declared.sources.Sources.{Sources}
+use Rattle.run_sources.specs.declared.stop.Stop.{Stop}
+use Rattle.run_sources.specs.declared.stop.Stop.TheVariants as stop
+use Rattle.run_sources.specs.Answers.{RefusesFile, RefusesScript, source_for, sources_for}
+use Rattle.run_sources.specs.Program.{Name, Program, in_order, program_from}
+use Rattle.run_sources.specs.Reading as reading
+use Rattle.run_sources.specs.Reading.{AreRead, IsQuiet, KeepsFiles, Read}
+use Rattle.run_sources.specs.Spelling as spelling
+use Rattle.run_sources.specs.Spelling.{AllSpell, Spell, SpellsPrelude}
+use Rattle.run_program.specs.declared.ran.Ran.{Ran}
+use Rattle.run_program.specs.declared.ran.Setup.{Setup}
+use Rattle.run_program.specs.Meant.{left_by}
+use Rattle.run_program.specs.Ran.{HasOutcome, IsRan, all_outcomes, prelude_by, scripts_by, tree_if}
 use Rattle.js_run.specs.Answer.{Becomes, HasNames, SamePrelude, stop_report}
 use Rattle.js_run.specs.Asked.{AreTexts, setup_of}
 use Rattle.js_run.specs.Cause.{HasCauseBy, HasCauseIn, HasCauseOf, names_in}

@@ -1,19 +1,19 @@
 -- What is told of files against what was read of them, and the scripts that texts spell.
 use Rattle.std.proofs.Common.{◌≡◌, ℕ, ◌≤◌, List, [], ◌∷◌, ◌++◌, length, Option, None, Some, refl, sym, ap, ap₂, ◌∙◌, subst, arith}
-use Rattle.js_generate.specs.Texts.{Named}
+use Rattle.run_generate.specs.Texts.{Named}
 use Rattle.js_io.specs.FilesState.{Tells, IsTooLarge}
 use Rattle.js_io.specs.declared.files.TheConstants.{FILE_MAX}
-use Rattle.js_script.specs.declared.fault.Role.{Role}
-use Rattle.js_script.specs.declared.fault.Role.TheVariants as role
-use Rattle.js_script.specs.declared.fault.ParseFault.{ParseFault}
-use Rattle.js_script.specs.Spells.{Spells, Refused}
-use Rattle.js_syntax.specs.Tree.{Tree}
-use Rattle.js_words.specs.Words.{Asked, files, made_from}
-use Rattle.js_sources.specs.Program.{Name, Program, in_order, outer_of}
-use Rattle.js_sources.specs.Reading as reading
-use Rattle.js_sources.specs.Reading.{AreRead, IsPreludeRead, IsRead, Read}
-use Rattle.js_sources.specs.Spelling as spelling
-use Rattle.js_sources.specs.Spelling.{AllSpell, FirstAmong, FirstRefused, Spell, SpellsPrelude}
+use Rattle.js_parse.specs.declared.fault.Role.{Role}
+use Rattle.js_parse.specs.declared.fault.Role.TheVariants as role
+use Rattle.js_parse.specs.declared.fault.ParseFault.{ParseFault}
+use Rattle.js_parse.specs.Spells.{Spells, Refused}
+use Rattle.eval_tree.specs.Tree.{Tree}
+use Rattle.run_command.specs.Words.{Asked, files, made_from}
+use Rattle.run_sources.specs.Program.{Name, Program, in_order, outer_of}
+use Rattle.run_sources.specs.Reading as reading
+use Rattle.run_sources.specs.Reading.{AreRead, IsPreludeRead, IsRead, Read}
+use Rattle.run_sources.specs.Spelling as spelling
+use Rattle.run_sources.specs.Spelling.{AllSpell, FirstAmong, FirstRefused, Spell, SpellsPrelude}
 use Rattle.js_run.specs.Asked.{AreTexts, names_of}
 use Rattle.js_run.specs.Rows.{AreTold}
 

@@ -2,21 +2,21 @@
 use Rattle.std.proofs.Common.{◌≡◌, ◌⊎◌, inl, inr, ⊎_elim, ℕ, List, [], ◌∷◌, ◌++◌, map, Option, None, Some, refl, sym, ap, ap₂, ◌∙◌, append-nil, arith, subst}
 use Rattle.std.specs.List.{concat}
 use Rattle.js_store.specs.State.{State, Sizes}
-use Rattle.js_syntax.specs.Tree.{Tree}
+use Rattle.eval_tree.specs.Tree.{Tree}
 use Rattle.js_texts.specs.Texts.{Every}
-use Rattle.js_evaluator.specs.declared.ending.End.{End}
-use Rattle.js_evaluator.specs.declared.ending.End.TheVariants.{Done, Threw, Unsupported, Full, Memory}
-use Rattle.js_evaluator.specs.Evaluates.{end_of}
-use Rattle.js_evaluator.specs.Script.{Flow}
-use Rattle.js_jobs.specs.declared.job.Outcome.{Outcome}
-use Rattle.js_fits.specs.Files.{RunFile, IsAsMeant, means_of}
-use Rattle.js_fits.specs.Fits.{Fits, all_meant}
-use Rattle.js_fits.specs.Tells.{EndTells, FileTells, IsMeantOrMemory}
-use Rattle.js_fits.proofs.First.{AreFirst, are_first}
-use Rattle.js_words.specs.Words.{Request}
-use Rattle.js_sources.specs.Program.{Name, Program, in_order}
-use Rattle.js_program.specs.declared.ran.Ran.{Ran}
-use Rattle.js_program.specs.Ran.{HasOutcome, IsRan, all_outcomes, prelude_by, scripts_by, sizes_by, state_kept}
+use Rattle.js_eval.specs.declared.ending.End.{End}
+use Rattle.js_eval.specs.declared.ending.End.TheVariants.{Done, Threw, Unsupported, Full, Memory}
+use Rattle.js_eval.specs.Evaluates.{end_of}
+use Rattle.js_eval.specs.Script.{Flow}
+use Rattle.run_jobs.specs.declared.job.Outcome.{Outcome}
+use Rattle.run_fits.specs.Files.{RunFile, IsAsMeant, means_of}
+use Rattle.run_fits.specs.Fits.{Fits, all_meant}
+use Rattle.run_fits.specs.Tells.{EndTells, FileTells, IsMeantOrMemory}
+use Rattle.run_fits.proofs.First.{AreFirst, are_first}
+use Rattle.run_command.specs.Words.{Request}
+use Rattle.run_sources.specs.Program.{Name, Program, in_order}
+use Rattle.run_program.specs.declared.ran.Ran.{Ran}
+use Rattle.run_program.specs.Ran.{HasOutcome, IsRan, all_outcomes, prelude_by, scripts_by, sizes_by, state_kept}
 use Rattle.js_run.specs.Asked.{setup_of}
 use Rattle.js_run.specs.Meant.{all_flows, ends_meant, printed_meant, report_meant, run_after, script_flows, status_meant, out_meant}
 use Rattle.js_run.specs.Rows.{FirstFull}

@@ -1,15 +1,15 @@
 -- Each status and why it comes, from the outcome.
 use Rattle.std.proofs.Common.{◌≡◌, ◌⊎◌, inl, inr, ℕ, ◌≤◌, ◌<◌, List, Option, None, Some, refl, sym, ap, ◌∙◌, subst, arith}
-use Rattle.js_generate.specs.Texts.{Named}
+use Rattle.run_generate.specs.Texts.{Named}
 use Rattle.js_io.specs.Counts.{next_count}
 use Rattle.js_io.specs.FilesState.{FilesState}
-use Rattle.js_syntax.specs.Tree.{Tree}
-use Rattle.js_words.specs.Words.{Request, request_of}
-use Rattle.js_sources.specs.Program.{Name, Program, in_order}
-use Rattle.js_sources.specs.Reading.{IsQuiet, IsUnread, IsLarge}
-use Rattle.js_sources.specs.Spelling.{Spell, FirstRefused}
-use Rattle.js_program.specs.declared.ran.Ran.{Ran}
-use Rattle.js_program.specs.Ran.{IsRan}
+use Rattle.eval_tree.specs.Tree.{Tree}
+use Rattle.run_command.specs.Words.{Request, request_of}
+use Rattle.run_sources.specs.Program.{Name, Program, in_order}
+use Rattle.run_sources.specs.Reading.{IsQuiet, IsUnread, IsLarge}
+use Rattle.run_sources.specs.Spelling.{Spell, FirstRefused}
+use Rattle.run_program.specs.declared.ran.Ran.{Ran}
+use Rattle.run_program.specs.Ran.{IsRan}
 use Rattle.js_run.specs.Asked.{AreTexts, names_of, setup_of}
 use Rattle.js_run.specs.Verdict.{Verdict, BadWords, NotRead, TooLarge, Refused, NoMemory, WasRun, Report, Refusal, Printed, report_of, kept_of, status_of, ends_of, unread_line, large_line}
 use Rattle.js_run.specs.Moment.{Moment, Sinks, Ended}

@@ -2,13 +2,13 @@
 use Rattle.std.proofs.Common.{◌≡◌, ◌+◌, ◌<◌, ◌++◌, ℕ, zero, suc, List, [], ◌∷◌, length, map, option_map, Option, None, Some, drop, get_or, Result, Ok, Err, refl, sym, ap, ap₂, ◌∙◌, subst, arith}
 use Rattle.js_io.specs.SinkState.{SinkState, WritesAll}
 use Rattle.js_io.proofs.Prefixes.{Appends-nil, then_second, first_failed}
-use Rattle.js_evaluator.specs.declared.ending.End.{End}
-use Rattle.js_evaluator.specs.declared.ending.End.TheVariants.{Done, Threw, Unsupported, Full, Memory}
-use Rattle.js_jobs.specs.declared.job.Outcome.{Outcome}
-use Rattle.js_sources.specs.declared.sources.Source.{Source}
-use Rattle.js_sources.specs.Answers.{source_for}
-use Rattle.js_sources.specs.Program.{with_prelude}
-use Rattle.js_program.specs.Ran.{all_outcomes}
+use Rattle.js_eval.specs.declared.ending.End.{End}
+use Rattle.js_eval.specs.declared.ending.End.TheVariants.{Done, Threw, Unsupported, Full, Memory}
+use Rattle.run_jobs.specs.declared.job.Outcome.{Outcome}
+use Rattle.run_sources.specs.declared.sources.Source.{Source}
+use Rattle.run_sources.specs.Answers.{source_for}
+use Rattle.run_sources.specs.Program.{with_prelude}
+use Rattle.run_program.specs.Ran.{all_outcomes}
 use Rattle.js_run.specs.Answer.{SamePrelude, outcome_ends, source_names}
 use Rattle.js_run.specs.Verdict.{end_line, end_lines, status_of, status_or}
 

@@ -1,13 +1,13 @@
 -- What the parts of a call answer in the code, and what that reports. No public contract cites it.
 use Rattle.std.specs.Prelude.{◌≡◌, ◌≤◌, ⊤, List, Option, None, Some, length, map}
-use Rattle.js_evaluator.specs.declared.ending.End.{End}
-use Rattle.js_jobs.specs.declared.job.Outcome.{Outcome}
-use Rattle.js_program.specs.declared.ran.Ran.{Ran}
-use Rattle.js_sources.specs.declared.sources.Source.{Source}
-use Rattle.js_sources.specs.declared.sources.Sources.{Sources}
-use Rattle.js_sources.specs.declared.stop.Stop.{Stop}
-use Rattle.js_sources.specs.declared.stop.Stop.TheVariants as stop
-use Rattle.js_sources.specs.Program.{Name}
+use Rattle.js_eval.specs.declared.ending.End.{End}
+use Rattle.run_jobs.specs.declared.job.Outcome.{Outcome}
+use Rattle.run_program.specs.declared.ran.Ran.{Ran}
+use Rattle.run_sources.specs.declared.sources.Source.{Source}
+use Rattle.run_sources.specs.declared.sources.Sources.{Sources}
+use Rattle.run_sources.specs.declared.stop.Stop.{Stop}
+use Rattle.run_sources.specs.declared.stop.Stop.TheVariants as stop
+use Rattle.run_sources.specs.Program.{Name}
 use Rattle.js_run.specs.Moment.{Sinks, Ended}
 use Rattle.js_run.specs.Verdict.{Verdict, Report, Refusal, report_of, kept_of, unread_line, large_line, refused_line, memory_line}
 use Rattle.js_run.specs.Ending.{IsEnd}

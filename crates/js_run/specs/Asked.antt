@@ -1,12 +1,12 @@
 -- What is to be run for a request: which texts, on which heap, and whether different strings are counted.
 use Rattle.std.specs.Prelude.{◌≡◌, ℕ, List, [], Bool, true, Option, None}
 use Rattle.heap_rule.specs.declared.size.HeapSize.{HeapSize}
-use Rattle.js_generate.specs.Texts.{Named, generated}
-use Rattle.js_words.specs.declared.plan.Sizes.{Sizes}
-use Rattle.js_words.specs.Words.{Asked, Request, files, made_from}
-use Rattle.js_sources.specs.Program.{Name, Program, program_from}
-use Rattle.js_sources.specs.Reading.{AreRead}
-use Rattle.js_program.specs.declared.ran.Setup.{Setup}
+use Rattle.run_generate.specs.Texts.{Named, generated}
+use Rattle.run_command.specs.declared.plan.Sizes.{Sizes}
+use Rattle.run_command.specs.Words.{Asked, Request, files, made_from}
+use Rattle.run_sources.specs.Program.{Name, Program, program_from}
+use Rattle.run_sources.specs.Reading.{AreRead}
+use Rattle.run_program.specs.declared.ran.Setup.{Setup}
 
 -- the names of the files that are to be read: none where texts are made from a number
 abbrev pub names_of : Asked → Program Name

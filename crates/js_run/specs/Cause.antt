@@ -2,15 +2,15 @@
 -- too large a file.
 use Rattle.std.specs.Prelude.{◌≡◌, ℕ, List, Option, None, Some, map, option_map}
 use Rattle.js_io.specs.FilesState.{FilesState}
-use Rattle.js_generate.specs.Texts.{Named}
-use Rattle.js_syntax.specs.Tree.{Tree}
-use Rattle.js_words.specs.Words.{Request, request_of}
-use Rattle.js_sources.specs.Program.{Name, Program, in_order}
-use Rattle.js_sources.specs.Reading.{IsQuiet, IsUnread, IsLarge}
-use Rattle.js_sources.specs.Spelling.{Spell, FirstRefused}
-use Rattle.js_program.specs.declared.ran.Ran.{Ran}
-use Rattle.js_program.specs.declared.ran.Setup.{Setup}
-use Rattle.js_program.specs.Ran.{IsRan}
+use Rattle.run_generate.specs.Texts.{Named}
+use Rattle.eval_tree.specs.Tree.{Tree}
+use Rattle.run_command.specs.Words.{Request, request_of}
+use Rattle.run_sources.specs.Program.{Name, Program, in_order}
+use Rattle.run_sources.specs.Reading.{IsQuiet, IsUnread, IsLarge}
+use Rattle.run_sources.specs.Spelling.{Spell, FirstRefused}
+use Rattle.run_program.specs.declared.ran.Ran.{Ran}
+use Rattle.run_program.specs.declared.ran.Setup.{Setup}
+use Rattle.run_program.specs.Ran.{IsRan}
 use Rattle.js_run.specs.Asked.{AreTexts, names_of, setup_of}
 use Rattle.js_run.specs.Verdict.{Verdict, BadWords, NotRead, TooLarge, Refused, NoMemory, WasRun}
 

@@ -6,8 +6,8 @@ use Rattle.js_literal.specs.declared.fault.NumberFault.{NumberFault}
 use Rattle.js_literal.specs.declared.fault.NumberFault.TheVariants as number
 use Rattle.js_lex.specs.declared.token.LexFault.{LexFault}
 use Rattle.js_lex.specs.declared.token.LexFault.TheVariants as lexical
-use Rattle.js_script.specs.declared.fault.ParseFault.{ParseFault}
-use Rattle.js_script.specs.declared.fault.ParseFault.TheVariants as fault
+use Rattle.js_parse.specs.declared.fault.ParseFault.{ParseFault}
+use Rattle.js_parse.specs.declared.fault.ParseFault.TheVariants as fault
 
 abbrev pub literal_at : LiteralFault → ℕ
 literal_at (literal.Unclosed at) = at

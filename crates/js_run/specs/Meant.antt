@@ -1,14 +1,14 @@
 -- What is meant to be reported: every file ends and prints as ECMA-262 says of it, each script after the prelude.
 use Rattle.std.specs.Prelude.{ℕ, List, [], ◌∷◌, ◌++◌, map, Option, None, Some}
 use Rattle.std.specs.List.{concat}
-use Rattle.js_syntax.specs.Tree.{Tree}
-use Rattle.js_evaluator.specs.declared.ending.End.{End}
-use Rattle.js_evaluator.specs.Evaluates.{end_of}
-use Rattle.js_evaluator.specs.Script.{Flow}
-use Rattle.js_fits.specs.Fits.{after_prelude}
-use Rattle.js_words.specs.Words.{Request}
-use Rattle.js_sources.specs.Program.{Name, Program, in_order}
-use Rattle.js_program.specs.Ran.{all_by, prelude_by, scripts_by}
+use Rattle.eval_tree.specs.Tree.{Tree}
+use Rattle.js_eval.specs.declared.ending.End.{End}
+use Rattle.js_eval.specs.Evaluates.{end_of}
+use Rattle.js_eval.specs.Script.{Flow}
+use Rattle.run_fits.specs.Fits.{after_prelude}
+use Rattle.run_command.specs.Words.{Request}
+use Rattle.run_sources.specs.Program.{Name, Program, in_order}
+use Rattle.run_program.specs.Ran.{all_by, prelude_by, scripts_by}
 use Rattle.js_run.specs.Asked.{setup_of}
 use Rattle.js_run.specs.Verdict.{Report, Printed, count_line, end_lines, status_of}
 

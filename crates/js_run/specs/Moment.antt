@@ -2,7 +2,7 @@
 use Rattle.std.specs.Prelude.{ℕ, Option}
 use Rattle.js_io.specs.FilesState.{FilesState}
 use Rattle.js_io.specs.SinkState.{SinkState}
-use Rattle.js_program.specs.declared.ran.Kept.{Kept}
+use Rattle.run_program.specs.declared.ran.Kept.{Kept}
 use Rattle.js_run.specs.declared.status.Status.{Status}
 
 pub record Sinks : Type 0 where

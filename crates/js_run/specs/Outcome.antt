@@ -1,6 +1,6 @@
 -- The outcome of a call: a verdict that has its cause, what was written of it, and what is kept.
 use Rattle.std.specs.Prelude.{◌≡◌, ℕ, ◌≤◌, List}
-use Rattle.js_sources.specs.Reading.{KeepsFiles}
+use Rattle.run_sources.specs.Reading.{KeepsFiles}
 use Rattle.js_run.specs.Verdict.{Verdict, report_of, kept_of}
 use Rattle.js_run.specs.Moment.{Moment, Ended}
 use Rattle.js_run.specs.Cause.{HasCause}

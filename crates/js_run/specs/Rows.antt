@@ -1,24 +1,24 @@
 -- Each status by itself: when it comes, what was written then, and what is kept. All of it follows from the outcome.
 use Rattle.std.specs.Prelude.{◌≡◌, ◌⊎◌, ℕ, ◌-◌, ◌^◌, ◌≤◌, ◌<◌, List, [], ◌∷◌, ◌++◌, length, Option, None, Some}
-use Rattle.js_generate.specs.Texts.{Named}
+use Rattle.run_generate.specs.Texts.{Named}
 use Rattle.js_io.specs.FilesState.{FilesState}
 use Rattle.js_io.specs.declared.files.TheConstants.{FILE_MAX}
-use Rattle.js_script.specs.declared.fault.ParseFault.{ParseFault}
-use Rattle.js_syntax.specs.Tree.{Tree}
+use Rattle.js_parse.specs.declared.fault.ParseFault.{ParseFault}
+use Rattle.eval_tree.specs.Tree.{Tree}
 use Rattle.js_texts.specs.Texts.{Every}
 use Rattle.js_store.specs.State.{Sizes, State}
 use Rattle.js_store.specs.declared.faults.FullReport.{FullReport}
-use Rattle.js_evaluator.specs.declared.ending.End.TheVariants.{Done, Full, Memory}
-use Rattle.js_evaluator.specs.Script.{Flow}
-use Rattle.js_fits.specs.Files.{RunFile}
-use Rattle.js_fits.specs.Fits.{Fits}
-use Rattle.js_fits.specs.Tells.{RanOut}
-use Rattle.js_words.specs.Words.{Request, request_of}
-use Rattle.js_sources.specs.Program.{Name, Program, in_order}
-use Rattle.js_sources.specs.Reading.{Read, IsQuiet, IsUnread, IsLarge}
-use Rattle.js_sources.specs.Spelling.{Spell, FirstRefused}
-use Rattle.js_program.specs.declared.ran.Ran.{Ran}
-use Rattle.js_program.specs.Ran.{IsRan, sizes_by, state_kept}
+use Rattle.js_eval.specs.declared.ending.End.TheVariants.{Done, Full, Memory}
+use Rattle.js_eval.specs.Script.{Flow}
+use Rattle.run_fits.specs.Files.{RunFile}
+use Rattle.run_fits.specs.Fits.{Fits}
+use Rattle.run_fits.specs.Tells.{RanOut}
+use Rattle.run_command.specs.Words.{Request, request_of}
+use Rattle.run_sources.specs.Program.{Name, Program, in_order}
+use Rattle.run_sources.specs.Reading.{Read, IsQuiet, IsUnread, IsLarge}
+use Rattle.run_sources.specs.Spelling.{Spell, FirstRefused}
+use Rattle.run_program.specs.declared.ran.Ran.{Ran}
+use Rattle.run_program.specs.Ran.{IsRan, sizes_by, state_kept}
 use Rattle.js_run.specs.Asked.{AreTexts, names_of, setup_of}
 use Rattle.js_run.specs.Meant.{all_flows, status_meant, out_meant, report_meant}
 use Rattle.js_run.specs.Verdict.{WasRun, Refused, report_of, status_of, ends_of, out_of, err_of, words_line, unread_line, large_line, refused_line, memory_line}

@@ -1,17 +1,17 @@
 -- What becomes of a call, and what is reported of it: the status and the bytes for each sink.
 use Rattle.std.specs.Prelude.{ℕ, List, [], ◌∷◌, ◌++◌, codes, decimal, map, Option, None, Some}
-use Rattle.js_script.specs.declared.fault.ParseFault.{ParseFault}
+use Rattle.js_parse.specs.declared.fault.ParseFault.{ParseFault}
 use Rattle.js_store.specs.declared.faults.FullReport.{FullReport}
 use Rattle.js_store.specs.declared.faults.FullReport.TheVariants.{Ids, Words, Slots}
-use Rattle.js_values.specs.declared.value.Kind.{Kind}
-use Rattle.js_values.specs.declared.value.Kind.TheVariants.{RangeError, TypeError, ReferenceError}
-use Rattle.js_evaluator.specs.declared.ending.End.{End}
-use Rattle.js_evaluator.specs.declared.ending.End.TheVariants.{Done, Threw, Unsupported, Full, Memory}
-use Rattle.js_jobs.specs.declared.job.Outcome.{Outcome}
-use Rattle.js_sources.specs.Program.{Name, Program, in_order}
-use Rattle.js_program.specs.declared.ran.Kept.{Kept}
-use Rattle.js_program.specs.declared.ran.Ran.{Ran}
-use Rattle.js_program.specs.Ran.{outcomes_in}
+use Rattle.eval_values.specs.declared.value.Kind.{Kind}
+use Rattle.eval_values.specs.declared.value.Kind.TheVariants.{RangeError, TypeError, ReferenceError}
+use Rattle.js_eval.specs.declared.ending.End.{End}
+use Rattle.js_eval.specs.declared.ending.End.TheVariants.{Done, Threw, Unsupported, Full, Memory}
+use Rattle.run_jobs.specs.declared.job.Outcome.{Outcome}
+use Rattle.run_sources.specs.Program.{Name, Program, in_order}
+use Rattle.run_program.specs.declared.ran.Kept.{Kept}
+use Rattle.run_program.specs.declared.ran.Ran.{Ran}
+use Rattle.run_program.specs.Ran.{outcomes_in}
 use Rattle.js_run.specs.Fault.{fault_at, fault_text}
 
 pub data Verdict : Type 0 where

@@ -4,6 +4,8 @@
 //! Its contract says when each status comes, what each sink took and what the heap holds, for every
 //! list of words, all contents of files and every number of jobs. It never aborts, and it prints
 //! nothing before all files were read and spell scripts.
+//!
+//! An engine that has sessions of its own runs scripts by [`run_group`] and [`run_all`].
 #![tactic(auto)]
 
 mod refusing;
@@ -12,6 +14,7 @@ mod stages;
 mod status;
 mod telling;
 
-pub use js_program::Kept;
 pub use run::run_words;
+pub use run_jobs::{Job, Outcome, run_all, run_group};
+pub use run_program::Kept;
 pub use status::Status;

@@ -4,7 +4,7 @@ ghost use Rattle.js_run.specs.Fault.{fault_at, fault_text, lexical_at, lexical_t
 
 use js_lex::LexFault;
 use js_literal::{LiteralFault, NumberFault};
-use js_script::ParseFault;
+use js_parse::ParseFault;
 
 /// The byte offset of the fault.
 pub(crate) fn place(fault: ParseFault) -> u32

@@ -1,8 +1,8 @@
 // The top call.
 ghost use Rattle.std.specs.Prelude.{◌≡◌, None, map};
 ghost use Rattle.std.specs.String.{string_bytes};
-ghost use Rattle.js_words.specs.Words.{request_of};
-ghost use Rattle.js_sources.specs.Reading.{IsQuiet};
+ghost use Rattle.run_command.specs.Words.{request_of};
+ghost use Rattle.run_sources.specs.Reading.{IsQuiet};
 ghost use Rattle.js_run.specs.Moment.{moment, ended};
 ghost use Rattle.js_run.specs.Outcome.{Outcome, Keeps};
 ghost use Rattle.js_run.specs.Rows.{Exactly, OrWant, IsFileFault, IsToldLarge, IsNoScript, IsToldRefused, IsRefusal, IsRefusalTold, IsMemory, PrintsAll, PrintsEarly, PrintsFull, IsCut, IsHonest, IsDone};
@@ -11,9 +11,9 @@ use crate::stages::{run_plan, stopped};
 use crate::status::Status;
 use crate::telling::tell_words;
 use js_io::{Files, Gate, Sink};
-use js_script::{no_refused_script, one_script};
-use js_sources::Stop;
-use js_words::{WordsFault, read_words};
+use js_parse::{no_refused_script, one_script};
+use run_command::{WordsFault, read_words};
+use run_sources::Stop;
 use std::alloc::Global;
 use std::thread::Threads;
 

@@ -1,13 +1,13 @@
 // What becomes of lawful words, one stage after the other.
 ghost use Rattle.std.specs.Prelude.{◌≡◌, ◌≤◌, None, length, map};
 ghost use Rattle.heap_table.specs.MayMake.{MayMake};
-ghost use Rattle.js_generate.specs.Texts.{generated};
+ghost use Rattle.run_generate.specs.Texts.{generated};
 ghost use Rattle.js_io.specs.SinkState.{SinkState};
-ghost use Rattle.js_words.specs.Words.{IsInRange, Request, made_from, request_for, files as named_files};
-ghost use Rattle.js_sources.specs.Answers.{AreShort, names_for, sources_for, trees_for};
-ghost use Rattle.js_sources.specs.Program.{program_from};
-ghost use Rattle.js_sources.specs.Reading.{KeepsFiles};
-ghost use Rattle.js_sources.specs.Spelling.{Spell};
+ghost use Rattle.run_command.specs.Words.{IsInRange, Request, made_from, request_for, files as named_files};
+ghost use Rattle.run_sources.specs.Answers.{AreShort, names_for, sources_for, trees_for};
+ghost use Rattle.run_sources.specs.Program.{program_from};
+ghost use Rattle.run_sources.specs.Reading.{KeepsFiles};
+ghost use Rattle.run_sources.specs.Spelling.{Spell};
 ghost use Rattle.js_run.specs.Answer.{Becomes, stop_report};
 ghost use Rattle.js_run.specs.Asked.{names_of, setup_of};
 ghost use Rattle.js_run.specs.Cause.{HasCauseIn, HasCauseOf};
@@ -17,11 +17,11 @@ ghost use Rattle.js_run.specs.Moment.{ended, sinks};
 use crate::status::Status;
 use crate::telling::{tell_ran, tell_stop};
 use heap_rule::HeapSize;
-use js_generate::texts_from;
 use js_io::{Files, Gate, Sink};
-use js_program::{Ran, Setup, run_program};
-use js_sources::{Scripts, Sources, Stop, made_sources, parse_sources, read_sources};
-use js_words::{Plan, Source};
+use run_command::{Plan, Source};
+use run_generate::texts_from;
+use run_program::{Ran, Setup, run_program};
+use run_sources::{Scripts, Sources, Stop, made_sources, parse_sources, read_sources};
 use std::alloc::Global;
 use std::thread::Threads;
 

@@ -1,5 +1,5 @@
 // How a call ended.
-use js_program::Kept;
+use run_program::Kept;
 
 /// How a call of [`crate::run_words`] ended.
 #[derive(Drop)]

@@ -1,8 +1,8 @@
 // Writes what becomes of a call.
 ghost use Rattle.std.specs.Prelude.{◌≡◌, ◌≤◌, ◌++◌, length, decimal};
 ghost use Rattle.js_io.specs.SinkState.{SinkState, WritesAll};
-ghost use Rattle.js_sources.specs.Answers.{sources_for};
-ghost use Rattle.js_program.specs.Ran.{outcomes_in};
+ghost use Rattle.run_sources.specs.Answers.{sources_for};
+ghost use Rattle.run_program.specs.Ran.{outcomes_in};
 ghost use Rattle.js_run.specs.Answer.{HasNames, outcome_ends, source_names, stop_report};
 ghost use Rattle.js_run.specs.Cause.{names_in};
 ghost use Rattle.js_run.specs.Verdict.{BadWords, WasRun, count_line, end_line, end_lines, ends_of, err_of, full_text, kind_text, out_of, printed_by, report_of, status_of, status_or};
@@ -11,12 +11,12 @@ ghost use Rattle.js_run.specs.Ending.{IsEnd};
 
 use crate::refusing::{place, words};
 use itoa::Buffer;
-use js_evaluator::{End, Kind};
+use js_eval::{End, Kind};
 use js_io::{Failed, Sink, write_all};
-use js_jobs::Outcome;
-use js_program::Ran;
-use js_sources::{Source, Sources, Stop};
 use js_store::FullReport;
+use run_jobs::Outcome;
+use run_program::Ran;
+use run_sources::{Source, Sources, Stop};
 
 fn write_both<O: Sink>(sink: &mut O, first: &[u8], second: &[u8]) -> Result<(), Failed>
     ensures { WritesAll result (O.state sink.old) (O.state sink.new) (first.now ++ second.now) }

@@ -1,5 +1,5 @@
 // The trait of all stores of strings.
-ghost use Rattle.std.specs.Prelude.{◌≡◌, ◌<◌, ◌≤◌, ◌↔◌, ℕ, List, [], ◌∷◌, ◌++◌, length, slice_index, slice_range, IfOk, OnOk, OnErr, IsTrue};
+ghost use Rattle.std.specs.Prelude.{◌≡◌, ◌+◌, ◌<◌, ◌≤◌, ◌↔◌, ℕ, List, [], ◌∷◌, ◌++◌, length, slice_index, slice_range, IfOk, OnOk, OnErr, IsTrue};
 ghost use Rattle.js_store.specs.State.{State, Has, IsKnown, IsSettled, text, Interned, Sound};
 
 use crate::faults::{ConcatFault, StoreFault};
@@ -16,6 +16,7 @@ pub trait Strings {
     type Ref: Copy;
 
     ghost use Rattle.js_store.specs.Faults.{Step, fault_of, concat_fault_of, JoinAnswer, SlotsShut, NeverSlots};
+    ghost use Rattle.js_store.specs.Units.{IsFirstUnit};
     ghost use Rattle.js_store.specs.Rows.{flat_words, join_ids, join_words, cut_ids, cut_words, settle_words, intern_words};
 
     // The type of the data that every call keeps.
@@ -30,7 +31,8 @@ pub trait Strings {
     /// A new string of these units, which is settled.
     fn from_units(&mut self, units: &[u16]) -> Result<Self::Ref, StoreFault>
         requires { length units.now ≤ (state self.old).limit }
-        ensures ok { IfOk result (λ r. Has (state self.new) (number r) units.now × IsSettled (state self.new) (number r)) }
+        ensures ok { IfOk result
+            (λ r. Has (state self.new) (number r) units.now × IsSettled (state self.new) (number r)) }
         ensures step { Step (state self.old) (state self.new) (fault_of result) 1 (flat_words units.now) }
         ensures no_slots { NeverSlots (fault_of result) }
         ensures history { (state self.new).history ≡ (state self.old).history };
@@ -61,12 +63,46 @@ pub trait Strings {
         ensures step { Step (state self.old) (state self.new) None 0 0 }
         ensures history { (state self.new).history ≡ (state self.old).history };
 
+    /// Copies the units from place `from` on into `into`, as many as it holds.
+    fn read(&mut self, s: Self::Ref, from: u32, into: &mut [u16])
+        requires known { IsKnown (state self.old) (number s) }
+        requires settled { IsSettled (state self.old) (number s) }
+        requires within { from + length into.old ≤ length (text (state self.old) (number s)) }
+        ensures units { into.new
+            ≡ slice_range (text (state self.old) (number s)) from (from + length into.old) }
+        ensures step { Step (state self.old) (state self.new) None 0 0 }
+        ensures history { (state self.new).history ≡ (state self.old).history }
+    {
+        for k in 0..into.len() {
+            into[k] = self.unit_at(s, from + k as u32);
+        }
+    }
+
+    /// The least place at or after `from` whose unit is `unit`.
+    fn find_unit(&mut self, s: Self::Ref, unit: u16, from: u32) -> Option<u32>
+        requires known { IsKnown (state self.old) (number s) }
+        requires settled { IsSettled (state self.old) (number s) }
+        requires within { from ≤ length (text (state self.old) (number s)) }
+        ensures least { IsFirstUnit (text (state self.old) (number s)) unit from result }
+        ensures step { Step (state self.old) (state self.new) None 0 0 }
+        ensures history { (state self.new).history ≡ (state self.old).history }
+    {
+        for i in from..self.len(s) {
+            if self.unit_at(s, i) == unit {
+                return Some(i);
+            }
+        }
+        None
+    }
+
     /// The units of `a` followed by those of `b`. It is refused as too long exactly where that
     /// is longer than the limit; only want of memory may stand in the place of that answer.
     fn concat(&mut self, a: Self::Ref, b: Self::Ref) -> Result<Self::Ref, ConcatFault>
         requires left { IsKnown (state self.old) (number a) }
         requires right { IsKnown (state self.old) (number b) }
-        ensures ok { IfOk result (λ r. Has (state self.new) (number r) (text (state self.old) (number a) ++ text (state self.old) (number b))) }
+        ensures ok { IfOk result
+            (λ r. Has (state self.new) (number r)
+            (text (state self.old) (number a) ++ text (state self.old) (number b))) }
         ensures answer { JoinAnswer result (state self.old).limit
             (length (text (state self.old) (number a))) (length (text (state self.old) (number b))) }
         ensures step { Step (state self.old) (state self.new) (concat_fault_of result)
@@ -81,7 +117,9 @@ pub trait Strings {
         requires settled { IsSettled (state self.old) (number s) }
         requires order { from ≤ to }
         requires within { to ≤ length (text (state self.old) (number s)) }
-        ensures ok { IfOk result (λ r. Has (state self.new) (number r) (slice_range (text (state self.old) (number s)) from to) × IsSettled (state self.new) (number r)) }
+        ensures ok { IfOk result
+            (λ r. Has (state self.new) (number r) (slice_range (text (state self.old) (number s)) from to)
+            × IsSettled (state self.new) (number r)) }
         ensures step { Step (state self.old) (state self.new) (fault_of result)
             (cut_ids from to (length (text (state self.old) (number s))))
             (cut_words from to (length (text (state self.old) (number s)))) }
@@ -92,10 +130,14 @@ pub trait Strings {
     /// and the number of the answer; a refused call leaves the history as it was.
     fn intern(&mut self, s: Self::Ref) -> Result<Self::Ref, StoreFault>
         requires { IsKnown (state self.old) (number s) }
-        ensures ok { IfOk result (λ r. Has (state self.new) (number r) (text (state self.old) (number s)) × IsSettled (state self.new) (number r) × IsSettled (state self.new) (number s)) }
+        ensures ok { IfOk result
+            (λ r. Has (state self.new) (number r) (text (state self.old) (number s))
+            × IsSettled (state self.new) (number r) × IsSettled (state self.new) (number s)) }
         ensures step { Step (state self.old) (state self.new) (fault_of result) 1
             (intern_words ((state self.old).settled (number s)) (length (text (state self.old) (number s)))) }
-        ensures grown { IfOk result (λ r. (state self.new).history ≡ (state self.old).history ++ (text (state self.old) (number s), number r) ∷ []) }
+        ensures grown { IfOk result
+            (λ r. (state self.new).history
+            ≡ (state self.old).history ++ (text (state self.old) (number s), number r) ∷ []) }
         ensures kept { OnErr result ((state self.new).history ≡ (state self.old).history) }
         ensures shut { SlotsShut (state self.new) (fault_of result) (text (state self.old) (number s)) };
 
@@ -106,7 +148,8 @@ pub trait Strings {
         requires left_interned { (u : List ℕ) × Interned (state self.old) u (number a) }
         requires right_interned { (u : List ℕ) × Interned (state self.old) u (number b) }
         ensures numbers { IsTrue result ↔ (number a ≡ number b) }
-        ensures units { IsTrue result ↔ (text (state self.old) (number a) ≡ text (state self.old) (number b)) }
+        ensures units { IsTrue result ↔
+            (text (state self.old) (number a) ≡ text (state self.old) (number b)) }
         ensures step { Step (state self.old) (state self.new) None 0 0 }
         ensures history { (state self.new).history ≡ (state self.old).history };
 

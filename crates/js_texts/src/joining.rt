@@ -23,9 +23,14 @@ pub fn join<S: Strings>(
 ) -> Result<S::Ref, MethodFault>
     requires known { AllKnown (S.state store.old) S.number parts.now }
     requires separator_known { IsKnown (S.state store.old) (S.number sep) }
-    ensures value { IfOk result (λ r. Has (S.state store.new) (S.number r) (joined (text_of (S.state store.old) (S.number sep)) (texts (S.state store.old) S.number parts.now))) }
+    ensures value { IfOk result
+        (λ r. Has (S.state store.new) (S.number r)
+        (joined (text_of (S.state store.old) (S.number sep))
+        (texts (S.state store.old) S.number parts.now))) }
     ensures settled { IfOk result (λ r. IsSettled (S.state store.new) (S.number r)) }
-    ensures throws { ThrowsLong result (S.state store.old).limit (length (joined (text_of (S.state store.old) (S.number sep)) (texts (S.state store.old) S.number parts.now))) }
+    ensures throws { ThrowsLong result (S.state store.old).limit
+        (length (joined (text_of (S.state store.old) (S.number sep))
+        (texts (S.state store.old) S.number parts.now))) }
     ensures step { Step (S.state store.old) (S.state store.new) (full_of result)
         1 (settle_most (S.state store.old) S.number parts.now + settling (S.state store.old) (S.number sep) + made_words (S.state store.old).limit (joined (text_of (S.state store.old) (S.number sep)) (texts (S.state store.old) S.number parts.now))) }
     ensures slots { NeverSlots (full_of result) }
@@ -44,7 +49,8 @@ pub fn join<S: Strings>(
 fn joined_len<S: Strings>(store: &mut S, parts: &[S::Ref], sep: S::Ref) -> u128
     requires known { AllKnown (S.state store.old) S.number parts.now }
     requires separator_known { IsKnown (S.state store.old) (S.number sep) }
-    ensures value { result ≡ length (joined (text_of (S.state store.old) (S.number sep)) (texts (S.state store.old) S.number parts.now)) }
+    ensures value { result ≡ length
+        (joined (text_of (S.state store.old) (S.number sep)) (texts (S.state store.old) S.number parts.now)) }
     ensures step { Step (S.state store.old) (S.state store.new) None 0 0 }
     ensures history { (S.state store.new).history ≡ (S.state store.old).history }
 {
@@ -66,8 +72,11 @@ fn joined_units<S: Strings>(
 ) -> Result<Units, StoreFault>
     requires known { AllKnown (S.state store.old) S.number parts.now }
     requires separator_known { IsKnown (S.state store.old) (S.number sep) }
-    ensures value { IfOk result (λ u. u ≡ joined (text_of (S.state store.old) (S.number sep)) (texts (S.state store.old) S.number parts.now)) }
-    ensures step { Step (S.state store.old) (S.state store.new) (full_fault_of result) 0 (settle_most (S.state store.old) S.number parts.now + settling (S.state store.old) (S.number sep)) }
+    ensures value { IfOk result
+        (λ u. u ≡ joined (text_of (S.state store.old) (S.number sep))
+        (texts (S.state store.old) S.number parts.now)) }
+    ensures step { Step (S.state store.old) (S.state store.new) (full_fault_of result) 0
+        (settle_most (S.state store.old) S.number parts.now + settling (S.state store.old) (S.number sep)) }
     ensures slots { NeverSlots (full_fault_of result) }
     ensures history { (S.state store.new).history ≡ (S.state store.old).history }
 {
@@ -86,8 +95,10 @@ fn append_joined<S: Strings>(
     text: &mut Units,
 ) -> Result<(), StoreFault>
     requires { AllKnown (S.state store.old) S.number parts.now }
-    ensures added { OnOk result (text.new ≡ text.old ++ joined sep.now (texts (S.state store.old) S.number parts.now)) }
-    ensures step { Step (S.state store.old) (S.state store.new) (full_fault_of result) 0 (settle_most (S.state store.old) S.number parts.now) }
+    ensures added { OnOk result
+        (text.new ≡ text.old ++ joined sep.now (texts (S.state store.old) S.number parts.now)) }
+    ensures step { Step (S.state store.old) (S.state store.new) (full_fault_of result) 0
+        (settle_most (S.state store.old) S.number parts.now) }
     ensures slots { NeverSlots (full_fault_of result) }
     ensures history { (S.state store.new).history ≡ (S.state store.old).history }
 {
@@ -109,8 +120,10 @@ fn append_rest<S: Strings>(
     text: &mut Units,
 ) -> Result<(), StoreFault>
     requires { AllKnown (S.state store.old) S.number rest.now }
-    ensures added { OnOk result (text.new ≡ text.old ++ with_each sep.now (texts (S.state store.old) S.number rest.now)) }
-    ensures step { Step (S.state store.old) (S.state store.new) (full_fault_of result) 0 (settle_most (S.state store.old) S.number rest.now) }
+    ensures added { OnOk result
+        (text.new ≡ text.old ++ with_each sep.now (texts (S.state store.old) S.number rest.now)) }
+    ensures step { Step (S.state store.old) (S.state store.new) (full_fault_of result) 0
+        (settle_most (S.state store.old) S.number rest.now) }
     ensures slots { NeverSlots (full_fault_of result) }
     ensures history { (S.state store.new).history ≡ (S.state store.old).history }
 {
@@ -130,7 +143,8 @@ fn append<S: Strings>(
 ) -> Result<(), StoreFault>
     requires { IsKnown (S.state store.old) (S.number s) }
     ensures added { OnOk result (text.new ≡ text.old ++ text_of (S.state store.old) (S.number s)) }
-    ensures step { Step (S.state store.old) (S.state store.new) (full_fault_of result) 0 (settling (S.state store.old) (S.number s)) }
+    ensures step { Step (S.state store.old) (S.state store.new) (full_fault_of result) 0
+        (settling (S.state store.old) (S.number s)) }
     ensures slots { NeverSlots (full_fault_of result) }
     ensures history { (S.state store.new).history ≡ (S.state store.old).history }
 {

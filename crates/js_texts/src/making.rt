@@ -12,7 +12,8 @@ pub fn make<S: Strings>(store: &mut S, units: &[u16]) -> Result<S::Ref, StoreFau
     requires { length units.now ≤ (S.state store.old).limit }
     ensures value { IfOk result (λ r. Has (S.state store.new) (S.number r) units.now) }
     ensures settled { IfOk result (λ r. IsSettled (S.state store.new) (S.number r)) }
-    ensures step { Step (S.state store.old) (S.state store.new) (fault_of result) 1 (made_words (S.state store.old).limit units.now) }
+    ensures step { Step (S.state store.old) (S.state store.new) (fault_of result) 1
+        (made_words (S.state store.old).limit units.now) }
     ensures slots { NeverSlots (fault_of result) }
     ensures history { (S.state store.new).history ≡ (S.state store.old).history }
 {

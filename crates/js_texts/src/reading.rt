@@ -9,7 +9,11 @@ use js_store::{StoreFault, Strings};
 use js_units::{NoMemory, Units};
 use std::alloc::Global;
 
+// Units of a block.
+const SIZE: u32 = 256;
+
 /// A copy of the units of a settled string.
+#[tactic(auto, using(crate::proofs::Runs::take_run))]
 pub fn copied<S: Strings>(alloc: Global, store: &mut S, s: S::Ref) -> Result<Units, NoMemory>
     requires known { IsKnown (S.state store.old) (S.number s) }
     requires settled { IsSettled (S.state store.old) (S.number s) }
@@ -20,9 +24,14 @@ pub fn copied<S: Strings>(alloc: Global, store: &mut S, s: S::Ref) -> Result<Uni
     let len = store.len(s);
     let mut units = Units::new(alloc);
     units.reserve(len as usize)?;
-    for i in 0..len {
-        let unit = store.unit_at(s, i);
-        units.push(unit)?;
+    let mut block = [0; 256];
+    let mut done = 0;
+    while done < len {
+        let count = SIZE.min(len - done);
+        let part = &mut block[..count as usize];
+        store.read(s, done, part);
+        units.extend_from_slice(part)?;
+        done += count;
     }
     Ok(units)
 }
@@ -31,7 +40,9 @@ pub fn copied<S: Strings>(alloc: Global, store: &mut S, s: S::Ref) -> Result<Uni
 pub fn read<S: Strings>(alloc: Global, store: &mut S, s: S::Ref) -> Result<Units, StoreFault>
     requires { IsKnown (S.state store.old) (S.number s) }
     ensures value { IfOk result (λ u. u ≡ text (S.state store.old) (S.number s)) }
-    ensures step { Step (S.state store.old) (S.state store.new) (full_fault_of result) 0 (settle_words ((S.state store.old).settled (S.number s)) (length (text (S.state store.old) (S.number s)))) }
+    ensures step { Step (S.state store.old) (S.state store.new) (full_fault_of result) 0
+        (settle_words ((S.state store.old).settled (S.number s))
+        (length (text (S.state store.old) (S.number s)))) }
     ensures slots { NeverSlots (full_fault_of result) }
     ensures history { (S.state store.new).history ≡ (S.state store.old).history }
 {

@@ -42,7 +42,8 @@ pub fn is_trimmed(unit: u16) -> bool
 
 /// The first character of the well-formed list, and the units behind it.
 fn split_point(units: &[u16]) -> Option<(char, &[u16])>
-    ensures { MatchOption result (length units.now ≡ 0) (λ p. (points (well units.now) ≡ p.0 ∷ points (well p.1.now)) × (length p.1.now < length units.now)) }
+    ensures { MatchOption result (length units.now ≡ 0)
+        (λ p. (points (well units.now) ≡ p.0 ∷ points (well p.1.now)) × (length p.1.now < length units.now)) }
 {
     let first = *units.first()?;
     let rest = &units[1..];
@@ -94,7 +95,11 @@ fn push_ascii(units: &[u16], out: &mut Vec<u8>) -> Result<(), NoMemory>
 /// Adds the UTF-8 of the first units, one at least, and answers those behind them; none at the
 /// end.
 fn push_front<'a>(units: &'a [u16], out: &mut Vec<u8>) -> Result<Option<&'a [u16]>, NoMemory>
-    ensures added { IfOk result (λ left. MatchOption left ((units.now ≡ []) × (out.new.items ≡ out.old.items)) (λ rest. (out.new.items ++ utf8 rest.now ≡ out.old.items ++ utf8 units.now) × (length rest.now < length units.now) × (take (length out.old.items) out.new.items ≡ out.old.items))) }
+    ensures added { IfOk result
+        (λ left. MatchOption left ((units.now ≡ []) × (out.new.items ≡ out.old.items))
+        (λ rest. (out.new.items ++ utf8 rest.now ≡ out.old.items ++ utf8 units.now)
+        × (length rest.now < length units.now)
+        × (take (length out.old.items) out.new.items ≡ out.old.items))) }
     ensures unchanged { OnErr result (out.new.items ≡ out.old.items) }
 {
     let ascii = ascii_len(units);

@@ -7,13 +7,52 @@ use js_io::MemFiles;
 use std::alloc::Global;
 
 // The parts of a block, in the order in which they come.
-#[derive(Clone, Copy, PartialEq, Eq, PartialOrd, Ord)]
+#[derive(Clone, Copy)]
 enum Part {
     Head,
     File,
     Words,
     Out,
     Err,
+}
+
+impl Part {
+    fn place(self) -> u8 {
+        match self {
+            Part::Head => 0,
+            Part::File => 1,
+            Part::Words => 2,
+            Part::Out => 3,
+            Part::Err => 4,
+        }
+    }
+
+    // Whether this section may stand behind that one: files alone may be several.
+    fn may_follow(self, last: Part) -> bool {
+        match self {
+            Part::File => last.place() <= 1,
+            _ => last.place() < self.place(),
+        }
+    }
+}
+
+// The part that a section's head begins, and what stands behind one blank.
+fn part_of(head: &str) -> Result<(Part, Option<&str>), Fault> {
+    match head.split_once(' ') {
+        Some(("file", name)) => Ok((Part::File, Some(name))),
+        Some(("words", words)) => Ok((Part::Words, Some(words))),
+        Some(_) => Err(Fault::Form("no such section")),
+        None => Ok((alone(head)?, None)),
+    }
+}
+
+fn alone(head: &str) -> Result<Part, Fault> {
+    match head {
+        "words" => Ok(Part::Words),
+        "out" => Ok(Part::Out),
+        "err" => Ok(Part::Err),
+        _ => Err(Fault::Form("no such section")),
+    }
 }
 
 /// A block that was begun, and the section that is open in it.
@@ -28,13 +67,6 @@ pub(crate) struct Block {
     bytes: Vec<u8>,
     out: Vec<u8>,
     err: Vec<u8>,
-}
-
-/// What a line makes of a block.
-#[derive(Drop)]
-pub(crate) enum Step {
-    Open(Block),
-    Whole(Case),
 }
 
 impl Block {
@@ -57,21 +89,26 @@ impl Block {
         })
     }
 
-    /// The block with one more line.
-    pub(crate) fn with(mut self, alloc: Global, line: &str) -> Result<Step, Fault> {
-        match line.strip_prefix("-- ") {
-            None => {
-                self.add(alloc, line)?;
-                Ok(Step::Open(self))
-            }
-            Some(section) => {
-                self.close(alloc)?;
-                match section.strip_prefix("status ") {
-                    None => self.open(alloc, section),
-                    Some(status) => self.end(alloc, status),
-                }
-            }
+    /// The case of a whole block.
+    pub(crate) fn into_case(self) -> Case {
+        self.case
+    }
+
+    /// Takes one more line, and says whether the block is whole with it.
+    pub(crate) fn take(&mut self, alloc: Global, line: &str) -> Result<bool, Fault> {
+        let Some(section) = line.strip_prefix("-- ") else {
+            self.add(alloc, line)?;
+            return Ok(false);
+        };
+        self.close(alloc)?;
+        if let Some(status) = section.strip_prefix("status ") {
+            return self.end(alloc, status);
         }
+        match section.strip_prefix('@') {
+            Some(head) => self.open(alloc, head, true)?,
+            None => self.open(alloc, section, false)?,
+        }
+        Ok(false)
     }
 
     // Adds a line to the section.
@@ -84,12 +121,11 @@ impl Block {
             self.bytes.push(b'\n')?;
             return Ok(());
         }
-        match line.strip_suffix('%') {
-            Some(line) => self.bytes.extend_from_slice(&bytes_of(alloc, line)?)?,
-            None => {
-                self.bytes.extend_from_slice(&bytes_of(alloc, line)?)?;
-                self.bytes.push(b'\n')?;
-            }
+        let joined = line.strip_suffix('%');
+        self.bytes
+            .extend_from_slice(&bytes_of(alloc, joined.unwrap_or(line))?)?;
+        if joined.is_none() {
+            self.bytes.push(b'\n')?;
         }
         Ok(())
     }
@@ -106,48 +142,27 @@ impl Block {
         Ok(())
     }
 
-    fn open(mut self, alloc: Global, section: &str) -> Result<Step, Fault> {
-        let last = self.part;
-        let (head, spelled) = match section.strip_prefix('@') {
-            None => (section, false),
-            Some(head) => (head, true),
-        };
-        self.spelled = spelled;
-        self.part = match head.split_once(' ') {
-            None => match head {
-                "words" => Part::Words,
-                "out" => Part::Out,
-                "err" => Part::Err,
-                _ => return Err(Fault::Form("no such section")),
-            },
-            Some(("file", name)) => {
-                self.name = String::from_str(alloc, name)?;
-                Part::File
-            }
-            Some(("words", _)) => Part::Words,
-            Some(_) => return Err(Fault::Form("no such section")),
-        };
-        if self.part < last || self.part == last && last != Part::File {
+    fn open(&mut self, alloc: Global, head: &str, spelled: bool) -> Result<(), Fault> {
+        let (part, rest) = part_of(head)?;
+        if !part.may_follow(self.part) {
             return Err(Fault::Form("a section out of order"));
         }
-        if let Part::Words = self.part {
-            self.case.words.truncate(1);
-            self.add_words(alloc, head)?;
+        self.part = part;
+        self.spelled = spelled;
+        match (part, rest) {
+            (Part::File, Some(name)) => self.name = String::from_str(alloc, name)?,
+            (Part::Words, Some(words)) => self.set_words(alloc, words)?,
+            (Part::Words, None) => self.case.words.truncate(1),
+            _ => {}
         }
-        Ok(Step::Open(self))
+        Ok(())
     }
 
-    // Adds the words behind the section's name.
-    fn add_words(&mut self, alloc: Global, section: &str) -> Result<(), Fault> {
-        for word in section.split(' ').skip(1) {
-            let bytes = match (self.spelled, word.strip_suffix('%')) {
-                (true, Some(word)) => bytes_of(alloc, word)?,
-                (true, None) => bytes_of(alloc, word)?,
-                (false, _) => word.as_bytes().to_vec(alloc)?,
-            };
-            let Ok(word) = String::from_utf8(bytes) else {
-                return Err(Fault::Form("a word that isn't UTF-8"));
-            };
+    // Puts the words behind the program's name.
+    fn set_words(&mut self, alloc: Global, words: &str) -> Result<(), Fault> {
+        self.case.words.truncate(1);
+        for word in words.split(' ') {
+            let word = self.word_of(alloc, word)?;
             if let Some((first, last)) = range_of(word.as_str()) {
                 let place = self.case.words.len();
                 self.case.each = Some(Each { place, first, last });
@@ -157,23 +172,29 @@ impl Block {
         Ok(())
     }
 
-    // An ending that is wanted has this status: the case, or the block where another one may come.
-    fn end(mut self, alloc: Global, status: &str) -> Result<Step, Fault> {
-        let (status, has_more) = match status.strip_suffix(" or") {
-            Some(status) => (status, true),
-            None => (status, false),
-        };
-        let Ok(status) = status.parse::<u8>() else {
+    // The word that is meant by this one.
+    fn word_of(&self, alloc: Global, word: &str) -> Result<String, Fault> {
+        if !self.spelled {
+            return Ok(String::from_str(alloc, word)?);
+        }
+        let bytes = bytes_of(alloc, word.strip_suffix('%').unwrap_or(word))?;
+        match String::from_utf8(bytes) {
+            Ok(word) => Ok(word),
+            Err(_) => Err(Fault::Form("a word that isn't UTF-8")),
+        }
+    }
+
+    // An ending that is wanted has this status. Says whether the block is whole: else another ending may come.
+    fn end(&mut self, alloc: Global, status: &str) -> Result<bool, Fault> {
+        let more = status.strip_suffix(" or");
+        let Ok(status) = more.unwrap_or(status).parse::<u8>() else {
             return Err(Fault::Form("a status that is no number"));
         };
         let out = std::mem::replace(&mut self.out, Vec::new(alloc));
         let err = std::mem::replace(&mut self.err, Vec::new(alloc));
         self.case.wanted.push(Ending { status, out, err })?;
-        if has_more {
-            self.part = Part::Words;
-            return Ok(Step::Open(self));
-        }
-        Ok(Step::Whole(self.case))
+        self.part = Part::Words;
+        Ok(more.is_none())
     }
 }
 

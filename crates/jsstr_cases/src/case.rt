@@ -12,7 +12,7 @@ use std::fmt;
 pub(crate) const FILE: &str = "a.js";
 
 /// The status, and what both sinks took.
-#[derive(Debug, Drop)]
+#[derive(Drop)]
 pub(crate) struct Ending {
     pub status: u8,
     pub out: Vec<u8>,
@@ -39,7 +39,7 @@ impl fmt::Display for Ending {
 }
 
 /// The place of a word that stands for each number of a range, and that range.
-#[derive(Clone, Copy, Debug)]
+#[derive(Clone, Copy)]
 pub(crate) struct Each {
     pub place: usize,
     pub first: u32,
@@ -47,7 +47,7 @@ pub(crate) struct Each {
 }
 
 /// Files, the words of the command line with the program's name first, and what is wanted.
-#[derive(Debug, Drop)]
+#[derive(Drop)]
 pub(crate) struct Case {
     /// The number of the line that it begins on.
     pub line: usize,

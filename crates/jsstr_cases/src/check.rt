@@ -18,16 +18,9 @@ const ROOM: u32 = 65_536;
 const FULL: u8 = 5;
 
 // The sizes of heaps that are made at once, and in a moment.
-const SMALL: [&str; 6] = ["--ids", "256", "--heap-words", "1024", "--slots", "64"];
+const SMALL: &str = "--ids 256 --heap-words 1024 --slots 64";
 
-const LARGER: [&str; 6] = [
-    "--ids",
-    "32768",
-    "--heap-words",
-    "131072",
-    "--slots",
-    "2048",
-];
+const LARGER: &str = "--ids 32768 --heap-words 131072 --slots 2048";
 
 fn run<R: Threads + Sync>(
     rt: &R,
@@ -63,22 +56,27 @@ fn refusal(name: &str, bad: BadLine) -> Error {
     anyhow!("{name}:{line}: {fault}")
 }
 
-// Whether all words but the first name files.
+// Whether no word is an option.
 fn has_names_alone(words: &[String]) -> bool {
-    words.iter().skip(1).all(|word| !word.starts_with('-'))
+    for word in words {
+        if word.starts_with('-') {
+            return false;
+        }
+    }
+    true
 }
 
 // The words, with the sizes of a heap behind the first.
-fn sized(alloc: Global, sizes: &[&str], words: &[String]) -> Result<Vec<String>, Fault> {
+fn sized(alloc: Global, sizes: &str, words: &[String]) -> Result<Vec<String>, Fault> {
     let mut all = Vec::new(alloc);
-    for word in words.iter().take(1) {
-        all.push(word.clone()?)?;
-    }
-    for word in sizes {
-        all.push(String::from_str(alloc, word)?)?;
-    }
-    for word in words.iter().skip(1) {
-        all.push(word.clone()?)?;
+    if let Some((first, rest)) = words.split_first() {
+        all.push(first.clone()?)?;
+        for word in sizes.split(' ') {
+            all.push(String::from_str(alloc, word)?)?;
+        }
+        for word in rest {
+            all.push(word.clone()?)?;
+        }
     }
     Ok(all)
 }
@@ -90,7 +88,7 @@ where
     R: AllocGlobal + Sync + Threads,
 {
     if has_names_alone(words) {
-        for sizes in [&SMALL, &LARGER] {
+        for sizes in [SMALL, LARGER] {
             let got = run(rt, rt.alloc(), &sized(rt.alloc(), sizes, words)?, files)?;
             if got.status != FULL {
                 return Ok(got);
@@ -102,7 +100,12 @@ where
 
 // Whether it is one of those that are wanted.
 fn is_wanted(got: &Ending, wanted: &[Ending]) -> bool {
-    wanted.iter().any(|wanted| got.is(wanted))
+    for wanted in wanted {
+        if got.is(wanted) {
+            return true;
+        }
+    }
+    false
 }
 
 // Prints how a run of the case differs, and says whether it doesn't.

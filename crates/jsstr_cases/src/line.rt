@@ -7,12 +7,13 @@ use std::alloc::Global;
 
 /// The case of this line, which has this number.
 pub(crate) fn case_of(alloc: Global, line: usize, text: &str) -> Result<Case, Fault> {
-    let Some((script, wish)) = split_wish(text) else {
+    let Some(wish) = split_wish(text) else {
         return Err(Fault::Form("neither `->` nor `!` behind two blanks"));
     };
     let mut wanted = Vec::new(alloc);
     wanted.push(wanted_of(alloc, wish)?)?;
     let mut files = MemFiles::new(alloc);
+    let script = without_blanks(wish.script);
     match script.strip_prefix('@') {
         Some(spelled) => files.put(FILE, &bytes_of(alloc, spelled)?)?,
         None => files.put(FILE, script.as_bytes())?,
@@ -34,35 +35,60 @@ pub(crate) fn words(alloc: Global) -> Result<Vec<String>, Fault> {
     Ok(words)
 }
 
-// The script, and what is wanted.
-fn split_wish(text: &str) -> Option<(&str, &str)> {
-    let at = match (text.find("  ->"), text.find("  !")) {
-        (Some(out), Some(err)) => out.min(err),
-        (Some(at), None) | (None, Some(at)) => at,
-        (None, None) => return None,
-    };
-    let (script, wish) = text.split_at_checked(at)?;
-    Some((script.trim_end_matches(' '), wish.trim_start_matches(' ')))
+// The parts of a line: the script, and what stands behind `->` and behind `!`, each with the blanks round it.
+#[derive(Clone, Copy)]
+struct Wish<'a> {
+    script: &'a str,
+    out: Option<&'a str>,
+    err: Option<&'a str>,
 }
 
-// The text behind `->` and the one behind `!`.
-fn split_err(wish: &str) -> (&str, Option<&str>) {
-    match wish.strip_prefix("->") {
-        None => ("", wish.strip_prefix('!')),
-        Some(rest) => match rest.split_once("  !") {
-            None => (rest, None),
-            Some((out, err)) => (out.trim_end_matches(' '), Some(err)),
-        },
+fn split_wish(text: &str) -> Option<Wish<'_>> {
+    match (text.split_once("  ->"), text.split_once("  !")) {
+        (Some((script, rest)), Some((other, _))) if script.len() < other.len() => {
+            Some(with_out(script, rest))
+        }
+        (_, Some((script, err))) => Some(Wish {
+            script,
+            out: None,
+            err: Some(err),
+        }),
+        (Some((script, rest)), None) => Some(with_out(script, rest)),
+        (None, None) => None,
     }
 }
 
-fn wanted_of(alloc: Global, wish: &str) -> Result<Ending, Fault> {
-    let (out, err) = split_err(wish);
-    let out = match out {
-        "" => Vec::new(alloc),
-        _ => text_of(alloc, behind_blank(out)?)?,
+// The parts where `->` stands first, with this behind it.
+fn with_out<'a>(script: &'a str, rest: &'a str) -> Wish<'a> {
+    let (out, err) = match rest.split_once("  !") {
+        Some((out, err)) => (without_blanks(out), Some(err)),
+        None => (rest, None),
     };
-    let (status, err) = match err {
+    Wish {
+        script,
+        out: Some(out),
+        err,
+    }
+}
+
+// The text without the blanks at its end.
+fn without_blanks(text: &str) -> &str {
+    let mut kept = text;
+    for _ in 0..text.len() {
+        match kept.strip_suffix(' ') {
+            Some(rest) => kept = rest,
+            None => return kept,
+        }
+    }
+    kept
+}
+
+fn wanted_of(alloc: Global, wish: Wish<'_>) -> Result<Ending, Fault> {
+    let out = match wish.out {
+        None | Some("") => Vec::new(alloc),
+        Some(out) => text_of(alloc, behind_blank(out)?)?,
+    };
+    let (status, err) = match wish.err {
         None => (0, Vec::new(alloc)),
         Some(err) => told(alloc, behind_blank(err)?)?,
     };
@@ -72,14 +98,16 @@ fn wanted_of(alloc: Global, wish: &str) -> Result<Ending, Fault> {
 // What stands behind the one blank: it neither begins nor ends with another.
 fn behind_blank(text: &str) -> Result<&str, Fault> {
     match text.strip_prefix(' ') {
-        Some(text) if text == text.trim_matches(' ') && !text.is_empty() => Ok(text),
+        Some(text) if !text.is_empty() && !text.starts_with(' ') && !text.ends_with(' ') => Ok(
+            text,
+        ),
         _ => Err(Fault::Form("not one blank and a text behind `->` or `!`")),
     }
 }
 
 // The status that this line of `err` comes with, and the whole line.
 fn told(alloc: Global, text: &str) -> Result<(u8, Vec<u8>), Fault> {
-    let (status, line) = if text.starts_with(|letter: char| letter.is_ascii_digit()) {
+    let (status, line) = if matches!(text.as_bytes().first(), Some(b'0'..=b'9')) {
         (4, format!(in alloc; "{FILE}:{text}\n")?)
     } else if text.starts_with("uncaught ") || text.starts_with("unsupported ") {
         (1, format!(in alloc; "{FILE}: {text}\n")?)

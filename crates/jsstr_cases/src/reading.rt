@@ -1,12 +1,12 @@
 // The cases of a file.
 
-use crate::block::{Block, Step};
+use crate::block::Block;
 use crate::case::{Case, Fault};
 use crate::line::case_of;
 use std::alloc::Global;
 
 /// A line that isn't of the form, and why.
-#[derive(Clone, Copy, Debug)]
+#[derive(Clone, Copy)]
 pub(crate) struct BadLine {
     pub line: usize,
     pub fault: Fault,
@@ -14,47 +14,44 @@ pub(crate) struct BadLine {
 
 /// The cases of a case file, in their order.
 pub(crate) fn cases_of(alloc: Global, text: &str) -> Result<Vec<Case>, BadLine> {
-    let mut cases = Vec::new(alloc);
-    let mut open = None;
+    let mut reader = Reader {
+        cases: Vec::new(alloc),
+        open: None,
+    };
     let mut line = 0usize;
     for text in text.split_terminator('\n') {
         line = line.saturating_add(1);
-        open = match read_line(alloc, &mut cases, open, line, text) {
-            Ok(open) => open,
-            Err(fault) => return Err(BadLine { line, fault }),
-        };
+        if let Err(fault) = reader.take(alloc, line, text) {
+            return Err(BadLine { line, fault });
+        }
     }
-    match open {
-        None => Ok(cases),
-        Some(_) => Err(BadLine {
-            line,
-            fault: Fault::Form("a block without `-- status`"),
-        }),
+    if reader.open.is_some() {
+        let fault = Fault::Form("a block without `-- status`");
+        return Err(BadLine { line, fault });
     }
+    Ok(reader.cases)
 }
 
-// Adds the case that ends on this line, and gives the block that is open behind it.
-fn read_line(
-    alloc: Global,
-    cases: &mut Vec<Case>,
+// The cases so far, and the block that is open behind them.
+#[derive(Drop)]
+struct Reader {
+    cases: Vec<Case>,
     open: Option<Block>,
-    line: usize,
-    text: &str,
-) -> Result<Option<Block>, Fault> {
-    if let Some(block) = open {
-        return match block.with(alloc, text)? {
-            Step::Open(block) => Ok(Some(block)),
-            Step::Whole(case) => {
-                cases.push(case)?;
-                Ok(None)
+}
+
+impl Reader {
+    fn take(&mut self, alloc: Global, line: usize, text: &str) -> Result<(), Fault> {
+        if let Some(mut block) = self.open.take() {
+            if block.take(alloc, text)? {
+                self.cases.push(block.into_case())?;
+            } else {
+                self.open = Some(block);
             }
-        };
+        } else if text.starts_with("== ") {
+            self.open = Some(Block::new(alloc, line)?);
+        } else if !text.is_empty() && !text.starts_with('#') {
+            self.cases.push(case_of(alloc, line, text)?)?;
+        }
+        Ok(())
     }
-    if text.starts_with("== ") {
-        return Ok(Some(Block::new(alloc, line)?));
-    }
-    if !text.is_empty() && !text.starts_with('#') {
-        cases.push(case_of(alloc, line, text)?)?;
-    }
-    Ok(None)
 }

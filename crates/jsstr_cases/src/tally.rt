@@ -1,7 +1,7 @@
 // How many cases were run, and how many of them differ from what is wanted.
 ghost use Rattle.std.specs.Prelude.{◌≡◌, ◌≤◌, ◌<◌, ◌↔◌, IsTrue, false};
 
-#[derive(Clone, Copy, Debug)]
+#[derive(Clone, Copy)]
 pub(crate) struct Tally {
     pub cases: u64,
     pub differ: u64,

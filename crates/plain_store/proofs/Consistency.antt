@@ -1,8 +1,8 @@
 -- How the parts of a plain store stay consistent: after one more string, one more list in the table and one more answer.
-use Rattle.std.specs.Prelude.{◌≡◌, ℕ, zero, suc, ◌<◌, ◌≤◌, Bool, true, false, cond, List, [], ◌∷◌, ◌++◌, length, Some, None, Result, Ok, Err, OnOk, OnErr, if◌then◌else◌, slice_get, slice_index, unwrap_or, Contains}
+use Rattle.std.specs.Prelude.{◌≡◌, ℕ, zero, suc, ◌<◌, ◌≤◌, Bool, true, false, cond, List, [], ◌∷◌, ◌++◌, length, Some, None, Result, Ok, Err, OnOk, OnErr, if◌then◌else◌, slice_get, slice_index, unwrap_or, All, Contains}
 use Rattle.std.proofs.Common.{length-append, arith, refl, ap, sym, subst, ◌∙◌, get_or, ◌⊎◌, inl, inr}
 use Rattle.std.proofs.lemmas.Option.{slice_get-get_or}
-use Rattle.std.proofs.lemmas.List.Elements.{Contains-append_left}
+use Rattle.std.proofs.lemmas.List.Elements.{All-from_get_or, All-nil, Contains-append_left}
 use Rattle.std.specs.declared.cmp.Ordering.{Ordering}
 use Rattle.std.specs.declared.cmp.Ordering.TheVariants.{Less, Equal, Greater}
 use Rattle.std.specs.Ordering.{nat_cmp, is_eq, eq_by_cmp}
@@ -35,10 +35,17 @@ length_at_push [] u (suc n) h l = omega arith
 length_at_push (x ∷ xs) u zero h l = h 0
 length_at_push (x ∷ xs) u (suc n) h l = length_at_push xs u n (λ m. h (suc m)) l
 
+range_at_push : (strings : List (List ℕ)) (u : List ℕ) (n : ℕ) → ((m : ℕ) → All (λ x. x < 65536) (units_at strings m)) → All (λ x. x < 65536) u → All (λ x. x < 65536) (units_at (strings ++ u ∷ []) n)
+range_at_push [] u zero h l = l
+range_at_push [] u (suc n) h l = All-nil (λ (x : ℕ). x < 65536)
+range_at_push (x ∷ xs) u zero h l = h 0
+range_at_push (x ∷ xs) u (suc n) h l = range_at_push xs u n (λ m. h (suc m)) l
+
 -- one more string
-pub one_more : (strings : List (List ℕ)) (answers : List ℕ) (t : Numbers) (u : List ℕ) → IsConsistent strings answers t → length u ≤ 536870888 → length strings < 4294967295 → IsConsistent (strings ++ u ∷ []) answers t
-one_more strings answers t u k l room = record {
+pub one_more : (strings : List (List ℕ)) (answers : List ℕ) (t : Numbers) (u : List ℕ) → IsConsistent strings answers t → length u ≤ 536870888 → All (λ x. x < 65536) u → length strings < 4294967295 → IsConsistent (strings ++ u ∷ []) answers t
+one_more strings answers t u k l r room = record {
   lengths = λ n. length_at_push strings u n k.lengths l;
+  ranges = λ n. range_at_push strings u n k.ranges r;
   count = omega (arith, length-append strings (u ∷ []));
   found = λ w n h. get_more strings (u ∷ []) n w (k.found w n h);
   answered = λ i h. ap (get t) (at_more strings (u ∷ []) (slice_index answers i) (units_at strings (slice_index answers i)) (answer_stands strings answers t k i h)) ∙ k.answered i h;
@@ -81,6 +88,7 @@ answered_by false t u w s n e none h = enter_cases false t u w s n e ∙ h
 pub one_entry : (strings : List (List ℕ)) (answers : List ℕ) (t : Numbers) (u : List ℕ) (s : ℕ) → IsConsistent strings answers t → slice_get strings s ≡ Some u → get t u ≡ None → IsConsistent strings answers (insert t u s)
 one_entry strings answers t u s k h none = record {
   lengths = k.lengths;
+  ranges = k.ranges;
   count = k.count;
   found = λ w n g. found_by (eq_by_cmp (slice_cmp nat_cmp) w u) strings t u w s n refl k.found h g;
   answered = λ i l. answered_by (eq_by_cmp (slice_cmp nat_cmp) (units_at strings (slice_index answers i)) u) t u (units_at strings (slice_index answers i)) s (slice_index answers i) refl none (k.answered i l);
@@ -96,6 +104,7 @@ push_cases (m ∷ ms) n (suc i) h = elim (push_cases ms n i (omega arith)) [ inl
 pub one_answer : (strings : List (List ℕ)) (answers : List ℕ) (t : Numbers) (n : ℕ) → IsConsistent strings answers t → get t (units_at strings n) ≡ Some n → IsConsistent strings (answers ++ n ∷ []) t
 one_answer strings answers t n k h = record {
   lengths = k.lengths;
+  ranges = k.ranges;
   count = k.count;
   found = k.found;
   answered = λ i l. elim (push_cases answers n i l) [
@@ -135,15 +144,20 @@ grows_answer strings now answers more m l same e f g = rw (e, f, g) (record {
 pub nothing_yet : IsConsistent [] [] empty
 nothing_yet = record {
   lengths = λ n. omega arith;
+  ranges = λ n. All-nil (λ (x : ℕ). x < 65536);
   count = omega arith;
   found = λ u n h. absurd (let p : None ≡ Some n = sym (get-empty (slice_cmp nat_cmp) u) ∙ h in cc);
   answered = λ k h. absurd (omega arith);
 }
 
+-- the units of a list, each read once
+pub in_range : (s u : List ℕ) → s ≡ u → ((k : ℕ) → k < length s → slice_index s k < 65536) → All (λ x. x < 65536) u
+in_range s u e h = subst (λ (v : List ℕ). All (λ x. x < 65536) v) e (All-from_get_or (λ (x : ℕ). x < 65536) s 0 h)
+
 -- a push, which may be refused
-pub after_push : (b : Bool) (strings : List (List ℕ)) (answers : List ℕ) (t : Numbers) (u : List ℕ) → IsConsistent strings answers t → length u ≤ 536870888 → length strings < 4294967295 → IsConsistent (if b then strings ++ u ∷ [] else strings) answers t
-after_push true strings answers t u k l room = one_more strings answers t u k l room
-after_push false strings answers t u k l room = k
+pub after_push : (b : Bool) (strings : List (List ℕ)) (answers : List ℕ) (t : Numbers) (u : List ℕ) → IsConsistent strings answers t → length u ≤ 536870888 → All (λ x. x < 65536) u → length strings < 4294967295 → IsConsistent (if b then strings ++ u ∷ [] else strings) answers t
+after_push true strings answers t u k l r room = one_more strings answers t u k l r room
+after_push false strings answers t u k l r room = k
 
 -- an entry into the table, which may be refused
 pub after_insert : {R E : Type 0} (r : Result R E) (strings : List (List ℕ)) (answers : List ℕ) (t m : Numbers) (u : List ℕ) (s : ℕ) → OnOk r (m ≡ insert t u s) → OnErr r (m ≡ t) → IsConsistent strings answers t → slice_get strings s ≡ Some u → get t u ≡ None → IsConsistent strings answers m

@@ -1,5 +1,5 @@
 -- Each plain store is sound.
-use Rattle.std.specs.Prelude.{◌≡◌, ℕ, zero, suc, ◌<◌, ◌≤◌, List, [], ◌∷◌, length, Some, slice_get, slice_index, unwrap_or, Contains}
+use Rattle.std.specs.Prelude.{◌≡◌, ℕ, zero, suc, ◌<◌, ◌≤◌, List, [], ◌∷◌, length, All, Some, slice_get, slice_index, unwrap_or, Contains}
 use Rattle.std.proofs.Common.{arith, ap, sym, subst, ◌∙◌, get_or}
 use Rattle.std.proofs.lemmas.List.{get_or-map, length-map}
 use Rattle.std.specs.Ordering.{nat_cmp}
@@ -59,6 +59,7 @@ sound_of strings answers l t k = record {
   shut_apart = λ u n h p. cc;
   numbers = λ n u h. omega (arith, get_within strings n u h, k.count);
   lengths = λ n u h. subst (λ (v : List ℕ). length v ≤ 536870888) (ap (λ o. unwrap_or o []) h) (k.lengths n);
+  units = λ n u h. subst (λ (v : List ℕ). All (λ x. x < 65536) v) (ap (λ o. unwrap_or o []) h) (k.ranges n);
   low = low l;
   high = high l;
 }

@@ -5,7 +5,7 @@
 //! start, and nothing is counted as used.
 #![tactic(auto)]
 
-ghost use Rattle.std.specs.Prelude.{◌≡◌, ◌<◌, ◌≤◌, [], ◌∷◌, ◌++◌, length, IfOk, OnErr, None, Some, slice_get, ℕ};
+ghost use Rattle.std.specs.Prelude.{◌≡◌, ◌<◌, ◌≤◌, [], ◌∷◌, ◌++◌, length, IfOk, OnErr, None, Some, slice_get, slice_index, ℕ};
 ghost use Rattle.std.proofs.Props.{props};
 ghost use Rattle.std.specs.FinMap as map;
 ghost use Rattle.js_store.specs.Limits.{limit_units};
@@ -54,13 +54,15 @@ impl PlainStore {
         ensures number { IfOk result (λ n. n ≡ length self.old.strings.items) }
         ensures ok { IfOk result (λ _. self.new.strings.items ≡ self.old.strings.items ++ units ∷ []) }
         ensures err { OnErr result (self.new.strings.items ≡ self.old.strings.items) }
-        ensures history { history_of self.new.strings.items self.new.answers.items ≡ history_of self.old.strings.items self.old.answers.items }
+        ensures history { history_of self.new.strings.items self.new.answers.items
+            ≡ history_of self.old.strings.items self.old.answers.items }
         ensures answers { self.new.answers.items ≡ self.old.answers.items }
         ensures limit { self.new.limit ≡ self.old.limit }
     {
         if self.strings.len() >= u32::MAX as usize {
             return Err(NoMemory);
         }
+        read_each(units.as_slice());
         let number = self.strings.len() as u32;
         self.strings.push(units)?;
         Ok(number)
@@ -74,7 +76,8 @@ impl PlainStore {
         ensures answers { self.new.answers.items ≡ self.old.answers.items }
         ensures limit { self.new.limit ≡ self.old.limit }
         ensures ok { IfOk result (λ n. map.get self.new.table (units_at self.old.strings.items s) ≡ Some n) }
-        ensures units { IfOk result (λ n. slice_get self.old.strings.items n ≡ Some (units_at self.old.strings.items s)) }
+        ensures units { IfOk result
+            (λ n. slice_get self.old.strings.items n ≡ Some (units_at self.old.strings.items s)) }
     {
         let units = self.strings[s as usize].as_slice();
         if let Some(number) = self.table.get(units) {
@@ -82,6 +85,16 @@ impl PlainStore {
         }
         self.table.insert(self.alloc, units, s)?;
         Ok(s)
+    }
+}
+
+// Reads each unit, which tells that it is 16 bits wide: of a list the type tells it of no unit
+// that wasn't read. The loop does nothing, and a compiler leaves it out.
+fn read_each(units: &[u16])
+    ensures { (k : ℕ) → k < length units.now → slice_index units.now k < 65536 }
+{
+    for i in 0..units.len() {
+        let _unit = units[i];
     }
 }
 
@@ -113,6 +126,22 @@ impl Strings for PlainStore {
 
     fn unit_at(&mut self, s: u32, i: u32) -> u16 {
         self.strings[s as usize].as_slice()[i as usize]
+    }
+
+    fn read(&mut self, s: u32, from: u32, into: &mut [u16]) {
+        let from = from as usize;
+        let end = from + into.len();
+        into.copy_from_slice(&self.strings[s as usize].as_slice()[from..end]);
+    }
+
+    fn find_unit(&mut self, s: u32, unit: u16, from: u32) -> Option<u32> {
+        let units = self.strings[s as usize].as_slice();
+        for i in from as usize..units.len() {
+            if units[i] == unit {
+                return Some(i as u32);
+            }
+        }
+        None
     }
 
     fn concat(&mut self, a: u32, b: u32) -> Result<u32, ConcatFault> {

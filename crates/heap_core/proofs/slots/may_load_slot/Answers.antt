@@ -1,7 +1,7 @@
 use Rattle.std.proofs.Common.{refl, get_or}
 use Rattle.heap_rule.specs.Layout.{slot_at}
 use Rattle.heap_rule.specs.declared.view.View.{View}
-use Rattle.heap_views.specs.Probing.{MayLoad}
+use Rattle.heap_core_views.specs.Probing.{MayLoad}
 use Rattle.heap_core.specs.Core.{core}
 use Rattle.heap_core.proofs.StateLemmas.{live_if, none_live, view_inside}
 use Rattle.heap_core.proofs.SlotEvents.{has_room}

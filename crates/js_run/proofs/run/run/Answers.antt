@@ -1,6 +1,6 @@
 use Rattle.std.proofs.Common.{◌≡◌, None, map, refl}
 use Rattle.std.specs.String.{string_bytes}
-use Rattle.js_words.specs.Words.{request_for, request_of}
+use Rattle.run_command.specs.Words.{request_for, request_of}
 use Rattle.js_run.specs.Moment.{ended, moment, sinks}
 use Rattle.js_run.proofs.Becoming.{lawful_outcome, memory_outcome, refused_outcome}
 use Rattle.js_run.proofs.run.run.Goals as goal

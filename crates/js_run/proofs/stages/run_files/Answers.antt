@@ -1,6 +1,6 @@
 use Rattle.std.proofs.Common.{arith}
 use Rattle.std.proofs.lemmas.List.{length-map}
-use Rattle.js_sources.specs.Answers.{source_for, sources_for}
+use Rattle.run_sources.specs.Answers.{source_for, sources_for}
 use Rattle.js_run.specs.Moment.{ended, sinks}
 use Rattle.js_run.proofs.Becoming.{file_stopped, files_became, read_length}
 use Rattle.js_run.proofs.stages.run_files.Goals as goal

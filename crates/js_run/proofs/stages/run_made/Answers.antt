@@ -1,8 +1,8 @@
 use Rattle.std.proofs.Common.{◌≡◌, ◌∙◌, length, map, ap, arith}
 use Rattle.std.proofs.lemmas.List.{length-map}
-use Rattle.js_generate.specs.Texts.{generated, named_for}
-use Rattle.js_sources.specs.Answers.{source_for, sources_for}
-use Rattle.js_sources.specs.Program.{program_from}
+use Rattle.run_generate.specs.Texts.{generated, named_for}
+use Rattle.run_sources.specs.Answers.{source_for, sources_for}
+use Rattle.run_sources.specs.Program.{program_from}
 use Rattle.js_run.specs.Moment.{ended, sinks}
 use Rattle.js_run.proofs.Becoming.{made_scripts, memory_stopped}
 use Rattle.js_run.proofs.stages.run_made.Goals as goal

@@ -1,5 +1,5 @@
 use Rattle.std.proofs.Common.{◌∙◌, map, option_map, ap, sym}
-use Rattle.js_words.specs.Words.{asked_for, files, request_for}
+use Rattle.run_command.specs.Words.{asked_for, files, request_for}
 use Rattle.js_run.specs.Moment.{ended, sinks}
 use Rattle.js_run.proofs.Becoming.{made_became, still_quiet}
 use Rattle.js_run.proofs.stages.run_plan.Goals as goal

@@ -1,4 +1,4 @@
-use Rattle.js_sources.specs.Answers.{sources_for}
+use Rattle.run_sources.specs.Answers.{sources_for}
 use Rattle.js_run.specs.Moment.{ended, sinks}
 use Rattle.js_run.proofs.Becoming.{script_stopped}
 use Rattle.js_run.proofs.stages.run_sources.Goals as goal

@@ -6,16 +6,21 @@ use Rattle.js_store.specs.Faults.{Step}
 use Rattle.js_store.specs.Limits.{limit_units}
 use Rattle.js_store.specs.Rows.{intern_words, settle_words, wide_words}
 use Rattle.js_store.proofs.Laws.{step_after, step_within}
+use Rattle.heap_rule.specs.declared.size.Counters.{Counters}
 use Rattle.heap_rule.specs.declared.size.HeapSize.{HeapSize}
 use Rattle.heap_rule.specs.declared.view.View.{View}
 use Rattle.heap_rule.specs.Maps.{Has}
 use Rattle.heap_rule.proofs.MapLemmas.{has_key}
 use Rattle.heap_table.specs.Agents.{size_of}
 use Rattle.heap_text.specs.Settling.{IsBitOf, IsNoRoom}
-use Rattle.heap_slots.proofs.Loading.{slots_few, slots_from, slots_most, slots_none}
+use Rattle.heap_string_table.specs.declared.faults.TableFull.{TableFull}
+use Rattle.heap_string_table.specs.Answers.{HasLeft, IsPlan, IsRefused, Plan}
+use Rattle.heap_string_table.proofs.Visiting.{left_after, refused_after}
+use Rattle.heap_string_table.proofs.Loading.{slots_few, slots_from, slots_most, slots_none}
+use Rattle.heap_intern.specs.Counted.{FoundFree}
 use Rattle.heap_intern.specs.Faults.{fault_in_table, fault_in_text}
 use Rattle.heap_intern.specs.Sessions.{is_settled, state_by, table_of}
-use Rattle.heap_intern.proofs.Calls.{header_most, interned_err, interned_free, interned_ok, settle_free, settle_refused, settled_step, shut_text}
+use Rattle.heap_intern.proofs.Calls.{header_most, interned_err, interned_free, interned_ok, planned_then, settle_free, settle_refused, settled_step, shut_text}
 use Rattle.heap_intern.proofs.Rows.{settle_part}
 use Rattle.heap_text.proofs.Loaded.{known_trans}
 use Rattle.heap_intern.proofs.Lately.{interns_known, kept_by}
@@ -70,12 +75,28 @@ returns-in-Err-clause-free g c = let s = c.args.self.now in let v : View = s.tex
     let p = has_key v.units c.args.s.id c.requires in let e = c.settle.ensures in
     let sizes : w.sizes ≡ size_of s.text.heap.now = e.text.1 ∙ ap (λ x. size_of x.now) e.heap in
     let room : (wide : Bool) × IsBitOf v c.args.s.id wide × IsNoRoom v w w.sizes p.0 c.in-Err.full wide = subst (λ (z : HeapSize). (wide : Bool) × IsBitOf v c.args.s.id wide × IsNoRoom v w z p.0 c.in-Err.full wide) (sym sizes) (c.in-Err.ensures.refused p.0 p.1) in
-    rw c.text_fault.ensures (settle_free v w p.0 room.0 c.in-Err.full room.2 e.continues.slot_loads)
+    rw c.text_fault.ensures (subst (λ (us : List ℕ). FoundFree v w us (Some (fault_in_text c.in-Err.full))) (sym (text_is v.units c.args.s.id p.0 p.1)) (settle_free v w p.0 room.0 c.in-Err.full room.2 e.continues.slot_loads))
 
 pub returns-in-Err-intern_counted-clause-free : goal.returns-in-Err-intern_counted-clause-free
 returns-in-Err-intern_counted-clause-free g c = let v : View = c.args.self.now.text.agent.seat.me.0 in let x : View = c.settle.new.self.agent.seat.me.0 in let w : View = c.intern_counted.new.agent.seat.me.0 in
     let u = has_key v.units c.args.s.id c.requires in let found = c.in-Err-intern_counted.ensures.interns u.0 (c.settle.ensures.continues.known.units c.args.s.id u.0 u.1) in
-    rw c.table_fault.ensures (interned_free x w u.0 found.0 v c.in-Err-intern_counted.full found.2.1)
+    rw c.table_fault.ensures (subst (λ (us : List ℕ). FoundFree v w us (Some (fault_in_table c.in-Err-intern_counted.full))) (sym (text_is v.units c.args.s.id u.0 u.1)) (interned_free x w u.0 found.0 v c.in-Err-intern_counted.full found.2.1))
+
+-- a string that was settled is only loaded before
+pub returns-in-Ok-intern_counted-clause-plan : goal.returns-in-Ok-intern_counted-clause-plan
+returns-in-Ok-intern_counted-clause-plan g c settled = let v : View = c.args.self.now.text.agent.seat.me.0 in let x : View = c.settle.new.self.agent.seat.me.0 in let w : View = c.intern_counted.new.agent.seat.me.0 in
+    let u = has_key v.units c.args.s.id c.requires in let e = c.settle.ensures in let found = c.in-Ok-intern_counted.ensures.interns u.0 (e.continues.known.units c.args.s.id u.0 u.1) in let used = (e.again settled).1.used in
+    subst (λ (us : List ℕ). (plan : Plan) × IsPlan v w c.args.s.id us plan × HasLeft v w us plan) (sym (text_is v.units c.args.s.id u.0 u.1))
+    (found.0, planned_then v x w c.args.s.id u.0 found.0 (e.later settled) found.1, left_after v x w u.0 found.0 (ap (λ (n : Counters). n.ids) used) (ap (λ (n : Counters). n.words) used) found.2.5)
+
+pub returns-in-Err-intern_counted-clause-plan : goal.returns-in-Err-intern_counted-clause-plan
+returns-in-Err-intern_counted-clause-plan g c settled = let v : View = c.args.self.now.text.agent.seat.me.0 in let x : View = c.settle.new.self.agent.seat.me.0 in let w : View = c.intern_counted.new.agent.seat.me.0 in
+    let u = has_key v.units c.args.s.id c.requires in let e = c.settle.ensures in let found = c.in-Err-intern_counted.ensures.interns u.0 (e.continues.known.units c.args.s.id u.0 u.1) in let used = (e.again settled).1.used in let full = c.in-Err-intern_counted.full in
+    subst (λ (us : List ℕ). (plan : Plan) × IsPlan v w c.args.s.id us plan × ((f : TableFull) × (c.table_fault.result ≡ fault_in_table f) × IsRefused v w us plan f)) (sym (text_is v.units c.args.s.id u.0 u.1))
+    (found.0, planned_then v x w c.args.s.id u.0 found.0 (e.later settled) found.1, (full, c.table_fault.ensures, refused_after v x w u.0 found.0 full (ap (λ (n : Counters). n.ids) used) (ap (λ (n : Counters). n.words) used) found.2.1))
+
+pub returns-in-Err-clause-plan : goal.returns-in-Err-clause-plan
+returns-in-Err-clause-plan g c settled = let bad = (c.in-Err.ensures.again settled).0 in absurd (cc)
 
 pub returns-in-Ok-intern_counted-clause-loads : goal.returns-in-Ok-intern_counted-clause-loads
 returns-in-Ok-intern_counted-clause-loads g c = let e = c.settle.ensures.continues in

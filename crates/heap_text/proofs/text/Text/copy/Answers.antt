@@ -69,7 +69,7 @@ returns-in-Err-claim_id-clause-spared c = let v : View = c.args.self.now.agent.s
     let long : length us ≡ n = ap length c.has_wide-wide.ensures.listed ∙ c.requires.count in
     let own : (q : ℕ) → q < words_over wide n → HasKey w.own_words (c.in-Ok.start + q) = λ q l. let t = ok.0.words.each q (subst (λ (m : ℕ). q < words_over wide m) (sym long) l) in key_of w.own_words (c.in-Ok.start + q) t.0 t.1 in
     subst (λ (b : Bool). IsSpared v x (words_over b n) (fault.Ids c.in-Err-claim_id.full)) c.has_wide-wide.ensures.wide
-    (spared_ids v u w x c.in-Ok.start (words_over wide n) c.in-Err-claim_id.full.at c.in-Err-claim_id.full c.has_wide-wide.ensures.reads f.0 e.ids ok.1 e.own_ids e.own_words own)
+    (spared_ids v u w x c.in-Ok.start (words_over wide n) c.in-Err-claim_id.full.at c.in-Err-claim_id.full c.has_wide-wide.ensures.reads f.0 e.ids ok.1 e.own_ids e.own_words own c.in-Ok.ensures.fresh)
 
 pub returns-in-Err-clause-continues : goal.returns-in-Err-clause-continues
 returns-in-Err-clause-continues c = let v : View = c.args.self.now.agent.seat.me.0 in let u : View = c.has_wide-wide.new.self.agent.seat.me.0 in continues_trans v u c.write.new.self.agent.seat.me.0 (continues_reads v u c.has_wide-wide.ensures.reads) c.write.ensures.continues

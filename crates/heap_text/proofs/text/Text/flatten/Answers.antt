@@ -22,10 +22,11 @@ use Rattle.heap_text.proofs.Linking.{narrow_cons}
 use Rattle.heap_text.proofs.Loaded.{reads_length, reads_trans}
 use Rattle.heap_text.proofs.Pieces.{spared_words}
 use Rattle.heap_text.proofs.Progress.{left_fits, right_fits}
+use Rattle.heap_text.proofs.Settled.{sides_of}
 use Rattle.heap_text.proofs.Sides.{possible_cons, units_are, units_there}
 use Rattle.heap_text.proofs.Storing.{continues_writes, forms_length}
 use Rattle.heap_text.proofs.Turning.{key_kept, units_kept}
-use Rattle.heap_text.specs.Settling.{IsFlattened, IsNoRoom}
+use Rattle.heap_text.specs.Settling.{HasSides, IsFlattened, IsNoRoom}
 use Rattle.heap_text.specs.declared.faults.TextFull.TheVariants.{Words}
 use Rattle.heap_text.proofs.text.Text.flatten.Goals as goal
 
@@ -371,8 +372,22 @@ returns-clause-flat g c xs h = let v : View = c.args.self.now.agent.seat.me.0 in
       own_ids = moving.own_ids ∙ (r2.writes.own_ids ∙ (r1.writes.own_ids ∙ (ap (λ (y : View). y.own_ids) ok.view ∙ rb.own_ids)));
       own_words = λ q k. let here : HasKey b.own_words q = subst (λ (y : FinMap nat_cmp ℕ). HasKey y q) (sym rb.own_words) k in
           moving.own_words q (ok.above_own q here) (r2.writes.own_words q (r1.writes.own_words q (subst (λ (y : View). HasKey y.own_words q) (sym ok.view) (run_kept b.own_words start want q 0 here))));
+      sides = sides_of b x i left right m us (continues_trans b w x (continues_words b w start want ok.view c.claim_words.ensures.low)
+          (continues_trans w f1 x (continues_writes w f1 r1.writes) (continues_trans f1 f2 x (continues_writes f1 f2 r2.writes) moving.continues))).known d.below d.known both;
       words = (start, won_or_lost f2 x i (Cons wide left right) wide start (words_over wide (length us)) c.flatten_step.result st.step st.view own);
     }
+
+pub returns-in-Err-clause-rope : goal.returns-in-Err-clause-rope
+returns-in-Err-clause-rope g c xs h = let v : View = c.args.self.now.agent.seat.me.0 in let a : View = c.load_length-n.new.self.seat.me.0 in let b : View = c.left_length-m.new.self.agent.seat.me.0 in
+    let i = c.args.s.id in let wide = c.args.wide in let left = c.args.left in let right = c.args.right in let n = c.load_length-n.result in let m = c.left_length-m.result in let e = c.load_length-n.ensures in let d = c.left_length-m.ensures in
+    let us : List ℕ = units_at v i in let known = units_there v i c.requires.known in let ra = reads_length v a i n e.known e.view in let fa = forms_length v a i n e.view in
+    let count : n ≡ length us = possible_length a e.belongs.5 i n us (e.known.units i us known) (subst (λ (w : View). Has w.lengths i n) (sym e.view) (insert_same v.lengths i n)) in
+    let long = possible_cons v c.requires.text.5 i wide left right us c.requires.seen known in
+    let ls : List ℕ = units_at b left in let rs : List ℕ = units_at b right in
+    let both : IsBoth us ls rs m (length us) = subst (λ (xs : List ℕ). IsBoth xs ls rs m (length xs)) (units_kept v a i e.known c.requires.known) d.sides in
+    let narrow = narrow_cons v c.requires.text.5 i wide left right us c.requires.seen known in
+    let w : View = c.claim_words.new.self.seat.me.0 in let is : xs ≡ us = sym (units_are v i xs h) in
+    subst (λ (ys : List ℕ). HasSides w i ys) (sym is) (sides_of b w i left right m us (continues_full_words b w c.in-Err.full.at c.in-Err.ensures.refused.0 c.claim_words.ensures.low).known d.below d.known both)
 
 pub returns-in-Err-clause-refused : goal.returns-in-Err-clause-refused
 returns-in-Err-clause-refused g c xs h = let v : View = c.args.self.now.agent.seat.me.0 in let a : View = c.load_length-n.new.self.seat.me.0 in let b : View = c.left_length-m.new.self.agent.seat.me.0 in

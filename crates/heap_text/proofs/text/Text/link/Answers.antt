@@ -43,7 +43,7 @@ returns-in-Err-clause-linked c us vs h k = let v : View = c.args.self.now.agent.
       (
         (full, refl),
         (subst (λ (z : HeapSize). IsFull full 1 z.ids) same f.1, ap (λ (y : View). y.low.ids) f.0),
-        spared_ids v u u x 0 0 full.at full reads f.0 refl (omega arith) refl (λ q w. w) (λ q l. absurd (omega arith)),
+        spared_ids v u u x 0 0 full.at full reads f.0 refl (omega arith) refl (λ q w. w) (λ q l. absurd (omega arith)) (λ q l k. absurd (omega arith)),
       ),
     )
 

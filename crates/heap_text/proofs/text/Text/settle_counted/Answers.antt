@@ -1,11 +1,12 @@
-use Rattle.std.proofs.Common.{◌≡◌, ℕ, Bool, List, inr, ap, subst}
+use Rattle.std.proofs.Common.{◌≡◌, ℕ, Bool, List, inr, ap, subst, sym}
 use Rattle.js_header.specs.declared.form.Form.TheVariants.{Cons}
 use Rattle.std.specs.Prelude.{IfErr}
 use Rattle.heap_rule.specs.declared.size.HeapSize.{HeapSize}
 use Rattle.heap_rule.specs.declared.view.View.{View}
+use Rattle.heap_rule.specs.Forms.{IsCons}
 use Rattle.heap_rule.specs.Maps.{Has}
 use Rattle.heap_table.specs.Agents.{size_of}
-use Rattle.heap_text.specs.Settling.{IsBitOf, IsFlattened, IsNoRoom, IsSettling}
+use Rattle.heap_text.specs.Settling.{HasSides, IsBitOf, IsFlattened, IsNoRoom, IsSettling}
 use Rattle.heap_text.proofs.Going.{continues_reads, continues_trans}
 use Rattle.heap_text.proofs.Settled.{err_then, flattened_after, no_room_after, ok_then, same_bit}
 use Rattle.heap_text.proofs.text.Text.settle_counted.Goals as goal
@@ -20,6 +21,13 @@ returns-in-Cons-clause-used g c = let v : View = c.args.self.now.agent.seat.me.0
     ok_then c.flatten.result (λ _. (us : List ℕ) → Has u.units i us → IsFlattened u w i us wide) (λ _. (us : List ℕ) → Has v.units i us → IsSettling v w i us)
     (λ _ h us k. inr (wide, bit, flattened_after v u w r i us wide (h us (r.known.units i us k)))) c.flatten.ensures.flat
 
+-- a settled string is no Cons
+pub returns-in-Cons-clause-later : goal.returns-in-Cons-clause-later
+returns-in-Cons-clause-later g c settled = absurd (c.form_now-form.ensures.settled settled (subst IsCons (sym c.in-Cons.is) tt))
+
+pub returns-in_default-clause-later : goal.returns-in_default-clause-later
+returns-in_default-clause-later g c settled f h = (c.form_now-form.result, c.form_now-form.ensures.seen, c.form_now-form.ensures.later f h)
+
 pub returns-in-Cons-clause-refused : goal.returns-in-Cons-clause-refused
 returns-in-Cons-clause-refused g c = let v : View = c.args.self.now.agent.seat.me.0 in let u : View = c.form_now-form.new.self.agent.seat.me.0 in let w : View = c.flatten.new.self.agent.seat.me.0 in let i = c.args.s.id in let wide = c.in-Cons.wide in let r = c.form_now-form.ensures.reads in
     let bit : IsBitOf v i wide = λ seen l m k. same_bit seen wide l m c.in-Cons.left c.in-Cons.right c.form_now-form.result c.in-Cons.is (c.form_now-form.ensures.later (Cons seen l m) k) in
@@ -27,3 +35,7 @@ returns-in-Cons-clause-refused g c = let v : View = c.args.self.now.agent.seat.m
     subst (λ (z : HeapSize). IfErr c.flatten.result (λ f. (us : List ℕ) → Has v.units i us → (b : Bool) × IsBitOf v i b × IsNoRoom v w z us f b)) same
     (err_then c.flatten.result (λ f. (us : List ℕ) → Has u.units i us → IsNoRoom u w (size_of c.form_now-form.new.self.heap.now) us f wide) (λ f. (us : List ℕ) → Has v.units i us → (b : Bool) × IsBitOf v i b × IsNoRoom v w (size_of c.form_now-form.new.self.heap.now) us f b)
     (λ f h us k. (wide, bit, no_room_after v u w r (size_of c.form_now-form.new.self.heap.now) us f wide (h us (r.known.units i us k)))) c.flatten.ensures.refused)
+
+pub returns-in-Cons-clause-rope : goal.returns-in-Cons-clause-rope
+returns-in-Cons-clause-rope g c = let v : View = c.args.self.now.agent.seat.me.0 in let u : View = c.form_now-form.new.self.agent.seat.me.0 in let w : View = c.flatten.new.self.agent.seat.me.0 in let i = c.args.s.id in let r = c.form_now-form.ensures.reads in
+    err_then c.flatten.result (λ f. (us : List ℕ) → Has u.units i us → HasSides w i us) (λ f. (us : List ℕ) → Has v.units i us → HasSides w i us) (λ f h us k. h us (r.known.units i us k)) c.flatten.ensures.rope

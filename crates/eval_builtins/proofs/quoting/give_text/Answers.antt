@@ -1,0 +1,15 @@
+use Rattle.std.proofs.lemmas.Result.{err_from_is_err_and}
+use Rattle.eval_builtins.proofs.Quoted.{own_text, no_text}
+use Rattle.eval_builtins.proofs.quoting.give_text.Goals as goal
+
+pub returns-in_err-text-clause-did : goal.returns-in_err-text-clause-did
+returns-in_err-text-clause-did g c =
+    let state = g.S.Strings.state in
+    let p = err_from_is_err_and c.from_residual.result c.from_residual.ensures.1 in
+    rw (p.1, p.2) (no_text g.S.Strings.number (state c.args.store.now) (state c.to_text.new.store) c.args.value.now c.in_err-text.field-0.0 c.in_err-text.ensures.did)
+
+pub returns-clause-did : goal.returns-clause-did
+returns-clause-did g c =
+    let state = g.S.Strings.state in
+    let e = c.in_ok-text.ensures in
+    own_text g.S.Strings.number (state c.args.store.now) (state c.to_text.new.store) c.args.value.now c.in_ok-text.text e.known e.did

@@ -1,0 +1,44 @@
+-- Strings of numbers: `String.fromCharCode` and `String.fromCodePoint` (ECMA-262, "Properties of the String Constructor").
+use Rattle.std.specs.Prelude.{ℕ, ◌+◌, List, [], length, nat_le, if◌then◌else◌, map}
+use Rattle.js_number.specs.declared.Num.{Num}
+use Rattle.js_number.specs.Arith.{modulo}
+use Rattle.js_methods.specs.Building.{is_code_point, code_units_of}
+use Rattle.eval_values.specs.declared.value.Kind.TheVariants.{RangeError}
+use Rattle.eval_values.specs.Outcome.{Val, text, Out, gave, bind, each, free, needing, throwing, converts}
+use Rattle.eval_values.specs.Need.{Row, parts}
+use Rattle.eval_values.specs.Conversions.{to_number, all_units}
+
+-- what a call of `String.fromCharCode` or `String.fromCodePoint` with these arguments needs, where its result has n units
+abbrev pub from_row : List Val → ℕ → Row
+from_row vs n = parts (length vs) (all_units vs + n)
+
+-- a RangeError of such a call
+abbrev pub from_throws : {A : Type 0} → List Val → Out A
+from_throws vs = throwing (from_row vs 0) RangeError
+
+-- a number that has to be a code point
+abbrev pub point_out : List Val → Num → Out Num
+point_out vs n = if is_code_point n then gave n free else from_throws vs
+
+-- an argument as a number, and then what is taken of it
+abbrev pub number_out : (Num → Out Num) → ℕ → List Val → Val → Out Num
+number_out taken at vs v = converts (from_row vs 0) (to_number at v) taken
+
+abbrev pub made : List Val → List ℕ → Out Val
+made vs u = needing (from_row vs (length u)) (text u)
+
+-- a call of such a function: each argument in turn as a number, and then the string of these; no text spells a call of more
+-- than 2^20 arguments
+abbrev pub from_numbers : (Num → Out Num) → (List Num → List ℕ) → ℕ → List Val → Out Val
+from_numbers taken units at vs =
+    if nat_le (length vs) 1048576
+    then bind (each (number_out taken at vs) vs) (λ ns. made vs (units ns))
+    else from_throws vs
+
+-- "String.fromCharCode": each number modulo 2^16
+abbrev pub char_codes_call : ℕ → List Val → Out Val
+char_codes_call at vs = from_numbers (λ n. gave n free) (map (modulo 65536)) at vs
+
+-- "String.fromCodePoint": the UTF-16 of the code points
+abbrev pub code_points_call : ℕ → List Val → Out Val
+code_points_call at vs = from_numbers (point_out vs) code_units_of at vs

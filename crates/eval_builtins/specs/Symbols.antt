@@ -1,0 +1,42 @@
+-- Symbols and `String` (ECMA-262, "String ( value )", "Symbol.for", "Symbol.keyFor", "Symbol.prototype.description").
+use Rattle.std.specs.Prelude.{ℕ, List, [], ◌∷◌, ◌++◌, length, codes}
+use Rattle.eval_values.specs.declared.value.Kind.TheVariants.{TypeError}
+use Rattle.eval_values.specs.Outcome.{Val, undefined, null, text, symbol, Out, gave, needing, throwing, converting}
+use Rattle.eval_values.specs.Need.{nothing, reads, ids_in, words_in}
+use Rattle.eval_values.specs.Conversions.{to_string, text_units, string_units}
+use Rattle.eval_values.specs.Limited.{bounded}
+use Rattle.eval_builtins.specs.Quoting.{as_text}
+
+-- the key of a symbol, and undefined of every other value that has members
+abbrev pub description_of : Val → Out Val
+description_of undefined = throwing nothing TypeError
+description_of null = throwing nothing TypeError
+description_of (symbol k) = needing nothing (text k)
+description_of _ = needing nothing undefined
+
+-- "SymbolDescriptiveString"
+abbrev pub shown_symbol : List ℕ → List ℕ
+shown_symbol k = codes "Symbol(" ++ (k ++ codes ")")
+
+abbrev pub shown_out : ℕ → List ℕ → Out Val
+shown_out limit k = bounded limit (λ r. reads r) (shown_symbol k)
+
+abbrev pub string_of : ℕ → Val → Out Val
+string_of limit (symbol k) = shown_out limit k
+string_of limit v = as_text limit v
+
+-- `String()` is the empty string
+abbrev pub string_call : ℕ → List Val → Out Val
+string_call limit [] = needing (reads 0) (text [])
+string_call limit (v ∷ vs) = string_of limit v
+
+-- the one symbol of a key, which is interned
+abbrev pub registered : ℕ → List ℕ → Out Val
+registered t k = gave (symbol k) (record { interned = k ∷ []; texts = []; ids = ids_in (reads t); words = words_in (reads t) })
+
+abbrev pub symbol_for : ℕ → Val → Out Val
+symbol_for limit v = converting (reads (string_units v)) (to_string limit v) (λ k. registered (text_units v) k)
+
+abbrev pub key_for : Val → Out Val
+key_for (symbol k) = needing (reads (length k)) (text k)
+key_for v = throwing (reads (string_units v)) TypeError

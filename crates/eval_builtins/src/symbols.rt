@@ -1,0 +1,220 @@
+// Symbols and `String` (ECMA-262, "String ( value )", "Symbol.for", "Symbol.keyFor",
+// "Symbol.prototype.description").
+ghost use Rattle.std.specs.Prelude.{◌≡◌, ◌+◌, ◌++◌, ◌≤◌, ℕ, [], length, IfOk, OnOk};
+ghost use Rattle.js_store.specs.State.{Has, Grows, IsKnown, text};
+ghost use Rattle.js_store.specs.Rows.{wide_words, flat_words};
+ghost use Rattle.js_store.specs.Faults.{Step, NeverSlots};
+ghost use Rattle.js_store.specs.Answers.{NeverThrows, full_of};
+ghost use Rattle.eval_values.specs.Arguments.{first_of};
+ghost use Rattle.eval_values.specs.Outcome.{needing};
+ghost use Rattle.eval_values.specs.Outcome;
+ghost use Rattle.eval_values.specs.Need.{reads};
+ghost use Rattle.eval_values.specs.Seen.{seen, IsFine, all_seen, AllFine};
+ghost use Rattle.eval_values.specs.Does.{Does};
+ghost use Rattle.eval_builtins.specs.Symbols.{description_of, shown_symbol, shown_out, string_call, registered, string_of as string_out, symbol_for as symbol_out, key_for as key_out};
+
+use crate::quoting::give_text;
+use eval_values::{Kind, Stop, Value, to_text};
+use js_number::append_text;
+use js_store::{MethodFault, Strings};
+use js_texts::read;
+use js_units::{NoMemory, Units};
+use std::alloc::Global;
+
+/// `.description` of a value.
+pub fn read_description<S: Strings>(store: &S, value: &Value<S::Ref>) -> Result<Value<S::Ref>, Stop>
+    requires { IsFine (S.state store.now) S.number value.now }
+    ensures fine { IfOk result (λ v. IsFine (S.state store.now) S.number v) }
+    ensures did { Does S.number (S.state store.now) (S.state store.now) result
+        (description_of (seen (S.state store.now) S.number value.now)) }
+{
+    match value {
+        Value::Undefined | Value::Null => Err(Stop::Threw(Kind::TypeError)),
+        Value::Symbol(key) => Ok(Value::Text(*key)),
+        Value::Bool(_) | Value::Number(_) | Value::Text(_) | Value::List(_) => Ok(Value::Undefined),
+    }
+}
+
+/// `String` with all its arguments.
+pub(crate) fn call_string_function<S: Strings>(
+    alloc: Global,
+    store: &mut S,
+    args: &[Value<S::Ref>],
+) -> Result<Value<S::Ref>, Stop>
+    requires { AllFine (S.state store.old) S.number args.now }
+    ensures grows { Grows (S.state store.old) (S.state store.new) }
+    ensures fine { IfOk result (λ v. IsFine (S.state store.new) S.number v) }
+    ensures did { Does S.number (S.state store.old) (S.state store.new) result
+        (string_call (S.state store.old).limit (all_seen (S.state store.old) S.number args.now)) }
+{
+    match args {
+        [first, ..] => string_of(alloc, store, first),
+        [] => give_empty(store),
+    }
+}
+
+fn give_empty<S: Strings>(store: &mut S) -> Result<Value<S::Ref>, Stop>
+    ensures grows { Grows (S.state store.old) (S.state store.new) }
+    ensures fine { IfOk result (λ v. IsFine (S.state store.new) S.number v) }
+    ensures did { Does S.number (S.state store.old) (S.state store.new) result
+        (needing (reads 0) (Outcome.text [])) }
+{
+    let r = store.from_units(&[])?;
+    Ok(Value::Text(r))
+}
+
+fn string_of<S: Strings>(
+    alloc: Global,
+    store: &mut S,
+    value: &Value<S::Ref>,
+) -> Result<Value<S::Ref>, Stop>
+    requires { IsFine (S.state store.old) S.number value.now }
+    ensures grows { Grows (S.state store.old) (S.state store.new) }
+    ensures fine { IfOk result (λ v. IsFine (S.state store.new) S.number v) }
+    ensures did { Does S.number (S.state store.old) (S.state store.new) result
+        (string_out (S.state store.old).limit (seen (S.state store.old) S.number value.now)) }
+{
+    match value {
+        Value::Symbol(key) => show_symbol(alloc, store, *key),
+        Value::Undefined
+        | Value::Null
+        | Value::Bool(_)
+        | Value::Number(_)
+        | Value::Text(_)
+        | Value::List(_) => give_text(alloc, store, value),
+    }
+}
+
+// The length is told before anything of that size is read or made.
+fn show_symbol<S: Strings>(alloc: Global, store: &mut S, key: S::Ref) -> Result<Value<S::Ref>, Stop>
+    requires { IsKnown (S.state store.old) (S.number key) }
+    ensures grows { Grows (S.state store.old) (S.state store.new) }
+    ensures fine { IfOk result (λ v. IsFine (S.state store.new) S.number v) }
+    ensures did { Does S.number (S.state store.old) (S.state store.new) result
+        (shown_out (S.state store.old).limit (text (S.state store.old) (S.number key))) }
+{
+    let length = u64::from(store.len(key)) + 8;
+    if length > u64::from(store.limit()) {
+        return Err(Stop::Threw(Kind::RangeError));
+    }
+    give_shown(alloc, store, key)
+}
+
+fn give_shown<S: Strings>(alloc: Global, store: &mut S, key: S::Ref) -> Result<Value<S::Ref>, Stop>
+    requires known { IsKnown (S.state store.old) (S.number key) }
+    requires short { length (shown_symbol (text (S.state store.old) (S.number key))) ≤
+        (S.state store.old).limit }
+    ensures grows { Grows (S.state store.old) (S.state store.new) }
+    ensures fine { IfOk result (λ v. IsFine (S.state store.new) S.number v) }
+    ensures did { Does S.number (S.state store.old) (S.state store.new) result
+        (shown_out (S.state store.old).limit (text (S.state store.old) (S.number key))) }
+{
+    let r = shown(alloc, store, key)?;
+    Ok(Value::Text(r))
+}
+
+// `Symbol(`, the key, `)`.
+fn shown<S: Strings>(alloc: Global, store: &mut S, key: S::Ref) -> Result<S::Ref, MethodFault>
+    requires known { IsKnown (S.state store.old) (S.number key) }
+    requires short { length (shown_symbol (text (S.state store.old) (S.number key))) ≤
+        (S.state store.old).limit }
+    ensures value { IfOk result
+        (λ r. Has (S.state store.new) (S.number r) (shown_symbol (text (S.state store.old) (S.number key)))) }
+    ensures throws { NeverThrows result }
+    ensures step { Step (S.state store.old) (S.state store.new) (full_of result)
+        1 (wide_words (length (text (S.state store.old) (S.number key))) + flat_words (shown_symbol (text (S.state store.old) (S.number key)))) }
+    ensures slots { NeverSlots (full_of result) }
+    ensures history { (S.state store.new).history ≡ (S.state store.old).history }
+{
+    let units = read(alloc, store, key)?;
+    let mut text = Units::new(alloc);
+    push_shown(&mut text, units.as_slice())?;
+    Ok(store.from_units(text.as_slice())?)
+}
+
+fn push_shown(text: &mut Units, key: &[u16]) -> Result<(), NoMemory>
+    ensures added { OnOk result (text.new ≡ text.old ++ shown_symbol key.now) }
+{
+    append_text(text, "Symbol(")?;
+    text.extend_from_slice(key)?;
+    append_text(text, ")")
+}
+
+/// `Symbol.for` with all its arguments. It interns the key.
+pub(crate) fn call_symbol_for<S: Strings>(
+    alloc: Global,
+    store: &mut S,
+    args: &[Value<S::Ref>],
+) -> Result<Value<S::Ref>, Stop>
+    requires { AllFine (S.state store.old) S.number args.now }
+    ensures grows { Grows (S.state store.old) (S.state store.new) }
+    ensures fine { IfOk result (λ v. IsFine (S.state store.new) S.number v) }
+    ensures did { Does S.number (S.state store.old) (S.state store.new) result
+        (symbol_out (S.state store.old).limit (first_of (all_seen (S.state store.old) S.number args.now))) }
+{
+    match args {
+        [first, ..] => symbol_for(alloc, store, first),
+        [] => symbol_for(alloc, store, &Value::Undefined),
+    }
+}
+
+fn symbol_for<S: Strings>(
+    alloc: Global,
+    store: &mut S,
+    value: &Value<S::Ref>,
+) -> Result<Value<S::Ref>, Stop>
+    requires { IsFine (S.state store.old) S.number value.now }
+    ensures grows { Grows (S.state store.old) (S.state store.new) }
+    ensures fine { IfOk result (λ v. IsFine (S.state store.new) S.number v) }
+    ensures did { Does S.number (S.state store.old) (S.state store.new) result
+        (symbol_out (S.state store.old).limit (seen (S.state store.old) S.number value.now)) }
+{
+    let key = to_text(alloc, store, value)?;
+    register(store, key)
+}
+
+// The symbol of a key, which has at most 40 units more than the operand.
+fn register<S: Strings>(store: &mut S, key: S::Ref) -> Result<Value<S::Ref>, Stop>
+    requires { IsKnown (S.state store.old) (S.number key) }
+    ensures grows { Grows (S.state store.old) (S.state store.new) }
+    ensures fine { IfOk result (λ v. IsFine (S.state store.new) S.number v) }
+    ensures did { (t : ℕ) → length (text (S.state store.old) (S.number key)) ≤ t + 40 → Does S.number
+        (S.state store.old) (S.state store.new) result
+        (registered t (text (S.state store.old) (S.number key))) }
+{
+    let r = store.intern(key)?;
+    Ok(Value::Symbol(r))
+}
+
+/// `Symbol.keyFor` with all its arguments.
+pub(crate) fn call_key_for<S: Strings>(
+    store: &S,
+    args: &[Value<S::Ref>],
+) -> Result<Value<S::Ref>, Stop>
+    requires { AllFine (S.state store.now) S.number args.now }
+    ensures fine { IfOk result (λ v. IsFine (S.state store.now) S.number v) }
+    ensures did { Does S.number (S.state store.now) (S.state store.now) result
+        (key_out (first_of (all_seen (S.state store.now) S.number args.now))) }
+{
+    match args {
+        [first, ..] => key_for(store, first),
+        [] => Err(Stop::Threw(Kind::TypeError)),
+    }
+}
+
+fn key_for<S: Strings>(store: &S, value: &Value<S::Ref>) -> Result<Value<S::Ref>, Stop>
+    requires { IsFine (S.state store.now) S.number value.now }
+    ensures fine { IfOk result (λ v. IsFine (S.state store.now) S.number v) }
+    ensures did { Does S.number (S.state store.now) (S.state store.now) result
+        (key_out (seen (S.state store.now) S.number value.now)) }
+{
+    match value {
+        Value::Symbol(key) => Ok(Value::Text(*key)),
+        Value::Undefined
+        | Value::Null
+        | Value::Bool(_)
+        | Value::Number(_)
+        | Value::Text(_)
+        | Value::List(_) => Err(Stop::Threw(Kind::TypeError)),
+    }
+}

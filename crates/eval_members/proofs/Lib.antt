@@ -1,0 +1,8 @@
+mod Calls
+mod Joined
+mod Pads
+mod Parts
+mod Made
+mod Replacements
+mod Elements
+mod Taken

@@ -1,0 +1,24 @@
+use Rattle.std.proofs.lemmas.Result.{err_from_is_err_and}
+use Rattle.eval_members.specs.Groups.{replaced_of, match_count}
+use Rattle.eval_members.proofs.Replacements.{searched_stops, template_stops, replace_does}
+use Rattle.eval_members.proofs.replacing.replace_values.Goals as goal
+
+pub returns-in_err-w-clause-did : goal.returns-in_err-w-clause-did
+returns-in_err-w-clause-did g c = λ o m t k.
+    let state = g.S.Strings.state in
+    let p = err_from_is_err_and c.from_residual.result c.from_residual.ensures.1 in
+    rw (p.1, p.2) (searched_stops g.S.Strings.number o m t (match_count c.args.replace) (replaced_of c.args.replace) (state c.args.store.now) (state c.to_text.new.store) (state c.to_text.new.store) c.args.s c.args.searched.now c.args.template.now c.in_err-w.field-0.0 c.in_err-w.ensures.did)
+
+pub returns-in_err-by-clause-did : goal.returns-in_err-by-clause-did
+returns-in_err-by-clause-did g c = λ o m t k.
+    let state = g.S.Strings.state in
+    let p = err_from_is_err_and c.from_residual-in_err-by.result c.from_residual-in_err-by.ensures.1 in
+    let e = c.in_ok-w.ensures in
+    rw (p.1, p.2) (template_stops g.S.Strings.number o m t (match_count c.args.replace) (replaced_of c.args.replace) (state c.args.store.now) (state c.to_text.new.store) (state c.to_text-2.new.store) c.args.s c.args.searched.now c.args.template.now e.grows c.requires.template c.in_ok-w.w e.did c.in_err-by.field-0.0 c.in_err-by.ensures.did)
+
+pub returns-clause-did : goal.returns-clause-did
+returns-clause-did g c = λ o m t k.
+    let state = g.S.Strings.state in
+    let e = c.in_ok-w.ensures in
+    let f = c.in_ok-by.ensures in
+    replace_does g.S.Strings.number o m t (match_count c.args.replace) (replaced_of c.args.replace) (state c.args.store.now) (state c.to_text.new.store) (state c.to_text-2.new.store) c.args.s c.args.searched.now c.args.template.now e.grows c.requires.template c.in_ok-w.w e.did (state c.give_replaced.new.store) c.in_ok-by.by c.give_replaced.result f.grows c.requires.known e.known e.short f.short k f.did c.give_replaced.ensures.did

@@ -1,0 +1,10 @@
+pub mod Operands
+pub mod Reading
+pub mod Cutting
+pub mod Searching
+pub mod Building
+pub mod Padding
+pub mod Replacing
+pub mod Arrays
+pub mod Members
+pub mod Groups

@@ -1,0 +1,76 @@
+-- Members and methods of values.
+use Rattle.std.specs.Prelude.{ℕ, ◌+◌, List, length, pos}
+use Rattle.js_number.specs.declared.Num.TheVariants.{Int}
+use Rattle.js_units.specs.Text.{well}
+use Rattle.js_methods.specs.Cuts.{slice_of, substring_of, substr_of}
+use Rattle.js_methods.specs.Searching.{includes_from, index_from, last_index_up_to, starts_at, ends_at}
+use Rattle.js_methods.specs.Padding.{pad_start_of, pad_end_of}
+use Rattle.js_methods.specs.Trimming.{trimmed, trimmed_start, trimmed_end}
+use Rattle.js_replace.specs.Matches.{matches}
+use Rattle.js_replace.specs.Replaced.{replaced_first, replaced_all}
+use Rattle.js_methods.specs.WellFormed.{all_paired}
+use Rattle.eval_tree.specs.declared.tree.Method.{Method}
+use Rattle.eval_tree.specs.declared.tree.Method.TheVariants.{At, CharAt, CharCodeAt, CodePointAt, Concat, EndsWith, Includes, IndexOf, IsWellFormed, Join, LastIndexOf, PadEnd, PadStart, Repeat, Replace, ReplaceAll, Slice, Split, StartsWith, Substr, Substring, ToWellFormed, Trim, TrimEnd, TrimStart}
+use Rattle.eval_values.specs.declared.value.Kind.TheVariants.{TypeError}
+use Rattle.eval_values.specs.Outcome.{Val, undefined, null, bool, number, text, symbol, list, Out, gave, free, number_of, needing, throwing}
+use Rattle.eval_values.specs.Need.{nothing, reads}
+use Rattle.eval_values.specs.Conversions.{to_number, list_units, all_units, first_text_units}
+use Rattle.eval_values.specs.Arguments.{first_of, second_of, end_in}
+use Rattle.eval_members.specs.Operands.{operands}
+use Rattle.eval_members.specs.Reading.{at_call, char_at_call, char_code_call, code_point_call}
+use Rattle.eval_values.specs.Limited.{limited}
+use Rattle.eval_members.specs.Cutting.{cut_call}
+use Rattle.eval_members.specs.Searching.{place_value, search_call}
+use Rattle.eval_members.specs.Building.{concat_call}
+use Rattle.eval_members.specs.Padding.{repeat_call, pad_call}
+use Rattle.eval_members.specs.Replacing.{two_text_units, replace_call}
+use Rattle.eval_members.specs.Arrays.{list_call, split_call}
+
+abbrev pub length_of : Val → Out Val
+length_of undefined = throwing nothing TypeError
+length_of null = throwing nothing TypeError
+length_of (bool b) = needing nothing undefined
+length_of (number n) = needing nothing undefined
+length_of (text u) = needing nothing (number (Int (pos (length u))))
+length_of (symbol k) = needing nothing undefined
+length_of (list us) = needing nothing (number_of (length us))
+
+-- a value that has members (ECMA-262, "RequireObjectCoercible")
+abbrev pub present : Val → Out (Unit {0})
+present undefined = throwing (reads 0) TypeError
+present null = throwing (reads 0) TypeError
+present v = gave tt free
+
+-- a method of a string, where the operands of the call have t units (ECMA-262, "Properties of the String Prototype Object")
+abbrev pub string_call : Method → ℕ → ℕ → ℕ → List ℕ → List Val → Out Val
+string_call At at limit t u vs = at_call t u (to_number at (first_of vs))
+string_call CharAt at limit t u vs = char_at_call t u (to_number at (first_of vs))
+string_call CharCodeAt at limit t u vs = char_code_call t u (to_number at (first_of vs))
+string_call CodePointAt at limit t u vs = code_point_call t u (to_number at (first_of vs))
+string_call Concat at limit t u vs = concat_call limit u vs
+string_call EndsWith at limit t u vs = search_call limit t (length u + first_text_units vs) (λ w e. bool (ends_at u w e)) (first_of vs) (end_in at (second_of vs))
+string_call Includes at limit t u vs = search_call limit t (length u + first_text_units vs) (λ w n. bool (includes_from u w n)) (first_of vs) (to_number at (second_of vs))
+string_call IndexOf at limit t u vs = search_call limit t (length u + first_text_units vs) (λ w n. place_value (index_from u w n)) (first_of vs) (to_number at (second_of vs))
+string_call IsWellFormed at limit t u vs = needing (reads t) (bool (all_paired u))
+string_call Join at limit t u vs = throwing (reads t) TypeError
+string_call LastIndexOf at limit t u vs = search_call limit t (length u + first_text_units vs) (λ w n. place_value (last_index_up_to u w n)) (first_of vs) (to_number at (second_of vs))
+string_call PadEnd at limit t u vs = pad_call limit (pad_end_of u) u (to_number at (first_of vs)) (second_of vs)
+string_call PadStart at limit t u vs = pad_call limit (pad_start_of u) u (to_number at (first_of vs)) (second_of vs)
+string_call Repeat at limit t u vs = repeat_call limit u (to_number at (first_of vs))
+string_call Replace at limit t u vs = replace_call limit t (length u + first_text_units vs) (length u + two_text_units vs) (λ w. 1) (replaced_first u) (first_of vs) (second_of vs)
+string_call ReplaceAll at limit t u vs = replace_call limit t (length u + first_text_units vs) (length u + two_text_units vs) (λ w. length (matches u w)) (replaced_all u) (first_of vs) (second_of vs)
+string_call Slice at limit t u vs = cut_call limit t (slice_of u) (to_number at (first_of vs)) (end_in at (second_of vs))
+string_call Split at limit t u vs = split_call limit u vs (end_in at (second_of vs))
+string_call StartsWith at limit t u vs = search_call limit t (length u + first_text_units vs) (λ w n. bool (starts_at u w n)) (first_of vs) (to_number at (second_of vs))
+string_call Substr at limit t u vs = cut_call limit t (substr_of u) (to_number at (first_of vs)) (end_in at (second_of vs))
+string_call Substring at limit t u vs = cut_call limit t (substring_of u) (to_number at (first_of vs)) (end_in at (second_of vs))
+string_call ToWellFormed at limit t u vs = limited limit t (well u)
+string_call Trim at limit t u vs = limited limit t (trimmed u)
+string_call TrimEnd at limit t u vs = limited limit t (trimmed_end u)
+string_call TrimStart at limit t u vs = limited limit t (trimmed_start u)
+
+-- a call of a method on a value, with all its arguments, of which the method takes those that its definition names
+abbrev pub called : Method → ℕ → ℕ → Val → List Val → Out Val
+called m at limit (text u) vs = string_call m at limit (length u + all_units (operands m vs)) u (operands m vs)
+called m at limit (list us) vs = list_call m at limit (list_units us + all_units (operands m vs)) us (operands m vs)
+called m at limit v vs = throwing (reads (all_units (operands m vs))) TypeError

@@ -1,0 +1,25 @@
+-- Methods that look for one string in another. The operands of a call have o units as they are, and t where the first one was
+-- converted.
+use Rattle.std.specs.Prelude.{ℕ, List, Option, Some, None, pos, negsuc}
+use Rattle.js_number.specs.declared.Num.{Num}
+use Rattle.js_number.specs.declared.Num.TheVariants.{Int}
+use Rattle.eval_values.specs.Outcome.{Val, number, Converted, Out, converting, needing, converts}
+use Rattle.eval_values.specs.Need.{reads}
+use Rattle.eval_values.specs.Conversions.{to_string}
+
+-- a place, or -1
+abbrev pub place_number : Option ℕ → Num
+place_number None = Int (negsuc 0)
+place_number (Some k) = Int (pos k)
+
+abbrev pub place_value : Option ℕ → Val
+place_value k = number (place_number k)
+
+-- what a number gives
+abbrev pub found : {N : Type 0} → ℕ → (N → Val) → Converted N → Out Val
+found t answer n = converts (reads t) n (λ k. needing (reads t) (answer k))
+
+-- the first argument as a string, and then what it and a number give: "String.prototype.includes", "String.prototype.indexOf",
+-- "String.prototype.lastIndexOf", "String.prototype.startsWith", and "String.prototype.endsWith", where the number may be missing
+abbrev pub search_call : {N : Type 0} → ℕ → ℕ → ℕ → (List ℕ → N → Val) → Val → Converted N → Out Val
+search_call limit o t answer w n = converting (reads o) (to_string limit w) (λ x. found t (answer x) n)

@@ -1,0 +1,220 @@
+// Elements of values, and methods of arrays (ECMA-262, "Property Accessors", "Properties of the
+// Array Prototype Object").
+ghost use Rattle.std.specs.Prelude.{◌≡◌, ℕ, ◌+◌, ◌≤◌, ◌∷◌, [], length, slice_get, IfOk, IfSome};
+ghost use Rattle.js_number.specs.Places.{IsLawful};
+ghost use Rattle.js_store.specs.State.{Grows, IsKnown, text};
+ghost use Rattle.js_texts.specs.Texts.{texts as texts_seen, AllKnown};
+ghost use Rattle.eval_values.specs.Conversions.{list_units};
+ghost use Rattle.eval_members.specs.Arrays.{as_number, indexed_text, indexed_list, indexed_other, indexed, joined_with, join_call, list_call};
+ghost use Rattle.eval_members.specs.Reading.{maybe_text};
+ghost use Rattle.eval_values.specs.Seen.{seen, IsFine, all_seen, AllFine};
+ghost use Rattle.eval_values.specs.Does.{Does};
+
+use eval_tree::Method;
+use eval_values::{Kind, Stop, Value, first_is_missing, first_text, joined_by_commas};
+use js_number::Num;
+use js_store::Strings;
+use std::alloc::Global;
+
+/// The element of a value at an index that was evaluated; `at` is the byte offset of the bracket.
+pub fn read_index<S: Strings>(
+    store: &mut S,
+    at: u32,
+    value: &Value<S::Ref>,
+    index: &Value<S::Ref>,
+) -> Result<Value<S::Ref>, Stop>
+    requires value { IsFine (S.state store.old) S.number value.now }
+    requires index { IsFine (S.state store.old) S.number index.now }
+    ensures grows { Grows (S.state store.old) (S.state store.new) }
+    ensures fine { IfOk result (λ v. IsFine (S.state store.new) S.number v) }
+    ensures did { Does S.number (S.state store.old) (S.state store.new) result
+        (indexed at (seen (S.state store.old) S.number value.now)
+        (seen (S.state store.old) S.number index.now)) }
+{
+    let number = index_number(store, index);
+    match value {
+        Value::Undefined | Value::Null => Err(Stop::Threw(Kind::TypeError)),
+        Value::Bool(_) | Value::Number(_) | Value::Symbol(_) => no_element(store, at, number),
+        Value::Text(s) => unit(store, at, *s, number),
+        Value::List(list) => element(store, at, list, number),
+    }
+}
+
+// The number that an index is.
+fn index_number<S: Strings>(_store: &S, index: &Value<S::Ref>) -> Option<Num>
+    requires { IsFine (S.state _store.now) S.number index.now }
+    ensures value { result ≡ as_number (seen (S.state _store.now) S.number index.now) }
+    ensures lawful { IfSome result IsLawful }
+{
+    match index {
+        Value::Number(n) => Some(*n),
+        Value::Undefined
+        | Value::Null
+        | Value::Bool(_)
+        | Value::Text(_)
+        | Value::Symbol(_)
+        | Value::List(_) => None,
+    }
+}
+
+// A value without elements.
+fn no_element<S: Strings>(_store: &S, at: u32, index: Option<Num>) -> Result<Value<S::Ref>, Stop>
+    ensures fine { IfOk result (λ v. IsFine (S.state _store.now) S.number v) }
+    ensures did { Does S.number (S.state _store.now) (S.state _store.now) result (indexed_other at index) }
+{
+    match index {
+        None => Err(Stop::Unsupported { at }),
+        Some(_) => Ok(Value::Undefined),
+    }
+}
+
+// The one unit of a string at an index.
+fn unit<S: Strings>(
+    store: &mut S,
+    at: u32,
+    s: S::Ref,
+    index: Option<Num>,
+) -> Result<Value<S::Ref>, Stop>
+    requires known { IsKnown (S.state store.old) (S.number s) }
+    requires lawful { IfSome index IsLawful }
+    ensures grows { Grows (S.state store.old) (S.state store.new) }
+    ensures fine { IfOk result (λ v. IsFine (S.state store.new) S.number v) }
+    ensures did { Does S.number (S.state store.old) (S.state store.new) result
+        (indexed_text at (text (S.state store.old) (S.number s)) index) }
+{
+    match index {
+        None => Err(Stop::Unsupported { at }),
+        Some(n) => match n {
+            Num::Int(k) if k >= 0 => match js_methods::at(store, s, Num::Int(k))? {
+                Some(r) => Ok(Value::Text(r)),
+                None => Ok(Value::Undefined),
+            },
+            Num::Int(_) | Num::NaN | Num::PosInf | Num::NegInf => Ok(Value::Undefined),
+        },
+    }
+}
+
+// The element of an array at an index.
+fn element<S: Strings>(
+    store: &S,
+    at: u32,
+    list: &[S::Ref],
+    index: Option<Num>,
+) -> Result<Value<S::Ref>, Stop>
+    requires known { AllKnown (S.state store.now) S.number list.now }
+    ensures fine { IfOk result (λ v. IsFine (S.state store.now) S.number v) }
+    ensures did { Does S.number (S.state store.now) (S.state store.now) result
+        (indexed_list at (texts_seen (S.state store.now) S.number list.now) index) }
+{
+    match index {
+        None => Err(Stop::Unsupported { at }),
+        Some(n) => match n {
+            Num::Int(k) if k >= 0 => Ok(nth(store, list, k as u64)),
+            Num::Int(_) | Num::NaN | Num::PosInf | Num::NegInf => Ok(Value::Undefined),
+        },
+    }
+}
+
+// The element at a place, counted from 0.
+fn nth<S: Strings>(_store: &S, list: &[S::Ref], place: u64) -> Value<S::Ref>
+    requires { AllKnown (S.state _store.now) S.number list.now }
+    ensures seen { seen (S.state _store.now) S.number result
+        ≡ maybe_text (slice_get (texts_seen (S.state _store.now) S.number list.now) place) }
+    ensures fine { IsFine (S.state _store.now) S.number result }
+{
+    match list.get(place as usize) {
+        Some(s) => Value::Text(*s),
+        None => Value::Undefined,
+    }
+}
+
+/// A method that was called on an array with all its arguments; `at` is the byte offset of its
+/// word.
+pub fn call_list<S: Strings>(
+    alloc: Global,
+    store: &mut S,
+    at: u32,
+    method: Method,
+    list: &[S::Ref],
+    args: &[Value<S::Ref>],
+) -> Result<Value<S::Ref>, Stop>
+    requires known { AllKnown (S.state store.old) S.number list.now }
+    requires args { AllFine (S.state store.old) S.number args.now }
+    ensures grows { Grows (S.state store.old) (S.state store.new) }
+    ensures fine { IfOk result (λ v. IsFine (S.state store.new) S.number v) }
+    ensures did { (t : ℕ) → Does S.number (S.state store.old) (S.state store.new) result
+        (list_call method at (S.state store.old).limit t (texts_seen (S.state store.old) S.number list.now)
+        (all_seen (S.state store.old) S.number args.now)) }
+{
+    match method {
+        Method::Join => call_join(alloc, store, list, args),
+        Method::At
+        | Method::Concat
+        | Method::Includes
+        | Method::IndexOf
+        | Method::LastIndexOf
+        | Method::Slice => Err(Stop::Unsupported { at }),
+        _ => Err(Stop::Threw(Kind::TypeError)),
+    }
+}
+
+// `join`.
+fn call_join<S: Strings>(
+    alloc: Global,
+    store: &mut S,
+    list: &[S::Ref],
+    args: &[Value<S::Ref>],
+) -> Result<Value<S::Ref>, Stop>
+    requires known { AllKnown (S.state store.old) S.number list.now }
+    requires args { AllFine (S.state store.old) S.number args.now }
+    ensures grows { Grows (S.state store.old) (S.state store.new) }
+    ensures fine { IfOk result (λ v. IsFine (S.state store.new) S.number v) }
+    ensures did { Does S.number (S.state store.old) (S.state store.new) result
+        (join_call (S.state store.old).limit (texts_seen (S.state store.old) S.number list.now)
+        (all_seen (S.state store.old) S.number args.now)) }
+{
+    if first_is_missing(store, args) {
+        return join_with_commas(alloc, store, list);
+    }
+    let sep = first_text(alloc, store, args)?;
+    join_with(alloc, store, list, sep)
+}
+
+fn join_with_commas<S: Strings>(
+    alloc: Global,
+    store: &mut S,
+    list: &[S::Ref],
+) -> Result<Value<S::Ref>, Stop>
+    requires known { AllKnown (S.state store.old) S.number list.now }
+    ensures grows { Grows (S.state store.old) (S.state store.new) }
+    ensures fine { IfOk result (λ v. IsFine (S.state store.new) S.number v) }
+    ensures did { (t : ℕ) → list_units (texts_seen (S.state store.old) S.number list.now) ≤ t → Does S.number
+        (S.state store.old) (S.state store.new) result
+        (joined_with (S.state store.old).limit t (texts_seen (S.state store.old) S.number list.now)
+        (44 ∷ [])) }
+{
+    let r = joined_by_commas(alloc, store, list)?;
+    Ok(Value::Text(r))
+}
+
+// The strings with a separator between two, where the operands of the call have t units, and the
+// separator at most 40 more.
+fn join_with<S: Strings>(
+    alloc: Global,
+    store: &mut S,
+    list: &[S::Ref],
+    sep: S::Ref,
+) -> Result<Value<S::Ref>, Stop>
+    requires known { AllKnown (S.state store.old) S.number list.now }
+    requires separator_known { IsKnown (S.state store.old) (S.number sep) }
+    ensures grows { Grows (S.state store.old) (S.state store.new) }
+    ensures fine { IfOk result (λ v. IsFine (S.state store.new) S.number v) }
+    ensures did { (t : ℕ) → list_units (texts_seen (S.state store.old) S.number list.now)
+        + length (text (S.state store.old) (S.number sep)) ≤ t + 40 → Does S.number (S.state store.old)
+        (S.state store.new) result
+        (joined_with (S.state store.old).limit t (texts_seen (S.state store.old) S.number list.now)
+        (text (S.state store.old) (S.number sep))) }
+{
+    let r = js_texts::join(alloc, store, list, sep)?;
+    Ok(Value::Text(r))
+}

@@ -1,0 +1,80 @@
+// Methods that make longer strings.
+ghost use Rattle.std.specs.Prelude.{ℕ, IfOk};
+ghost use Rattle.js_store.specs.State.{Grows, IsKnown, text};
+ghost use Rattle.eval_values.specs.Limited.{within};
+ghost use Rattle.eval_members.specs.Building.{joined_text, one_joined, concat_call};
+ghost use Rattle.eval_values.specs.Seen.{seen, IsFine, all_seen, AllFine};
+ghost use Rattle.eval_values.specs.Does.{Does, GivesText};
+
+use eval_values::{Kind, Stop, Value, to_text};
+use js_store::Strings;
+use std::alloc::Global;
+
+/// `concat`.
+pub fn call_concat<S: Strings>(
+    alloc: Global,
+    store: &mut S,
+    s: S::Ref,
+    args: &[Value<S::Ref>],
+) -> Result<Value<S::Ref>, Stop>
+    requires known { IsKnown (S.state store.old) (S.number s) }
+    requires args { AllFine (S.state store.old) S.number args.now }
+    ensures grows { Grows (S.state store.old) (S.state store.new) }
+    ensures fine { IfOk result (λ v. IsFine (S.state store.new) S.number v) }
+    ensures did { Does S.number (S.state store.old) (S.state store.new) result
+        (concat_call (S.state store.old).limit (text (S.state store.old) (S.number s))
+        (all_seen (S.state store.old) S.number args.now)) }
+{
+    let mut text = s;
+    for value in args {
+        text = join_one(alloc, store, text, value)?;
+    }
+    itself(store, text)
+}
+
+// One more argument, as a string, behind what was joined so far.
+fn join_one<S: Strings>(
+    alloc: Global,
+    store: &mut S,
+    s: S::Ref,
+    value: &Value<S::Ref>,
+) -> Result<S::Ref, Stop>
+    requires known { IsKnown (S.state store.old) (S.number s) }
+    requires fine { IsFine (S.state store.old) S.number value.now }
+    ensures grows { Grows (S.state store.old) (S.state store.new) }
+    ensures known { IfOk result (λ r. IsKnown (S.state store.new) (S.number r)) }
+    ensures did { GivesText S.number (S.state store.old) (S.state store.new) result
+        (one_joined (S.state store.old).limit (text (S.state store.old) (S.number s))
+        (seen (S.state store.old) S.number value.now)) }
+{
+    let w = to_text(alloc, store, value)?;
+    append(store, s, w)
+}
+
+// Two strings joined, unless they are longer together than a string may be.
+fn append<S: Strings>(store: &mut S, s: S::Ref, w: S::Ref) -> Result<S::Ref, Stop>
+    requires left { IsKnown (S.state store.old) (S.number s) }
+    requires right { IsKnown (S.state store.old) (S.number w) }
+    ensures grows { Grows (S.state store.old) (S.state store.new) }
+    ensures known { IfOk result (λ r. IsKnown (S.state store.new) (S.number r)) }
+    ensures did { GivesText S.number (S.state store.old) (S.state store.new) result
+        (joined_text (S.state store.old).limit (text (S.state store.old) (S.number s))
+        (text (S.state store.old) (S.number w))) }
+{
+    Ok(js_methods::concat(store, s, w)?)
+}
+
+/// The string itself, unless it is longer than a string may be.
+pub fn itself<S: Strings>(store: &mut S, s: S::Ref) -> Result<Value<S::Ref>, Stop>
+    requires { IsKnown (S.state store.old) (S.number s) }
+    ensures grows { Grows (S.state store.old) (S.state store.new) }
+    ensures fine { IfOk result (λ v. IsFine (S.state store.new) S.number v) }
+    ensures did { (ids : ℕ) (words : ℕ → ℕ) → Does S.number (S.state store.old) (S.state store.new) result
+        (within (S.state store.old).limit ids words (text (S.state store.old) (S.number s))) }
+{
+    if store.len(s) > store.limit() {
+        Err(Stop::Threw(Kind::RangeError))
+    } else {
+        Ok(Value::Text(s))
+    }
+}

@@ -1,0 +1,159 @@
+// Methods that give a part of a string, or the string with units replaced.
+ghost use Rattle.std.specs.Prelude.{◌≡◌, ℕ, ◌+◌, ◌*◌, ◌≤◌, length, IfOk, IfSome};
+ghost use Rattle.js_number.specs.Places.{IsLawful};
+ghost use Rattle.js_units.specs.Text.{well};
+ghost use Rattle.js_store.specs.State.{Has, Grows, IsKnown, text};
+ghost use Rattle.js_store.specs.Rows.{wide_words};
+ghost use Rattle.js_store.specs.Faults.{Step, method_fault_of, NeverSlots};
+ghost use Rattle.js_store.specs.Answers.{ThrowsLong};
+ghost use Rattle.eval_values.specs.Conversions.{to_number, all_units};
+ghost use Rattle.eval_values.specs.Arguments.{first_of, second_of, end_in};
+ghost use Rattle.eval_values.specs.Limited.{limited};
+ghost use Rattle.eval_members.specs.Cutting.{cut_call};
+ghost use Rattle.eval_members.specs.Groups.{part_of, trimmed_of};
+ghost use Rattle.eval_values.specs.Seen.{IsFine, all_seen, AllFine};
+ghost use Rattle.eval_values.specs.Does.{Does};
+
+use eval_values::{Stop, Value, first_number, second_or_none};
+use js_number::Num;
+use js_store::{MethodFault, Strings};
+use std::alloc::Global;
+
+/// A method that gives the part between two numbers.
+#[derive(Clone, Copy, Debug, PartialEq, Eq)]
+pub enum Cut {
+    Slice,
+    Substring,
+    Substr,
+}
+
+/// A method that takes white space away.
+#[derive(Clone, Copy, Debug, PartialEq, Eq)]
+pub enum Trim {
+    Both,
+    Start,
+    End,
+}
+
+/// `slice`, `substring` or `substr`.
+pub fn call_cut<S: Strings>(
+    store: &mut S,
+    at: u32,
+    cut: Cut,
+    s: S::Ref,
+    args: &[Value<S::Ref>],
+) -> Result<Value<S::Ref>, Stop>
+    requires known { IsKnown (S.state store.old) (S.number s) }
+    requires args { AllFine (S.state store.old) S.number args.now }
+    ensures grows { Grows (S.state store.old) (S.state store.new) }
+    ensures fine { IfOk result (λ v. IsFine (S.state store.new) S.number v) }
+    ensures did { Does S.number (S.state store.old) (S.state store.new) result
+        (cut_call (S.state store.old).limit
+        (length (text (S.state store.old) (S.number s))
+        + all_units (all_seen (S.state store.old) S.number args.now))
+        (part_of cut (text (S.state store.old) (S.number s)))
+        (to_number at (first_of (all_seen (S.state store.old) S.number args.now)))
+        (end_in at (second_of (all_seen (S.state store.old) S.number args.now)))) }
+{
+    let start = first_number(store, at, args)?;
+    let end = second_or_none(store, at, args)?;
+    give_part(store, cut, s, start, end)
+}
+
+// The part of a string, where the operands of the call have t units.
+fn give_part<S: Strings>(
+    store: &mut S,
+    cut: Cut,
+    s: S::Ref,
+    start: Num,
+    end: Option<Num>,
+) -> Result<Value<S::Ref>, Stop>
+    requires known { IsKnown (S.state store.old) (S.number s) }
+    requires start { IsLawful start }
+    requires end { IfSome end IsLawful }
+    ensures grows { Grows (S.state store.old) (S.state store.new) }
+    ensures fine { IfOk result (λ v. IsFine (S.state store.new) S.number v) }
+    ensures did { (t : ℕ) → length (text (S.state store.old) (S.number s)) ≤ t → Does S.number
+        (S.state store.old) (S.state store.new) result
+        (limited (S.state store.old).limit t
+        (part_of cut (text (S.state store.old) (S.number s)) start end)) }
+{
+    let r = part(store, cut, s, start, end)?;
+    Ok(Value::Text(r))
+}
+
+fn part<S: Strings>(
+    store: &mut S,
+    cut: Cut,
+    s: S::Ref,
+    start: Num,
+    end: Option<Num>,
+) -> Result<S::Ref, MethodFault>
+    requires known { IsKnown (S.state store.old) (S.number s) }
+    requires start { IsLawful start }
+    requires end { IfSome end IsLawful }
+    ensures value { IfOk result
+        (λ r. Has (S.state store.new) (S.number r)
+        (part_of cut (text (S.state store.old) (S.number s)) start end)) }
+    ensures throws { ThrowsLong result (S.state store.old).limit
+        (length (part_of cut (text (S.state store.old) (S.number s)) start end)) }
+    ensures step { Step (S.state store.old) (S.state store.new) (method_fault_of result)
+        1 (2 * wide_words (length (text (S.state store.old) (S.number s))) + 3) }
+    ensures slots { NeverSlots (method_fault_of result) }
+    ensures history { (S.state store.new).history ≡ (S.state store.old).history }
+{
+    match cut {
+        Cut::Slice => js_methods::slice(store, s, start, end),
+        Cut::Substring => js_methods::substring(store, s, start, end),
+        Cut::Substr => js_methods::substr(store, s, start, end),
+    }
+}
+
+/// `trim`, `trimStart` or `trimEnd`.
+pub fn call_trim<S: Strings>(store: &mut S, trim: Trim, s: S::Ref) -> Result<Value<S::Ref>, Stop>
+    requires known { IsKnown (S.state store.old) (S.number s) }
+    ensures grows { Grows (S.state store.old) (S.state store.new) }
+    ensures fine { IfOk result (λ v. IsFine (S.state store.new) S.number v) }
+    ensures did { (t : ℕ) → length (text (S.state store.old) (S.number s)) ≤ t → Does S.number
+        (S.state store.old) (S.state store.new) result
+        (limited (S.state store.old).limit t (trimmed_of trim (text (S.state store.old) (S.number s)))) }
+{
+    let r = trimmed(store, trim, s)?;
+    Ok(Value::Text(r))
+}
+
+fn trimmed<S: Strings>(store: &mut S, trim: Trim, s: S::Ref) -> Result<S::Ref, MethodFault>
+    requires known { IsKnown (S.state store.old) (S.number s) }
+    ensures value { IfOk result
+        (λ r. Has (S.state store.new) (S.number r)
+        (trimmed_of trim (text (S.state store.old) (S.number s)))) }
+    ensures throws { ThrowsLong result (S.state store.old).limit
+        (length (trimmed_of trim (text (S.state store.old) (S.number s)))) }
+    ensures step { Step (S.state store.old) (S.state store.new) (method_fault_of result)
+        1 (2 * wide_words (length (text (S.state store.old) (S.number s))) + 3) }
+    ensures slots { NeverSlots (method_fault_of result) }
+    ensures history { (S.state store.new).history ≡ (S.state store.old).history }
+{
+    match trim {
+        Trim::Both => js_methods::trim(store, s),
+        Trim::Start => js_methods::trim_start(store, s),
+        Trim::End => js_methods::trim_end(store, s),
+    }
+}
+
+/// `toWellFormed`.
+pub fn call_to_well_formed<S: Strings>(
+    alloc: Global,
+    store: &mut S,
+    s: S::Ref,
+) -> Result<Value<S::Ref>, Stop>
+    requires known { IsKnown (S.state store.old) (S.number s) }
+    ensures grows { Grows (S.state store.old) (S.state store.new) }
+    ensures fine { IfOk result (λ v. IsFine (S.state store.new) S.number v) }
+    ensures did { (t : ℕ) → length (text (S.state store.old) (S.number s)) ≤ t → Does S.number
+        (S.state store.old) (S.state store.new) result
+        (limited (S.state store.old).limit t (well (text (S.state store.old) (S.number s)))) }
+{
+    let r = js_methods::to_well_formed(alloc, store, s)?;
+    Ok(Value::Text(r))
+}

@@ -1,0 +1,20 @@
+//! Members of values and the methods of strings and of arrays, as a script calls them with values as
+//! arguments (ECMA-262, "Properties of the String Prototype Object", "Property Accessors"), over any
+//! store of strings.
+//!
+//! What each call means stands in `specs/Members.antt`, a line for each method, and what it cites.
+#![tactic(auto)]
+
+mod arrays;
+mod building;
+mod cutting;
+mod members;
+mod operands;
+mod padding;
+mod reading;
+mod replacing;
+mod searching;
+mod splitting;
+
+pub use arrays::read_index;
+pub use members::{call, present, read_length};

@@ -1,0 +1,55 @@
+// The arguments that a method takes: those that its definition names; further ones are ignored.
+ghost use Rattle.std.specs.Prelude.{◌≡◌};
+ghost use Rattle.eval_members.specs.Operands.{most_taken, operands as operands_of};
+ghost use Rattle.eval_values.specs.Seen.{all_seen, AllFine};
+
+use eval_tree::Method;
+use eval_values::Value;
+use js_store::Strings;
+
+// How many of `count` arguments a method takes at most.
+fn most_taken(method: Method, count: usize) -> usize
+    ensures { result ≡ most_taken method count }
+{
+    match method {
+        Method::Concat => count,
+        Method::IsWellFormed
+        | Method::ToWellFormed
+        | Method::Trim
+        | Method::TrimEnd
+        | Method::TrimStart => 0,
+        Method::At
+        | Method::CharAt
+        | Method::CharCodeAt
+        | Method::CodePointAt
+        | Method::Join
+        | Method::Repeat => 1,
+        _ => 2,
+    }
+}
+
+// The first ones of these, as many as a method takes.
+fn taken<T>(method: Method, args: &[T]) -> &[T]
+    ensures { result.now ≡ operands_of method args.now }
+{
+    let most = most_taken(method, args.len());
+    if most >= args.len() {
+        return args;
+    }
+    &args[..most]
+}
+
+// The arguments of a call that its method takes.
+#[tactic(auto, using(crate::proofs::Taken::seen_taken, crate::proofs::Taken::fine_taken))]
+pub(crate) fn operands<'a, S: Strings>(
+    _store: &S,
+    method: Method,
+    args: &'a [Value<S::Ref>],
+) -> &'a [Value<S::Ref>]
+    requires { AllFine (S.state _store.now) S.number args.now }
+    ensures seen { all_seen (S.state _store.now) S.number result.now ≡ operands_of method
+        (all_seen (S.state _store.now) S.number args.now) }
+    ensures fine { AllFine (S.state _store.now) S.number result.now }
+{
+    taken(method, args)
+}

@@ -1,0 +1,107 @@
+// `split`.
+ghost use Rattle.std.specs.Prelude.{◌≡◌, ℕ, ◌+◌, ◌≤◌, length, IfOk, IfSome, None, Some};
+ghost use Rattle.js_number.specs.Places.{IsLawful};
+ghost use Rattle.js_store.specs.State.{Grows, IsKnown, text};
+ghost use Rattle.eval_values.specs.Arguments.{second_of, end_in};
+ghost use Rattle.eval_members.specs.Arrays.{most_parts as most_of, split_into, split_most as split_out, split_call};
+ghost use Rattle.eval_values.specs.Seen.{IsFine, all_seen, AllFine};
+ghost use Rattle.eval_values.specs.Does.{Does};
+
+use eval_values::{Stop, Value, first_is_missing, first_text, second_or_none};
+use js_number::Num;
+use js_store::Strings;
+use std::alloc::Global;
+
+/// `split`, of which the limit is converted before the separator.
+pub fn call_split<S: Strings>(
+    alloc: Global,
+    store: &mut S,
+    at: u32,
+    s: S::Ref,
+    args: &[Value<S::Ref>],
+) -> Result<Value<S::Ref>, Stop>
+    requires known { IsKnown (S.state store.old) (S.number s) }
+    requires args { AllFine (S.state store.old) S.number args.now }
+    ensures grows { Grows (S.state store.old) (S.state store.new) }
+    ensures fine { IfOk result (λ v. IsFine (S.state store.new) S.number v) }
+    ensures did { Does S.number (S.state store.old) (S.state store.new) result
+        (split_call (S.state store.old).limit (text (S.state store.old) (S.number s))
+        (all_seen (S.state store.old) S.number args.now)
+        (end_in at (second_of (all_seen (S.state store.old) S.number args.now)))) }
+{
+    let most = second_or_none(store, at, args)?;
+    split_most(alloc, store, s, args, most_parts(most))
+}
+
+// How many parts are wanted at most.
+fn most_parts(most: Option<Num>) -> u32
+    requires { IfSome most IsLawful }
+    ensures { result ≡ most_of most }
+{
+    match most {
+        None => u32::MAX,
+        Some(n) => n.to_uint32(),
+    }
+}
+
+fn split_most<S: Strings>(
+    alloc: Global,
+    store: &mut S,
+    s: S::Ref,
+    args: &[Value<S::Ref>],
+    most: u32,
+) -> Result<Value<S::Ref>, Stop>
+    requires known { IsKnown (S.state store.old) (S.number s) }
+    requires args { AllFine (S.state store.old) S.number args.now }
+    ensures grows { Grows (S.state store.old) (S.state store.new) }
+    ensures fine { IfOk result (λ v. IsFine (S.state store.new) S.number v) }
+    ensures did { Does S.number (S.state store.old) (S.state store.new) result
+        (split_out (S.state store.old).limit (text (S.state store.old) (S.number s))
+        (all_seen (S.state store.old) S.number args.now) most) }
+{
+    if first_is_missing(store, args) {
+        return keep_whole(alloc, store, s, most);
+    }
+    let sep = first_text(alloc, store, args)?;
+    split_by(alloc, store, s, sep, most)
+}
+
+// The string itself as the one part, where the operands of the call have t units.
+fn keep_whole<S: Strings>(
+    alloc: Global,
+    store: &mut S,
+    s: S::Ref,
+    most: u32,
+) -> Result<Value<S::Ref>, Stop>
+    requires known { IsKnown (S.state store.old) (S.number s) }
+    ensures grows { Grows (S.state store.old) (S.state store.new) }
+    ensures fine { IfOk result (λ v. IsFine (S.state store.new) S.number v) }
+    ensures did { (t : ℕ) → Does S.number (S.state store.old) (S.state store.new) result
+        (split_into t (text (S.state store.old) (S.number s)) most None) }
+{
+    let parts = js_replace::split(alloc, store, s, None, most)?;
+    Ok(Value::List(parts))
+}
+
+// The parts between separators, where the operands of the call have t units, and the separator at
+// most 40 more.
+fn split_by<S: Strings>(
+    alloc: Global,
+    store: &mut S,
+    s: S::Ref,
+    sep: S::Ref,
+    most: u32,
+) -> Result<Value<S::Ref>, Stop>
+    requires known { IsKnown (S.state store.old) (S.number s) }
+    requires separator_known { IsKnown (S.state store.old) (S.number sep) }
+    ensures grows { Grows (S.state store.old) (S.state store.new) }
+    ensures fine { IfOk result (λ v. IsFine (S.state store.new) S.number v) }
+    ensures did { (t : ℕ) → length (text (S.state store.old) (S.number s))
+        + length (text (S.state store.old) (S.number sep)) ≤ t + 40 → Does S.number (S.state store.old)
+        (S.state store.new) result
+        (split_into t (text (S.state store.old) (S.number s)) most
+        (Some (text (S.state store.old) (S.number sep)))) }
+{
+    let parts = js_replace::split(alloc, store, s, Some(sep), most)?;
+    Ok(Value::List(parts))
+}

@@ -1,0 +1,69 @@
+-- What the scope of the code stands for.
+use Rattle.std.specs.Prelude.{◌≡◌, ℕ, zero, suc, ◌<◌, length, List, [], ◌∷◌, map, reverse, Option, slice_get, option_and_then, unwrap_or}
+use Rattle.eval_scopes.specs.declared.env.Binding.{Binding}
+use Rattle.eval_scopes.specs.declared.scope.Frame.{Frame as CodeFrame}
+use Rattle.eval_scopes.specs.declared.scope.Scope.{Scope}
+use Rattle.eval_scopes.specs.declared.scope.Place.{Place}
+use Rattle.eval_scopes.specs.declared.scope.Place.TheVariants.{Top, Block}
+use Rattle.eval_scopes.specs.Bindings.{Bound, Frame, Bindings, bound_in, changed, with_value, with_bound, meant, written}
+
+abbrev pub bound_of : {T : Type 0} → Binding T → Bound T
+bound_of b = record { name = b.name; constant = b.constant; value = b.value }
+
+abbrev pub bounds_of : {T : Type 0} → List (Binding T) → List (Bound T)
+bounds_of bs = map bound_of bs
+
+abbrev pub names_of : {T : Type 0} → CodeFrame T → List (List ℕ)
+names_of f = unwrap_or f.names []
+
+abbrev pub frame_of : {T : Type 0} → CodeFrame T → Frame T
+frame_of f = record { names = names_of f; bound = bounds_of f.bound }
+
+-- the vector has the innermost block at its end
+abbrev pub frames_of : {T : Type 0} → List (CodeFrame T) → List (Frame T)
+frames_of fs = reverse (map frame_of fs)
+
+abbrev pub bindings_of : {T : Type 0} → Scope T → Bindings T
+bindings_of s = record { blocks = frames_of s.blocks.items; top = bounds_of s.env }
+
+-- the binding at a place of a list, and the list with another value there
+abbrev pub put : {T : Type 0} → List (Bound T) → ℕ → T → List (Bound T)
+put [] i v = []
+put (b ∷ bs) zero v = with_value b v ∷ bs
+put (b ∷ bs) (suc i) v = b ∷ put bs i v
+
+pub record IsAt {T : Type 0} (bs : List (Bound T)) (x : List ℕ) (i : ℕ) : Type 0 where
+  pub within : i < length bs
+  pub reads : bound_in bs x ≡ slice_get bs i
+  pub writes : (v : T) → changed bs x v ≡ put bs i v
+
+-- the same for a place of a scope
+abbrev pub put_in : {T : Type 0} → List (Frame T) → ℕ → ℕ → T → List (Frame T)
+put_in [] k i v = []
+put_in (f ∷ fs) zero i v = with_bound f (put f.bound i v) ∷ fs
+put_in (f ∷ fs) (suc k) i v = f ∷ put_in fs k i v
+
+abbrev pub got : {T : Type 0} → Option (Frame T) → ℕ → Option (Bound T)
+got f i = option_and_then (λ g. slice_get g.bound i) f
+
+abbrev pub bound_at : {T : Type 0} → Scope T → Place → Option (Bound T)
+bound_at s (Top i) = slice_get (bounds_of s.env) i
+bound_at s (Block k i) = got (slice_get (map frame_of s.blocks.items) k) i
+
+abbrev pub put_at : {T : Type 0} → Scope T → Place → T → Bindings T
+put_at s (Top i) v = record { blocks = frames_of s.blocks.items; top = put (bounds_of s.env) i v }
+put_at s (Block k i) v = record { blocks = reverse (put_in (map frame_of s.blocks.items) k i v); top = bounds_of s.env }
+
+abbrev pub InBlock : {T : Type 0} → List (CodeFrame T) → ℕ → ℕ → Type 0
+InBlock [] k i = ⊥
+InBlock (f ∷ fs) zero i = i < length f.bound
+InBlock (f ∷ fs) (suc k) i = InBlock fs k i
+
+abbrev pub Within : {T : Type 0} → Scope T → Place → Type 0
+Within s (Top i) = i < length s.env
+Within s (Block k i) = InBlock s.blocks.items k i
+
+pub record IsPlace {T : Type 0} (s : Scope T) (x : List ℕ) (p : Place) : Type 0 where
+  pub within : Within s p
+  pub reads : meant (bindings_of s) x ≡ bound_at s p
+  pub writes : (v : T) → written (bindings_of s) x v ≡ put_at s p v

@@ -1,0 +1,330 @@
+// The tree of a script.
+ghost use Rattle.std.specs.Prelude.{◌≡◌, ◌∷◌, ◌++◌, [], IfOk, OnOk, OnErr, bytes_eq};
+ghost use Rattle.eval_tree.specs.Keys.{key_of};
+
+use js_units::{NoMemory, Units};
+use std::alloc::Global;
+use std::marker::Model;
+
+/// A script: its literals, its statements, and the names that it declares at its top.
+///
+/// `literals` has one entry for each string token, in the order of the text, without the
+/// directive. In the whole tree an `at` is a byte offset in the file: that of the operator, of the
+/// method's word, of the `[`, of the first word of a built-in call, or of the name that is declared or
+/// assigned; of an `Append` that of its `+=`, and `name_at` that of its name.
+#[derive(Drop)]
+pub struct Script {
+    pub literals: Vec<Units>,
+    pub body: Vec<Stmt>,
+    pub top: Names,
+}
+
+/// A statement.
+#[cycle(statements)]
+#[derive(Drop)]
+pub enum Stmt {
+    Block {
+        inner: Block,
+    },
+    Let {
+        at: u32,
+        name: Name,
+        init: Option<Expr>,
+    },
+    Const {
+        at: u32,
+        name: Name,
+        init: Expr,
+    },
+    Assign {
+        at: u32,
+        name: Name,
+        value: Expr,
+    },
+    Append {
+        at: u32,
+        name_at: u32,
+        name: Name,
+        value: Expr,
+    },
+    Print {
+        args: Vec<Expr>,
+    },
+    /// The arms are tried in order; `rest` is what `else` leads to, or an empty block.
+    If {
+        arms: Vec<Arm>,
+        rest: Block,
+    },
+    /// The name counts from 0 to below the bound, anew for each turn.
+    For {
+        name: Name,
+        bound: u32,
+        body: Block,
+    },
+}
+
+/// A condition and what is done where it holds.
+#[cycle(statements)]
+#[derive(Drop)]
+pub struct Arm {
+    pub test: Expr,
+    pub body: Block,
+}
+
+/// Statements with a scope of their own. `names` are those that a `let` or `const` directly in it
+/// declares, in order.
+#[cycle(statements)]
+#[derive(Drop)]
+pub struct Block {
+    pub names: Names,
+    pub body: Vec<Stmt>,
+}
+
+/// An expression. A `Literal` names its entry of the script's `literals`, and a `Unary` is a minus
+/// or else a `!`.
+#[cycle(tree)]
+#[derive(Drop)]
+pub enum Expr {
+    Literal {
+        number: u32,
+    },
+    Number {
+        value: u64,
+    },
+    Variable {
+        name: Name,
+    },
+    Undefined,
+    Null,
+    Bool {
+        value: bool,
+    },
+    NaN,
+    Infinity,
+    Unary {
+        at: u32,
+        minus: bool,
+        of: Box<Expr>,
+    },
+    Chain {
+        first: Box<Expr>,
+        rest: Vec<Link>,
+    },
+    Cond {
+        test: Box<Expr>,
+        yes: Box<Expr>,
+        no: Box<Expr>,
+    },
+    Post {
+        of: Box<Expr>,
+        steps: Vec<PostStep>,
+    },
+    Builtin {
+        at: u32,
+        which: Builtin,
+        args: Vec<Expr>,
+    },
+}
+
+/// An operator of a chain with its right side. The links of one level group from the left.
+#[cycle(tree)]
+#[derive(Drop)]
+pub struct Link {
+    pub at: u32,
+    pub op: Op,
+    pub right: Expr,
+}
+
+/// A member, a call or an index behind an expression.
+#[cycle(tree)]
+#[derive(Drop)]
+pub enum PostStep {
+    Length,
+    Description,
+    Call {
+        at: u32,
+        method: Method,
+        args: Vec<Expr>,
+    },
+    Index {
+        at: u32,
+        index: Expr,
+    },
+}
+
+/// An operator of a chain.
+#[derive(Clone, Copy, Debug, PartialEq, Eq)]
+pub enum Op {
+    Or,
+    And,
+    Same,
+    NotSame,
+    Less,
+    Greater,
+    LessEq,
+    GreaterEq,
+    Plus,
+    Minus,
+}
+
+/// A method of `String.prototype`, or `join` of `Array.prototype`.
+#[derive(Clone, Copy, Debug, PartialEq, Eq)]
+pub enum Method {
+    At,
+    CharAt,
+    CharCodeAt,
+    CodePointAt,
+    Concat,
+    EndsWith,
+    Includes,
+    IndexOf,
+    IsWellFormed,
+    Join,
+    LastIndexOf,
+    PadEnd,
+    PadStart,
+    Repeat,
+    Replace,
+    ReplaceAll,
+    Slice,
+    Split,
+    StartsWith,
+    Substr,
+    Substring,
+    ToWellFormed,
+    Trim,
+    TrimEnd,
+    TrimStart,
+}
+
+/// A built-in function that is called by its name: `String`, `String.fromCharCode`,
+/// `String.fromCodePoint`, `Symbol.for`, `Symbol.keyFor`, and `JSON.stringify` with its one argument.
+#[derive(Clone, Copy, Debug, PartialEq, Eq)]
+pub enum Builtin {
+    String,
+    FromCharCode,
+    FromCodePoint,
+    SymbolFor,
+    KeyFor,
+    Stringify,
+}
+
+/// A name. Contracts see it as the list of its bytes. Its key, a number that most names have alone,
+/// tells names apart before their bytes are compared.
+#[derive(Drop)]
+pub struct Name {
+    key: u32,
+    bytes: Vec<u8>,
+    ghost keyed: { key ≡ key_of bytes.items },
+}
+
+impl Model for Name {
+    ghost use Rattle.std.specs.Prelude.{List, ℕ};
+
+    ghost Value = { List ℕ };
+
+    ghost view = { λ n. n.bytes.items };
+}
+
+impl Name {
+    /// The name with these letters.
+    pub fn new(bytes: Vec<u8>) -> Name
+        ensures { result ≡ bytes.items }
+    {
+        let key = key(&bytes);
+        Name { key, bytes }
+    }
+
+    /// The letters.
+    pub fn as_bytes(&self) -> &[u8]
+        ensures { result.now ≡ self.now }
+    {
+        self.bytes.as_slice()
+    }
+
+    /// The same name once more.
+    pub fn copy(&self) -> Result<Name, NoMemory>
+        ensures { IfOk result (λ name. name ≡ self.now) }
+    {
+        let key = self.key;
+        Ok(Name {
+            key,
+            bytes: self.bytes.clone()?,
+        })
+    }
+
+    /// Whether two names are the same.
+    pub fn is(&self, other: &Name) -> bool
+        ensures { result ≡ bytes_eq self.now other.now }
+    {
+        self.key == other.key && self.bytes.as_slice() == other.bytes.as_slice()
+    }
+
+    /// The key: names that are the same have the same one.
+    pub fn key(&self) -> u32
+        ensures { result ≡ key_of self.now }
+    {
+        self.key
+    }
+}
+
+// The key of these letters.
+fn key(bytes: &[u8]) -> u32
+    ensures { result ≡ key_of bytes.now }
+{
+    let mut key: u32 = 0;
+    for b in bytes {
+        key = (key % 16_777_216) * 31 + *b as u32;
+    }
+    key
+}
+
+/// Names that a script declares at its top. Contracts see them as a list of names.
+#[derive(Drop)]
+pub struct Names {
+    items: Vec<Name>,
+}
+
+impl Model for Names {
+    ghost use Rattle.std.specs.Prelude.{List, ℕ};
+
+    ghost Value = { List (List ℕ) };
+
+    ghost view = { λ n. n.items.items };
+}
+
+impl Names {
+    /// No name. It takes no memory.
+    pub fn new(alloc: Global) -> Names
+        ensures { result ≡ [] }
+    {
+        Names {
+            items: Vec::new(alloc),
+        }
+    }
+
+    /// Adds a name at the end; unchanged on refusal.
+    pub fn push(&mut self, name: Name) -> Result<(), NoMemory>
+        ensures added { OnOk result (self.new ≡ self.old ++ name ∷ []) }
+        ensures refused { OnErr result (self.new ≡ self.old) }
+    {
+        self.items.push(name)?;
+        Ok(())
+    }
+
+    /// The names, in order.
+    pub fn as_slice(&self) -> &[Name]
+        ensures { result.now ≡ self.now }
+    {
+        self.items.as_slice()
+    }
+}
+
+impl Script {
+    /// The names that the script declares at its top.
+    pub fn names(&self) -> &Names
+        ensures { result.now ≡ self.now.top }
+    {
+        &self.top
+    }
+}

@@ -1,0 +1,27 @@
+use Rattle.std.proofs.lemmas.Result.{err_from_is_err_and}
+use Rattle.js_store.proofs.Laws.{grows_trans}
+use Rattle.eval_values.proofs.Orders.{order_does, first_ends, second_ends}
+use Rattle.eval_values.proofs.comparing.compare.Goals as goal
+
+pub returns-in_err-first-clause-did : goal.returns-in_err-first-clause-did
+returns-in_err-first-clause-did g c =
+    let state = g.S.Strings.state in
+    let p = err_from_is_err_and c.from_residual.result c.from_residual.ensures.1 in
+    rw (p.1, p.2) (first_ends g.S.Strings.number (state c.args.store.now) (state c.to_primitive.new.store) c.args.at c.args.left.now c.args.right.now c.in_err-first.field-0.0 c.in_err-first.ensures.did)
+
+pub returns-in_err-second-clause-did : goal.returns-in_err-second-clause-did
+returns-in_err-second-clause-did g c =
+    let state = g.S.Strings.state in
+    let p = err_from_is_err_and c.from_residual-in_err-second.result c.from_residual-in_err-second.ensures.1 in
+    let e = c.in_ok-first.ensures in
+    rw (p.1, p.2) (second_ends g.S.Strings.number (state c.args.store.now) (state c.to_primitive.new.store) c.args.at c.args.left.now c.args.right.now (state c.to_primitive-2.new.store) c.in_ok-first.first c.in_err-second.field-0.0 e.grows c.requires.right e.did c.in_err-second.ensures.did)
+
+pub returns-clause-did : goal.returns-clause-did
+returns-clause-did g c =
+    let state = g.S.Strings.state in
+    let e = c.in_ok-first.ensures in
+    let f = c.in_ok-second.ensures in
+    order_does g.S.Strings.number (state c.args.store.now) (state c.to_primitive.new.store) c.args.at c.args.left.now c.args.right.now (state c.to_primitive-2.new.store) (state c.compare_primitives.new.store) c.in_ok-first.first c.in_ok-second.second c.compare_primitives.result e.grows f.grows c.requires.right e.fine e.did f.did c.compare_primitives.ensures.did
+
+pub returns-clause-grows : goal.returns-clause-grows
+returns-clause-grows g c = grows_trans (grows_trans c.in_ok-first.ensures.grows c.in_ok-second.ensures.grows) c.compare_primitives.ensures.grows

@@ -1,0 +1,70 @@
+-- Operators on values.
+use Rattle.std.specs.Prelude.{ℕ, ◌+◌, List, ◌++◌, length, Option, Some, None, nat_le, if◌then◌else◌, Bool, true, false, not, ◌||◌}
+use Rattle.js_number.specs.declared.Num.{Num}
+use Rattle.js_number.specs.Arith.{sum, difference, negative}
+use Rattle.eval_values.specs.declared.value.Kind.TheVariants.{RangeError}
+use Rattle.eval_values.specs.Outcome.{Val, undefined, null, bool, number, text, symbol, list, Converted, into, fails, threw, unsupported, Out, gave, free, bind, needing, throwing, refuses, converts}
+use Rattle.eval_values.specs.Need.{nothing, joins}
+use Rattle.eval_values.specs.Conversions.{to_string, to_number, to_boolean, is_text}
+
+-- a number of the profile, or none, which ends the script at the operator
+abbrev pub counted : ℕ → Option Num → Out Val
+counted at None = refuses at
+counted at (Some n) = needing nothing (number n)
+
+-- the sum of two values that are no strings, of which the left one is converted first
+abbrev pub sum_in : ℕ → Val → Val → Out Val
+sum_in at v w = converts nothing (to_number at v) (λ m. converts nothing (to_number at w) (λ n. counted at (sum m n)))
+
+-- two conversions of which one that throws goes before one that ends the script otherwise, whatever its side
+abbrev pub paired : {A B : Type 0} → Converted A → Converted B → Converted (A × B)
+paired (into m) (into n) = into (m, n)
+paired (into m) (fails e) = fails e
+paired (fails (threw k)) n = fails (threw k)
+paired (fails (unsupported at)) (into n) = fails (unsupported at)
+paired (fails (unsupported at)) (fails e) = fails e
+
+abbrev pub difference_in : ℕ → Val → Val → Out Val
+difference_in at v w = converts nothing (paired (to_number at v) (to_number at w)) (λ p. counted at (difference p.0 p.1))
+
+abbrev pub negative_in : ℕ → Val → Out Val
+negative_in at v = converts nothing (to_number at v) (λ n. needing nothing (number (negative n)))
+
+-- two strings joined, unless they are longer together than a string may be; where nothing is joined, it needs nothing
+abbrev pub joined : ℕ → List ℕ → List ℕ → Out Val
+joined limit u w =
+    if nat_le (length u + length w) limit
+    then needing joins (text (u ++ w))
+    else throwing nothing RangeError
+
+-- two primitive values as strings, joined
+abbrev pub joined_strings : ℕ → Val → Val → Out Val
+joined_strings limit v w = bind (to_string limit v) (λ u. bind (to_string limit w) (λ x. joined limit u x))
+
+-- the primitive value of a value: an array becomes its string (ECMA-262, "ToPrimitive")
+abbrev pub primitive : ℕ → Val → Out Val
+primitive limit undefined = gave undefined free
+primitive limit null = gave null free
+primitive limit (bool b) = gave (bool b) free
+primitive limit (number n) = gave (number n) free
+primitive limit (text u) = gave (text u) free
+primitive limit (symbol k) = gave (symbol k) free
+primitive limit (list us) = bind (to_string limit (list us)) (λ u. gave (text u) free)
+
+-- the sum of two primitive values, of which a string makes both strings
+abbrev pub added : Bool → ℕ → ℕ → Val → Val → Out Val
+added true at limit v w = joined_strings limit v w
+added false at limit v w = sum_in at v w
+
+abbrev pub plus_primitives : ℕ → ℕ → Val → Val → Out Val
+plus_primitives at limit v w = added (is_text v || is_text w) at limit v w
+
+-- arrays become strings before anything else; what ends early has needed its conversions alone
+abbrev pub plus : ℕ → ℕ → Val → Val → Out Val
+plus at limit v w =
+    bind (primitive limit v) (λ x. bind (primitive limit w) (λ y. plus_primitives at limit x y))
+
+-- unary minus, or else `!`
+abbrev pub unary_out : Bool → ℕ → Val → Out Val
+unary_out true at v = negative_in at v
+unary_out false at v = needing nothing (bool (not (to_boolean v)))

@@ -1,0 +1,28 @@
+-- How a method's fault, and a conversion that was refused, stop an evaluation.
+use Rattle.std.specs.Prelude.{Result, Ok, Err}
+use Rattle.js_store.specs.declared.faults.MethodFault.{MethodFault}
+use Rattle.js_store.specs.declared.faults.MethodFault.TheVariants as method
+use Rattle.eval_values.specs.declared.value.Kind.TheVariants as kind
+use Rattle.eval_values.specs.declared.value.Refusal.{Refusal}
+use Rattle.eval_values.specs.declared.value.Refusal.TheVariants as refusal
+use Rattle.eval_values.specs.declared.value.Stop.{Stop}
+use Rattle.eval_values.specs.declared.value.Stop.TheVariants.{Threw, Unsupported, Store}
+use Rattle.eval_values.specs.Outcome.{Ending, threw, unsupported, Converted, into, fails}
+
+-- every fault but the store's is a RangeError
+abbrev pub stop_of : MethodFault → Stop
+stop_of (method.Store f) = Store f
+stop_of (method.RangeError cause) = Threw kind.RangeError
+
+abbrev pub refusal_stop : Refusal → Stop
+refusal_stop (refusal.Threw k) = Threw k
+refusal_stop (refusal.Unsupported at) = Unsupported at
+
+abbrev pub ending_of : Refusal → Ending
+ending_of (refusal.Threw k) = threw k
+ending_of (refusal.Unsupported at) = unsupported at
+
+-- what a conversion of the code comes to
+abbrev pub converted_of : {A : Type 0} → Result A Refusal → Converted A
+converted_of (Ok x) = into x
+converted_of (Err r) = fails (ending_of r)

@@ -1,0 +1,316 @@
+// Comparisons of values (ECMA-262, "IsStrictlyEqual", "IsLessThan").
+ghost use Rattle.std.specs.Prelude.{◌≡◌, ◌+◌, length, OnOk, bytes_eq, Some};
+ghost use Rattle.js_number.specs.Places.{IsLawful};
+ghost use Rattle.js_search.specs.Order.{units_cmp};
+ghost use Rattle.js_store.specs.State.{Grows, IsKnown, IsSettled, text};
+ghost use Rattle.js_store.specs.Rows.{wide_words};
+ghost use Rattle.js_store.specs.Faults.{Step, fault_of, NeverSlots};
+ghost use Rattle.eval_values.specs.Outcome.{gave, free};
+ghost use Rattle.eval_values.specs.Comparing;
+ghost use Rattle.eval_values.specs.Comparing.{compared, same_out, same_as_text, same_as_list, order_out, order_primitives, order_numbers, order_text, number_order};
+ghost use Rattle.eval_values.specs.Seen.{seen, IsFine, IsKey};
+ghost use Rattle.eval_values.specs.Does.{Tells};
+
+use crate::operators::{to_primitive, two_numbers};
+use crate::value::{Stop, Value};
+use js_number::Num;
+use js_store::{StoreFault, Strings};
+use std::alloc::Global;
+use std::cmp::Ordering;
+
+/// `===` of two values, at the byte offset `at`. Two strings are settled.
+pub fn is_same<S: Strings>(
+    store: &mut S,
+    at: u32,
+    left: &Value<S::Ref>,
+    right: &Value<S::Ref>,
+) -> Result<bool, Stop>
+    requires left { IsFine (S.state store.old) S.number left.now }
+    requires right { IsFine (S.state store.old) S.number right.now }
+    ensures grows { Grows (S.state store.old) (S.state store.new) }
+    ensures did { Tells (S.state store.old) (S.state store.new) result (same_out at
+        (seen (S.state store.old) S.number left.now) (seen (S.state store.old) S.number right.now)) }
+{
+    match left {
+        Value::Undefined => Ok(is_undefined_too(store, right)),
+        Value::Null => Ok(is_null_too(store, right)),
+        Value::Bool(b) => Ok(is_bool_too(store, *b, right)),
+        Value::Number(n) => Ok(is_number_too(store, *n, right)),
+        Value::Text(s) => is_text_too(store, *s, right),
+        Value::Symbol(s) => is_symbol_too(store, *s, right),
+        Value::List(_) => is_list_too(store, at, right),
+    }
+}
+
+fn is_undefined_too<S: Strings>(_store: &S, value: &Value<S::Ref>) -> bool
+    ensures { result ≡ Comparing.is_undefined_too (seen (S.state _store.now) S.number value.now) }
+{
+    match value {
+        Value::Undefined => true,
+        Value::Null
+        | Value::Bool(_)
+        | Value::Number(_)
+        | Value::Text(_)
+        | Value::Symbol(_)
+        | Value::List(_) => false,
+    }
+}
+
+fn is_null_too<S: Strings>(_store: &S, value: &Value<S::Ref>) -> bool
+    ensures { result ≡ Comparing.is_null_too (seen (S.state _store.now) S.number value.now) }
+{
+    match value {
+        Value::Null => true,
+        Value::Undefined
+        | Value::Bool(_)
+        | Value::Number(_)
+        | Value::Text(_)
+        | Value::Symbol(_)
+        | Value::List(_) => false,
+    }
+}
+
+fn is_bool_too<S: Strings>(_store: &S, b: bool, value: &Value<S::Ref>) -> bool
+    ensures { result ≡ Comparing.is_bool_too b (seen (S.state _store.now) S.number value.now) }
+{
+    match value {
+        Value::Bool(other) => same_bool(b, *other),
+        Value::Undefined
+        | Value::Null
+        | Value::Number(_)
+        | Value::Text(_)
+        | Value::Symbol(_)
+        | Value::List(_) => false,
+    }
+}
+
+fn same_bool(b: bool, other: bool) -> bool
+    ensures { result ≡ Comparing.same_bool b other }
+{
+    if b { other } else { !other }
+}
+
+fn is_number_too<S: Strings>(_store: &S, n: Num, value: &Value<S::Ref>) -> bool
+    requires number { IsLawful n }
+    requires value { IsFine (S.state _store.now) S.number value.now }
+    ensures { result ≡ Comparing.is_number_too n (seen (S.state _store.now) S.number value.now) }
+{
+    match value {
+        Value::Number(other) => is_equal(order_of(n, *other)),
+        Value::Undefined
+        | Value::Null
+        | Value::Bool(_)
+        | Value::Text(_)
+        | Value::Symbol(_)
+        | Value::List(_) => false,
+    }
+}
+
+fn is_equal(order: Option<Ordering>) -> bool
+    ensures { result ≡ Comparing.is_equal order }
+{
+    match order {
+        Some(Ordering::Equal) => true,
+        Some(Ordering::Less) | Some(Ordering::Greater) | None => false,
+    }
+}
+
+fn is_text_too<S: Strings>(store: &mut S, s: S::Ref, value: &Value<S::Ref>) -> Result<bool, Stop>
+    requires string { IsKnown (S.state store.old) (S.number s) }
+    requires value { IsFine (S.state store.old) S.number value.now }
+    ensures grows { Grows (S.state store.old) (S.state store.new) }
+    ensures did { Tells (S.state store.old) (S.state store.new) result
+        (same_as_text (text (S.state store.old) (S.number s)) (seen (S.state store.old) S.number value.now)) }
+{
+    match value {
+        Value::Text(other) => same_texts(store, s, *other),
+        Value::Undefined
+        | Value::Null
+        | Value::Bool(_)
+        | Value::Number(_)
+        | Value::Symbol(_)
+        | Value::List(_) => Ok(false),
+    }
+}
+
+// There is one interned string of each key.
+fn is_symbol_too<S: Strings>(
+    store: &mut S,
+    key: S::Ref,
+    value: &Value<S::Ref>,
+) -> Result<bool, Stop>
+    requires key { IsKey (S.state store.old) (S.number key) }
+    requires value { IsFine (S.state store.old) S.number value.now }
+    ensures grows { Grows (S.state store.old) (S.state store.new) }
+    ensures did { Tells (S.state store.old) (S.state store.new) result
+        (gave (Comparing.is_symbol_too (text (S.state store.old) (S.number key))
+        (seen (S.state store.old) S.number value.now)) free) }
+{
+    match value {
+        Value::Symbol(other) => Ok(store.same(key, *other)),
+        Value::Undefined
+        | Value::Null
+        | Value::Bool(_)
+        | Value::Number(_)
+        | Value::Text(_)
+        | Value::List(_) => Ok(false),
+    }
+}
+
+fn is_list_too<S: Strings>(_store: &S, at: u32, value: &Value<S::Ref>) -> Result<bool, Stop>
+    ensures { Tells (S.state _store.now) (S.state _store.now) result
+        (same_as_list at (seen (S.state _store.now) S.number value.now)) }
+{
+    match value {
+        Value::List(_) => Err(Stop::Unsupported { at }),
+        Value::Undefined
+        | Value::Null
+        | Value::Bool(_)
+        | Value::Number(_)
+        | Value::Text(_)
+        | Value::Symbol(_) => Ok(false),
+    }
+}
+
+fn same_texts<S: Strings>(store: &mut S, a: S::Ref, b: S::Ref) -> Result<bool, Stop>
+    requires left { IsKnown (S.state store.old) (S.number a) }
+    requires right { IsKnown (S.state store.old) (S.number b) }
+    ensures grows { Grows (S.state store.old) (S.state store.new) }
+    ensures did { Tells (S.state store.old) (S.state store.new) result
+        (compared (bytes_eq (text (S.state store.old) (S.number a)) (text (S.state store.old) (S.number b)))
+        (text (S.state store.old) (S.number a)) (text (S.state store.old) (S.number b))) }
+{
+    settle_both(store, a, b)?;
+    Ok(js_search::equal(store, a, b))
+}
+
+// Both strings are settled afterwards.
+fn settle_both<S: Strings>(store: &mut S, a: S::Ref, b: S::Ref) -> Result<(), StoreFault>
+    requires left { IsKnown (S.state store.old) (S.number a) }
+    requires right { IsKnown (S.state store.old) (S.number b) }
+    ensures left_settled { OnOk result (IsSettled (S.state store.new) (S.number a)) }
+    ensures right_settled { OnOk result (IsSettled (S.state store.new) (S.number b)) }
+    ensures step { Step (S.state store.old) (S.state store.new) (fault_of result)
+        0 (wide_words (length (text (S.state store.old) (S.number a))) + wide_words (length (text (S.state store.old) (S.number b)))) }
+    ensures slots { NeverSlots (fault_of result) }
+    ensures history { (S.state store.new).history ≡ (S.state store.old).history }
+{
+    store.settle(a)?;
+    store.settle(b)
+}
+
+// The order of two numbers, none where one is NaN.
+fn order_of(a: Num, b: Num) -> Option<Ordering>
+    requires left { IsLawful a }
+    requires right { IsLawful b }
+    ensures { result ≡ number_order a b }
+{
+    match a.less(b) {
+        Some(true) => Some(Ordering::Less),
+        Some(false) => match b.less(a) {
+            Some(true) => Some(Ordering::Greater),
+            Some(false) => Some(Ordering::Equal),
+            None => None,
+        },
+        None => None,
+    }
+}
+
+/// The order of two values, of which arrays become strings first; none where one is NaN. Two strings
+/// are settled.
+pub fn compare<S: Strings>(
+    alloc: Global,
+    store: &mut S,
+    at: u32,
+    left: &Value<S::Ref>,
+    right: &Value<S::Ref>,
+) -> Result<Option<Ordering>, Stop>
+    requires left { IsFine (S.state store.old) S.number left.now }
+    requires right { IsFine (S.state store.old) S.number right.now }
+    ensures grows { Grows (S.state store.old) (S.state store.new) }
+    ensures did { Tells (S.state store.old) (S.state store.new) result (order_out at (S.state store.old).limit
+        (seen (S.state store.old) S.number left.now) (seen (S.state store.old) S.number right.now)) }
+{
+    let first = to_primitive(alloc, store, left)?;
+    let second = to_primitive(alloc, store, right)?;
+    compare_primitives(store, at, &first, &second)
+}
+
+fn compare_primitives<S: Strings>(
+    store: &mut S,
+    at: u32,
+    left: &Value<S::Ref>,
+    right: &Value<S::Ref>,
+) -> Result<Option<Ordering>, Stop>
+    requires left { IsFine (S.state store.old) S.number left.now }
+    requires right { IsFine (S.state store.old) S.number right.now }
+    ensures grows { Grows (S.state store.old) (S.state store.new) }
+    ensures did { Tells (S.state store.old) (S.state store.new) result
+        (order_primitives at (seen (S.state store.old) S.number left.now)
+        (seen (S.state store.old) S.number right.now)) }
+{
+    match left {
+        Value::Text(s) => compare_text(store, at, *s, right),
+        Value::Undefined
+        | Value::Null
+        | Value::Bool(_)
+        | Value::Number(_)
+        | Value::Symbol(_)
+        | Value::List(_) => compare_numbers(store, at, left, right),
+    }
+}
+
+// The order of a string and a value.
+fn compare_text<S: Strings>(
+    store: &mut S,
+    at: u32,
+    s: S::Ref,
+    right: &Value<S::Ref>,
+) -> Result<Option<Ordering>, Stop>
+    requires left { IsKnown (S.state store.old) (S.number s) }
+    requires right { IsFine (S.state store.old) S.number right.now }
+    ensures grows { Grows (S.state store.old) (S.state store.new) }
+    ensures did { Tells (S.state store.old) (S.state store.new) result
+        (order_text at (text (S.state store.old) (S.number s))
+        (seen (S.state store.old) S.number right.now)) }
+{
+    match right {
+        Value::Text(other) => compare_texts(store, s, *other),
+        Value::Undefined
+        | Value::Null
+        | Value::Bool(_)
+        | Value::Number(_)
+        | Value::Symbol(_)
+        | Value::List(_) => compare_numbers(store, at, &Value::Text(s), right),
+    }
+}
+
+fn compare_texts<S: Strings>(store: &mut S, a: S::Ref, b: S::Ref) -> Result<Option<Ordering>, Stop>
+    requires left { IsKnown (S.state store.old) (S.number a) }
+    requires right { IsKnown (S.state store.old) (S.number b) }
+    ensures grows { Grows (S.state store.old) (S.state store.new) }
+    ensures did { Tells (S.state store.old) (S.state store.new) result
+        (compared (Some
+        (units_cmp (text (S.state store.old) (S.number a)) (text (S.state store.old) (S.number b))))
+        (text (S.state store.old) (S.number a)) (text (S.state store.old) (S.number b))) }
+{
+    settle_both(store, a, b)?;
+    Ok(Some(js_search::compare(store, a, b)))
+}
+
+// Both sides as numbers, where a symbol on the right goes before a string on the left.
+fn compare_numbers<S: Strings>(
+    store: &S,
+    at: u32,
+    left: &Value<S::Ref>,
+    right: &Value<S::Ref>,
+) -> Result<Option<Ordering>, Stop>
+    requires left { IsFine (S.state store.now) S.number left.now }
+    requires right { IsFine (S.state store.now) S.number right.now }
+    ensures { Tells (S.state store.now) (S.state store.now) result
+        (order_numbers at (seen (S.state store.now) S.number left.now)
+        (seen (S.state store.now) S.number right.now)) }
+{
+    let (m, n) = two_numbers(store, at, left, right)?;
+    Ok(order_of(m, n))
+}

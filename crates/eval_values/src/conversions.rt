@@ -1,0 +1,209 @@
+// Conversions of values (ECMA-262, "Type Conversion").
+ghost use Rattle.std.specs.Prelude.{◌≡◌, ◌+◌, ◌≤◌, [], length, IfOk};
+ghost use Rattle.js_number.specs.Places.{IsLawful};
+ghost use Rattle.js_number.specs.Arith.{text_of};
+ghost use Rattle.js_store.specs.State.{Has, Grows, IsKnown, IsSettled, text};
+ghost use Rattle.js_store.specs.Faults.{Step, NeverSlots};
+ghost use Rattle.js_store.specs.Answers.{ThrowsLong, full_of};
+ghost use Rattle.js_texts.specs.Use.{made_words};
+ghost use Rattle.js_store.specs.Rows.{wide_words, settle_words};
+ghost use Rattle.eval_values.specs.Outcome.{each};
+ghost use Rattle.eval_values.specs.Conversions.{spelled, to_string, is_text, to_number, to_boolean, number_truth, list_string, comma_joined, text_units};
+ghost use Rattle.js_texts.specs.Texts.{texts as texts_seen, AllKnown, settle_most};
+ghost use Rattle.eval_values.specs.Stops.{converted_of};
+ghost use Rattle.eval_values.specs.Seen.{seen, IsFine, all_seen, AllFine};
+ghost use Rattle.eval_values.specs.Does.{GivesText, GivesTexts, string_words};
+
+use crate::lists::push;
+use crate::value::{Kind, Refusal, Stop, Value};
+use js_number::{Num, append_text};
+use js_store::{MethodFault, StoreFault, Strings};
+use js_units::Units;
+use std::alloc::Global;
+
+/// ToString of a value. A text that is made here is settled, and short.
+pub fn to_text<S: Strings>(
+    alloc: Global,
+    store: &mut S,
+    value: &Value<S::Ref>,
+) -> Result<S::Ref, Stop>
+    requires { IsFine (S.state store.old) S.number value.now }
+    ensures grows { Grows (S.state store.old) (S.state store.new) }
+    ensures known { IfOk result (λ r. IsKnown (S.state store.new) (S.number r)) }
+    ensures short { IfOk result
+        (λ r. length (text (S.state store.new) (S.number r))
+        ≤ text_units (seen (S.state store.old) S.number value.now) + 40) }
+    ensures settles { IfOk result
+        (λ r. settle_words ((S.state store.new).settled (S.number r))
+        (length (text (S.state store.new) (S.number r)))
+        ≤ wide_words (text_units (seen (S.state store.old) S.number value.now))) }
+    ensures did { GivesText S.number (S.state store.old) (S.state store.new) result
+        (to_string (S.state store.old).limit (seen (S.state store.old) S.number value.now)) }
+{
+    match value {
+        Value::Undefined => word(alloc, store, "undefined"),
+        Value::Null => word(alloc, store, "null"),
+        Value::Bool(true) => word(alloc, store, "true"),
+        Value::Bool(false) => word(alloc, store, "false"),
+        Value::Number(n) => number_text(alloc, store, *n),
+        Value::Text(s) => Ok(*s),
+        Value::Symbol(_) => Err(Stop::Threw(Kind::TypeError)),
+        Value::List(list) => list_text(alloc, store, list),
+    }
+}
+
+// ToString of an array of these strings: they are joined by commas.
+fn list_text<S: Strings>(alloc: Global, store: &mut S, list: &[S::Ref]) -> Result<S::Ref, Stop>
+    requires { AllKnown (S.state store.old) S.number list.now }
+    ensures grows { Grows (S.state store.old) (S.state store.new) }
+    ensures known { IfOk result (λ r. IsKnown (S.state store.new) (S.number r)) }
+    ensures is { IfOk result
+        (λ r. text (S.state store.new) (S.number r)
+        ≡ comma_joined (texts_seen (S.state store.old) S.number list.now)) }
+    ensures settled { IfOk result (λ r. IsSettled (S.state store.new) (S.number r)) }
+    ensures did { GivesText S.number (S.state store.old) (S.state store.new) result
+        (list_string (S.state store.old).limit (texts_seen (S.state store.old) S.number list.now)) }
+{
+    Ok(joined_by_commas(alloc, store, list)?)
+}
+
+/// The strings joined by commas.
+#[tactic(auto, using(js_texts::proofs::Lists::texts_still, js_texts::proofs::Lists::settle_still))]
+pub fn joined_by_commas<S: Strings>(
+    alloc: Global,
+    store: &mut S,
+    list: &[S::Ref],
+) -> Result<S::Ref, MethodFault>
+    requires { AllKnown (S.state store.old) S.number list.now }
+    ensures value { IfOk result
+        (λ r. Has (S.state store.new) (S.number r)
+        (comma_joined (texts_seen (S.state store.old) S.number list.now))) }
+    ensures settled { IfOk result (λ r. IsSettled (S.state store.new) (S.number r)) }
+    ensures throws { ThrowsLong result (S.state store.old).limit
+        (length (comma_joined (texts_seen (S.state store.old) S.number list.now))) }
+    ensures step { Step (S.state store.old) (S.state store.new) (full_of result)
+        2 (settle_most (S.state store.old) S.number list.now + made_words (S.state store.old).limit (comma_joined (texts_seen (S.state store.old) S.number list.now)) + 1) }
+    ensures slots { NeverSlots (full_of result) }
+    ensures history { (S.state store.new).history ≡ (S.state store.old).history }
+{
+    let comma = store.from_units(&[0x2C])?;
+    js_texts::join(alloc, store, list, comma)
+}
+
+fn word<S: Strings>(alloc: Global, store: &mut S, word: &str) -> Result<S::Ref, Stop>
+    requires { length word.now ≤ 40 }
+    ensures grows { Grows (S.state store.old) (S.state store.new) }
+    ensures known { IfOk result (λ r. IsKnown (S.state store.new) (S.number r)) }
+    ensures short { IfOk result (λ r. length (text (S.state store.new) (S.number r)) ≤ 40) }
+    ensures settled { IfOk result (λ r. IsSettled (S.state store.new) (S.number r)) }
+    ensures did { GivesText S.number (S.state store.old) (S.state store.new) result (spelled word.now) }
+{
+    let mut units = Units::new(alloc);
+    match append_text(&mut units, word) {
+        Ok(()) => spell(store, units.as_slice()),
+        Err(_) => Err(Stop::Store(StoreFault::Memory)),
+    }
+}
+
+fn number_text<S: Strings>(alloc: Global, store: &mut S, n: Num) -> Result<S::Ref, Stop>
+    requires { IsLawful n }
+    ensures grows { Grows (S.state store.old) (S.state store.new) }
+    ensures known { IfOk result (λ r. IsKnown (S.state store.new) (S.number r)) }
+    ensures short { IfOk result (λ r. length (text (S.state store.new) (S.number r)) ≤ 40) }
+    ensures settled { IfOk result (λ r. IsSettled (S.state store.new) (S.number r)) }
+    ensures did { GivesText S.number (S.state store.old) (S.state store.new) result (spelled (text_of n)) }
+{
+    let mut units = Units::new(alloc);
+    match n.to_text(&mut units) {
+        Ok(()) => spell(store, units.as_slice()),
+        Err(_) => Err(Stop::Store(StoreFault::Memory)),
+    }
+}
+
+fn spell<S: Strings>(store: &mut S, units: &[u16]) -> Result<S::Ref, Stop>
+    requires { length units.now ≤ 40 }
+    ensures grows { Grows (S.state store.old) (S.state store.new) }
+    ensures known { IfOk result (λ r. IsKnown (S.state store.new) (S.number r)) }
+    ensures short { IfOk result (λ r. length (text (S.state store.new) (S.number r)) ≤ 40) }
+    ensures settled { IfOk result (λ r. IsSettled (S.state store.new) (S.number r)) }
+    ensures did { GivesText S.number (S.state store.old) (S.state store.new) result (spelled units.now) }
+{
+    Ok(store.from_units(units)?)
+}
+
+/// Whether a value is a string or an array, whose primitive value is one.
+pub fn is_string<S: Strings>(_store: &S, value: &Value<S::Ref>) -> bool
+    ensures { result ≡ is_text (seen (S.state _store.now) S.number value.now) }
+{
+    match value {
+        Value::Text(_) | Value::List(_) => true,
+        Value::Undefined | Value::Null | Value::Bool(_) | Value::Number(_) | Value::Symbol(_) =>
+            false,
+    }
+}
+
+/// ToNumber of a value, in an operation at the byte offset `at`.
+pub fn number_of<S: Strings>(_store: &S, at: u32, value: &Value<S::Ref>) -> Result<Num, Refusal>
+    requires { IsFine (S.state _store.now) S.number value.now }
+    ensures value { converted_of result ≡ to_number at (seen (S.state _store.now) S.number value.now) }
+    ensures lawful { IfOk result IsLawful }
+{
+    match value {
+        Value::Undefined => Ok(Num::NaN),
+        Value::Null => Ok(Num::Int(0)),
+        Value::Bool(true) => Ok(Num::Int(1)),
+        Value::Bool(false) => Ok(Num::Int(0)),
+        Value::Number(n) => Ok(*n),
+        Value::Text(_) | Value::List(_) => Err(Refusal::Unsupported { at }),
+        Value::Symbol(_) => Err(Refusal::Threw(Kind::TypeError)),
+    }
+}
+
+/// ToBoolean of a value.
+pub fn truth<S: Strings>(store: &mut S, value: &Value<S::Ref>) -> bool
+    requires { IsFine (S.state store.old) S.number value.now }
+    ensures value { result ≡ to_boolean (seen (S.state store.old) S.number value.now) }
+    ensures step { Step (S.state store.old) (S.state store.new) None 0 0 }
+    ensures history { (S.state store.new).history ≡ (S.state store.old).history }
+{
+    match value {
+        Value::Undefined | Value::Null => false,
+        Value::Bool(b) => *b,
+        Value::Number(n) => is_nonzero(*n),
+        Value::Text(s) => store.len(*s) != 0,
+        Value::Symbol(_) | Value::List(_) => true,
+    }
+}
+
+fn is_nonzero(n: Num) -> bool
+    ensures { result ≡ number_truth n }
+{
+    match n {
+        Num::Int(n) => n != 0,
+        Num::NaN => false,
+        Num::PosInf | Num::NegInf => true,
+    }
+}
+
+/// ToString of values, from left to right.
+pub fn texts<S: Strings>(
+    alloc: Global,
+    store: &mut S,
+    values: &[Value<S::Ref>],
+) -> Result<Vec<S::Ref>, Stop>
+    requires { AllFine (S.state store.old) S.number values.now }
+    ensures grows { Grows (S.state store.old) (S.state store.new) }
+    ensures known { IfOk result (λ v. AllKnown (S.state store.new) S.number v.items) }
+    ensures settles { IfOk result
+        (λ v. settle_most (S.state store.new) S.number v.items
+        ≤ string_words (all_seen (S.state store.old) S.number values.now)) }
+    ensures did { GivesTexts S.number (S.state store.old) (S.state store.new) result
+        (each (to_string (S.state store.old).limit) (all_seen (S.state store.old) S.number values.now)) }
+{
+    let mut texts = Vec::new(alloc);
+    for value in values {
+        let text = to_text(alloc, store, value)?;
+        push(&mut texts, text)?;
+    }
+    Ok(texts)
+}

@@ -1,0 +1,266 @@
+// Operators on values (ECMA-262, "Additive Operators" and "Unary Operators").
+ghost use Rattle.std.specs.Prelude.{◌≡◌, ◌≤◌, ◌+◌, ◌||◌, length, IfOk, IfSome};
+ghost use Rattle.js_number.specs.Places.{IsLawful};
+ghost use Rattle.js_store.specs.State.{Grows, IsKnown, text};
+ghost use Rattle.eval_values.specs.Outcome;
+ghost use Rattle.eval_values.specs.Outcome.{gave, bind, free};
+ghost use Rattle.eval_values.specs.Conversions.{is_text, to_number, to_string};
+ghost use Rattle.eval_values.specs.Operators.{counted, sum_in, paired, difference_in, negative_in, joined, joined_strings, primitive, plus as sum_out, plus_primitives as primitive_sum, unary_out};
+ghost use Rattle.eval_values.specs.Stops.{converted_of};
+ghost use Rattle.eval_values.specs.Seen.{seen, IsFine};
+ghost use Rattle.eval_values.specs.Does.{Does};
+
+use crate::conversions::{is_string, number_of, to_text, truth};
+use crate::value::{Kind, Refusal, Stop, Value};
+use js_number::Num;
+use js_store::{ConcatFault, Strings};
+use std::alloc::Global;
+
+/// `+` at the byte offset `at`, before which arrays become strings ("Addition Operator").
+pub fn plus<S: Strings>(
+    alloc: Global,
+    store: &mut S,
+    at: u32,
+    left: &Value<S::Ref>,
+    right: &Value<S::Ref>,
+) -> Result<Value<S::Ref>, Stop>
+    requires left { IsFine (S.state store.old) S.number left.now }
+    requires right { IsFine (S.state store.old) S.number right.now }
+    ensures grows { Grows (S.state store.old) (S.state store.new) }
+    ensures fine { IfOk result (λ v. IsFine (S.state store.new) S.number v) }
+    ensures did { Does S.number (S.state store.old) (S.state store.new) result
+        (sum_out at (S.state store.old).limit (seen (S.state store.old) S.number left.now)
+        (seen (S.state store.old) S.number right.now)) }
+{
+    let first = to_primitive(alloc, store, left)?;
+    let second = to_primitive(alloc, store, right)?;
+    plus_primitives(alloc, store, at, &first, &second)
+}
+
+/// The primitive value of a value, which is no array.
+pub fn to_primitive<S: Strings>(
+    alloc: Global,
+    store: &mut S,
+    value: &Value<S::Ref>,
+) -> Result<Value<S::Ref>, Stop>
+    requires { IsFine (S.state store.old) S.number value.now }
+    ensures grows { Grows (S.state store.old) (S.state store.new) }
+    ensures fine { IfOk result (λ v. IsFine (S.state store.new) S.number v) }
+    ensures did { Does S.number (S.state store.old) (S.state store.new) result
+        (primitive (S.state store.old).limit (seen (S.state store.old) S.number value.now)) }
+{
+    match value {
+        Value::Undefined => Ok(Value::Undefined),
+        Value::Null => Ok(Value::Null),
+        Value::Bool(b) => Ok(Value::Bool(*b)),
+        Value::Number(n) => Ok(Value::Number(*n)),
+        Value::Text(s) => Ok(Value::Text(*s)),
+        Value::Symbol(s) => Ok(Value::Symbol(*s)),
+        Value::List(_) => text_value(alloc, store, value),
+    }
+}
+
+// The string of a value as a value.
+fn text_value<S: Strings>(
+    alloc: Global,
+    store: &mut S,
+    value: &Value<S::Ref>,
+) -> Result<Value<S::Ref>, Stop>
+    requires { IsFine (S.state store.old) S.number value.now }
+    ensures grows { Grows (S.state store.old) (S.state store.new) }
+    ensures fine { IfOk result (λ v. IsFine (S.state store.new) S.number v) }
+    ensures did { Does S.number (S.state store.old) (S.state store.new) result
+        (bind (to_string (S.state store.old).limit (seen (S.state store.old) S.number value.now))
+        (λ u. gave (Outcome.text u) free)) }
+{
+    let text = to_text(alloc, store, value)?;
+    Ok(Value::Text(text))
+}
+
+fn plus_primitives<S: Strings>(
+    alloc: Global,
+    store: &mut S,
+    at: u32,
+    left: &Value<S::Ref>,
+    right: &Value<S::Ref>,
+) -> Result<Value<S::Ref>, Stop>
+    requires left { IsFine (S.state store.old) S.number left.now }
+    requires right { IsFine (S.state store.old) S.number right.now }
+    ensures grows { Grows (S.state store.old) (S.state store.new) }
+    ensures fine { IfOk result (λ v. IsFine (S.state store.new) S.number v) }
+    ensures did { Does S.number (S.state store.old) (S.state store.new) result
+        (primitive_sum at (S.state store.old).limit (seen (S.state store.old) S.number left.now)
+        (seen (S.state store.old) S.number right.now)) }
+{
+    if one_is_string(store, left, right) {
+        join_strings(alloc, store, left, right)
+    } else {
+        add(store, at, left, right)
+    }
+}
+
+/// A minus, or else a `!`, at the byte offset `at`.
+pub fn apply_unary<S: Strings>(
+    store: &mut S,
+    at: u32,
+    minus: bool,
+    value: &Value<S::Ref>,
+) -> Result<Value<S::Ref>, Stop>
+    requires { IsFine (S.state store.old) S.number value.now }
+    ensures grows { Grows (S.state store.old) (S.state store.new) }
+    ensures fine { IfOk result (λ v. IsFine (S.state store.new) S.number v) }
+    ensures did { Does S.number (S.state store.old) (S.state store.new) result
+        (unary_out minus at (seen (S.state store.old) S.number value.now)) }
+{
+    if minus {
+        negate(store, at, value)
+    } else {
+        let holds = truth(store, value);
+        Ok(Value::Bool(!holds))
+    }
+}
+
+fn negate<S: Strings>(store: &S, at: u32, value: &Value<S::Ref>) -> Result<Value<S::Ref>, Stop>
+    requires { IsFine (S.state store.now) S.number value.now }
+    ensures { Does S.number (S.state store.now) (S.state store.now) result
+        (negative_in at (seen (S.state store.now) S.number value.now)) }
+{
+    let n = number_of(store, at, value)?;
+    Ok(Value::Number(n.neg()))
+}
+
+fn one_is_string<S: Strings>(store: &S, left: &Value<S::Ref>, right: &Value<S::Ref>) -> bool
+    ensures { result ≡ (is_text (seen (S.state store.now) S.number left.now) || is_text
+        (seen (S.state store.now) S.number right.now)) }
+{
+    is_string(store, left) || is_string(store, right)
+}
+
+// A number that was found, where it is in the range of the profile.
+fn count<S: Strings>(_store: &S, at: u32, n: Option<Num>) -> Result<Value<S::Ref>, Stop>
+    requires { IfSome n IsLawful }
+    ensures { Does S.number (S.state _store.now) (S.state _store.now) result (counted at n) }
+{
+    match n {
+        Some(n) => Ok(Value::Number(n)),
+        None => Err(Stop::Unsupported { at }),
+    }
+}
+
+fn add<S: Strings>(
+    store: &S,
+    at: u32,
+    left: &Value<S::Ref>,
+    right: &Value<S::Ref>,
+) -> Result<Value<S::Ref>, Stop>
+    requires left { IsFine (S.state store.now) S.number left.now }
+    requires right { IsFine (S.state store.now) S.number right.now }
+    ensures { Does S.number (S.state store.now) (S.state store.now) result
+        (sum_in at (seen (S.state store.now) S.number left.now)
+        (seen (S.state store.now) S.number right.now)) }
+{
+    let m = number_of(store, at, left)?;
+    let n = number_of(store, at, right)?;
+    count(store, at, m.add(n))
+}
+
+/// `-` at the byte offset `at` ("Subtraction Operator").
+pub fn subtract<S: Strings>(
+    store: &S,
+    at: u32,
+    left: &Value<S::Ref>,
+    right: &Value<S::Ref>,
+) -> Result<Value<S::Ref>, Stop>
+    requires left { IsFine (S.state store.now) S.number left.now }
+    requires right { IsFine (S.state store.now) S.number right.now }
+    ensures { Does S.number (S.state store.now) (S.state store.now) result
+        (difference_in at (seen (S.state store.now) S.number left.now)
+        (seen (S.state store.now) S.number right.now)) }
+{
+    let (m, n) = two_numbers(store, at, left, right)?;
+    count(store, at, m.sub(n))
+}
+
+// ToNumber of both sides. One that throws goes before one that is left out, whatever its side.
+pub fn two_numbers<S: Strings>(
+    store: &S,
+    at: u32,
+    left: &Value<S::Ref>,
+    right: &Value<S::Ref>,
+) -> Result<(Num, Num), Refusal>
+    requires left { IsFine (S.state store.now) S.number left.now }
+    requires right { IsFine (S.state store.now) S.number right.now }
+    ensures value { converted_of result ≡ paired (to_number at (seen (S.state store.now) S.number left.now))
+        (to_number at (seen (S.state store.now) S.number right.now)) }
+    ensures lawful { IfOk result (λ p. IsLawful p.0 × IsLawful p.1) }
+{
+    match number_of(store, at, left) {
+        Ok(m) => match number_of(store, at, right) {
+            Ok(n) => Ok((m, n)),
+            Err(refusal) => Err(refusal),
+        },
+        Err(Refusal::Threw(kind)) => Err(Refusal::Threw(kind)),
+        Err(Refusal::Unsupported { at: place }) => match number_of(store, at, right) {
+            Ok(_) => Err(Refusal::Unsupported { at: place }),
+            Err(refusal) => Err(refusal),
+        },
+    }
+}
+
+// Both sides as strings, joined.
+fn join_strings<S: Strings>(
+    alloc: Global,
+    store: &mut S,
+    left: &Value<S::Ref>,
+    right: &Value<S::Ref>,
+) -> Result<Value<S::Ref>, Stop>
+    requires left { IsFine (S.state store.old) S.number left.now }
+    requires right { IsFine (S.state store.old) S.number right.now }
+    ensures grows { Grows (S.state store.old) (S.state store.new) }
+    ensures fine { IfOk result (λ v. IsFine (S.state store.new) S.number v) }
+    ensures did { Does S.number (S.state store.old) (S.state store.new) result
+        (joined_strings (S.state store.old).limit (seen (S.state store.old) S.number left.now)
+        (seen (S.state store.old) S.number right.now)) }
+{
+    let a = to_text(alloc, store, left)?;
+    let b = to_text(alloc, store, right)?;
+    join(store, a, b)
+}
+
+// Two strings joined, unless they are longer together than a string may be. The lengths are told
+// first, so what can't be joined takes nothing of the store.
+fn join<S: Strings>(store: &mut S, a: S::Ref, b: S::Ref) -> Result<Value<S::Ref>, Stop>
+    requires left { IsKnown (S.state store.old) (S.number a) }
+    requires right { IsKnown (S.state store.old) (S.number b) }
+    ensures grows { Grows (S.state store.old) (S.state store.new) }
+    ensures fine { IfOk result (λ v. IsFine (S.state store.new) S.number v) }
+    ensures did { Does S.number (S.state store.old) (S.state store.new) result
+        (joined (S.state store.old).limit (text (S.state store.old) (S.number a))
+        (text (S.state store.old) (S.number b))) }
+{
+    let left = u64::from(store.len(a));
+    let right = u64::from(store.len(b));
+    if left + right > u64::from(store.limit()) {
+        return Err(Stop::Threw(Kind::RangeError));
+    }
+    concat(store, a, b)
+}
+
+// Two strings joined, which aren't longer together than a string may be.
+fn concat<S: Strings>(store: &mut S, a: S::Ref, b: S::Ref) -> Result<Value<S::Ref>, Stop>
+    requires left { IsKnown (S.state store.old) (S.number a) }
+    requires right { IsKnown (S.state store.old) (S.number b) }
+    requires short { length (text (S.state store.old) (S.number a)) + length
+        (text (S.state store.old) (S.number b)) ≤ (S.state store.old).limit }
+    ensures grows { Grows (S.state store.old) (S.state store.new) }
+    ensures fine { IfOk result (λ v. IsFine (S.state store.new) S.number v) }
+    ensures did { Does S.number (S.state store.old) (S.state store.new) result
+        (joined (S.state store.old).limit (text (S.state store.old) (S.number a))
+        (text (S.state store.old) (S.number b))) }
+{
+    match store.concat(a, b) {
+        Ok(both) => Ok(Value::Text(both)),
+        Err(ConcatFault::TooLong { .. }) => unreachable!(),
+        Err(ConcatFault::Store(fault)) => Err(Stop::Store(fault)),
+    }
+}

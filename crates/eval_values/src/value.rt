@@ -1,0 +1,135 @@
+// Values, and what ends an evaluation.
+ghost use Rattle.std.specs.Prelude.{◌≡◌, IfOk};
+ghost use Rattle.eval_values.specs.Copies.{content};
+ghost use Rattle.eval_values.specs.Seen.{IsWritten};
+
+use js_number::Num;
+use js_store::{MethodFault, StoreFault};
+use js_units::NoMemory;
+use std::alloc::Global;
+
+/// A kind of error that a script throws (ECMA-262, "Native Error Types Used in This Standard").
+#[derive(Clone, Copy, Debug, PartialEq, Eq)]
+pub enum Kind {
+    RangeError,
+    TypeError,
+    ReferenceError,
+}
+
+/// A value (ECMA-262, "ECMAScript Language Types"), where strings are references into a store. A
+/// symbol is the interned string of its key. An array is the list of its elements, which are all
+/// strings.
+#[derive(Debug, Drop)]
+pub enum Value<R> {
+    Undefined,
+    Null,
+    Bool(bool),
+    Number(Num),
+    Text(R),
+    Symbol(R),
+    List(Vec<R>),
+}
+
+impl<R: Copy> Value<R> {
+    /// The same value once more.
+    pub fn copy(&self, alloc: Global) -> Result<Value<R>, NoMemory>
+        ensures { IfOk result (λ value. content value ≡ content self.now) }
+    {
+        Ok(match self {
+            Value::Undefined => Value::Undefined,
+            Value::Null => Value::Null,
+            Value::Bool(b) => Value::Bool(*b),
+            Value::Number(n) => Value::Number(*n),
+            Value::Text(s) => Value::Text(*s),
+            Value::Symbol(s) => Value::Symbol(*s),
+            Value::List(list) => Value::List(copied(alloc, list)?),
+        })
+    }
+}
+
+/// The value of a number as a script writes it, or of a count of elements.
+pub fn number_value<R>(value: u64) -> Value<R>
+    ensures { IsWritten result value }
+{
+    if value <= 9007199254740991 {
+        Value::Number(Num::Int(value as i64))
+    } else {
+        Value::Undefined
+    }
+}
+
+fn copied<R: Copy>(alloc: Global, list: &[R]) -> Result<Vec<R>, NoMemory>
+    ensures { IfOk result (λ copy. copy.items ≡ list.now) }
+{
+    let mut copy = Vec::new(alloc);
+    match copy.extend_from_slice(list) {
+        Ok(()) => Ok(copy),
+        Err(_) => Err(NoMemory),
+    }
+}
+
+/// Why a conversion that makes nothing gives no value.
+#[derive(Clone, Copy, Debug)]
+pub enum Refusal {
+    Threw(Kind),
+    Unsupported { at: u32 },
+}
+
+/// What stops an evaluation.
+#[derive(Clone, Copy, Debug)]
+pub enum Stop {
+    Threw(Kind),
+    Unsupported { at: u32 },
+    Store(StoreFault),
+}
+
+impl From<StoreFault> for Stop {
+    ghost use Rattle.std.specs.Prelude.{◌≡◌};
+    ghost use Rattle.eval_values.specs.declared.value.Stop.TheVariants.{Store};
+
+    ghost from_gives = { λ f e. e ≡ Store f };
+
+    fn from(fault: StoreFault) -> Stop {
+        Stop::Store(fault)
+    }
+}
+
+impl From<NoMemory> for Stop {
+    ghost use Rattle.std.specs.Prelude.{◌≡◌};
+    ghost use Rattle.js_store.specs.declared.faults.StoreFault.TheVariants.{Memory};
+    ghost use Rattle.eval_values.specs.declared.value.Stop.TheVariants.{Store};
+
+    ghost from_gives = { λ _ e. e ≡ Store Memory };
+
+    fn from(_fault: NoMemory) -> Stop {
+        Stop::Store(StoreFault::Memory)
+    }
+}
+
+impl From<Refusal> for Stop {
+    ghost use Rattle.std.specs.Prelude.{◌≡◌};
+    ghost use Rattle.eval_values.specs.Stops.{refusal_stop};
+
+    ghost from_gives = { λ r e. e ≡ refusal_stop r };
+
+    fn from(refusal: Refusal) -> Stop {
+        match refusal {
+            Refusal::Threw(kind) => Stop::Threw(kind),
+            Refusal::Unsupported { at } => Stop::Unsupported { at },
+        }
+    }
+}
+
+impl From<MethodFault> for Stop {
+    ghost use Rattle.std.specs.Prelude.{◌≡◌};
+    ghost use Rattle.eval_values.specs.Stops.{stop_of};
+
+    ghost from_gives = { λ f e. e ≡ stop_of f };
+
+    fn from(fault: MethodFault) -> Stop {
+        match fault {
+            MethodFault::Store(fault) => Stop::Store(fault),
+            MethodFault::RangeError(_) => Stop::Threw(Kind::RangeError),
+        }
+    }
+}

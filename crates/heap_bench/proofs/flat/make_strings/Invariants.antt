@@ -1,5 +1,0 @@
-use Rattle.heap_table.specs.Agents.{Belongs}
-use Rattle.heap_bench.proofs.flat.make_strings.Given as goal
-
-abbrev pub invariant-loop-i : goal.invariant-loop-i
-invariant-loop-i l = Belongs l.text.agent l.text.heap.now

@@ -1,0 +1,6 @@
+use Rattle.heap_rule.specs.Learning.{by_thin}
+use Rattle.heap_core_views.proofs.Searches.{Seeking}
+use Rattle.heap_core_views.proofs.learning.by_thins.Given as goal
+
+abbrev pub invariant-loop-other : goal.invariant-loop-other
+invariant-loop-other l = Seeking (by_thin l.view l.id) l.view.forms l.other-iterator

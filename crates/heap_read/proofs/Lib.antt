@@ -1,0 +1,15 @@
+pub mod Loaded
+pub mod Showing
+pub mod Holding
+pub mod Listing
+pub mod Going
+pub mod Changed
+pub mod Placing
+pub mod Storing
+pub mod Leading
+pub mod Solids
+pub mod Seeing
+pub mod Learned
+pub mod Freezing
+pub mod WindowLemmas
+pub mod Comparison

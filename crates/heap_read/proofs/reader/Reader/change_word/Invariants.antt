@@ -1,0 +1,18 @@
+use Rattle.std.proofs.Common.{◌≡◌, ◌+◌, get_or}
+use Rattle.heap_read.specs.Filling.{IsPlaced}
+use Rattle.heap_read.specs.Readers.{view_in}
+use Rattle.heap_read.specs.Reads.{KeepsForms, Reads}
+use Rattle.heap_read.specs.Sources.{Shows, listed}
+use Rattle.heap_read.specs.Written.{Holds}
+use Rattle.heap_read.proofs.reader.Reader.change_word.Given as goal
+
+abbrev pub invariant-loop-k : goal.invariant-loop-k
+invariant-loop-k l = record {
+  heap : l.self.heap ≡ l.fn.self.heap;
+  reads : Reads (view_in l.fn.self) (view_in l.self);
+  forms : KeepsForms (view_in l.fn.self) (view_in l.self);
+  shows : Shows (view_in l.self) l.source;
+  holds : Holds (listed (view_in l.fn.self) l.source) l.held;
+  same : listed (view_in l.self) l.source ≡ listed (view_in l.fn.self) l.source;
+  placed : IsPlaced l.patch.wide l.word l.changed l.patch.low l.k (λ k. get_or (listed (view_in l.fn.self) l.source) (l.patch.first + k) 0);
+}

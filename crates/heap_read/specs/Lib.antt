@@ -1,0 +1,9 @@
+pub mod Readers
+pub mod Reads
+pub mod Sides
+pub mod Windows
+pub mod Sources
+pub mod Written
+pub mod Filling
+pub mod Frozen
+pub mod Spans

@@ -1,0 +1,203 @@
+// Where the units of a new string come from.
+ghost use Rattle.std.specs.Prelude.{◌≡◌, ℕ, List, ◌+◌, ◌-◌, ◌/◌, ◌%◌, ◌≤◌, ◌<◌, ◌↔◌, IsTrue, slice_index, length};
+ghost use Rattle.js_units.specs.Lanes.{lane_count, lane_of};
+ghost use Rattle.heap_read.specs.Frozen.{IsHeld, IsLearned};
+ghost use Rattle.heap_read.specs.Readers.{Moves, view_in};
+ghost use Rattle.heap_read.specs.Reads.{KeepsForms, Reads};
+ghost use Rattle.heap_read.specs.Sources.{Shows, listed_in};
+ghost use Rattle.heap_read.specs.Windows.{IsFrozenWindow, IsWindow};
+ghost use Rattle.heap_read.specs.Written.{HasAt, Holds, held_unit};
+
+use crate::reader::Reader;
+use crate::string::{JsStr, Window};
+use js_units::{lane, lanes, word_and_lane};
+
+/// A part of a string, from unit `from` on, with the window that shows it.
+#[derive(Clone, Copy)]
+pub struct Piece {
+    pub of: JsStr,
+    pub from: u32,
+    pub window: Window,
+}
+
+/// The units of a slice, or of one or two parts of strings.
+#[derive(Clone, Copy)]
+pub enum Source<'u> {
+    Units(&'u [u16]),
+    Piece(Piece),
+    Pieces(Piece, Piece),
+}
+
+/// One word that was read of a source, so that its units are found with no further load: the
+/// `count` units from number `from` on, the first in lane `lane`.
+#[derive(Clone, Copy)]
+pub struct Held {
+    pub word: u64,
+    pub wide: bool,
+    pub lane: u32,
+    pub from: u32,
+    pub count: u32,
+}
+
+impl Held {
+    /// No word: it shows no unit.
+    pub fn none() -> Held
+        ensures { (us : List ℕ) → Holds us result }
+    {
+        Held {
+            word: 0,
+            wide: false,
+            lane: 0,
+            from: 0,
+            count: 0,
+        }
+    }
+
+    /// Whether it has unit `i`.
+    pub fn has(&self, i: u32) -> bool
+        ensures { IsTrue result ↔ ((self.now.from ≤ i) × (i < self.now.from + self.now.count)) }
+    {
+        self.from <= i && i - self.from < self.count
+    }
+
+    /// Unit `i`, which it has.
+    pub fn unit(&self, i: u32) -> u16
+        requires has { (self.now.from ≤ i) × (i < self.now.from + self.now.count) }
+        requires within { self.now.lane + self.now.count ≤ lane_count self.now.wide }
+        ensures { result ≡ lane_of self.now.wide self.now.word (self.now.lane + (i - self.now.from)) }
+    {
+        lane(self.word, self.wide, self.lane + (i - self.from))
+    }
+
+    /// How many units it has from number `i` on, which it has.
+    pub fn count_from(&self, i: u32) -> u32
+        requires { (self.now.from ≤ i) × (i < self.now.from + self.now.count) }
+        ensures { result ≡ self.now.count - (i - self.now.from) }
+    {
+        self.count - (i - self.from)
+    }
+
+    // Whether another word is the same, with unit `i` in the same lane.
+    pub(crate) fn is_alike(&self, other: &Held, i: u32) -> bool
+        requires left { HasAt self.now i 0 }
+        requires right { HasAt other.now i 0 }
+        ensures { IsTrue result → (k : ℕ) → held_unit self.now (i + k) ≡ held_unit other.now (i + k) }
+    {
+        self.word == other.word
+            && self.wide == other.wide
+            && self.lane + (i - self.from) == other.lane + (i - other.from)
+    }
+}
+
+impl<'h> Reader<'h> {
+    /// The word with unit `i` of a window, by one load, and all units of the window that it shows.
+    pub fn hold_in(&mut self, w: Window, i: u32) -> Held
+        requires frozen { IsFrozenWindow (view_in self.old) w }
+        requires within { i < w.len }
+        ensures reads { Moves Reads self.old self.new }
+        ensures forms { KeepsForms (view_in self.old) (view_in self.new) }
+        ensures has { (result.from ≤ i) × (i < result.from + result.count) }
+        ensures held { IsHeld (view_in self.new) w result }
+        ensures holds { (us : List ℕ) → IsWindow (view_in self.old) w us → Holds us result }
+        ensures learned { IsLearned (view_in self.new) }
+    {
+        let lanes = lanes(w.wide);
+        let place = w.offset + i;
+        let (at, k) = word_and_lane(w.wide, place);
+        let back = k.min(i);
+        let word = self.agent.load_word(self.heap, w.start + at);
+        Held {
+            word,
+            wide: w.wide,
+            lane: k - back,
+            from: i - back,
+            count: (lanes - (k - back)).min(w.len - (i - back)),
+        }
+    }
+
+    // The word with this unit of a source.
+    fn hold(&mut self, source: &Source, i: u32) -> Held
+        requires shows { Shows (view_in self.old) source.now }
+        requires within { i < length (listed_in self.old source.now) }
+        ensures reads { Moves Reads self.old self.new }
+        ensures forms { KeepsForms (view_in self.old) (view_in self.new) }
+        ensures shows { Shows (view_in self.new) source.now }
+        ensures listed { listed_in self.new source.now ≡ listed_in self.old source.now }
+        ensures has { (result.from ≤ i) × (i < result.from + result.count) }
+        ensures holds { Holds (listed_in self.old source.now) result }
+    {
+        match source {
+            Source::Units(units) => Held {
+                word: u64::from(unit_of(units, i as usize)),
+                wide: true,
+                lane: 0,
+                from: i,
+                count: 1,
+            },
+            Source::Piece(piece) => self.hold_in(piece.window, i),
+            Source::Pieces(front, back) => {
+                let left = front.window.len;
+                if i < left {
+                    return self.hold_in(front.window, i);
+                }
+                let held = self.hold_in(back.window, i - left);
+                Held {
+                    word: held.word,
+                    wide: held.wide,
+                    lane: held.lane,
+                    from: left + held.from,
+                    count: held.count,
+                }
+            }
+        }
+    }
+
+    // The unit with this number: of the word that was read last, where that has it.
+    pub fn unit_held(&mut self, source: &Source, i: u32, held: &mut Held) -> u16
+        requires shows { Shows (view_in self.old) source.now }
+        requires within { i < length (listed_in self.old source.now) }
+        requires holds { Holds (listed_in self.old source.now) held.old }
+        ensures reads { Moves Reads self.old self.new }
+        ensures forms { KeepsForms (view_in self.old) (view_in self.new) }
+        ensures shows { Shows (view_in self.new) source.now }
+        ensures listed { listed_in self.new source.now ≡ listed_in self.old source.now }
+        ensures holds { Holds (listed_in self.old source.now) held.new }
+        ensures fits { result < 65536 }
+        ensures unit { result ≡ slice_index (listed_in self.old source.now) i }
+    {
+        if held.has(i) {
+            return held.unit(i);
+        }
+        let next = self.hold(source, i);
+        *held = next;
+        next.unit(i)
+    }
+
+    // The same, and 0 past the last unit.
+    pub fn unit_or_zero(&mut self, source: &Source, n: u32, i: u32, held: &mut Held) -> u16
+        requires shows { Shows (view_in self.old) source.now }
+        requires count { length (listed_in self.old source.now) ≡ n }
+        requires holds { Holds (listed_in self.old source.now) held.old }
+        ensures reads { Moves Reads self.old self.new }
+        ensures shows { Shows (view_in self.new) source.now }
+        ensures listed { listed_in self.new source.now ≡ listed_in self.old source.now }
+        ensures holds { Holds (listed_in self.old source.now) held.new }
+        ensures fits { result < 65536 }
+        ensures unit { result ≡ slice_index (listed_in self.old source.now) i }
+    {
+        if i < n {
+            self.unit_held(source, i, held)
+        } else {
+            0
+        }
+    }
+}
+
+// The unit with this number.
+fn unit_of(units: &[u16], i: usize) -> u16
+    requires { i < length units.now }
+    ensures fits { result < 65536 }
+    ensures unit { result ≡ slice_index units.now i }
+{
+    units[i]
+}

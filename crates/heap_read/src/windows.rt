@@ -1,0 +1,147 @@
+// Finding the content words under a string that is no Cons. They are those of a Flat: the string
+// itself, or the one to which it or its parent forwards.
+ghost use Rattle.std.specs.Prelude.{◌≡◌, ℕ, List, Bool, ◌+◌, true};
+ghost use Rattle.js_header.specs.declared.form.Form.TheVariants.{Flat, Sliced, Thin};
+ghost use Rattle.heap_rule.specs.Forms.{IsSolid};
+ghost use Rattle.heap_rule.specs.Loads.{added_loads};
+ghost use Rattle.heap_rule.specs.Maps.{Has, HasKey};
+ghost use Rattle.heap_rule.specs.Views.{IsKnown, IsSettled};
+ghost use Rattle.heap_read.specs.Frozen.{IsFixedBy, IsFixedWindow, IsLearned};
+ghost use Rattle.heap_read.specs.Readers.{Moves, view_in};
+ghost use Rattle.heap_read.specs.Reads.{HoldsForms, KeepsForms, Reads};
+ghost use Rattle.heap_read.specs.Sides.{KnowsSide, LoadsForms, target_loads};
+ghost use Rattle.heap_read.specs.Windows.{IsLed, ShowsAll, StandsFor};
+
+use crate::lanes::Run;
+use crate::reader::Reader;
+use crate::string::{JsStr, Window};
+use js_header::Form;
+
+impl<'h> Reader<'h> {
+    // A window on all units of a string, which lie behind `before` others in the words of a Flat.
+    fn window_over(&mut self, of: JsStr, by: u32, run: Run, before: u32) -> Window
+        requires known { HasKey (view_in self.old).units of.id }
+        requires met { IsKnown (view_in self.old) by }
+        requires led { IsLed (view_in self.old) of.id by run.wide run.start before }
+        ensures reads { Moves Reads self.old self.new }
+        ensures forms { KeepsForms (view_in self.old) (view_in self.new) }
+        ensures shows { ShowsAll (view_in self.old) (view_in self.new) of.id result }
+    {
+        Window {
+            wide: run.wide,
+            start: run.start,
+            offset: before,
+            len: self.agent.load_length(self.heap, by),
+        }
+    }
+
+    /// The words of the fixed Flat to which a string forwards, by one load of its form. No form
+    /// that was seen is another one afterwards.
+    pub fn target_run(&mut self, of: u32, target: u32) -> Run
+        requires thin { Has (view_in self.old).forms of (Thin target) }
+        requires met { IsKnown (view_in self.old) target }
+        ensures reads { Moves Reads self.old self.new }
+        ensures held { HoldsForms (view_in self.old) (view_in self.new) }
+        ensures flat { Has (view_in self.new).forms target (Flat result.wide result.start true) }
+        ensures loads { (view_in self.new).form_loads ≡ added_loads (view_in self.old).form_loads 1 }
+    {
+        match self.form_now(target) {
+            Form::Flat { wide, start, .. } => Run { start, wide },
+            _ => unreachable!(),
+        }
+    }
+
+    // The words of a string that was seen as a Flat or a Thin.
+    fn solid_run(&mut self, id: u32, form: Form) -> Run
+        requires seen { Has (view_in self.old).forms id form }
+        requires solid { IsSolid form }
+        requires side { KnowsSide (view_in self.old) form }
+        ensures reads { Moves Reads self.old self.new }
+        ensures held { HoldsForms (view_in self.old) (view_in self.new) }
+        ensures flat { (i : ℕ) × (fixed : Bool) × StandsFor (view_in self.new) id i
+            × Has (view_in self.new).forms i (Flat result.wide result.start fixed) }
+        ensures loads { LoadsForms (view_in self.old) (view_in self.new) (target_loads form) }
+    {
+        match form {
+            Form::Flat { wide, start, .. } => Run { start, wide },
+            Form::Thin { target } => self.target_run(id, target),
+            _ => unreachable!(),
+        }
+    }
+
+    /// A window on all units of a string that was seen as a Flat or a Thin.
+    pub fn solid_window(&mut self, of: JsStr, form: Form) -> Window
+        requires known { HasKey (view_in self.old).units of.id }
+        requires seen { Has (view_in self.old).forms of.id form }
+        requires solid { IsSolid form }
+        requires side { KnowsSide (view_in self.old) form }
+        ensures reads { Moves Reads self.old self.new }
+        ensures held { HoldsForms (view_in self.old) (view_in self.new) }
+        ensures shows { ShowsAll (view_in self.old) (view_in self.new) of.id result }
+        ensures loads { LoadsForms (view_in self.old) (view_in self.new) (target_loads form) }
+    {
+        match form {
+            Form::Flat { wide, start, .. } => {
+                self.window_over(of, of.id, Run { start, wide }, 0)
+            }
+            Form::Thin { target } => {
+                let run = self.target_run(of.id, target);
+                self.window_over(of, target, run, 0)
+            }
+            _ => unreachable!(),
+        }
+    }
+
+    /// A window on all units of a string that was seen as a Sliced of `parent`, and that one with
+    /// the form `under`.
+    pub fn part_window(&mut self, of: JsStr, parent: u32, offset: u32, under: Form) -> Window
+        requires known { HasKey (view_in self.old).units of.id }
+        requires sliced { (wide : Bool) × Has (view_in self.old).forms of.id (Sliced wide parent offset) }
+        requires seen { Has (view_in self.old).forms parent under }
+        requires solid { IsSolid under }
+        requires side { KnowsSide (view_in self.old) under }
+        ensures reads { Moves Reads self.old self.new }
+        ensures held { HoldsForms (view_in self.old) (view_in self.new) }
+        ensures shows { ShowsAll (view_in self.old) (view_in self.new) of.id result }
+        ensures loads { LoadsForms (view_in self.old) (view_in self.new) (target_loads under) }
+    {
+        let run = self.solid_run(parent, under);
+        self.window_over(of, of.id, run, offset)
+    }
+
+    /// A window on all units of a settled string, by three loads of a form at most.
+    pub fn window_on(&mut self, of: JsStr) -> Window
+        requires known { HasKey (view_in self.old).units of.id }
+        requires settled { IsSettled (view_in self.old) of.id }
+        ensures reads { Moves Reads self.old self.new }
+        ensures shows { ShowsAll (view_in self.old) (view_in self.new) of.id result }
+    {
+        let form = self.form_now(of.id);
+        if let Form::Sliced { parent, offset, .. } = form {
+            let under = self.form_now(parent);
+            return self.part_window(of, parent, offset, under);
+        }
+        self.solid_window(of, form)
+    }
+
+    /// A window on all units of a fixed Flat, a string that stands in a slot of the string table or to
+    /// which another forwards. No form that was seen is another one afterwards.
+    pub fn fixed_window(&mut self, id: u32) -> Window
+        requires met { IsKnown (view_in self.old) id }
+        requires fixed { IsFixedBy (view_in self.old) id }
+        ensures reads { Moves Reads self.old self.new }
+        ensures held { HoldsForms (view_in self.old) (view_in self.new) }
+        ensures fixed { IsFixedWindow (view_in self.new) id result }
+        ensures learned { IsLearned (view_in self.new) }
+    {
+        match self.form_now(id) {
+            Form::Flat { wide, start, .. } => Window {
+                wide,
+                start,
+                offset: 0,
+                len: self.agent.load_length(self.heap, id),
+            },
+            _ => unreachable!(),
+        }
+    }
+}

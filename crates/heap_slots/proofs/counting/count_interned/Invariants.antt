@@ -1,7 +1,0 @@
-use Rattle.std.proofs.Common.{◌≤◌}
-use Rattle.heap_table.specs.Agents.{Belongs}
-use Rattle.heap_slots.specs.Visits.{Counted}
-use Rattle.heap_slots.proofs.counting.count_interned.Given as goal
-
-abbrev pub invariant-loop-k : goal.invariant-loop-k
-invariant-loop-k l = Belongs l.agent l.heap × Counted l.fn.agent.seat.me.0 l.agent.seat.me.0 l.k l.count × (l.count ≤ l.k)

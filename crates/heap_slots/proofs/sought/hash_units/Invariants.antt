@@ -1,7 +1,0 @@
-use Rattle.std.proofs.Common.{◌≡◌}
-use Rattle.heap_table.specs.Agents.{Belongs}
-use Rattle.heap_slots.proofs.Reading.{Hashing}
-use Rattle.heap_slots.proofs.sought.hash_units.Given as goal
-
-abbrev pub invariant-loop-i : goal.invariant-loop-i
-invariant-loop-i l = Belongs l.agent l.heap × Hashing l.fn.agent.seat.me.0 l.agent.seat.me.0 l.s l.i l.h × (l.agent.seat.me.0.slot_loads ≡ l.fn.agent.seat.me.0.slot_loads)

@@ -1,5 +1,0 @@
-use Rattle.heap_slots_tests.proofs.Sharing.{still_whole}
-use Rattle.heap_slots_tests.proofs.slots.answers.Goals as goal
-
-pub count_interned-count-requires-clause-whole : goal.count_interned-count-requires-clause-whole
-count_interned-count-requires-clause-whole c = still_whole _ _ c.interned-d.ensures.turns (still_whole _ _ c.interned-c.ensures.turns (still_whole _ _ c.interned-b.ensures.turns (still_whole _ _ c.interned-a.ensures.turns c.requires.whole)))

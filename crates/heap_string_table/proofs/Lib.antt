@@ -1,0 +1,15 @@
+pub mod Going
+pub mod Loading
+pub mod Learned
+pub mod Possibly
+pub mod Stretching
+pub mod Packing
+pub mod Reading
+pub mod Planning
+pub mod Bearing
+pub mod Copies
+pub mod Moving
+pub mod Distinct
+pub mod Counted
+pub mod Visiting
+pub mod Blocks

@@ -1,9 +1,0 @@
-use Rattle.heap_rule.specs.Maps.{HasKey}
-use Rattle.heap_table.specs.Agents.{Belongs, view_of}
-use Rattle.heap_text_tests.proofs.ropes.doublings.Given as goal
-
-abbrev pub invariant-loop-turn : goal.invariant-loop-turn
-invariant-loop-turn l = record {
-  text : Belongs l.text.agent l.text.heap.now;
-  known : HasKey (view_of l.text.agent).units l.s.id;
-}

@@ -1,6 +1,0 @@
-use Rattle.heap_views.specs.Loading.{EndsPast}
-use Rattle.heap_views.proofs.Searches.{Searching}
-use Rattle.heap_views.proofs.learning.has_later_part.Given as goal
-
-abbrev pub invariant-loop-part : goal.invariant-loop-part
-invariant-loop-part l = Searching (EndsPast l.view l.id l.n) l.view.forms l.part-iterator

@@ -1,7 +1,0 @@
-mod Calls
-mod Joined
-mod Pads
-mod Parts
-mod Made
-mod Replacements
-mod Elements

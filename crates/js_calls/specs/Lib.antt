@@ -1,9 +1,0 @@
-pub mod Reading
-pub mod Cutting
-pub mod Searching
-pub mod Building
-pub mod Padding
-pub mod Replacing
-pub mod Arrays
-pub mod Members
-pub mod Groups

@@ -1,0 +1,395 @@
+use Rattle.std.proofs.Common.{Ok, Err, refl, sym, ◌∙◌, subst, unwrap_or, List, []}
+use Rattle.std.proofs.lemmas.Result.{err_from_is_err_and}
+use Rattle.std.proofs.Math.ListN.{drop_of_length-le}
+use Rattle.js_store.specs.declared.faults.StoreFault.TheVariants.{Memory}
+use Rattle.js_store.proofs.Laws.{grows_refl, grows_trans}
+use Rattle.eval_tree.specs.Tree.{expr_tree, link_tree, links_tree, steps_tree, exprs_tree}
+use Rattle.eval_tree.proofs.Trees.{tree_of_unary, tree_of_chain, tree_of_post, tree_of_conditional, tree_of_call, tree_of_index, tree_of_builtin}
+use Rattle.eval_values.specs.declared.value.Stop.TheVariants.{Store}
+use Rattle.eval_values.specs.Outcome.{Val, Out}
+use Rattle.eval_scopes.specs.Bindings.{meant}
+use Rattle.js_eval.specs.Expression.{expr_out, steps_out}
+use Rattle.eval_values.specs.Seen.{seen, IsFine}
+use Rattle.js_eval.specs.Seen.{scope_of}
+use Rattle.eval_values.specs.Does.{GivesAll}
+use Rattle.eval_values.proofs.Compose.{ran_free}
+use Rattle.eval_values.proofs.Each.{each_turn, each_halt, each_full, fine_turn}
+use Rattle.js_eval.proofs.Leaves.{tree_of_literal, tree_of_number}
+use Rattle.js_eval.proofs.Expressions.{seen_does, written_does, unary_does, chain_does, chain_stops, post_does, post_stops, builtin_does, builtin_stops, index_does, index_stops, link_decided, link_does, link_stops, condition_holds, condition_fails, condition_stops, name_does, name_fails, copy_does, copy_stops, links_turn, links_halt, steps_turn, steps_halt, call_does, call_stops, call_absent, exprs_are}
+use Rattle.eval_values.proofs.Still.{seen_still, fine_still}
+use Rattle.js_eval.proofs.Stays.{scope_still, context_fine_still}
+use Rattle.js_eval.proofs.expr.+expr.Goals as goal
+
+pub expr-returns-in-Unary-clause-context : goal.expr-returns-in-Unary-clause-context
+expr-returns-in-Unary-clause-context g t c =
+    context_fine_still (g.S.Strings.state c.expr.new.store) (g.S.Strings.state c.apply_unary.new.store) g.S.Strings.number c.apply_unary.ensures.grows c.args.context.now c.in_ok-value-in-Unary.ensures.context
+
+pub expr-returns-in-Unary-clause-did : goal.expr-returns-in-Unary-clause-did
+expr-returns-in-Unary-clause-did g t c =
+    let state = g.S.Strings.state in
+    let i = c.in_ok-value-in-Unary.ensures.did in
+    let d = c.deref.ensures in
+    rw (c.in-Unary.is, tree_of_unary c.in-Unary.at c.in-Unary.minus c.in-Unary.of)
+    (unary_does g.S.Strings.number (state c.args.store.now) (state c.expr.new.store) (state c.apply_unary.new.store) c.in_ok-value-in-Unary.value c.apply_unary.result c.in-Unary.at c.in-Unary.minus (expr_tree c.in-Unary.of.value) (scope_of (state c.args.store.now) g.S.Strings.number c.args.context.now) (rw d at i) c.apply_unary.ensures.did)
+
+pub expr-returns-in_err-value-in-Chain-clause-did : goal.expr-returns-in_err-value-in-Chain-clause-did
+expr-returns-in_err-value-in-Chain-clause-did g t c =
+    let state = g.S.Strings.state in
+    let p = err_from_is_err_and c.from_residual-in_err-value-in-Chain.result c.from_residual-in_err-value-in-Chain.ensures.1 in
+    let i = c.in_err-value-in-Chain.ensures.did in
+    let d = c.deref-in-Chain.ensures in
+    rw (p.1, p.2, c.in-Chain.is, tree_of_chain c.in-Chain.first c.in-Chain.rest)
+    (chain_stops g.S.Strings.number (state c.args.store.now) (state c.expr-in-Chain.new.store) c.in_err-value-in-Chain.field-0.0 (expr_tree c.in-Chain.first.value) (links_tree c.in-Chain.rest.items) (scope_of (state c.args.store.now) g.S.Strings.number c.args.context.now) (rw d at i))
+
+pub expr-returns-in-Chain-clause-did : goal.expr-returns-in-Chain-clause-did
+expr-returns-in-Chain-clause-did g t c =
+    let state = g.S.Strings.state in
+    let i = c.in_ok-value-in-Chain.ensures.did in
+    let k = c.links.ensures.did in
+    let d = c.deref-in-Chain.ensures in
+    let e = c.deref-in-Chain-2.ensures.value in
+    rw (c.in-Chain.is, tree_of_chain c.in-Chain.first c.in-Chain.rest)
+    (chain_does g.S.Strings.number (state c.args.store.now) (state c.expr-in-Chain.new.store) (state c.links.new.store) c.in_ok-value-in-Chain.value c.links.result (expr_tree c.in-Chain.first.value) (links_tree c.in-Chain.rest.items) c.args.context.now c.in_ok-value-in-Chain.ensures.grows c.requires (rw d at i) (rw e at k))
+
+pub expr-returns-in_err-values-in-Builtin-clause-did : goal.expr-returns-in_err-values-in-Builtin-clause-did
+expr-returns-in_err-values-in-Builtin-clause-did g t c =
+    let state = g.S.Strings.state in
+    let p = err_from_is_err_and c.from_residual-in_err-values-in-Builtin.result c.from_residual-in_err-values-in-Builtin.ensures.1 in
+    let i = c.in_err-values-in-Builtin.ensures.did in
+    let d = c.deref-in-Builtin.ensures.value in
+    rw (p.1, p.2, c.in-Builtin.is, tree_of_builtin c.in-Builtin.at c.in-Builtin.which c.in-Builtin.args)
+    (builtin_stops g.S.Strings.number (state c.args.store.now) (state c.exprs.new.store) c.in_err-values-in-Builtin.field-0.0 c.in-Builtin.at c.in-Builtin.which (exprs_tree c.in-Builtin.args.items) (scope_of (state c.args.store.now) g.S.Strings.number c.args.context.now) (rw d at i))
+
+pub expr-returns-clause-context : goal.expr-returns-clause-context
+expr-returns-clause-context g t c =
+    context_fine_still (g.S.Strings.state c.exprs.new.store) (g.S.Strings.state c.call_builtin.new.store) g.S.Strings.number c.call_builtin.ensures.grows c.args.context.now c.in_ok-values-in-Builtin.ensures.context
+
+pub expr-returns-clause-did : goal.expr-returns-clause-did
+expr-returns-clause-did g t c =
+    let state = g.S.Strings.state in
+    let i = c.in_ok-values-in-Builtin.ensures.did in
+    let k = c.call_builtin.ensures.did in
+    let d = c.deref-in-Builtin.ensures.value in
+    let e = c.deref-in-Builtin-2.ensures.value in
+    rw (c.in-Builtin.is, tree_of_builtin c.in-Builtin.at c.in-Builtin.which c.in-Builtin.args)
+    (builtin_does g.S.Strings.number (state c.args.store.now) (state c.exprs.new.store) (state c.call_builtin.new.store) c.in_ok-values-in-Builtin.values c.call_builtin.result c.in-Builtin.at c.in-Builtin.which (exprs_tree c.in-Builtin.args.items) c.args.context.now c.in_ok-values-in-Builtin.ensures.grows (rw d at i) (rw e at k))
+
+pub links-returns-in_err-value-clause-did : goal.links-returns-in_err-value-clause-did
+links-returns-in_err-value-clause-did g t c =
+    let state = g.S.Strings.state in
+    let number = g.S.Strings.number in
+    let p = err_from_is_err_and c.from_residual.result c.from_residual.ensures.1 in
+    let i = c.loop-link.invariant in
+    let same = scope_still (state c.args.store.now) (state c.loop-link.store) number i.grows c.args.context.now c.requires.context in
+    let d = c.in_err-value.ensures.did in
+    rw (p.1, p.2) (i.completes (state c.one_link.new.store) (Err c.in_err-value.field-0.0)
+    (links_halt number (state c.loop-link.store) (state c.one_link.new.store) c.loop-link.value c.args.rest.now c.loop-link.link-index c.link-item.result (scope_of (state c.args.store.now) number c.args.context.now)
+    c.loop-link-test.true c.link-item.is c.in_err-value.field-0.0 (rw same at d)))
+
+pub links-loop-link-preserved : goal.links-loop-link-preserved
+links-loop-link-preserved g t c =
+    let state = g.S.Strings.state in
+    let number = g.S.Strings.number in
+    let i = c.loop-link.invariant in
+    let same = scope_still (state c.args.store.now) (state c.loop-link.store) number i.grows c.args.context.now c.requires.context in
+    let d = c.in_ok-value.ensures.did in
+    record {
+      grows = grows_trans i.grows c.in_ok-value.ensures.grows;
+      context = c.in_ok-value.ensures.context;
+      fine = c.in_ok-value.ensures.fine;
+      completes = λ e r f. i.completes e r
+          (links_turn number (state c.loop-link.store) (state c.one_link.new.store) e c.loop-link.value c.in_ok-value.value c.args.rest.now c.loop-link.link-index c.link-item.result (scope_of (state c.args.store.now) number c.args.context.now)
+          c.loop-link-test.true c.link-item.is (rw same at d) r f);
+    }
+
+pub links-returns-clause-did : goal.links-returns-clause-did
+links-returns-clause-did g t c =
+    let past = drop_of_length-le c.args.rest.now {i = c.loop-link.link-index} c.loop-link-test.false in
+    c.loop-link.invariant.completes (g.S.Strings.state c.loop-link.store) (Ok c.loop-link.value)
+    (rw past (record { is = refl; good = c.loop-link.invariant.fine; ran = ran_free (g.S.Strings.state c.loop-link.store) }))
+
+pub one_link-returns-then-is_decided-clause-context : goal.one_link-returns-then-is_decided-clause-context
+one_link-returns-then-is_decided-clause-context g t c =
+    context_fine_still (g.S.Strings.state c.args.store.now) (g.S.Strings.state c.is_decided.new.store) g.S.Strings.number c.is_decided.ensures.step.grows c.args.context.now c.requires.context
+
+pub one_link-returns-then-is_decided-clause-fine : goal.one_link-returns-then-is_decided-clause-fine
+one_link-returns-then-is_decided-clause-fine g t c =
+    fine_still (g.S.Strings.state c.args.store.now) (g.S.Strings.state c.is_decided.new.store) g.S.Strings.number c.is_decided.ensures.step.grows c.args.left c.requires.left
+
+pub one_link-returns-then-is_decided-clause-did : goal.one_link-returns-then-is_decided-clause-did
+one_link-returns-then-is_decided-clause-did g t c =
+    let state = g.S.Strings.state in
+    let d = c.is_decided.ensures in
+    link_decided g.S.Strings.number (state c.args.store.now) (state c.is_decided.new.store) c.args.left (link_tree c.args.link.now) d.step d.history c.requires.left (scope_of (state c.args.store.now) g.S.Strings.number c.args.context.now) (sym d.value ∙ c.if-is_decided.true)
+
+pub one_link-returns-in_err-right-clause-did : goal.one_link-returns-in_err-right-clause-did
+one_link-returns-in_err-right-clause-did g t c =
+    let p = err_from_is_err_and c.from_residual.result c.from_residual.ensures.1 in
+    let state = g.S.Strings.state in
+    let d = c.is_decided.ensures in
+    rw (p.1, p.2) (link_stops g.S.Strings.number (state c.args.store.now) (state c.is_decided.new.store) c.args.left (link_tree c.args.link.now) d.step d.history c.requires.left (state c.expr.new.store) c.in_err-right.field-0.0 c.args.context.now c.requires.context (sym d.value ∙ c.if-is_decided.false) c.in_err-right.ensures.did)
+
+pub one_link-returns-clause-context : goal.one_link-returns-clause-context
+one_link-returns-clause-context g t c =
+    context_fine_still (g.S.Strings.state c.expr.new.store) (g.S.Strings.state c.apply.new.store) g.S.Strings.number c.apply.ensures.grows c.args.context.now c.in_ok-right.ensures.context
+
+pub one_link-returns-clause-did : goal.one_link-returns-clause-did
+one_link-returns-clause-did g t c =
+    let state = g.S.Strings.state in
+    let d = c.is_decided.ensures in
+    link_does g.S.Strings.number (state c.args.store.now) (state c.is_decided.new.store) c.args.left (link_tree c.args.link.now) d.step d.history c.requires.left
+    (state c.expr.new.store) (state c.apply.new.store) c.in_ok-right.right c.apply.result c.args.context.now
+    c.in_ok-right.ensures.grows c.requires.context (sym d.value ∙ c.if-is_decided.false) c.in_ok-right.ensures.did c.apply.ensures.did
+
+pub steps-returns-in_err-next-clause-did : goal.steps-returns-in_err-next-clause-did
+steps-returns-in_err-next-clause-did g t c =
+    let state = g.S.Strings.state in
+    let number = g.S.Strings.number in
+    let p = err_from_is_err_and c.from_residual.result c.from_residual.ensures.1 in
+    let i = c.loop-step.invariant in
+    let same = scope_still (state c.args.store.now) (state c.loop-step.store) number i.grows c.args.context.now c.requires.context in
+    let of = c.latest-of.ensures.is in
+    let d = c.in_err-next.ensures.did in
+    rw (p.1, p.2) (i.completes (state c.one_step.new.store) (Err c.in_err-next.field-0.0)
+    (steps_halt number (state c.loop-step.store) (state c.one_step.new.store) (unwrap_or c.loop-step.value c.args.first.now) c.args.rest.now c.loop-step.step-index c.step-item.result (scope_of (state c.args.store.now) number c.args.context.now)
+    c.loop-step-test.true c.step-item.is c.in_err-next.field-0.0 (rw (same, of) at d)))
+
+pub steps-loop-step-preserved : goal.steps-loop-step-preserved
+steps-loop-step-preserved g t c =
+    let state = g.S.Strings.state in
+    let number = g.S.Strings.number in
+    let i = c.loop-step.invariant in
+    let same = scope_still (state c.args.store.now) (state c.loop-step.store) number i.grows c.args.context.now c.requires.context in
+    let of = c.latest-of.ensures.is in
+    let d = c.in_ok-next.ensures.did in
+    record {
+      grows = grows_trans i.grows c.in_ok-next.ensures.grows;
+      context = c.in_ok-next.ensures.context;
+      fine = c.in_ok-next.ensures.fine;
+      completes = λ e r f. i.completes e r
+          (steps_turn number (state c.loop-step.store) (state c.one_step.new.store) e (unwrap_or c.loop-step.value c.args.first.now) c.in_ok-next.next c.args.rest.now c.loop-step.step-index c.step-item.result (scope_of (state c.args.store.now) number c.args.context.now)
+          c.loop-step-test.true c.step-item.is (rw (same, of) at d) r f);
+    }
+
+pub steps-returns-in-Some-clause-fine : goal.steps-returns-in-Some-clause-fine
+steps-returns-in-Some-clause-fine g t c = rw c.in-Some.is at c.loop-step.invariant.fine
+
+pub steps-returns-in-Some-clause-did : goal.steps-returns-in-Some-clause-did
+steps-returns-in-Some-clause-did g t c =
+    let past = drop_of_length-le c.args.rest.now {i = c.loop-step.step-index} c.loop-step-test.false in
+    let k = c.loop-step.invariant.fine in
+    c.loop-step.invariant.completes (g.S.Strings.state c.loop-step.store) (Ok c.in-Some.last)
+    (rw (past, c.in-Some.is) (record { is = refl; good = rw c.in-Some.is at k; ran = ran_free (g.S.Strings.state c.loop-step.store) }))
+
+pub one_step-returns-in-Length-clause-context : goal.one_step-returns-in-Length-clause-context
+one_step-returns-in-Length-clause-context g t c =
+    context_fine_still (g.S.Strings.state c.args.store.now) (g.S.Strings.state c.read_length.new.store) g.S.Strings.number c.read_length.ensures.grows c.args.context.now c.requires.context
+
+pub exprs-loop-e-init : goal.exprs-loop-e-init
+exprs-loop-e-init g t c =
+    let number = g.S.Strings.number in
+    let a = g.S.Strings.state c.args.store.now in
+    let e = c.new-values.ensures.items in
+    record {
+      grows = grows_refl a;
+      context = c.requires;
+      fine = rw e tt;
+      completes = λ z r f. subst (λ (o : Out (List Val)). GivesAll number a z r o) (sym (exprs_are c.args.list.now (scope_of a number c.args.context.now))) (rw e at f);
+    }
+
+pub exprs-loop-e-preserved : goal.exprs-loop-e-preserved
+exprs-loop-e-preserved g t c =
+    let state = g.S.Strings.state in
+    let number = g.S.Strings.number in
+    let a = state c.args.store.now in
+    let b = state c.loop-e.store in
+    let d = state c.expr.new.store in
+    let meant = scope_of a number c.args.context.now in
+    let i = c.loop-e.invariant in
+    let e = c.in_ok-value.ensures in
+    let did = e.did in
+    let p = c.in_ok-push.ensures.added in
+    let same = scope_still a b number i.grows c.args.context.now c.requires in
+    record {
+      grows = grows_trans i.grows e.grows;
+      context = e.context;
+      fine = rw p (fine_turn (λ s v. seen s number v) (λ s v. IsFine s number v) b d (λ x. expr_out (expr_tree x) meant) c.loop-e.values.items c.args.list.now c.loop-e.e-index c.e-item.result c.loop-e-test.true c.e-item.is c.in_ok-value.value (λ v k. fine_still b d number e.grows v k) i.fine e.fine);
+      completes = λ z r f. i.completes z r (each_turn (λ s v. seen s number v) (λ s v. IsFine s number v) b d (λ x. expr_out (expr_tree x) meant) c.loop-e.values.items c.args.list.now c.loop-e.e-index c.e-item.result c.loop-e-test.true c.e-item.is z c.in_ok-value.value r (λ v k. seen_still b d number e.grows v k) i.fine (rw same at did) (rw p at f));
+    }
+
+pub exprs-returns-in_err-value-clause-did : goal.exprs-returns-in_err-value-clause-did
+exprs-returns-in_err-value-clause-did g t c =
+    let state = g.S.Strings.state in
+    let number = g.S.Strings.number in
+    let a = state c.args.store.now in
+    let i = c.loop-e.invariant in
+    let p = err_from_is_err_and c.from_residual.result c.from_residual.ensures.1 in
+    let did = c.in_err-value.ensures.did in
+    let same = scope_still a (state c.loop-e.store) number i.grows c.args.context.now c.requires in
+    rw (p.1, p.2) (i.completes (state c.expr.new.store) (Err c.in_err-value.field-0.0)
+    (each_halt (λ s v. seen s number v) (λ s v. IsFine s number v) (state c.loop-e.store) (state c.expr.new.store) (λ x. expr_out (expr_tree x) (scope_of a number c.args.context.now)) c.loop-e.values.items c.args.list.now c.loop-e.e-index c.e-item.result c.loop-e-test.true c.e-item.is c.in_err-value.field-0.0 (rw same at did)))
+
+pub exprs-returns-in_err-push-clause-did : goal.exprs-returns-in_err-push-clause-did
+exprs-returns-in_err-push-clause-did g t c =
+    let state = g.S.Strings.state in
+    let number = g.S.Strings.number in
+    let a = state c.args.store.now in
+    let i = c.loop-e.invariant in
+    let p = err_from_is_err_and c.from_residual-in_err-push.result c.from_residual-in_err-push.ensures.1 in
+    let did = c.in_ok-value.ensures.did in
+    let same = scope_still a (state c.loop-e.store) number i.grows c.args.context.now c.requires in
+    rw (p.1, p.2, c.in_err-push.ensures.fault) (i.completes (state c.expr.new.store) (Err (Store Memory))
+    (each_full (λ s v. seen s number v) (λ s v. IsFine s number v) (state c.loop-e.store) (state c.expr.new.store) (λ x. expr_out (expr_tree x) (scope_of a number c.args.context.now)) c.loop-e.values.items c.args.list.now c.loop-e.e-index c.e-item.result c.loop-e-test.true c.e-item.is c.in_ok-value.value (rw same at did)))
+
+pub exprs-returns-clause-did : goal.exprs-returns-clause-did
+exprs-returns-clause-did g t c =
+    let past = drop_of_length-le c.args.list.now {i = c.loop-e.e-index} c.loop-e-test.false in
+    c.loop-e.invariant.completes (g.S.Strings.state c.loop-e.store) (Ok c.loop-e.values)
+    (rw past (record { is = refl; good = c.loop-e.invariant.fine; ran = ran_free (g.S.Strings.state c.loop-e.store) }))
+
+pub one_step-returns-in_err-present-in-Call-clause-did : goal.one_step-returns-in_err-present-in-Call-clause-did
+one_step-returns-in_err-present-in-Call-clause-did g t c =
+    let a = g.S.Strings.state c.args.store.now in
+    let number = g.S.Strings.number in
+    let p = err_from_is_err_and c.from_residual.result c.from_residual.ensures.1 in
+    rw (p.1, p.2, c.in-Call.is, tree_of_call c.in-Call.at c.in-Call.method c.in-Call.args)
+    (call_absent number a c.args.value.now c.in_err-present-in-Call.field-0.0 c.in-Call.at c.in-Call.method (exprs_tree c.in-Call.args.items) (scope_of a number c.args.context.now) c.in_err-present-in-Call.ensures)
+
+pub one_step-returns-in_err-values-in-Call-clause-did : goal.one_step-returns-in_err-values-in-Call-clause-did
+one_step-returns-in_err-values-in-Call-clause-did g t c =
+    let state = g.S.Strings.state in
+    let p = err_from_is_err_and c.from_residual-in_err-values-in-Call.result c.from_residual-in_err-values-in-Call.ensures.1 in
+    let e = c.deref.ensures.value in
+    let d = c.in_err-values-in-Call.ensures.did in
+    rw (p.1, p.2, c.in-Call.is, tree_of_call c.in-Call.at c.in-Call.method c.in-Call.args)
+    (call_stops g.S.Strings.number (state c.args.store.now) (state c.exprs.new.store) c.args.value.now c.in_err-values-in-Call.field-0.0 c.in-Call.at c.in-Call.method (exprs_tree c.in-Call.args.items) c.args.context.now c.in_ok-present-in-Call.ensures (rw e at d))
+
+pub one_step-returns-in_ok-values-in-Call-clause-context : goal.one_step-returns-in_ok-values-in-Call-clause-context
+one_step-returns-in_ok-values-in-Call-clause-context g t c =
+    context_fine_still (g.S.Strings.state c.exprs.new.store) (g.S.Strings.state c.call.new.store) g.S.Strings.number c.call.ensures.grows c.args.context.now c.in_ok-values-in-Call.ensures.context
+
+pub one_step-returns-in_ok-values-in-Call-clause-did : goal.one_step-returns-in_ok-values-in-Call-clause-did
+one_step-returns-in_ok-values-in-Call-clause-did g t c =
+    let state = g.S.Strings.state in
+    let e = c.deref.ensures.value in
+    let f = c.deref-in-Call.ensures.value in
+    let d = c.in_ok-values-in-Call.ensures.did in
+    let k = c.call.ensures.did in
+    rw (c.in-Call.is, tree_of_call c.in-Call.at c.in-Call.method c.in-Call.args)
+    (call_does g.S.Strings.number (state c.args.store.now) (state c.exprs.new.store) (state c.call.new.store) c.args.value.now c.in_ok-values-in-Call.values c.call.result c.in-Call.at c.in-Call.method (exprs_tree c.in-Call.args.items) c.args.context.now c.in_ok-values-in-Call.ensures.grows c.requires.value c.in_ok-present-in-Call.ensures (rw e at d) (rw f at k))
+
+pub one_step-returns-in_err-index-in-Index-clause-did : goal.one_step-returns-in_err-index-in-Index-clause-did
+one_step-returns-in_err-index-in-Index-clause-did g t c =
+    let state = g.S.Strings.state in
+    let p = err_from_is_err_and c.from_residual-in_err-index-in-Index.result c.from_residual-in_err-index-in-Index.ensures.1 in
+    rw (p.1, p.2, c.in-Index.is, tree_of_index c.in-Index.at c.in-Index.index)
+    (index_stops g.S.Strings.number (state c.args.store.now) (state c.expr.new.store) c.args.value.now c.in_err-index-in-Index.field-0.0 c.in-Index.at (expr_tree c.in-Index.index) (scope_of (state c.args.store.now) g.S.Strings.number c.args.context.now) c.in_err-index-in-Index.ensures.did)
+
+pub one_step-returns-in_ok-index-in-Index-clause-context : goal.one_step-returns-in_ok-index-in-Index-clause-context
+one_step-returns-in_ok-index-in-Index-clause-context g t c =
+    context_fine_still (g.S.Strings.state c.expr.new.store) (g.S.Strings.state c.read_index.new.store) g.S.Strings.number c.read_index.ensures.grows c.args.context.now c.in_ok-index-in-Index.ensures.context
+
+pub one_step-returns-in_ok-index-in-Index-clause-did : goal.one_step-returns-in_ok-index-in-Index-clause-did
+one_step-returns-in_ok-index-in-Index-clause-did g t c =
+    let state = g.S.Strings.state in
+    rw (c.in-Index.is, tree_of_index c.in-Index.at c.in-Index.index)
+    (index_does g.S.Strings.number (state c.args.store.now) (state c.expr.new.store) (state c.read_index.new.store) c.args.value.now c.in_ok-index-in-Index.index c.read_index.result c.in-Index.at (expr_tree c.in-Index.index) c.args.context.now c.in_ok-index-in-Index.ensures.grows c.requires.value c.in_ok-index-in-Index.ensures.did c.read_index.ensures.did)
+
+pub exprs-returns-in_err-value-clause-grows : goal.exprs-returns-in_err-value-clause-grows
+exprs-returns-in_err-value-clause-grows g t c = grows_trans c.loop-e.invariant.grows c.in_err-value.ensures.grows
+
+pub exprs-returns-in_err-push-clause-grows : goal.exprs-returns-in_err-push-clause-grows
+exprs-returns-in_err-push-clause-grows g t c = grows_trans c.loop-e.invariant.grows c.in_ok-value.ensures.grows
+
+pub expr-returns-in_err-value-in-Cond-clause-did : goal.expr-returns-in_err-value-in-Cond-clause-did
+expr-returns-in_err-value-in-Cond-clause-did g t c =
+    let state = g.S.Strings.state in
+    let p = err_from_is_err_and c.from_residual-in_err-value-in-Cond.result c.from_residual-in_err-value-in-Cond.ensures.1 in
+    let i = c.in_err-value-in-Cond.ensures.did in
+    let d = c.deref-in-Cond.ensures in
+    rw (p.1, p.2, c.in-Cond.is, tree_of_conditional c.in-Cond.test c.in-Cond.yes c.in-Cond.no)
+    (condition_stops g.S.Strings.number (state c.args.store.now) (state c.expr-in-Cond.new.store) c.in_err-value-in-Cond.field-0.0 (expr_tree c.in-Cond.test.value) (expr_tree c.in-Cond.yes.value) (expr_tree c.in-Cond.no.value) (scope_of (state c.args.store.now) g.S.Strings.number c.args.context.now) (rw d at i))
+
+pub expr-returns-then-is_true-clause-did : goal.expr-returns-then-is_true-clause-did
+expr-returns-then-is_true-clause-did g t c =
+    let state = g.S.Strings.state in
+    let i = c.in_ok-value-in-Cond.ensures.did in
+    let k = c.expr-then-is_true.ensures.did in
+    let d = c.deref-in-Cond.ensures in
+    let e = c.deref-then-is_true.ensures in
+    rw (c.in-Cond.is, tree_of_conditional c.in-Cond.test c.in-Cond.yes c.in-Cond.no)
+    (condition_holds g.S.Strings.number (state c.args.store.now) (state c.expr-in-Cond.new.store) (state c.is_true.new.store) (state c.expr-then-is_true.new.store) c.in_ok-value-in-Cond.value c.expr-then-is_true.result (expr_tree c.in-Cond.test.value) (expr_tree c.in-Cond.yes.value) (expr_tree c.in-Cond.no.value) c.args.context.now c.in_ok-value-in-Cond.ensures.grows c.is_true.ensures.step c.is_true.ensures.history c.requires (rw d at i) (sym c.is_true.ensures.value ∙ c.if-is_true.true) (rw e at k))
+
+pub expr-returns-in-Cond-clause-did : goal.expr-returns-in-Cond-clause-did
+expr-returns-in-Cond-clause-did g t c =
+    let state = g.S.Strings.state in
+    let i = c.in_ok-value-in-Cond.ensures.did in
+    let k = c.expr-else-is_true.ensures.did in
+    let d = c.deref-in-Cond.ensures in
+    let e = c.deref-else-is_true.ensures in
+    rw (c.in-Cond.is, tree_of_conditional c.in-Cond.test c.in-Cond.yes c.in-Cond.no)
+    (condition_fails g.S.Strings.number (state c.args.store.now) (state c.expr-in-Cond.new.store) (state c.is_true.new.store) (state c.expr-else-is_true.new.store) c.in_ok-value-in-Cond.value c.expr-else-is_true.result (expr_tree c.in-Cond.test.value) (expr_tree c.in-Cond.yes.value) (expr_tree c.in-Cond.no.value) c.args.context.now c.in_ok-value-in-Cond.ensures.grows c.is_true.ensures.step c.is_true.ensures.history c.requires (rw d at i) (sym c.is_true.ensures.value ∙ c.if-is_true.false) (rw e at k))
+
+pub steps_of_name-returns-in-None-clause-did : goal.steps_of_name-returns-in-None-clause-did
+steps_of_name-returns-in-None-clause-did g t c =
+    let state = g.S.Strings.state in
+    let s = scope_of (state c.args.store.now) g.S.Strings.number c.args.context.now in
+    name_fails g.S.Strings.number (state c.args.store.now) (meant s.bindings c.args.name.now) (λ v. steps_out (steps_tree c.args.rest.now) s v) c.in-None.ensures.meant
+
+pub steps_of_name-returns-in-Some-clause-did : goal.steps_of_name-returns-in-Some-clause-did
+steps_of_name-returns-in-Some-clause-did g t c =
+    let state = g.S.Strings.state in
+    let s = scope_of (state c.args.store.now) g.S.Strings.number c.args.context.now in
+    name_does g.S.Strings.number (state c.args.store.now) (meant s.bindings c.args.name.now) (state c.steps.new.store) c.in-Some.value.now c.steps.result (λ v. steps_out (steps_tree c.args.rest.now) s v) c.in-Some.ensures.meant c.in-Some.ensures.fine c.steps.ensures.did
+
+pub expr-returns-in-Literal-clause-did : goal.expr-returns-in-Literal-clause-did
+expr-returns-in-Literal-clause-did g t c =
+    let d = c.read_literal.ensures in
+    rw (c.in-Literal.is, tree_of_literal c.in-Literal.number) (seen_does g.S.Strings.number (g.S.Strings.state c.args.store.now) c.read_literal.result _ d.seen d.fine)
+
+pub expr-returns-in-Number-clause-did : goal.expr-returns-in-Number-clause-did
+expr-returns-in-Number-clause-did g t c =
+    rw (c.in-Number.is, tree_of_number c.in-Number.value) (written_does g.S.Strings.number (g.S.Strings.state c.args.store.now) c.number_value.result c.in-Number.value c.number_value.ensures)
+
+pub expr-returns-clause-grows : goal.expr-returns-clause-grows
+expr-returns-clause-grows g t c = grows_trans c.in_ok-values-in-Builtin.ensures.grows c.call_builtin.ensures.grows
+
+pub one_link-apply-requires-clause-left : goal.one_link-apply-requires-clause-left
+one_link-apply-requires-clause-left g t c =
+    let state = g.S.Strings.state in
+    fine_still (state c.args.store.now) (state c.expr.new.store) g.S.Strings.number (grows_trans c.is_decided.ensures.step.grows c.in_ok-right.ensures.grows) c.args.left c.requires.left
+
+pub expr-returns-in_err-value-in-None-clause-did : goal.expr-returns-in_err-value-in-None-clause-did
+expr-returns-in_err-value-in-None-clause-did g t c =
+    let state = g.S.Strings.state in
+    let p = err_from_is_err_and c.from_residual-in_err-value-in-None.result c.from_residual-in_err-value-in-None.ensures.1 in
+    let i = c.in_err-value-in-None.ensures.did in
+    let d = c.deref-in-None.ensures in
+    rw (p.1, p.2, c.in-Post.is, tree_of_post c.in-Post.of c.in-Post.rest)
+    (post_stops g.S.Strings.number (state c.args.store.now) (state c.expr-in-None.new.store) c.in_err-value-in-None.field-0.0 (expr_tree c.in-Post.of.value) (steps_tree c.in-Post.rest.items) (scope_of (state c.args.store.now) g.S.Strings.number c.args.context.now) (rw d at i))
+
+pub expr-returns-in-Post-clause-did : goal.expr-returns-in-Post-clause-did
+expr-returns-in-Post-clause-did g t c =
+    let state = g.S.Strings.state in
+    let i = c.in_ok-value-in-None.ensures.did in
+    let k = c.steps.ensures.did in
+    let d = c.deref-in-None.ensures in
+    let e = c.deref-in-None-2.ensures.value in
+    rw (c.in-Post.is, tree_of_post c.in-Post.of c.in-Post.rest)
+    (post_does g.S.Strings.number (state c.args.store.now) (state c.expr-in-None.new.store) (state c.steps.new.store) c.in_ok-value-in-None.value c.steps.result (expr_tree c.in-Post.of.value) (steps_tree c.in-Post.rest.items) c.args.context.now c.in_ok-value-in-None.ensures.grows c.requires (rw d at i) (rw e at k))
+
+pub steps-returns-in_err-copy-in-None-clause-did : goal.steps-returns-in_err-copy-in-None-clause-did
+steps-returns-in_err-copy-in-None-clause-did g t c =
+    let state = g.S.Strings.state in
+    let past = drop_of_length-le c.args.rest.now {i = c.loop-step.step-index} c.loop-step-test.false in
+    let p = err_from_is_err_and c.from_residual-in_err-copy-in-None.result c.from_residual-in_err-copy-in-None.ensures.1 in
+    rw (p.1, p.2) (c.loop-step.invariant.completes (state c.loop-step.store) (Err (Store Memory))
+    (rw past (copy_stops g.S.Strings.number (state c.loop-step.store) c.args.first.now)))
+
+pub steps-returns-in_ok-copy-in-None-clause-did : goal.steps-returns-in_ok-copy-in-None-clause-did
+steps-returns-in_ok-copy-in-None-clause-did g t c =
+    let state = g.S.Strings.state in
+    let past = drop_of_length-le c.args.rest.now {i = c.loop-step.step-index} c.loop-step-test.false in
+    let k = c.loop-step.invariant.fine in
+    c.loop-step.invariant.completes (state c.loop-step.store) (Ok c.in_ok-copy-in-None.field-0)
+    (rw (past, c.in-None.is) (copy_does g.S.Strings.number (state c.loop-step.store) c.args.first.now c.in_ok-copy-in-None.field-0 c.in_ok-copy-in-None.ensures (rw c.in-None.is at k)))

@@ -1,0 +1,52 @@
+use Rattle.std.proofs.Common.{drop, unwrap_or, Result, Vec, Global}
+use Rattle.js_store.specs.State.{State, Grows}
+use Rattle.eval_tree.specs.Tree.{expr_tree, links_tree, steps_tree, exprs_tree}
+use Rattle.eval_values.specs.declared.value.Value.{Value}
+use Rattle.eval_values.specs.declared.value.Stop.{Stop}
+use Rattle.js_eval.specs.Expression.{expr_out, links_out, steps_out, exprs_out}
+use Rattle.eval_values.specs.Seen.{seen, IsFine, all_seen, AllFine}
+use Rattle.js_eval.specs.Seen.{ContextFine, scope_of}
+use Rattle.eval_values.specs.Does.{Does, GivesAll}
+use Rattle.eval_values.proofs.Each.{each_behind}
+use Rattle.js_eval.proofs.expr.+expr.Given as goal
+
+-- whatever completes what is left, completes the whole
+abbrev pub invariant-links-loop-link : goal.invariant-links-loop-link
+invariant-links-loop-link g l =
+    let state = g.S.Strings.state in
+    let number = g.S.Strings.number in
+    record {
+      grows : Grows (state l.fn.store) (state l.store);
+      context : ContextFine (state l.store) number l.context;
+      fine : IsFine (state l.store) number l.value;
+      completes : (c : State g.S.Strings.Frame) (r : Result (Value g.row.S-Ref.Denot) Stop) →
+          Does number (state l.store) c r (links_out (links_tree (drop l.link-index l.rest)) (scope_of (state l.fn.store) number l.context) (seen (state l.store) number l.value)) →
+          Does number (state l.fn.store) c r (links_out (links_tree l.rest) (scope_of (state l.fn.store) number l.context) (seen (state l.fn.store) number l.fn.first));
+    }
+
+abbrev pub invariant-steps-loop-step : goal.invariant-steps-loop-step
+invariant-steps-loop-step g l =
+    let state = g.S.Strings.state in
+    let number = g.S.Strings.number in
+    record {
+      grows : Grows (state l.fn.store) (state l.store);
+      context : ContextFine (state l.store) number l.context;
+      fine : IsFine (state l.store) number (unwrap_or l.value l.first);
+      completes : (c : State g.S.Strings.Frame) (r : Result (Value g.row.S-Ref.Denot) Stop) →
+          Does number (state l.store) c r (steps_out (steps_tree (drop l.step-index l.rest)) (scope_of (state l.fn.store) number l.context) (seen (state l.store) number (unwrap_or l.value l.first))) →
+          Does number (state l.fn.store) c r (steps_out (steps_tree l.rest) (scope_of (state l.fn.store) number l.context) (seen (state l.fn.store) number l.first));
+    }
+
+abbrev pub invariant-exprs-loop-e : goal.invariant-exprs-loop-e
+invariant-exprs-loop-e g l =
+    let state = g.S.Strings.state in
+    let number = g.S.Strings.number in
+    let meant = scope_of (state l.fn.store) number l.context in
+    record {
+      grows : Grows (state l.fn.store) (state l.store);
+      context : ContextFine (state l.store) number l.context;
+      fine : AllFine (state l.store) number l.values.items;
+      completes : (c : State g.S.Strings.Frame) (r : Result (Vec (Value g.row.S-Ref.Denot) Global) Stop) →
+          GivesAll number (state l.store) c r (each_behind (λ e. expr_out (expr_tree e) meant) (drop l.e-index l.list) (all_seen (state l.store) number l.values.items)) →
+          GivesAll number (state l.fn.store) c r (exprs_out (exprs_tree l.list) meant);
+    }

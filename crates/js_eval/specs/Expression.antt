@@ -1,0 +1,107 @@
+-- What an expression means in a scope, by recursion over its tree.
+use Rattle.std.specs.Prelude.{ℕ, List, [], ◌∷◌, slice_get, Bool, false, not, if◌then◌else◌, Option, Some, None}
+use Rattle.js_number.specs.declared.Num.TheVariants.{NaN, PosInf}
+use Rattle.eval_tree.specs.declared.tree.Op.{Op}
+use Rattle.eval_tree.specs.declared.tree.Op.TheVariants.{Or, And, Same, NotSame, Less, Greater, LessEq, GreaterEq, Plus, Minus}
+use Rattle.eval_tree.specs.declared.tree.Method.{Method}
+use Rattle.eval_tree.specs.Tree as tree
+use Rattle.eval_tree.specs.Tree.{ExprTree, Links, no_links, link, Steps, no_steps, length_step, description_step, call_step, index_step, Exprs, no_exprs, expr, LinkTree, StepTree, of_length, of_description, of_call, of_index}
+use Rattle.eval_scopes.specs.Bindings.{Bound, Bindings, meant}
+use Rattle.eval_values.specs.declared.value.Kind.TheVariants.{ReferenceError}
+use Rattle.eval_values.specs.Outcome.{Val, undefined, null, bool, number, Out, gave, bind, mapped, free, number_of, needing, throwing}
+use Rattle.eval_values.specs.Need.{nothing}
+use Rattle.eval_values.specs.Conversions.{to_boolean}
+use Rattle.eval_values.specs.Operators.{plus, difference_in, unary_out}
+use Rattle.eval_values.specs.Comparing.{same_out, order_out, is_less, is_greater, is_at_most, is_at_least}
+use Rattle.eval_members.specs.Reading.{maybe_text}
+use Rattle.eval_members.specs.Members.{length_of, present, called}
+use Rattle.eval_members.specs.Arrays.{indexed}
+use Rattle.eval_builtins.specs.Symbols.{description_of}
+use Rattle.eval_builtins.specs.Builtins.{built}
+
+-- the literals, what names mean, and the greatest length of a string
+pub record Scope : Type 0 where
+  pub literals : List (List ℕ)
+  pub bindings : Bindings Val
+  pub limit : ℕ
+
+-- reading what a name means ("GetBindingValue")
+abbrev pub read_out : Option (Bound Val) → Out Val
+read_out (Some b) = needing nothing b.value
+read_out None = throwing nothing ReferenceError
+
+-- whether the left side of an operator is its value, so that the right side isn't evaluated ("Binary Logical Operators")
+abbrev pub decides : Op → Val → Bool
+decides Or v = to_boolean v
+decides And v = not (to_boolean v)
+decides _ v = false
+
+abbrev pub truth_of : {A : Type 0} → (A → Bool) → Out A → Out Val
+truth_of holds o = bind o (λ x. gave (bool (holds x)) free)
+
+-- an operator on the values of both sides
+abbrev pub operated : Op → ℕ → ℕ → Val → Val → Out Val
+operated Or at limit v w = gave w free
+operated And at limit v w = gave w free
+operated Same at limit v w = truth_of (λ b. b) (same_out at v w)
+operated NotSame at limit v w = truth_of not (same_out at v w)
+operated Less at limit v w = truth_of is_less (order_out at limit v w)
+operated Greater at limit v w = truth_of is_greater (order_out at limit v w)
+operated LessEq at limit v w = truth_of is_at_most (order_out at limit v w)
+operated GreaterEq at limit v w = truth_of is_at_least (order_out at limit v w)
+operated Plus at limit v w = plus at limit v w
+operated Minus at limit v w = difference_in at v w
+
+-- an operator on a value and what stands on its right
+abbrev pub linked : Op → ℕ → ℕ → Val → Out Val → Out Val
+linked op at limit v right = if decides op v then gave v free else bind right (λ w. operated op at limit v w)
+
+abbrev mutual
+  pub expr_out : ExprTree → Scope → Out Val
+  expr_out (tree.literal n) s = needing nothing (maybe_text (slice_get s.literals n))
+  expr_out (tree.number n) s = needing nothing (number_of n)
+  expr_out (tree.variable x) s = read_out (meant s.bindings x)
+  expr_out tree.undefined s = needing nothing undefined
+  expr_out tree.null s = needing nothing null
+  expr_out (tree.bool b) s = needing nothing (bool b)
+  expr_out tree.nan s = needing nothing (number NaN)
+  expr_out tree.infinity s = needing nothing (number PosInf)
+  expr_out (tree.unary at minus of) s = bind (expr_out of s) (λ v. unary_out minus at v)
+  expr_out (tree.chain first rest) s = bind (expr_out first s) (λ v. links_out rest s v)
+  expr_out (tree.conditional test first second) s = bind (expr_out test s) (λ v. if to_boolean v then expr_out first s else expr_out second s)
+  expr_out (tree.post of steps) s = bind (expr_out of s) (λ v. steps_out steps s v)
+  expr_out (tree.builtin at which args) s = bind (exprs_out args s) (λ vs. built which at s.limit vs)
+
+  -- the links of a chain, from the value on their left
+  pub links_out : Links → Scope → Val → Out Val
+  links_out no_links s v = gave v free
+  links_out (link at op right rest) s v = bind (linked op at s.limit v (expr_out right s)) (λ x. links_out rest s x)
+
+  -- the steps behind a value
+  pub steps_out : Steps → Scope → Val → Out Val
+  steps_out no_steps s v = gave v free
+  steps_out (length_step rest) s v = bind (length_of v) (λ x. steps_out rest s x)
+  steps_out (description_step rest) s v = bind (description_of v) (λ x. steps_out rest s x)
+  steps_out (call_step at method args rest) s v = bind (bind (present v) (λ _. bind (exprs_out args s) (λ ws. called method at s.limit v ws))) (λ x. steps_out rest s x)
+  steps_out (index_step at index rest) s v = bind (bind (expr_out index s) (λ i. indexed at v i)) (λ x. steps_out rest s x)
+
+  -- expressions from left to right
+  pub exprs_out : Exprs → Scope → Out (List Val)
+  exprs_out no_exprs s = gave [] free
+  exprs_out (expr first rest) s = bind (expr_out first s) (λ v. mapped (λ vs. v ∷ vs) (exprs_out rest s))
+
+-- one link, and one step
+abbrev pub link_out : LinkTree → Scope → Val → Out Val
+link_out l s v = linked l.op l.at s.limit v (expr_out l.right s)
+
+abbrev pub call_out : ℕ → Method → Exprs → Scope → Val → Out Val
+call_out at method args s v = bind (present v) (λ _. bind (exprs_out args s) (λ ws. called method at s.limit v ws))
+
+abbrev pub index_out : ℕ → ExprTree → Scope → Val → Out Val
+index_out at index s v = bind (expr_out index s) (λ i. indexed at v i)
+
+abbrev pub step_out : StepTree → Scope → Val → Out Val
+step_out of_length s v = length_of v
+step_out of_description s v = description_of v
+step_out (of_call at method args) s v = call_out at method args s v
+step_out (of_index at index) s v = index_out at index s v

@@ -1,0 +1,59 @@
+// The bindings that a script leaves.
+ghost use Rattle.std.specs.Prelude.{◌≡◌, [], map, IfOk};
+ghost use Rattle.js_eval.specs.Copies.{bound_content};
+
+use eval_scopes::Binding;
+use eval_values::Value;
+use js_units::NoMemory;
+use std::alloc::Global;
+use std::marker::Model;
+
+/// The bindings of a script's top, in the order of their declarations; `R` is the `Ref` of a store.
+/// Contracts see them as a list.
+#[derive(Drop)]
+pub struct Env<R> {
+    alloc: Global,
+    pub(crate) top: eval_scopes::Env<Value<R>>,
+}
+
+impl<R> Model for Env<R> {
+    ghost use Rattle.std.specs.Prelude.{List};
+    ghost use Rattle.eval_scopes.specs.declared.env.Binding.{Binding};
+    ghost use Rattle.eval_values.specs.declared.value.Value.{Value as ValueOf};
+
+    ghost Value = { List (Binding (ValueOf R)) };
+
+    ghost view = { λ e. e.top };
+}
+
+impl<R: Drop> Env<R> {
+    /// No binding. It takes no memory.
+    pub fn new(alloc: Global) -> Env<R>
+        ensures { result ≡ [] }
+    {
+        Env {
+            alloc,
+            top: eval_scopes::Env::new(alloc),
+        }
+    }
+
+    /// The same names once more, bound to the same values.
+    pub fn copy(&self) -> Result<Env<R>, NoMemory>
+    where
+        R: Copy,
+        ensures { IfOk result (λ env. map bound_content env ≡ map bound_content self.now) }
+    {
+        let mut top = eval_scopes::Env::new(self.alloc);
+        for binding in self.top.list() {
+            top.push(Binding {
+                name: binding.name.copy()?,
+                constant: binding.constant,
+                value: binding.value.copy(self.alloc)?,
+            })?;
+        }
+        Ok(Env {
+            alloc: self.alloc,
+            top,
+        })
+    }
+}

@@ -1,0 +1,258 @@
+// Expressions.
+ghost use Rattle.std.specs.Prelude.{◌≡◌, [], IfOk, IfSome, unwrap_or};
+ghost use Rattle.eval_scopes.specs.Bindings.{meant};
+ghost use Rattle.eval_values.specs.Outcome.{bind};
+ghost use Rattle.js_store.specs.State.{Grows};
+ghost use Rattle.eval_tree.specs.Tree.{variable, expr_tree, link_tree, links_tree, step_tree, steps_tree, exprs_tree};
+ghost use Rattle.js_eval.specs.Expression.{read_out, expr_out, links_out, link_out, steps_out, step_out, exprs_out};
+ghost use Rattle.eval_values.specs.Seen.{seen, all_seen, IsFine, AllFine};
+ghost use Rattle.js_eval.specs.Seen.{ContextFine, context_bindings, scope_of};
+ghost use Rattle.eval_values.specs.Does.{Does, GivesAll};
+
+use crate::context::{Context, look_up, read};
+use crate::literals::read_literal;
+use crate::operators::{apply, is_decided, is_true};
+use eval_builtins::{call_builtin, read_description};
+use eval_members::{call, present, read_index, read_length};
+use eval_tree::{Expr, Link, Name, PostStep};
+use eval_values::{Kind, Stop, Value, apply_unary, number_value, push};
+use js_number::Num;
+use js_store::Strings;
+use std::alloc::Global;
+
+/// The value of an expression.
+#[cycle(expr)]
+pub fn expr<S: Strings>(
+    alloc: Global,
+    store: &mut S,
+    context: &Context<S::Ref>,
+    e: &Expr,
+) -> Result<Value<S::Ref>, Stop>
+    requires { ContextFine (S.state store.old) S.number context.now }
+    ensures grows { Grows (S.state store.old) (S.state store.new) }
+    ensures context { ContextFine (S.state store.new) S.number context.now }
+    ensures fine { IfOk result (λ v. IsFine (S.state store.new) S.number v) }
+    ensures did { Does S.number (S.state store.old) (S.state store.new) result
+        (expr_out (expr_tree e.now) (scope_of (S.state store.old) S.number context.now)) }
+{
+    match e {
+        Expr::Literal { number } => Ok(read_literal(store, context, *number)),
+        Expr::Number { value } => Ok(number_value(*value)),
+        Expr::Variable { name } => read(alloc, store, context, name),
+        Expr::Undefined => Ok(Value::Undefined),
+        Expr::Null => Ok(Value::Null),
+        Expr::Bool { value } => Ok(Value::Bool(*value)),
+        Expr::NaN => Ok(Value::Number(Num::NaN)),
+        Expr::Infinity => Ok(Value::Number(Num::PosInf)),
+        Expr::Unary { at, minus, of } => {
+            let value = expr(alloc, store, context, of)?;
+            apply_unary(store, *at, *minus, &value)
+        }
+        Expr::Chain { first, rest } => {
+            let value = expr(alloc, store, context, first)?;
+            links(alloc, store, context, value, rest)
+        }
+        Expr::Cond { test, yes, no } => {
+            let value = expr(alloc, store, context, test)?;
+            if is_true(store, context, &value) {
+                expr(alloc, store, context, yes)
+            } else {
+                expr(alloc, store, context, no)
+            }
+        }
+        Expr::Post { of, steps: rest } => match name_of(of) {
+            Some(name) => steps_of_name(alloc, store, context, name, rest),
+            None => {
+                let value = expr(alloc, store, context, of)?;
+                steps(alloc, store, context, &value, rest)
+            }
+        },
+        Expr::Builtin { at, which, args } => {
+            let values = exprs(alloc, store, context, args)?;
+            call_builtin(alloc, store, *at, *which, &values)
+        }
+    }
+}
+
+// The links of a chain, from the value on their left.
+#[cycle(expr)]
+fn links<S: Strings>(
+    alloc: Global,
+    store: &mut S,
+    context: &Context<S::Ref>,
+    first: Value<S::Ref>,
+    rest: &[Link],
+) -> Result<Value<S::Ref>, Stop>
+    requires context { ContextFine (S.state store.old) S.number context.now }
+    requires first { IsFine (S.state store.old) S.number first }
+    ensures grows { Grows (S.state store.old) (S.state store.new) }
+    ensures context { ContextFine (S.state store.new) S.number context.now }
+    ensures fine { IfOk result (λ v. IsFine (S.state store.new) S.number v) }
+    ensures did { Does S.number (S.state store.old) (S.state store.new) result
+        (links_out (links_tree rest.now) (scope_of (S.state store.old) S.number context.now)
+        (seen (S.state store.old) S.number first)) }
+{
+    let mut value = first;
+    for link in rest {
+        value = one_link(alloc, store, context, value, link)?;
+    }
+    Ok(value)
+}
+
+#[cycle(expr)]
+fn one_link<S: Strings>(
+    alloc: Global,
+    store: &mut S,
+    context: &Context<S::Ref>,
+    left: Value<S::Ref>,
+    link: &Link,
+) -> Result<Value<S::Ref>, Stop>
+    requires context { ContextFine (S.state store.old) S.number context.now }
+    requires left { IsFine (S.state store.old) S.number left }
+    ensures grows { Grows (S.state store.old) (S.state store.new) }
+    ensures context { ContextFine (S.state store.new) S.number context.now }
+    ensures fine { IfOk result (λ v. IsFine (S.state store.new) S.number v) }
+    ensures did { Does S.number (S.state store.old) (S.state store.new) result
+        (link_out (link_tree link.now) (scope_of (S.state store.old) S.number context.now)
+        (seen (S.state store.old) S.number left)) }
+{
+    if is_decided(store, context, link.op, &left) {
+        return Ok(left);
+    }
+    let right = expr(alloc, store, context, &link.right)?;
+    apply(alloc, store, link.at, link.op, &left, right)
+}
+
+// The name that an expression is, if it is one.
+fn name_of(e: &Expr) -> Option<&Name>
+    ensures { IfSome result (λ name. expr_tree e.now ≡ variable name.now) }
+{
+    match e {
+        Expr::Variable { name } => Some(name),
+        _ => None,
+    }
+}
+
+// The steps behind a name, whose value isn't copied for the first one.
+#[cycle(expr)]
+fn steps_of_name<S: Strings>(
+    alloc: Global,
+    store: &mut S,
+    context: &Context<S::Ref>,
+    name: &Name,
+    rest: &[PostStep],
+) -> Result<Value<S::Ref>, Stop>
+    requires { ContextFine (S.state store.old) S.number context.now }
+    ensures grows { Grows (S.state store.old) (S.state store.new) }
+    ensures context { ContextFine (S.state store.new) S.number context.now }
+    ensures fine { IfOk result (λ v. IsFine (S.state store.new) S.number v) }
+    ensures did { Does S.number (S.state store.old) (S.state store.new) result
+        (bind (read_out (meant (context_bindings (S.state store.old) S.number context.now) name.now))
+        (λ v. steps_out (steps_tree rest.now) (scope_of (S.state store.old) S.number context.now) v)) }
+{
+    match look_up(store, context, name) {
+        Some(value) => steps(alloc, store, context, value, rest),
+        None => Err(Stop::Threw(Kind::ReferenceError)),
+    }
+}
+
+// The steps behind a value.
+#[cycle(expr)]
+fn steps<S: Strings>(
+    alloc: Global,
+    store: &mut S,
+    context: &Context<S::Ref>,
+    first: &Value<S::Ref>,
+    rest: &[PostStep],
+) -> Result<Value<S::Ref>, Stop>
+    requires context { ContextFine (S.state store.old) S.number context.now }
+    requires first { IsFine (S.state store.old) S.number first.now }
+    ensures grows { Grows (S.state store.old) (S.state store.new) }
+    ensures context { ContextFine (S.state store.new) S.number context.now }
+    ensures fine { IfOk result (λ v. IsFine (S.state store.new) S.number v) }
+    ensures did { Does S.number (S.state store.old) (S.state store.new) result
+        (steps_out (steps_tree rest.now) (scope_of (S.state store.old) S.number context.now)
+        (seen (S.state store.old) S.number first.now)) }
+{
+    let mut value: Option<Value<S::Ref>> = None;
+    for step in rest {
+        let of = latest(store, &value, first);
+        let next = one_step(alloc, store, context, of, step)?;
+        value = Some(next);
+    }
+    match value {
+        Some(last) => Ok(last),
+        None => Ok(first.copy(alloc)?),
+    }
+}
+
+// The value that the steps so far gave, or the one before them.
+fn latest<'a, S: Strings>(
+    _store: &S,
+    value: &'a Option<Value<S::Ref>>,
+    first: &'a Value<S::Ref>,
+) -> &'a Value<S::Ref>
+    requires { IsFine (S.state _store.now) S.number (unwrap_or value.now first.now) }
+    ensures fine { IsFine (S.state _store.now) S.number result.now }
+    ensures is { result.now ≡ unwrap_or value.now first.now }
+{
+    match value {
+        Some(value) => value,
+        None => first,
+    }
+}
+
+#[cycle(expr)]
+fn one_step<S: Strings>(
+    alloc: Global,
+    store: &mut S,
+    context: &Context<S::Ref>,
+    value: &Value<S::Ref>,
+    step: &PostStep,
+) -> Result<Value<S::Ref>, Stop>
+    requires context { ContextFine (S.state store.old) S.number context.now }
+    requires value { IsFine (S.state store.old) S.number value.now }
+    ensures grows { Grows (S.state store.old) (S.state store.new) }
+    ensures context { ContextFine (S.state store.new) S.number context.now }
+    ensures fine { IfOk result (λ v. IsFine (S.state store.new) S.number v) }
+    ensures did { Does S.number (S.state store.old) (S.state store.new) result
+        (step_out (step_tree step.now) (scope_of (S.state store.old) S.number context.now)
+        (seen (S.state store.old) S.number value.now)) }
+{
+    match step {
+        PostStep::Length => read_length(store, value),
+        PostStep::Description => read_description(store, value),
+        PostStep::Call { at, method, args } => {
+            present(store, value)?;
+            let values = exprs(alloc, store, context, args)?;
+            call(alloc, store, *at, *method, value, &values)
+        }
+        PostStep::Index { at, index } => {
+            let index = expr(alloc, store, context, index)?;
+            read_index(store, *at, value, &index)
+        }
+    }
+}
+
+/// The values of expressions, from left to right.
+#[cycle(expr)]
+pub fn exprs<S: Strings>(
+    alloc: Global,
+    store: &mut S,
+    context: &Context<S::Ref>,
+    list: &[Expr],
+) -> Result<Vec<Value<S::Ref>>, Stop>
+    requires { ContextFine (S.state store.old) S.number context.now }
+    ensures grows { Grows (S.state store.old) (S.state store.new) }
+    ensures context { ContextFine (S.state store.new) S.number context.now }
+    ensures fine { IfOk result (λ v. AllFine (S.state store.new) S.number v.items) }
+    ensures did { GivesAll S.number (S.state store.old) (S.state store.new) result
+        (exprs_out (exprs_tree list.now) (scope_of (S.state store.old) S.number context.now)) }
+{
+    let mut values = Vec::new(alloc);
+    for e in list {
+        let value = expr(alloc, store, context, e)?;
+        push(&mut values, value)?;
+    }
+    Ok(values)
+}

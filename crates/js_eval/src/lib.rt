@@ -1,0 +1,19 @@
+//! The evaluator of the whole language over blocks (ECMA-262, "ECMAScript Language: Expressions" and
+//! "Statements and Declarations").
+//!
+//! What a script means stands in `specs/`. `eval` prints whole lines alone, also before a throw.
+#![tactic(auto)]
+
+mod context;
+mod ending;
+mod env;
+mod expr;
+mod literals;
+mod operators;
+mod script;
+
+pub use ending::End;
+pub use env::Env;
+pub use eval_values::{Kind, Value};
+pub use js_print::Lines;
+pub use script::eval;

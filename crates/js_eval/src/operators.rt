@@ -1,0 +1,144 @@
+// Operators on the values of both sides.
+ghost use Rattle.std.specs.Prelude.{◌≡◌, None, IfOk};
+ghost use Rattle.js_store.specs.State.{Grows};
+ghost use Rattle.js_store.specs.Faults.{Step};
+ghost use Rattle.eval_values.specs.Comparing.{is_less as less_in, is_greater as greater_in, is_at_most as at_most_in, is_at_least as at_least_in};
+ghost use Rattle.eval_values.specs.Conversions.{to_boolean};
+ghost use Rattle.eval_values.specs.Seen.{seen, IsFine};
+ghost use Rattle.eval_values.specs.Does.{Does};
+ghost use Rattle.js_eval.specs.Expression.{decides, operated};
+ghost use Rattle.js_eval.specs.Seen.{ContextFine};
+
+use crate::context::Context;
+use eval_tree::Op;
+use eval_values::{Stop, Value, compare, is_same, plus, subtract, truth};
+use js_store::Strings;
+use std::alloc::Global;
+use std::cmp::Ordering;
+
+/// ToBoolean of a value.
+pub fn is_true<S: Strings>(store: &mut S, _context: &Context<S::Ref>, value: &Value<S::Ref>) -> bool
+    requires context { ContextFine (S.state store.old) S.number _context.now }
+    requires value { IsFine (S.state store.old) S.number value.now }
+    ensures value { result ≡ to_boolean (seen (S.state store.old) S.number value.now) }
+    ensures step { Step (S.state store.old) (S.state store.new) None 0 0 }
+    ensures history { (S.state store.new).history ≡ (S.state store.old).history }
+    ensures context { ContextFine (S.state store.new) S.number _context.now }
+{
+    truth(store, value)
+}
+
+/// Whether the left side of an operator is its value, so that the right side isn't evaluated.
+pub fn is_decided<S: Strings>(
+    store: &mut S,
+    context: &Context<S::Ref>,
+    op: Op,
+    left: &Value<S::Ref>,
+) -> bool
+    requires context { ContextFine (S.state store.old) S.number context.now }
+    requires left { IsFine (S.state store.old) S.number left.now }
+    ensures value { result ≡ decides op (seen (S.state store.old) S.number left.now) }
+    ensures step { Step (S.state store.old) (S.state store.new) None 0 0 }
+    ensures history { (S.state store.new).history ≡ (S.state store.old).history }
+    ensures context { ContextFine (S.state store.new) S.number context.now }
+{
+    match op {
+        Op::Or => is_true(store, context, left),
+        Op::And => {
+            let holds = is_true(store, context, left);
+            !holds
+        }
+        Op::Same
+        | Op::NotSame
+        | Op::Less
+        | Op::Greater
+        | Op::LessEq
+        | Op::GreaterEq
+        | Op::Plus
+        | Op::Minus => false,
+    }
+}
+
+/// An operator at the byte offset `at`, on its two sides.
+pub fn apply<S: Strings>(
+    alloc: Global,
+    store: &mut S,
+    at: u32,
+    op: Op,
+    left: &Value<S::Ref>,
+    right: Value<S::Ref>,
+) -> Result<Value<S::Ref>, Stop>
+    requires left { IsFine (S.state store.old) S.number left.now }
+    requires right { IsFine (S.state store.old) S.number right }
+    ensures grows { Grows (S.state store.old) (S.state store.new) }
+    ensures fine { IfOk result (λ v. IsFine (S.state store.new) S.number v) }
+    ensures did { Does S.number (S.state store.old) (S.state store.new) result
+        (operated op at (S.state store.old).limit
+        (seen (S.state store.old) S.number left.now) (seen (S.state store.old) S.number right)) }
+{
+    match op {
+        Op::Or | Op::And => Ok(right),
+        Op::Same => {
+            let same = is_same(store, at, left, &right)?;
+            Ok(Value::Bool(same))
+        }
+        Op::NotSame => {
+            let same = is_same(store, at, left, &right)?;
+            Ok(Value::Bool(!same))
+        }
+        Op::Less => {
+            let order = compare(alloc, store, at, left, &right)?;
+            Ok(Value::Bool(is_less(order)))
+        }
+        Op::Greater => {
+            let order = compare(alloc, store, at, left, &right)?;
+            Ok(Value::Bool(is_greater(order)))
+        }
+        Op::LessEq => {
+            let order = compare(alloc, store, at, left, &right)?;
+            Ok(Value::Bool(is_at_most(order)))
+        }
+        Op::GreaterEq => {
+            let order = compare(alloc, store, at, left, &right)?;
+            Ok(Value::Bool(is_at_least(order)))
+        }
+        Op::Plus => plus(alloc, store, at, left, &right),
+        Op::Minus => subtract(store, at, left, &right),
+    }
+}
+
+fn is_less(order: Option<Ordering>) -> bool
+    ensures { result ≡ less_in order }
+{
+    match order {
+        Some(Ordering::Less) => true,
+        Some(Ordering::Equal) | Some(Ordering::Greater) | None => false,
+    }
+}
+
+fn is_greater(order: Option<Ordering>) -> bool
+    ensures { result ≡ greater_in order }
+{
+    match order {
+        Some(Ordering::Greater) => true,
+        Some(Ordering::Less) | Some(Ordering::Equal) | None => false,
+    }
+}
+
+fn is_at_most(order: Option<Ordering>) -> bool
+    ensures { result ≡ at_most_in order }
+{
+    match order {
+        Some(Ordering::Less) | Some(Ordering::Equal) => true,
+        Some(Ordering::Greater) | None => false,
+    }
+}
+
+fn is_at_least(order: Option<Ordering>) -> bool
+    ensures { result ≡ at_least_in order }
+{
+    match order {
+        Some(Ordering::Greater) | Some(Ordering::Equal) => true,
+        Some(Ordering::Less) | None => false,
+    }
+}

@@ -1,5 +1,0 @@
-mod Faults
-pub mod First
-mod Marks
-mod Trees
-mod Walks

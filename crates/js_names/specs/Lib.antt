@@ -1,3 +1,0 @@
-pub mod FirstFault
-pub mod Reading
-pub mod Walk

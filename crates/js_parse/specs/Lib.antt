@@ -1,0 +1,6 @@
+pub mod FirstFault
+pub mod NameFaults
+pub mod NameWalk
+pub mod Names
+pub mod Spells
+pub mod Told

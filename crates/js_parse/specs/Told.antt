@@ -1,0 +1,28 @@
+-- How faults of tokens and of the grammar are told. No public contract cites this file.
+use Rattle.std.specs.Prelude.{◌≡◌, ◌⊎◌, ℕ, List}
+use Rattle.js_lex.specs.declared.token.LexFault.{LexFault}
+use Rattle.js_lex.specs.declared.token.LexFault.TheVariants as lexical
+use Rattle.parse_laws.specs.Reader.{Wrong, TooDeep}
+use Rattle.parse_look.specs.declared.fault.Fault.{Fault}
+use Rattle.parse_look.specs.declared.fault.Fault.TheVariants as grammatical
+use Rattle.js_parse.specs.declared.fault.Role.{Role}
+use Rattle.js_parse.specs.declared.fault.ParseFault.{ParseFault}
+use Rattle.js_parse.specs.declared.fault.ParseFault.TheVariants as fault
+use Rattle.js_parse.specs.Spells.{Refused, misplaced}
+
+abbrev pub lex_fault : LexFault → ParseFault
+lex_fault lexical.Memory = fault.Memory
+lex_fault f = fault.Lex f
+
+abbrev pub grammar_fault : Fault → ℕ → ParseFault
+grammar_fault grammatical.Memory end = fault.Memory
+grammar_fault (grammatical.Wrong rest) end = misplaced Wrong rest.now end
+grammar_fault (grammatical.TooDeep rest) end = misplaced TooDeep rest.now end
+
+-- whatever names the prelude declares, the bytes are refused so, unless memory ran out
+abbrev pub IsRefusal : Role → List ℕ → ParseFault → Type 0
+IsRefusal role bytes f = (f ≡ fault.Memory) ⊎ ((outer : List (List ℕ)) → Refused role outer bytes f)
+
+-- the same after a prelude that declares these names
+abbrev pub IsTold : Role → List (List ℕ) → List ℕ → ParseFault → Type 0
+IsTold role outer bytes f = (f ≡ fault.Memory) ⊎ Refused role outer bytes f

@@ -1,0 +1,56 @@
+// Why a text is no script.
+ghost use Rattle.std.specs.Prelude.{◌≡◌};
+ghost use Rattle.js_parse.specs.declared.fault.ParseFault.TheVariants.{Memory};
+
+use js_lex::LexFault;
+use js_units::NoMemory;
+use std::alloc::{AllocError, AllocFailed};
+
+/// What a text is read as. A prelude has no `print`.
+#[derive(Clone, Copy, Debug, PartialEq, Eq)]
+pub enum Role {
+    Prelude,
+    Main,
+}
+
+/// Why a text is no script, with the byte offset of the fault; or want of memory.
+#[derive(Clone, Copy, Debug, PartialEq, Eq)]
+pub enum ParseFault {
+    /// The first lexical fault, which comes before all others. It is never want of memory.
+    Lex(LexFault),
+    /// The token can't stand there; at the end of the text, its length.
+    Unexpected { at: u32 },
+    /// The token can't stand there and is a word.
+    NotInProfile { at: u32 },
+    /// The token could stand there, but for the limit on nesting.
+    TooDeep { at: u32 },
+    /// A name that is declared a second time in its block.
+    Duplicate { at: u32 },
+    /// The name of a `for` that is assigned in its body.
+    LoopName { at: u32 },
+    Memory,
+}
+
+impl From<AllocError> for ParseFault {
+    ghost from_gives = { λ _ e. e ≡ Memory };
+
+    fn from(_: AllocError) -> ParseFault {
+        ParseFault::Memory
+    }
+}
+
+impl<T: Drop> From<AllocFailed<T>> for ParseFault {
+    ghost from_gives = { λ _ e. e ≡ Memory };
+
+    fn from(_: AllocFailed<T>) -> ParseFault {
+        ParseFault::Memory
+    }
+}
+
+impl From<NoMemory> for ParseFault {
+    ghost from_gives = { λ _ e. e ≡ Memory };
+
+    fn from(_: NoMemory) -> ParseFault {
+        ParseFault::Memory
+    }
+}

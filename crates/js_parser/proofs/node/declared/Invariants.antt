@@ -1,7 +1,0 @@
-use Rattle.std.proofs.Common.{◌≡◌, take, map}
-use Rattle.js_syntax.specs.Tree.{stmt_tree}
-use Rattle.js_syntax.specs.Grammar.{own_names}
-use Rattle.js_parser.proofs.node.declared.Given as goal
-
-abbrev pub invariant-loop-stmt : goal.invariant-loop-stmt
-invariant-loop-stmt l = l.names ≡ own_names (map stmt_tree (take l.stmt-index l.body))

@@ -1,5 +1,0 @@
-use Rattle.js_scopes.specs.Index.{NoneNamed}
-use Rattle.js_scopes.proofs.env.position_in.Given as goal
-
-abbrev pub invariant-loop-i : goal.invariant-loop-i
-invariant-loop-i g l = NoneNamed l.bound l.name l.i

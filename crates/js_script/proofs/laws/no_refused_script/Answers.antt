@@ -1,5 +1,0 @@
-use Rattle.js_script.proofs.Answered.{no_refused_script}
-use Rattle.js_script.proofs.laws.no_refused_script.Goals as goal
-
-pub returns : goal.returns
-returns c = no_refused_script

@@ -1,5 +1,0 @@
-pub mod Stops
-pub mod Expressions
-pub mod Statements
-pub mod Scripts
-pub mod Trees

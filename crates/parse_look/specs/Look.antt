@@ -1,0 +1,80 @@
+-- What the parser looks for at the next token.
+use Rattle.std.specs.Prelude.{ℕ, List, [], ◌∷◌, Option, Some, None}
+use Rattle.parse_laws.specs.Lang.{second_of}
+use Rattle.parse_laws.specs.Reader.{Reader, and_then, one_of, choose, heads, succeed}
+use Rattle.parse_syntax.specs.declared.token.Token.{Token}
+use Rattle.parse_syntax.specs.declared.token.Token.TheVariants as token
+use Rattle.js_lex.specs.declared.token.Mark.TheVariants as mark
+use Rattle.parse_syntax.specs.declared.token.Word.TheVariants as word
+use Rattle.eval_tree.specs.declared.tree.Op.{Op}
+use Rattle.eval_tree.specs.declared.tree.Builtin.{Builtin}
+use Rattle.eval_tree.specs.declared.tree.Builtin.TheVariants as builtin
+use Rattle.parse_syntax.specs.Terminals.{Ident, or_op, and_op, equal_op, compare_op, sum_op, else_word, if_word, string_word, symbol_word, json_word, point, from_word, symbol_function, stringify_word, directive, let_word, const_word, print_word, for_word, opening, closing, close_bracket, open_brace, close_brace, comma, semicolon, colon, question, less, assign_mark, increment, nought}
+use Rattle.parse_syntax.specs.Grammar.{pair_of}
+use Rattle.parse_look.specs.declared.look.Level.{Level}
+use Rattle.parse_look.specs.declared.look.Level.TheVariants as level
+use Rattle.parse_look.specs.declared.look.Opener.{Opener}
+use Rattle.parse_look.specs.declared.look.Opener.TheVariants as opener
+use Rattle.parse_look.specs.declared.look.Fixed.{Fixed}
+use Rattle.parse_look.specs.declared.look.Fixed.TheVariants as fixed
+
+-- a word or mark that is nothing but itself
+abbrev pub terminal : Fixed → Token → Option (Unit {0})
+terminal fixed.OpenParen = opening
+terminal fixed.CloseParen = closing
+terminal fixed.CloseBracket = close_bracket
+terminal fixed.OpenBrace = open_brace
+terminal fixed.CloseBrace = close_brace
+terminal fixed.Comma = comma
+terminal fixed.Point = point
+terminal fixed.Semicolon = semicolon
+terminal fixed.Question = question
+terminal fixed.Colon = colon
+terminal fixed.Less = less
+terminal fixed.Assign = assign_mark
+terminal fixed.Increment = increment
+terminal fixed.Nought = nought
+terminal fixed.Directive = directive
+terminal fixed.Let = let_word
+terminal fixed.Const = const_word
+terminal fixed.Print = print_word
+terminal fixed.If = if_word
+terminal fixed.Else = else_word
+terminal fixed.For = for_word
+
+-- the operators by level
+abbrev pub operators : Level → Token → Option (ℕ × Op)
+operators level.Or = or_op
+operators level.And = and_op
+operators level.Equal = equal_op
+operators level.Compare = compare_op
+operators level.Sum = sum_op
+
+abbrev pub ident : ℕ → ℕ → Ident
+ident at n = record { at = at; number = n }
+
+-- what a primary of several tokens begins with
+abbrev pub opener_of : Token → Option Opener
+opener_of (token.Mark at mark.OpenParen l) = Some opener.Paren
+opener_of (token.Word at word.String) = Some opener.Builtin
+opener_of (token.Word at word.Symbol) = Some opener.Builtin
+opener_of (token.Word at word.Json) = Some opener.Builtin
+opener_of _ = None
+
+abbrev pub openers : List Token → Option Opener
+openers [] = None
+openers (t ∷ s) = opener_of t
+
+-- the function that is called
+
+abbrev pub read_string_called : Reader Token Builtin
+read_string_called = choose (heads point) (and_then second_of (one_of point) (one_of from_word)) (succeed builtin.String)
+
+abbrev pub read_symbol_called : Reader Token Builtin
+read_symbol_called = and_then second_of (one_of point) (one_of symbol_function)
+
+abbrev pub read_json_called : Reader Token Builtin
+read_json_called = and_then second_of (one_of point) (one_of stringify_word)
+
+abbrev pub read_called : Reader Token (ℕ × Builtin)
+read_called = choose (heads string_word) (and_then pair_of (one_of string_word) read_string_called) (choose (heads symbol_word) (and_then pair_of (one_of symbol_word) read_symbol_called) (and_then pair_of (one_of json_word) read_json_called))

@@ -1,0 +1,56 @@
+// Faults of the grammar.
+ghost use Rattle.std.specs.Prelude.{◌≡◌, ℕ};
+ghost use Rattle.parse_laws.specs.Reader.{wrong, too_deep};
+ghost use Rattle.parse_look.specs.Gives.{Fails};
+ghost use Rattle.parse_look.specs.declared.fault.Fault.TheVariants.{Memory};
+
+use js_units::NoMemory;
+use parse_syntax::Token;
+use std::alloc::{AllocError, AllocFailed};
+
+/// Why tokens are no script: at the first token of `rest`, or at the end of the text where there is none; or want
+/// of memory.
+#[derive(Clone, Copy)]
+pub enum Fault<'a> {
+    Memory,
+    /// The token can't stand there.
+    Wrong { rest: &'a [Token] },
+    /// It could, but for the limit on nesting.
+    TooDeep { rest: &'a [Token] },
+}
+
+pub fn refused(tokens: &[Token]) -> Fault<'_>
+    ensures { Fails result (wrong {A = ℕ} tokens.now) }
+{
+    Fault::Wrong { rest: tokens }
+}
+
+pub fn too_deep(tokens: &[Token]) -> Fault<'_>
+    ensures { Fails result (too_deep {A = ℕ} tokens.now) }
+{
+    Fault::TooDeep { rest: tokens }
+}
+
+impl From<AllocError> for Fault<'_> {
+    ghost from_gives = { λ _ e. e ≡ Memory };
+
+    fn from(_: AllocError) -> Self {
+        Fault::Memory
+    }
+}
+
+impl<T: Drop> From<AllocFailed<T>> for Fault<'_> {
+    ghost from_gives = { λ _ e. e ≡ Memory };
+
+    fn from(_: AllocFailed<T>) -> Self {
+        Fault::Memory
+    }
+}
+
+impl From<NoMemory> for Fault<'_> {
+    ghost from_gives = { λ _ e. e ≡ Memory };
+
+    fn from(_: NoMemory) -> Self {
+        Fault::Memory
+    }
+}

@@ -1,0 +1,640 @@
+// Looks at the next token.
+ghost use Rattle.std.specs.Prelude.{◌≡◌, [], ◌∷◌, ℕ, MatchOption, None, Some, IfOk, IfErr, false, true, get_or};
+ghost use Rattle.parse_laws.specs.Reader.{Got, one_of, heads, heads_two};
+ghost use Rattle.eval_tree.specs.Tree.{expr_tree, step_tree};
+ghost use Rattle.parse_syntax.specs.Terminals as terminals;
+ghost use Rattle.parse_syntax.specs.Terminals.{Ident, when};
+ghost use Rattle.parse_syntax.specs.declared.token.Token.TheVariants as token;
+ghost use Rattle.parse_syntax.specs.Reading.{step_mark, goes_on, read_header};
+ghost use Rattle.parse_look.specs.Look.{terminal, operators, openers, read_string_called, read_symbol_called, read_json_called, read_called, ident};
+ghost use Rattle.parse_look.specs.Gives.{Gives};
+
+use crate::fault::{Fault, refused};
+use eval_tree::{Builtin, Expr, Method, Name, Op, PostStep};
+use js_lex::Mark;
+use js_units::NoMemory;
+use parse_syntax::{Property, Token, Word};
+use std::alloc::Global;
+
+/// A word or mark that is nothing but itself.
+#[derive(Clone, Copy, Debug, PartialEq, Eq)]
+pub enum Fixed {
+    OpenParen,
+    CloseParen,
+    CloseBracket,
+    OpenBrace,
+    CloseBrace,
+    Comma,
+    Point,
+    Semicolon,
+    Question,
+    Colon,
+    Less,
+    Assign,
+    /// `++` with no line end before it.
+    Increment,
+    /// The number 0.
+    Nought,
+    Directive,
+    Let,
+    Const,
+    Print,
+    If,
+    Else,
+    For,
+}
+
+/// A level of chains, the outermost first.
+#[derive(Clone, Copy, Debug, PartialEq, Eq)]
+pub enum Level {
+    Or,
+    And,
+    Equal,
+    Compare,
+    Sum,
+}
+
+pub fn next(tokens: &[Token]) -> Option<(Token, &[Token])>
+    ensures { MatchOption result (tokens.now ≡ []) (λ found. tokens.now ≡ found.0 ∷ found.1.now) }
+{
+    match tokens {
+        [] => None,
+        [first, rest @ ..] => Some((*first, rest)),
+    }
+}
+
+fn is_mark(fixed: Fixed, mark: Mark, after_line: bool) -> bool
+    ensures { (at : ℕ) → terminal fixed (token.Mark at mark after_line) ≡ when result tt }
+{
+    match (fixed, mark) {
+        (Fixed::OpenParen, Mark::OpenParen) => true,
+        (Fixed::CloseParen, Mark::CloseParen) => true,
+        (Fixed::CloseBracket, Mark::CloseBracket) => true,
+        (Fixed::OpenBrace, Mark::OpenBrace) => true,
+        (Fixed::CloseBrace, Mark::CloseBrace) => true,
+        (Fixed::Comma, Mark::Comma) => true,
+        (Fixed::Point, Mark::Point) => true,
+        (Fixed::Semicolon, Mark::Semicolon) => true,
+        (Fixed::Question, Mark::Question) => true,
+        (Fixed::Colon, Mark::Colon) => true,
+        (Fixed::Less, Mark::Less) => true,
+        (Fixed::Assign, Mark::Assign) => true,
+        (Fixed::Increment, Mark::Increment) => !after_line,
+        _ => false,
+    }
+}
+
+fn is_word(fixed: Fixed, word: Word) -> bool
+    ensures { (at : ℕ) → terminal fixed (token.Word at word) ≡ when result tt }
+{
+    match (fixed, word) {
+        (Fixed::Let, Word::Let) => true,
+        (Fixed::Const, Word::Const) => true,
+        (Fixed::Print, Word::Print) => true,
+        (Fixed::If, Word::If) => true,
+        (Fixed::Else, Word::Else) => true,
+        (Fixed::For, Word::For) => true,
+        _ => false,
+    }
+}
+
+fn is(fixed: Fixed, token: Token) -> bool
+    ensures { terminal fixed token ≡ when result tt }
+{
+    match token {
+        Token::Mark {
+            mark,
+            after_line,
+            ..
+        } => is_mark(fixed, mark, after_line),
+        Token::Word { word, .. } => is_word(fixed, word),
+        Token::Number { value, .. } => matches!(fixed, Fixed::Nought) && value == 0,
+        Token::Directive { .. } => matches!(fixed, Fixed::Directive),
+        Token::Text { .. } | Token::Name { .. } => false,
+    }
+}
+
+/// The rest behind this token, which has to come next.
+pub fn take(tokens: &[Token], fixed: Fixed) -> Result<&[Token], Fault<'_>>
+    ensures { Gives (λ _. tt) (λ rest. rest.now) result (one_of (terminal fixed) tokens.now) }
+{
+    let Some((token, rest)) = next(tokens) else {
+        return Err(refused(tokens));
+    };
+    if is(fixed, token) {
+        Ok(rest)
+    } else {
+        Err(refused(tokens))
+    }
+}
+
+/// The rest behind this token, where it comes next.
+pub fn behind(tokens: &[Token], fixed: Fixed) -> Option<&[Token]>
+    ensures { MatchOption result (heads (terminal fixed) tokens.now ≡ false)
+        (λ rest. one_of (terminal fixed) tokens.now ≡ Got tt rest.now) }
+{
+    let (token, rest) = next(tokens)?;
+    if is(fixed, token) { Some(rest) } else { None }
+}
+
+pub fn begins_step(tokens: &[Token]) -> bool
+    ensures { result ≡ heads step_mark tokens.now }
+{
+    matches!(
+        next(tokens),
+        Some((
+            Token::Mark {
+                mark: Mark::Point | Mark::OpenBracket,
+                ..
+            },
+            _
+        ))
+    )
+}
+
+/// A sign: its offset, and whether it is a minus.
+pub fn sign(tokens: &[Token]) -> Option<((u32, bool), &[Token])>
+    ensures { MatchOption result (heads terminals.sign tokens.now ≡ false)
+        (λ found. one_of terminals.sign tokens.now ≡ Got (found.0.0, found.0.1) found.1.now) }
+{
+    match next(tokens) {
+        Some(
+            (
+                Token::Mark {
+                    at,
+                    mark: Mark::Minus,
+                    ..
+                },
+                rest,
+            ),
+        ) => Some(((at, true), rest)),
+        Some(
+            (
+                Token::Mark {
+                    at,
+                    mark: Mark::Not,
+                    ..
+                },
+                rest,
+            ),
+        ) => Some(((at, false), rest)),
+        _ => None,
+    }
+}
+
+fn op(level: Level, token: Token) -> Option<(u32, Op)>
+    ensures { MatchOption result (operators level token ≡ None)
+        (λ found. operators level token ≡ Some (found.0, found.1)) }
+{
+    let Token::Mark { at, mark, .. } = token else {
+        return None;
+    };
+    match (level, mark) {
+        (Level::Or, Mark::Or) => Some((at, Op::Or)),
+        (Level::And, Mark::And) => Some((at, Op::And)),
+        (Level::Equal, Mark::StrictEqual) => Some((at, Op::Same)),
+        (Level::Equal, Mark::StrictUnequal) => Some((at, Op::NotSame)),
+        (Level::Compare, Mark::Less) => Some((at, Op::Less)),
+        (Level::Compare, Mark::Greater) => Some((at, Op::Greater)),
+        (Level::Compare, Mark::AtMost) => Some((at, Op::LessEq)),
+        (Level::Compare, Mark::AtLeast) => Some((at, Op::GreaterEq)),
+        (Level::Sum, Mark::Plus) => Some((at, Op::Plus)),
+        (Level::Sum, Mark::Minus) => Some((at, Op::Minus)),
+        _ => None,
+    }
+}
+
+/// An operator of the level, with its offset.
+pub fn operator(level: Level, tokens: &[Token]) -> Option<((u32, Op), &[Token])>
+    ensures { MatchOption result (heads (operators level) tokens.now ≡ false)
+        (λ found. one_of (operators level) tokens.now ≡ Got (found.0.0, found.0.1) found.1.now) }
+{
+    let (token, rest) = next(tokens)?;
+    match op(level, token) {
+        Some(op) => Some((op, rest)),
+        None => None,
+    }
+}
+
+/// The letters of a name by its number.
+pub fn letters(alloc: Global, names: &[Name], number: u32) -> Result<Name, NoMemory>
+    ensures { IfOk result (λ name. name ≡ get_or names.now number []) }
+{
+    match names.get(number as usize) {
+        Some(name) => name.copy(),
+        None => Ok(Name::new(Vec::new(alloc))),
+    }
+}
+
+fn constant(word: Word) -> Option<Expr>
+    ensures { MatchOption result (terminals.constant word ≡ None)
+        (λ found. terminals.constant word ≡ Some (expr_tree found)) }
+{
+    match word {
+        Word::Undefined => Some(Expr::Undefined),
+        Word::Null => Some(Expr::Null),
+        Word::True => Some(Expr::Bool { value: true }),
+        Word::False => Some(Expr::Bool { value: false }),
+        Word::NaN => Some(Expr::NaN),
+        Word::Infinity => Some(Expr::Infinity),
+        _ => None,
+    }
+}
+
+/// A token that is an expression alone.
+pub fn simple<'a>(
+    alloc: Global,
+    names: &[Name],
+    tokens: &'a [Token],
+) -> Result<Option<(Expr, &'a [Token])>, NoMemory>
+    ensures { IfOk result (λ found. MatchOption found (heads (terminals.simple names.now) tokens.now ≡ false)
+        (λ one. one_of (terminals.simple names.now) tokens.now ≡ Got (expr_tree one.0) one.1.now)) }
+{
+    let Some((token, rest)) = next(tokens) else {
+        return Ok(None);
+    };
+    match token {
+        Token::Text { literal, .. } => Ok(Some((Expr::Literal { number: literal }, rest))),
+        Token::Number { value, .. } => Ok(Some((Expr::Number { value }, rest))),
+        Token::Name { number, .. } => {
+            let name = letters(alloc, names, number)?;
+            Ok(Some((Expr::Variable { name }, rest)))
+        }
+        Token::Word { word, .. } => match constant(word) {
+            Some(value) => Ok(Some((value, rest))),
+            None => Ok(None),
+        },
+        Token::Directive { .. } | Token::Mark { .. } => Ok(None),
+    }
+}
+
+/// What a primary of several tokens begins with.
+#[derive(Clone, Copy, Debug, PartialEq, Eq)]
+pub enum Opener {
+    Paren,
+    Builtin,
+}
+
+pub fn next_opener(tokens: &[Token]) -> Option<Opener>
+    ensures { result ≡ openers tokens.now }
+{
+    match next(tokens) {
+        Some(
+            (
+                Token::Mark {
+                    mark: Mark::OpenParen,
+                    ..
+                },
+                _,
+            ),
+        ) => Some(Opener::Paren),
+        Some(
+            (
+                Token::Word {
+                    word: Word::String | Word::Symbol | Word::Json,
+                    ..
+                },
+                _,
+            ),
+        ) => { Some(Opener::Builtin) }
+        _ => None,
+    }
+}
+
+/// The mark `[`: its offset.
+pub fn open_bracket(tokens: &[Token]) -> Option<(u32, &[Token])>
+    ensures { MatchOption result (heads terminals.open_bracket tokens.now ≡ false)
+        (λ found. one_of terminals.open_bracket tokens.now ≡ Got found.0 found.1.now) }
+{
+    match next(tokens) {
+        Some(
+            (
+                Token::Mark {
+                    at,
+                    mark: Mark::OpenBracket,
+                    ..
+                },
+                rest,
+            ),
+        ) => Some((at, rest)),
+        _ => None,
+    }
+}
+
+/// `length` or `description`.
+pub fn member(tokens: &[Token]) -> Option<(PostStep, &[Token])>
+    ensures { MatchOption result (heads terminals.member_word tokens.now ≡ false)
+        (λ found. one_of terminals.member_word tokens.now ≡ Got (step_tree found.0) found.1.now) }
+{
+    match next(tokens) {
+        Some(
+            (
+                Token::Name {
+                    property: Property::Length,
+                    ..
+                },
+                rest,
+            ),
+        ) => { Some((PostStep::Length, rest)) }
+        Some(
+            (
+                Token::Name {
+                    property: Property::Description,
+                    ..
+                },
+                rest,
+            ),
+        ) => { Some((PostStep::Description, rest)) }
+        _ => None,
+    }
+}
+
+/// A method with its offset.
+pub fn method(tokens: &[Token]) -> Option<((u32, Method), &[Token])>
+    ensures { MatchOption result (heads terminals.method tokens.now ≡ false)
+        (λ found. one_of terminals.method tokens.now ≡ Got (found.0.0, found.0.1) found.1.now) }
+{
+    match next(tokens) {
+        Some(
+            (
+                Token::Name {
+                    at,
+                    property: Property::Method(method),
+                    ..
+                },
+                rest,
+            ),
+        ) => { Some(((at, method), rest)) }
+        _ => None,
+    }
+}
+
+fn string_function(tokens: &[Token]) -> Result<(Builtin, &[Token]), Fault<'_>>
+    ensures { Gives (λ found. found.0) (λ found. found.1.now) result (one_of terminals.from_word tokens.now) }
+{
+    match next(tokens) {
+        Some(
+            (
+                Token::Name {
+                    property: Property::FromCharCode,
+                    ..
+                },
+                rest,
+            ),
+        ) => { Ok((Builtin::FromCharCode, rest)) }
+        Some(
+            (
+                Token::Name {
+                    property: Property::FromCodePoint,
+                    ..
+                },
+                rest,
+            ),
+        ) => { Ok((Builtin::FromCodePoint, rest)) }
+        _ => Err(refused(tokens)),
+    }
+}
+
+fn symbol_function(tokens: &[Token]) -> Result<(Builtin, &[Token]), Fault<'_>>
+    ensures { Gives (λ found. found.0) (λ found. found.1.now) result
+        (one_of terminals.symbol_function tokens.now) }
+{
+    match next(tokens) {
+        Some(
+            (
+                Token::Word {
+                    word: Word::For,
+                    ..
+                },
+                rest,
+            ),
+        ) => Ok((Builtin::SymbolFor, rest)),
+        Some(
+            (
+                Token::Name {
+                    property: Property::KeyFor,
+                    ..
+                },
+                rest,
+            ),
+        ) => Ok((Builtin::KeyFor, rest)),
+        _ => Err(refused(tokens)),
+    }
+}
+
+fn json_function(tokens: &[Token]) -> Result<(Builtin, &[Token]), Fault<'_>>
+    ensures { Gives (λ found. found.0) (λ found. found.1.now) result
+        (one_of terminals.stringify_word tokens.now) }
+{
+    match next(tokens) {
+        Some(
+            (
+                Token::Name {
+                    property: Property::Stringify,
+                    ..
+                },
+                rest,
+            ),
+        ) => { Ok((Builtin::Stringify, rest)) }
+        _ => Err(refused(tokens)),
+    }
+}
+
+// String, and perhaps a point and a function of it.
+fn string_called(tokens: &[Token]) -> Result<(Builtin, &[Token]), Fault<'_>>
+    ensures { Gives (λ found. found.0) (λ found. found.1.now) result (read_string_called tokens.now) }
+{
+    match behind(tokens, Fixed::Point) {
+        Some(rest) => string_function(rest),
+        None => Ok((Builtin::String, tokens)),
+    }
+}
+
+fn symbol_called(tokens: &[Token]) -> Result<(Builtin, &[Token]), Fault<'_>>
+    ensures { Gives (λ found. found.0) (λ found. found.1.now) result (read_symbol_called tokens.now) }
+{
+    let rest = take(tokens, Fixed::Point)?;
+    symbol_function(rest)
+}
+
+fn json_called(tokens: &[Token]) -> Result<(Builtin, &[Token]), Fault<'_>>
+    ensures { Gives (λ found. found.0) (λ found. found.1.now) result (read_json_called tokens.now) }
+{
+    let rest = take(tokens, Fixed::Point)?;
+    json_function(rest)
+}
+
+/// The built-in function that is called, with the offset of its first word: `String`,
+/// `String . fromCharCode`, `String . fromCodePoint`, `Symbol . for`, `Symbol . keyFor`, `JSON . stringify`.
+pub fn called(tokens: &[Token]) -> Result<((u32, Builtin), &[Token]), Fault<'_>>
+    ensures { Gives (λ found. (found.0.0, found.0.1)) (λ found. found.1.now) result (read_called tokens.now) }
+{
+    match next(tokens) {
+        Some(
+            (
+                Token::Word {
+                    at,
+                    word: Word::String,
+                },
+                rest,
+            ),
+        ) => {
+            let (which, rest) = string_called(rest)?;
+            Ok(((at, which), rest))
+        }
+        Some(
+            (
+                Token::Word {
+                    at,
+                    word: Word::Symbol,
+                },
+                rest,
+            ),
+        ) => {
+            let (which, rest) = symbol_called(rest)?;
+            Ok(((at, which), rest))
+        }
+        Some(
+            (
+                Token::Word {
+                    at,
+                    word: Word::Json,
+                },
+                rest,
+            ),
+        ) => {
+            let (which, rest) = json_called(rest)?;
+            Ok(((at, which), rest))
+        }
+        _ => Err(refused(tokens)),
+    }
+}
+
+/// A name where it stands: its offset, and the number of its letters.
+#[derive(Clone, Copy, Debug, PartialEq, Eq)]
+pub struct Ident {
+    pub at: u32,
+    pub number: u32,
+}
+
+/// A name, which has to come next.
+pub fn name(tokens: &[Token]) -> Result<(Ident, &[Token]), Fault<'_>>
+    ensures { Gives (λ found. ident found.0.at found.0.number) (λ found. found.1.now) result
+        (one_of terminals.name tokens.now) }
+{
+    match next(tokens) {
+        Some((Token::Name { at, number, .. }, rest)) => Ok((Ident { at, number }, rest)),
+        _ => Err(refused(tokens)),
+    }
+}
+
+fn same_name(tokens: &[Token], name: Ident) -> Result<&[Token], Fault<'_>>
+    ensures { Gives (λ _. tt) (λ rest. rest.now) result (one_of (terminals.the_name name.number) tokens.now) }
+{
+    match next(tokens) {
+        Some((Token::Name { number, .. }, rest)) if number == name.number => Ok(rest),
+        _ => Err(refused(tokens)),
+    }
+}
+
+fn bound(tokens: &[Token]) -> Result<(u32, &[Token]), Fault<'_>>
+    ensures { Gives (λ found. found.0) (λ found. found.1.now) result
+        (one_of terminals.bound_number tokens.now) }
+{
+    match next(tokens) {
+        Some((Token::Number { value, .. }, rest)) if value <= 1_000_000 => {
+            Ok((value as u32, rest))
+        }
+        _ => Err(refused(tokens)),
+    }
+}
+
+/// `for ( let Name = 0 ; Name < Bound ; Name ++ )`
+pub fn header(tokens: &[Token]) -> Result<((Ident, u32), &[Token]), Fault<'_>>
+    ensures { Gives (λ found. (ident found.0.0.at found.0.0.number, found.0.1)) (λ found. found.1.now) result
+        (read_header tokens.now) }
+{
+    let rest = take(tokens, Fixed::For)?;
+    let rest = take(rest, Fixed::OpenParen)?;
+    let rest = take(rest, Fixed::Let)?;
+    let (name, rest) = name(rest)?;
+    let rest = take(rest, Fixed::Assign)?;
+    let rest = take(rest, Fixed::Nought)?;
+    let rest = take(rest, Fixed::Semicolon)?;
+    let rest = same_name(rest, name)?;
+    let rest = take(rest, Fixed::Less)?;
+    let (bound, rest) = bound(rest)?;
+    let rest = take(rest, Fixed::Semicolon)?;
+    let rest = same_name(rest, name)?;
+    let rest = take(rest, Fixed::Increment)?;
+    let rest = take(rest, Fixed::CloseParen)?;
+    Ok(((name, bound), rest))
+}
+
+/// `=`, or the offset of a `+=`.
+pub fn assign_op(tokens: &[Token]) -> Result<(Option<u32>, &[Token]), Fault<'_>>
+    ensures { Gives (λ found. found.0) (λ found. found.1.now) result (one_of terminals.assign_op tokens.now) }
+{
+    match next(tokens) {
+        Some(
+            (
+                Token::Mark {
+                    mark: Mark::Assign,
+                    ..
+                },
+                rest,
+            ),
+        ) => Ok((None, rest)),
+        Some(
+            (
+                Token::Mark {
+                    at,
+                    mark: Mark::AddAssign,
+                    ..
+                },
+                rest,
+            ),
+        ) => Ok((Some(at), rest)),
+        _ => Err(refused(tokens)),
+    }
+}
+
+/// Whether statements go on: up to the end of a block or of the tokens.
+pub fn goes_on(tokens: &[Token]) -> bool
+    ensures { result ≡ goes_on tokens.now }
+{
+    !matches!(
+        next(tokens),
+        None | Some((
+            Token::Mark {
+                mark: Mark::CloseBrace,
+                ..
+            },
+            _
+        ))
+    )
+}
+
+/// The rest behind an `else` that an `if` follows.
+pub fn else_if(tokens: &[Token]) -> Option<&[Token]>
+    ensures { MatchOption result (heads_two terminals.else_word terminals.if_word tokens.now ≡ false)
+        (λ rest. (one_of terminals.else_word tokens.now ≡ Got tt rest.now)
+        × (heads_two terminals.else_word terminals.if_word tokens.now ≡ true)) }
+{
+    let Some(
+        (
+            Token::Word {
+                word: Word::Else,
+                ..
+            },
+            rest,
+        ),
+    ) = next(tokens)
+    else {
+        return None;
+    };
+    match next(rest) {
+        Some((Token::Word { word: Word::If, .. }, _)) => Some(rest),
+        _ => None,
+    }
+}

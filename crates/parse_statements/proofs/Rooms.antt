@@ -1,0 +1,348 @@
+-- The readers of expressions at their first tokens, over those that the parser's functions call.
+use Rattle.std.proofs.Common.{◌≡◌, ℕ, zero, suc, ◌-◌, ◌<◌, Bool, true, false, List, [], ◌∷◌, Option, Some, None, refl, sym, ap, ◌∙◌, subst, arith}
+use Rattle.js_lex.specs.declared.token.Mark.TheVariants as mark
+use Rattle.parse_laws.specs.Lang.{first_of, second_of}
+use Rattle.parse_laws.specs.Reader.{Answer, Got, Bad, Wrong, Reader, ◌>>=◌, wrong, too_deep, and_then, map_by, take_or, one_of, choose, opens, heads, is_some}
+use Rattle.parse_laws.proofs.Part.{then_strict}
+use Rattle.parse_syntax.specs.declared.token.Token.{Token}
+use Rattle.parse_syntax.specs.declared.token.Token.TheVariants as token
+use Rattle.parse_syntax.specs.declared.token.Word.TheVariants as word
+use Rattle.parse_syntax.specs.declared.token.Property.TheVariants as property
+use Rattle.eval_tree.specs.declared.tree.Method.{Method}
+use Rattle.eval_tree.specs.declared.tree.Builtin.{Builtin}
+use Rattle.eval_tree.specs.declared.tree.Builtin.TheVariants as builtin
+use Rattle.eval_tree.specs.Tree as tree
+use Rattle.eval_tree.specs.Tree.{ExprTree, StepTree}
+use Rattle.parse_syntax.specs.Terminals.{member_word, method, opening, closing, open_bracket, close_bracket, point, question, colon, sign, simple, string_word, symbol_word, json_word, from_word, symbol_function, stringify_word}
+use Rattle.parse_syntax.specs.Grammar.{Whole, Operand, pair_of, single_of, plain_string, builtin_of, call_of, index_of, unary_of, branches_of, cond_of}
+use Rattle.parse_syntax.specs.Reading.{read_within, read_parens, read_args, read_index, read_json}
+use Rattle.parse_look.specs.declared.look.Level.TheVariants as level
+use Rattle.parse_look.specs.declared.look.Opener.{Opener}
+use Rattle.parse_look.specs.declared.look.Opener.TheVariants as opener
+use Rattle.parse_look.specs.Look.{openers, read_string_called, read_called}
+use Rattle.parse_statements.specs.At.{has_room, inner, parens_at, args_at, given_at, builtin_at, primary_at, member_at, step_at, post_at, unary_at, chain_at, branches_at, expression_at}
+
+-- answers
+
+pub bind_got : {A : Type 0} (a : Answer Token A) → (a >>= λ x r. Got x r) ≡ a
+bind_got (Got x r) = refl
+bind_got (Bad k r) = refl
+
+pub bind_bind : {A B C : Type 0} (a : Answer Token A) (f : A → List Token → Answer Token B) (g : B → List Token → Answer Token C) → ((a >>= f) >>= g) ≡ (a >>= λ x r. f x r >>= g)
+bind_bind (Got x r) f g = refl
+bind_bind (Bad k r) f g = refl
+
+-- a word, and then what hands on its value
+module _ {A B : Type 0} (v : Token → Option A) (q : Reader Token B) where
+  then_got : (a : Answer Token A) → (a >>= λ x r. q r >>= λ y r'. Got y r') ≡ (a >>= λ _ r. q r)
+  then_got (Bad k r) = refl
+  then_got (Got x r) = bind_got (q r)
+
+  pub word_then : (s : List Token) → and_then second_of (one_of v) q s ≡ (one_of v s >>= λ _ r. q r)
+  word_then s = then_got (one_of v s)
+
+pub head_of : {A : Type 0} (v : Token → Option A) (s : List Token) (x : A) (rest : List Token) → one_of v s ≡ Got x rest → heads v s ≡ true
+head_of v [] x rest e = cc
+head_of v (t ∷ s) x rest e = go (v t) e
+  where
+    go : (o : Option _) → take_or o t s ≡ Got x rest → is_some o ≡ true
+    go None e = cc
+    go (Some y) e = refl
+
+-- rooms
+
+pub room_for : (n : ℕ) → 0 < n → has_room n ≡ true
+room_for zero h = absurd (omega arith)
+room_for (suc n) h = refl
+
+pub no_room_for : (n : ℕ) → n ≡ 0 → has_room n ≡ false
+no_room_for zero h = refl
+no_room_for (suc n) h = absurd (omega arith)
+
+pub less_one : (n : ℕ) → suc n - 1 ≡ n
+less_one n = omega arith
+
+-- none of these begins a primary
+
+no_opening : (s : List Token) → openers s ≡ None → heads opening s ≡ false
+no_opening [] o = refl
+no_opening (token.Mark at mark.OpenParen l ∷ s) o = cc
+no_opening (_ ∷ s) o = refl
+
+no_string : (s : List Token) → openers s ≡ None → heads string_word s ≡ false
+no_string [] o = refl
+no_string (token.Word at word.String ∷ s) o = cc
+no_string (_ ∷ s) o = refl
+
+no_symbol : (s : List Token) → openers s ≡ None → heads symbol_word s ≡ false
+no_symbol [] o = refl
+no_symbol (token.Word at word.Symbol ∷ s) o = cc
+no_symbol (_ ∷ s) o = refl
+
+no_json : (s : List Token) → openers s ≡ None → heads json_word s ≡ false
+no_json [] o = refl
+no_json (token.Word at word.Json ∷ s) o = cc
+no_json (_ ∷ s) o = refl
+
+-- the functions of String and Symbol have any number of arguments
+
+from_plain : (s r : List Token) (w : Builtin) → one_of from_word s ≡ Got w r → w ≡ builtin.Stringify → ⊥
+from_plain [] r w e = cc
+from_plain (token.Name at n property.FromCharCode ∷ s) r w e = λ h. let q : builtin.FromCharCode ≡ w = cc in let z : builtin.FromCharCode ≡ builtin.Stringify = q ∙ h in cc
+from_plain (token.Name at n property.FromCodePoint ∷ s) r w e = λ h. let q : builtin.FromCodePoint ≡ w = cc in let z : builtin.FromCodePoint ≡ builtin.Stringify = q ∙ h in cc
+from_plain (_ ∷ s) r w e = cc
+
+symbol_plain : (s r : List Token) (w : Builtin) → one_of symbol_function s ≡ Got w r → w ≡ builtin.Stringify → ⊥
+symbol_plain [] r w e = cc
+symbol_plain (token.Word at word.For ∷ s) r w e = λ h. let q : builtin.SymbolFor ≡ w = cc in let z : builtin.SymbolFor ≡ builtin.Stringify = q ∙ h in cc
+symbol_plain (token.Name at n property.KeyFor ∷ s) r w e = λ h. let q : builtin.KeyFor ≡ w = cc in let z : builtin.KeyFor ≡ builtin.Stringify = q ∙ h in cc
+symbol_plain (_ ∷ s) r w e = cc
+
+json_one : (s r : List Token) (w : Builtin) → one_of stringify_word s ≡ Got w r → w ≡ builtin.Stringify
+json_one [] r w e = cc
+json_one (token.Name at n property.Stringify ∷ s) r w e = let q : builtin.Stringify ≡ w = cc in sym q
+json_one (_ ∷ s) r w e = cc
+
+module _ (names : List (List ℕ)) where
+  whole_is : (n : ℕ) → read_within names n Whole ≡ expression_at names n
+  unfolding expression_at
+  whole_is zero = refl
+  whole_is (suc n) = refl
+
+  operand_is : (n : ℕ) → read_within names n Operand ≡ unary_at names n
+  unfolding unary_at
+  operand_is zero = refl
+  operand_is (suc n) = refl
+
+  pub inner_whole : (n : ℕ) → 0 < n → inner names n Whole ≡ expression_at names (n - 1)
+  inner_whole zero h = absurd (omega arith)
+  inner_whole (suc n) h = subst (λ m. read_within names n Whole ≡ expression_at names m) (sym (less_one n)) (whole_is n)
+
+  pub inner_operand : (n : ℕ) → 0 < n → inner names n Operand ≡ unary_at names (n - 1)
+  inner_operand zero h = absurd (omega arith)
+  inner_operand (suc n) h = subst (λ m. read_within names n Operand ≡ unary_at names m) (sym (less_one n)) (operand_is n)
+
+  pub parens_is : (n : ℕ) (s : List Token) → 0 < n → parens_at names n s ≡ (one_of opening s >>= λ _ r. expression_at names (n - 1) r >>= λ x r. one_of closing r >>= λ _ r. Got x r)
+  unfolding parens_at
+  parens_is n s h = word_then opening (and_then first_of (inner names n Whole) (one_of closing)) s ∙ ap (λ q. one_of opening s >>= λ _ r. q r >>= λ x r. one_of closing r >>= λ _ r. Got x r) (inner_whole n h)
+
+  -- built-in functions
+
+  pub given_args : (n : ℕ) (w : Builtin) (s : List Token) → (w ≡ builtin.Stringify → ⊥) → given_at names n w s ≡ args_at names n s
+  unfolding given_at args_at
+  given_args n builtin.Stringify s h = absurd (h refl)
+  given_args n _ s h = refl
+
+  pub given_one : (n : ℕ) (w : Builtin) (s : List Token) → w ≡ builtin.Stringify → given_at names n w s ≡ (parens_at names n s >>= λ x r. Got (x ∷ []) r)
+  unfolding given_at parens_at
+  given_one n w s h = rw h refl
+
+  -- what is called, with its arguments
+  abbrev calling : ℕ → ℕ → Builtin → List Token → Answer Token ExprTree
+  calling n at w r = given_at names n w r >>= λ ts r'. Got (builtin_of at (w, ts)) r'
+
+  plain_call : (n at : ℕ) (s : List Token) → (map_by plain_string (read_args (inner names n Whole)) s >>= λ p r. Got (builtin_of at p) r) ≡ calling n at builtin.String s
+  unfolding given_at
+  plain_call n at s = bind_bind (read_args (inner names n Whole) s) (λ ts r. Got (plain_string ts) r) (λ p r. Got (builtin_of at p) r)
+
+  -- a function behind a point, where its arguments are read by a
+  function_call : (n at : ℕ) (v : Token → Option Builtin) (a : Reader Token (List ExprTree)) (r : List Token) → ((w : Builtin) (r' : List Token) → one_of v r ≡ Got w r' → a r' ≡ given_at names n w r') → (and_then pair_of (one_of v) a r >>= λ p r. Got (builtin_of at p) r) ≡ (one_of v r >>= λ w r'. calling n at w r')
+  function_call n at v a r h = go (one_of v r) refl
+    where
+      args : (w : Builtin) (r' : List Token) → a r' ≡ given_at names n w r' → ((a r' >>= λ ts r''. Got (pair_of w ts) r'') >>= λ p r. Got (builtin_of at p) r) ≡ calling n at w r'
+      args w r' e = bind_bind (a r') (λ ts r''. Got (pair_of w ts) r'') (λ p r. Got (builtin_of at p) r) ∙ ap (λ q. q >>= λ ts r''. Got (builtin_of at (w, ts)) r'') e
+
+      go : (b : Answer Token Builtin) → one_of v r ≡ b → ((b >>= λ w r'. a r' >>= λ ts r''. Got (pair_of w ts) r'') >>= λ p r. Got (builtin_of at p) r) ≡ (b >>= λ w r'. calling n at w r')
+      go (Bad k r') e = refl
+      go (Got w r') e = args w r' (h w r' e)
+
+  behind : {A : Type 0} (s : List Token) (q : Reader Token A) (g : A → List Token → Answer Token ExprTree) → (and_then second_of (one_of point) q s >>= g) ≡ (one_of point s >>= λ _ r. q r >>= g)
+  behind s q g = ap (λ a. a >>= g) (word_then point q s) ∙ bind_bind (one_of point s) (λ _ r. q r) g
+
+  given_plain : (n : ℕ) (w : Builtin) (r : List Token) → (w ≡ builtin.Stringify → ⊥) → read_args (inner names n Whole) r ≡ given_at names n w r
+  unfolding args_at
+  given_plain n w r h = sym (given_args n w r h)
+
+  given_single : (n : ℕ) (w : Builtin) (r : List Token) → w ≡ builtin.Stringify → map_by single_of (read_parens (inner names n Whole)) r ≡ given_at names n w r
+  unfolding given_at
+  given_single n w r h = rw h refl
+
+  string_call : (n at : ℕ) (s : List Token) → (choose (heads point) (and_then second_of (one_of point) (and_then pair_of (one_of from_word) (read_args (inner names n Whole)))) (map_by plain_string (read_args (inner names n Whole))) s >>= λ p r. Got (builtin_of at p) r) ≡ (read_string_called s >>= λ w r. calling n at w r)
+  string_call n at s = go (heads point s) refl
+    where
+      go : (b : Bool) → heads point s ≡ b → (choose (heads point) (and_then second_of (one_of point) (and_then pair_of (one_of from_word) (read_args (inner names n Whole)))) (map_by plain_string (read_args (inner names n Whole))) s >>= λ p r. Got (builtin_of at p) r) ≡ (read_string_called s >>= λ w r. calling n at w r)
+      go true h = rw h (behind s (and_then pair_of (one_of from_word) (read_args (inner names n Whole))) (λ p r. Got (builtin_of at p) r)
+          ∙ ap (λ f. one_of point s >>= f) (λ i _ r. function_call n at from_word (read_args (inner names n Whole)) r (λ w r' e. given_plain n w r' (from_plain r r' w e)) i)
+          ∙ sym (behind s (one_of from_word) (λ w r. calling n at w r)))
+      go false h = rw h (plain_call n at s)
+
+  paired : (at : ℕ) (a : Answer Token Builtin) (g : ℕ × Builtin → List Token → Answer Token ExprTree) → ((a >>= λ w r. Got (pair_of at w) r) >>= g) ≡ (a >>= λ w r. g (at, w) r)
+  paired at (Got w r) g = refl
+  paired at (Bad k r) g = refl
+
+  pub builtin_is : (n : ℕ) (s : List Token) → builtin_at names n s ≡ (read_called s >>= λ c r. given_at names n c.1 r >>= λ ts r'. Got (builtin_of c.0 (c.1, ts)) r')
+  unfolding builtin_at
+  builtin_is n [] = refl
+  builtin_is n (token.Word at word.String ∷ s) = string_call n at s ∙ sym (paired at (read_string_called s) (λ c r. calling n c.0 c.1 r))
+  builtin_is n (token.Word at word.Symbol ∷ s) =
+      behind s (and_then pair_of (one_of symbol_function) (read_args (inner names n Whole))) (λ p r. Got (builtin_of at p) r)
+      ∙ ap (λ f. one_of point s >>= f) (λ i _ r. function_call n at symbol_function (read_args (inner names n Whole)) r (λ w r' e. given_plain n w r' (symbol_plain r r' w e)) i)
+      ∙ sym (behind s (one_of symbol_function) (λ w r. calling n at w r))
+      ∙ sym (paired at (and_then second_of (one_of point) (one_of symbol_function) s) (λ c r. calling n c.0 c.1 r))
+  builtin_is n (token.Word at word.Json ∷ s) =
+      behind s (and_then pair_of (one_of stringify_word) (map_by single_of (read_parens (inner names n Whole)))) (λ p r. Got (builtin_of at p) r)
+      ∙ ap (λ f. one_of point s >>= f) (λ i _ r. function_call n at stringify_word (map_by single_of (read_parens (inner names n Whole))) r (λ w r' e. given_single n w r' (json_one r r' w e)) i)
+      ∙ sym (behind s (one_of stringify_word) (λ w r. calling n at w r))
+      ∙ sym (paired at (and_then second_of (one_of point) (one_of stringify_word) s) (λ c r. calling n c.0 c.1 r))
+  builtin_is n (_ ∷ s) = refl
+
+  -- primaries
+
+  pub primary_simple : (n : ℕ) (s : List Token) (x : ExprTree) (r : List Token) → one_of (simple names) s ≡ Got x r → primary_at names n s ≡ Got x r
+  unfolding primary_at
+  primary_simple n s x r e = rw (head_of (simple names) s x r e) e
+
+  pub primary_none : (n : ℕ) (s : List Token) → heads (simple names) s ≡ false → openers s ≡ None → primary_at names n s ≡ wrong s
+  unfolding primary_at
+  primary_none n s h o = rw (h, no_opening s o, no_string s o, no_symbol s o) (last n)
+    where
+      last : (n : ℕ) → opens (has_room n) (heads json_word) (read_json (inner names n Whole)) s ≡ wrong s
+      last zero = rw (no_json s o) refl
+      last (suc n) = (then_strict builtin_of json_word (and_then second_of (one_of point) (and_then pair_of (one_of stringify_word) (map_by single_of (read_parens (inner names (suc n) Whole)))))).fails s (no_json s o)
+
+  pub primary_deep : (n : ℕ) (s : List Token) (o : Opener) → openers s ≡ Some o → n ≡ 0 → primary_at names n s ≡ too_deep s
+  unfolding primary_at
+  primary_deep n [] o e h = absurd cc
+  primary_deep n (token.Mark at mark.OpenParen l ∷ s) o e h = rw (no_room_for n h) refl
+  primary_deep n (token.Word at word.String ∷ s) o e h = rw (no_room_for n h) refl
+  primary_deep n (token.Word at word.Symbol ∷ s) o e h = rw (no_room_for n h) refl
+  primary_deep n (token.Word at word.Json ∷ s) o e h = rw (no_room_for n h) refl
+  primary_deep n (_ ∷ s) o e h = absurd cc
+
+  pub primary_paren : (n : ℕ) (s : List Token) → openers s ≡ Some opener.Paren → 0 < n → primary_at names n s ≡ parens_at names n s
+  unfolding primary_at parens_at
+  primary_paren n [] e h = absurd cc
+  primary_paren n (token.Mark at mark.OpenParen l ∷ s) e h = rw (room_for n h) refl
+  primary_paren n (token.Word at word.String ∷ s) e h = absurd cc
+  primary_paren n (token.Word at word.Symbol ∷ s) e h = absurd cc
+  primary_paren n (token.Word at word.Json ∷ s) e h = absurd cc
+  primary_paren n (_ ∷ s) e h = absurd cc
+
+  pub primary_builtin : (n : ℕ) (s : List Token) → openers s ≡ Some opener.Builtin → 0 < n → primary_at names n s ≡ builtin_at names n s
+  unfolding primary_at builtin_at
+  primary_builtin n [] e h = absurd cc
+  primary_builtin n (token.Word at word.String ∷ s) e h = rw (room_for n h) refl
+  primary_builtin n (token.Word at word.Symbol ∷ s) e h = rw (room_for n h) refl
+  primary_builtin n (token.Word at word.Json ∷ s) e h = rw (room_for n h) refl
+  primary_builtin n (token.Mark at mark.OpenParen l ∷ s) e h = absurd cc
+  primary_builtin n (_ ∷ s) e h = absurd cc
+
+  -- steps
+
+  pub member_plain : (n : ℕ) (s : List Token) (x : StepTree) (r : List Token) → one_of member_word s ≡ Got x r → member_at names n s ≡ Got x r
+  unfolding member_at
+  member_plain n s x r e = rw (head_of member_word s x r e) e
+
+  pub member_none : (n : ℕ) (s : List Token) → heads member_word s ≡ false → heads method s ≡ false → member_at names n s ≡ wrong s
+  unfolding member_at
+  member_none n s h m = rw h (last n)
+    where
+      last : (n : ℕ) → opens (has_room n) (heads method) (and_then call_of (one_of method) (read_args (inner names n Whole))) s ≡ wrong s
+      last zero = rw m refl
+      last (suc n) = (then_strict call_of method (read_args (inner names (suc n) Whole))).fails s m
+
+  pub member_deep : (n : ℕ) (s : List Token) (m : ℕ × Method) (r : List Token) → heads member_word s ≡ false → one_of method s ≡ Got m r → n ≡ 0 → member_at names n s ≡ too_deep s
+  unfolding member_at
+  member_deep n s m r h e z = rw (h, no_room_for n z, head_of method s m r e) refl
+
+  pub member_call : (n : ℕ) (s : List Token) (m : ℕ × Method) (r : List Token) → heads member_word s ≡ false → one_of method s ≡ Got m r → 0 < n → member_at names n s ≡ (args_at names n r >>= λ ts r'. Got (call_of m ts) r')
+  unfolding member_at args_at
+  member_call n s m r h e z = rw (h, room_for n z, e) refl
+
+  no_step : (n : ℕ) (s : List Token) → heads open_bracket s ≡ false → heads point s ≡ false → opens (has_room n) (heads open_bracket) (read_index (inner names n Whole)) s ≡ wrong s
+  no_step zero s h p = rw h refl
+  no_step (suc n) s h p = (then_strict index_of open_bracket (and_then first_of (inner names (suc n) Whole) (one_of close_bracket))).fails s h
+
+  pub step_member : (n : ℕ) (s : List Token) → heads open_bracket s ≡ false → step_at names n s ≡ (one_of point s >>= λ _ r. member_at names n r)
+  unfolding step_at member_at
+  step_member n s h = go (heads point s) refl
+    where
+      none : (s : List Token) → heads point s ≡ false → one_of point s ≡ Bad Wrong s
+      none [] p = refl
+      none (token.Mark at mark.Point l ∷ s) p = cc
+      none (_ ∷ s) p = refl
+
+      go : (b : Bool) → heads point s ≡ b → step_at names n s ≡ (one_of point s >>= λ _ r. member_at names n r)
+      go true p = rw p (word_then point (choose (heads member_word) (one_of member_word) (opens (has_room n) (heads method) (and_then call_of (one_of method) (read_args (inner names n Whole))))) s)
+      go false p = rw (p, none s p) (no_step n s h p)
+
+  bracket_no_point : (s r : List Token) (at : ℕ) → one_of open_bracket s ≡ Got at r → heads point s ≡ false
+  bracket_no_point [] r at e = refl
+  bracket_no_point (token.Mark a mark.Point l ∷ s) r at e = cc
+  bracket_no_point (_ ∷ s) r at e = refl
+
+  pub step_deep : (n : ℕ) (s : List Token) (at : ℕ) (r : List Token) → one_of open_bracket s ≡ Got at r → n ≡ 0 → step_at names n s ≡ too_deep s
+  unfolding step_at
+  step_deep n s at r e z = rw (bracket_no_point s r at e, no_room_for n z, head_of open_bracket s at r e) refl
+
+  pub step_index : (n : ℕ) (s : List Token) (at : ℕ) (r : List Token) → one_of open_bracket s ≡ Got at r → 0 < n → step_at names n s ≡ (expression_at names (n - 1) r >>= λ x r'. one_of close_bracket r' >>= λ _ r''. Got (index_of at x) r'')
+  unfolding step_at
+  step_index n s at r e z = rw (bracket_no_point s r at e, room_for n z, e) (closed (inner names n Whole r) ∙ ap (λ q. q r >>= λ x r'. one_of close_bracket r' >>= λ _ r''. Got (index_of at x) r'') (inner_whole n z))
+    where
+      end : (x : ExprTree) (a : Answer Token (Unit {0})) → ((a >>= λ _ r. Got x r) >>= λ y r'. Got (index_of at y) r') ≡ (a >>= λ _ r''. Got (index_of at x) r'')
+      end x (Got y r) = refl
+      end x (Bad k r) = refl
+
+      closed : (a : Answer Token ExprTree) → ((a >>= λ x r. one_of close_bracket r >>= λ _ r'. Got x r') >>= λ y r'. Got (index_of at y) r') ≡ (a >>= λ x r'. one_of close_bracket r' >>= λ _ r''. Got (index_of at x) r'')
+      closed (Got x r) = end x (one_of close_bracket r)
+      closed (Bad k r) = refl
+
+  -- operands
+
+  pub unary_plain : (n : ℕ) (s : List Token) → heads sign s ≡ false → unary_at names n s ≡ post_at names n s
+  unfolding unary_at post_at
+  unary_plain n s h = rw h refl
+
+  pub unary_deep : (n : ℕ) (s : List Token) (o : ℕ × Bool) (r : List Token) → one_of sign s ≡ Got o r → n ≡ 0 → unary_at names n s ≡ too_deep s
+  unfolding unary_at
+  unary_deep n s o r e z = rw (head_of sign s o r e, no_room_for n z, head_of sign s o r e) refl
+
+  pub unary_signed : (n : ℕ) (s : List Token) (o : ℕ × Bool) (r : List Token) → one_of sign s ≡ Got o r → 0 < n → unary_at names n s ≡ (unary_at names (n - 1) r >>= λ x r'. Got (unary_of o x) r')
+  unfolding unary_at
+  unary_signed n s o r e z = go (unary_at names (n - 1)) (inner_operand n z)
+    where
+      go : (q : Reader Token ExprTree) → inner names n Operand ≡ q → unary_at names n s ≡ (q r >>= λ x r'. Got (unary_of o x) r')
+      go q i = rw (head_of sign s o r e, room_for n z, e, i) refl
+
+  -- conditionals
+
+  pub expression_is : (n : ℕ) (s : List Token) → expression_at names n s ≡ (chain_at names n level.Or s >>= λ t r. branches_at names n t r)
+  unfolding expression_at chain_at branches_at
+  expression_is n s = refl
+
+  pub branches_none : (n : ℕ) (t : ExprTree) (s : List Token) → heads question s ≡ false → branches_at names n t s ≡ Got t s
+  unfolding branches_at
+  branches_none n t s h = rw h refl
+
+  pub branches_deep : (n : ℕ) (t : ExprTree) (s r : List Token) → one_of question s ≡ Got tt r → n ≡ 0 → branches_at names n t s ≡ too_deep s
+  unfolding branches_at
+  branches_deep n t s r e z = rw (head_of question s tt r e, no_room_for n z, head_of question s tt r e) refl
+
+  pub branches_some : (n : ℕ) (t : ExprTree) (s r : List Token) → one_of question s ≡ Got tt r → 0 < n → branches_at names n t s ≡ (expression_at names (n - 1) r >>= λ x r1. one_of colon r1 >>= λ _ r2. expression_at names (n - 1) r2 >>= λ y r3. Got (tree.conditional t x y) r3)
+  unfolding branches_at
+  branches_some n t s r e z = go (expression_at names (n - 1)) (inner_whole n z)
+    where
+      last : (q : Reader Token ExprTree) (x : ExprTree) (a : Answer Token (Unit {0})) → (((a >>= λ _ r2. q r2 >>= λ y r3. Got y r3) >>= λ y r'. Got (branches_of x y) r') >>= λ b r. Got (cond_of t b) r) ≡ (a >>= λ _ r2. q r2 >>= λ y r3. Got (tree.conditional t x y) r3)
+      last q x (Bad k r) = refl
+      last q x (Got u r) = go (q r)
+        where
+          go : (a : Answer Token ExprTree) → (((a >>= λ y r3. Got y r3) >>= λ y r'. Got (branches_of x y) r') >>= λ b r. Got (cond_of t b) r) ≡ (a >>= λ y r3. Got (tree.conditional t x y) r3)
+          go (Bad k r) = refl
+          go (Got y r) = refl
+
+      first : (q : Reader Token ExprTree) (a : Answer Token ExprTree) → ((a >>= λ x r1. (one_of colon r1 >>= λ _ r2. q r2 >>= λ y r3. Got y r3) >>= λ y r'. Got (branches_of x y) r') >>= λ b r. Got (cond_of t b) r) ≡ (a >>= λ x r1. one_of colon r1 >>= λ _ r2. q r2 >>= λ y r3. Got (tree.conditional t x y) r3)
+      first q (Bad k r) = refl
+      first q (Got x r) = last q x (one_of colon r)
+
+      go : (q : Reader Token ExprTree) → inner names n Whole ≡ q → branches_at names n t s ≡ (q r >>= λ x r1. one_of colon r1 >>= λ _ r2. q r2 >>= λ y r3. Got (tree.conditional t x y) r3)
+      go q i = rw (head_of question s tt r e, room_for n z, e, i) (ap (λ a. a >>= λ b r. Got (cond_of t b) r) (bind_got (q r >>= λ x r1. (one_of colon r1 >>= λ _ r2. q r2 >>= λ y r3. Got y r3) >>= λ y r'. Got (branches_of x y) r')) ∙ first q (q r))

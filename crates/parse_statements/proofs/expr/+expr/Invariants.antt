@@ -1,0 +1,76 @@
+use Rattle.std.proofs.Common.{◌≡◌, ℕ, length, ◌+◌, ◌*◌, map}
+use Rattle.parse_laws.specs.Lang.{second_of}
+use Rattle.parse_laws.specs.Reader.{and_then, one_of, all_of, heads, with_front}
+use Rattle.eval_tree.specs.Tree.{expr_tree, step_tree, link_tree}
+use Rattle.parse_syntax.specs.Terminals.{comma}
+use Rattle.parse_syntax.specs.Grammar.{link_of, Whole}
+use Rattle.parse_syntax.specs.Reading.{step_mark}
+use Rattle.parse_look.specs.Look.{operators}
+use Rattle.parse_statements.specs.At.{inner, step_at, operand_at}
+use Rattle.parse_look.specs.declared.look.Level.{Level}
+use Rattle.parse_look.specs.declared.look.Level.TheVariants as level
+use Rattle.parse_statements.proofs.expr.+expr.Given as goal
+
+abbrev depth : Level → ℕ
+depth level.Sum = 7
+depth level.Compare = 9
+depth level.Equal = 11
+depth level.And = 13
+depth level.Or = 15
+
+abbrev pub decreases-args : goal.decreases-args
+decreases-args l = 32 * l.room
+
+abbrev pub decreases-parens : goal.decreases-parens
+decreases-parens l = 32 * l.room
+
+abbrev pub decreases-given : goal.decreases-given
+decreases-given l = 32 * l.room + 1
+
+abbrev pub decreases-builtin_call : goal.decreases-builtin_call
+decreases-builtin_call l = 32 * l.room + 2
+
+abbrev pub decreases-behind_point : goal.decreases-behind_point
+decreases-behind_point l = 32 * l.room + 1
+
+abbrev pub decreases-step : goal.decreases-step
+decreases-step l = 32 * l.room + 2
+
+abbrev pub decreases-primary : goal.decreases-primary
+decreases-primary l = 32 * l.room + 3
+
+abbrev pub decreases-postfix : goal.decreases-postfix
+decreases-postfix l = 32 * l.room + 4
+
+abbrev pub decreases-unary : goal.decreases-unary
+decreases-unary l = 32 * l.room + 5
+
+abbrev pub decreases-operand : goal.decreases-operand
+decreases-operand l = 32 * l.room + depth l.level
+
+abbrev pub decreases-chained : goal.decreases-chained
+decreases-chained l = 32 * l.room + depth l.level + 1
+
+abbrev pub decreases-branches : goal.decreases-branches
+decreases-branches l = 32 * l.room
+
+abbrev pub decreases-expression : goal.decreases-expression
+decreases-expression l = 32 * l.room + 17
+
+abbrev pub invariant-args-loop-after : goal.invariant-args-loop-after
+invariant-args-loop-after l = with_front (map expr_tree l.items.items) (all_of (heads comma) (and_then second_of (one_of comma) (inner l.names l.room Whole)) l.rest) ≡ with_front (map expr_tree l.initial.items.items) (all_of (heads comma) (and_then second_of (one_of comma) (inner l.names l.room Whole)) l.initial.rest)
+
+abbrev pub decreases-args-loop-after : goal.decreases-args-loop-after
+decreases-args-loop-after l = length l.rest
+
+abbrev pub invariant-chained-loop-op : goal.invariant-chained-loop-op
+invariant-chained-loop-op l = (with_front (map link_tree l.links.items) (all_of (heads (operators l.level)) (and_then link_of (one_of (operators l.level)) (operand_at l.names l.room l.level)) l.rest) ≡ all_of (heads (operators l.level)) (and_then link_of (one_of (operators l.level)) (operand_at l.names l.room l.level)) l.initial.rest) × (l.first ≡ l.initial.first)
+
+abbrev pub decreases-chained-loop-op : goal.decreases-chained-loop-op
+decreases-chained-loop-op l = length l.rest
+
+abbrev pub invariant-postfix-loop-rest : goal.invariant-postfix-loop-rest
+invariant-postfix-loop-rest l = (with_front (map step_tree l.steps.items) (all_of (heads step_mark) (step_at l.names l.room) l.rest) ≡ all_of (heads step_mark) (step_at l.names l.room) l.initial.rest) × (l.of ≡ l.initial.of)
+
+abbrev pub decreases-postfix-loop-rest : goal.decreases-postfix-loop-rest
+decreases-postfix-loop-rest l = length l.rest

@@ -1,0 +1,312 @@
+// From tokens to the tree of an expression.
+ghost use Rattle.std.specs.Prelude.{◌≡◌, ◌<◌, map};
+ghost use Rattle.eval_tree.specs.Tree.{expr_tree, step_tree};
+ghost use Rattle.parse_statements.specs.At.{args_at, parens_at, given_at, builtin_at, primary_at, member_at, step_at, post_at, unary_at, operand_at, chain_at, branches_at, expression_at};
+ghost use Rattle.parse_look.specs.Gives.{Gives};
+
+use crate::node::{add, builtin, call, chain, conditional, index, link, post, signed};
+use eval_tree::{Builtin, Expr, Name, PostStep};
+use parse_look::{
+    Fault, Fixed, Level, Opener, begins_step, behind, called, member, method, next_opener,
+    open_bracket, operator, refused, sign, simple, take, too_deep,
+};
+use parse_syntax::Token;
+use std::alloc::Global;
+
+/// `( [ Expr { , Expr } ] )`, where one more may be open.
+#[cycle(expr)]
+#[tactic(auto, using(crate::proofs::Rooms::inner_whole), unfolding(crate::specs::At::args_at))]
+pub(crate) fn args<'a>(
+    alloc: Global,
+    names: &[Name],
+    tokens: &'a [Token],
+    room: u32,
+) -> Result<(Vec<Expr>, &'a [Token]), Fault<'a>>
+    requires { 0 < room }
+    ensures { Gives (λ found. map expr_tree found.0.items) (λ found. found.1.now) result
+        (args_at names.now room tokens.now) }
+{
+    let rest = take(tokens, Fixed::OpenParen)?;
+    if let Some(after) = behind(rest, Fixed::CloseParen) {
+        return Ok((Vec::new(alloc), after));
+    }
+    let (first, mut rest) = expression(alloc, names, rest, room - 1)?;
+    let mut items = Vec::new(alloc);
+    add(&mut items, first)?;
+    while let Some(after) = behind(rest, Fixed::Comma) {
+        let (item, after) = expression(alloc, names, after, room - 1)?;
+        add(&mut items, item)?;
+        rest = after;
+    }
+    let rest = take(rest, Fixed::CloseParen)?;
+    Ok((items, rest))
+}
+
+/// `( Expr )`, where one more may be open.
+#[cycle(expr)]
+#[tactic(auto, using(crate::proofs::Rooms::parens_is))]
+pub(crate) fn parens<'a>(
+    alloc: Global,
+    names: &[Name],
+    tokens: &'a [Token],
+    room: u32,
+) -> Result<(Expr, &'a [Token]), Fault<'a>>
+    requires { 0 < room }
+    ensures { Gives (λ found. expr_tree found.0) (λ found. found.1.now) result
+        (parens_at names.now room tokens.now) }
+{
+    let rest = take(tokens, Fixed::OpenParen)?;
+    let (inside, rest) = expression(alloc, names, rest, room - 1)?;
+    let rest = take(rest, Fixed::CloseParen)?;
+    Ok((inside, rest))
+}
+
+// The arguments of a built-in function. JSON.stringify has one.
+#[cycle(expr)]
+#[tactic(auto, using(crate::proofs::Rooms::given_one, crate::proofs::Rooms::given_args))]
+fn given<'a>(
+    alloc: Global,
+    names: &[Name],
+    tokens: &'a [Token],
+    room: u32,
+    which: Builtin,
+) -> Result<(Vec<Expr>, &'a [Token]), Fault<'a>>
+    requires { 0 < room }
+    ensures { Gives (λ found. map expr_tree found.0.items) (λ found. found.1.now) result
+        (given_at names.now room which tokens.now) }
+{
+    if which != Builtin::Stringify {
+        return args(alloc, names, tokens, room);
+    }
+    let (argument, rest) = parens(alloc, names, tokens, room)?;
+    let mut args = Vec::new(alloc);
+    add(&mut args, argument)?;
+    Ok((args, rest))
+}
+
+// String Args | String . fromCharCode Args | String . fromCodePoint Args
+// | Symbol . for Args | Symbol . keyFor Args | JSON . stringify ( Expr )
+#[cycle(expr)]
+#[tactic(auto, using(crate::proofs::Rooms::builtin_is))]
+fn builtin_call<'a>(
+    alloc: Global,
+    names: &[Name],
+    tokens: &'a [Token],
+    room: u32,
+) -> Result<(Expr, &'a [Token]), Fault<'a>>
+    requires { 0 < room }
+    ensures { Gives (λ found. expr_tree found.0) (λ found. found.1.now) result
+        (builtin_at names.now room tokens.now) }
+{
+    let (called, rest) = called(tokens)?;
+    let (args, rest) = given(alloc, names, rest, room, called.1)?;
+    Ok((builtin(called, args), rest))
+}
+
+// Text | Number | Name | a constant | ( Expr ) | a call of a built-in function
+#[cycle(expr)]
+#[tactic(auto, using(crate::proofs::Rooms::primary_simple, crate::proofs::Rooms::primary_none, crate::proofs::Rooms::primary_deep, crate::proofs::Rooms::primary_paren, crate::proofs::Rooms::primary_builtin))]
+fn primary<'a>(
+    alloc: Global,
+    names: &[Name],
+    tokens: &'a [Token],
+    room: u32,
+) -> Result<(Expr, &'a [Token]), Fault<'a>>
+    ensures { Gives (λ found. expr_tree found.0) (λ found. found.1.now) result
+        (primary_at names.now room tokens.now) }
+{
+    if let Some(found) = simple(alloc, names, tokens)? {
+        return Ok(found);
+    }
+    let Some(opener) = next_opener(tokens) else {
+        return Err(refused(tokens));
+    };
+    if room == 0 {
+        return Err(too_deep(tokens));
+    }
+    match opener {
+        Opener::Paren => parens(alloc, names, tokens, room),
+        Opener::Builtin => builtin_call(alloc, names, tokens, room),
+    }
+}
+
+// length | description | Method Args
+#[cycle(expr)]
+#[tactic(auto, using(crate::proofs::Rooms::member_plain, crate::proofs::Rooms::member_none, crate::proofs::Rooms::member_deep, crate::proofs::Rooms::member_call))]
+fn behind_point<'a>(
+    alloc: Global,
+    names: &[Name],
+    tokens: &'a [Token],
+    room: u32,
+) -> Result<(PostStep, &'a [Token]), Fault<'a>>
+    ensures { Gives (λ found. step_tree found.0) (λ found. found.1.now) result
+        (member_at names.now room tokens.now) }
+{
+    if let Some(found) = member(tokens) {
+        return Ok(found);
+    }
+    let Some((method, rest)) = method(tokens) else {
+        return Err(refused(tokens));
+    };
+    if room == 0 {
+        return Err(too_deep(tokens));
+    }
+    let (args, rest) = args(alloc, names, rest, room)?;
+    Ok((call(method, args), rest))
+}
+
+// . Member | . Method Args | [ Expr ]
+#[cycle(expr)]
+#[tactic(auto, using(crate::proofs::Rooms::step_member, crate::proofs::Rooms::step_deep, crate::proofs::Rooms::step_index))]
+fn step<'a>(
+    alloc: Global,
+    names: &[Name],
+    tokens: &'a [Token],
+    room: u32,
+) -> Result<(PostStep, &'a [Token]), Fault<'a>>
+    ensures { Gives (λ found. step_tree found.0) (λ found. found.1.now) result
+        (step_at names.now room tokens.now) }
+{
+    let Some((at, rest)) = open_bracket(tokens) else {
+        let rest = take(tokens, Fixed::Point)?;
+        return behind_point(alloc, names, rest, room);
+    };
+    if room == 0 {
+        return Err(too_deep(tokens));
+    }
+    let (inside, rest) = expression(alloc, names, rest, room - 1)?;
+    let rest = take(rest, Fixed::CloseBracket)?;
+    Ok((index(at, inside), rest))
+}
+
+// Primary { Step }
+#[cycle(expr)]
+fn postfix<'a>(
+    alloc: Global,
+    names: &[Name],
+    tokens: &'a [Token],
+    room: u32,
+) -> Result<(Expr, &'a [Token]), Fault<'a>>
+    ensures { Gives (λ found. expr_tree found.0) (λ found. found.1.now) result
+        (post_at names.now room tokens.now) }
+{
+    let (of, mut rest) = primary(alloc, names, tokens, room)?;
+    let mut steps = Vec::new(alloc);
+    while begins_step(rest) {
+        let (step, after) = step(alloc, names, rest, room)?;
+        add(&mut steps, step)?;
+        rest = after;
+    }
+    let tree = post(alloc, of, steps)?;
+    Ok((tree, rest))
+}
+
+// ( - | ! ) Unary | Post
+#[cycle(expr)]
+#[tactic(auto, using(crate::proofs::Rooms::unary_plain, crate::proofs::Rooms::unary_deep, crate::proofs::Rooms::unary_signed))]
+fn unary<'a>(
+    alloc: Global,
+    names: &[Name],
+    tokens: &'a [Token],
+    room: u32,
+) -> Result<(Expr, &'a [Token]), Fault<'a>>
+    ensures { Gives (λ found. expr_tree found.0) (λ found. found.1.now) result
+        (unary_at names.now room tokens.now) }
+{
+    let Some((sign, rest)) = sign(tokens) else {
+        return postfix(alloc, names, tokens, room);
+    };
+    if room == 0 {
+        return Err(too_deep(tokens));
+    }
+    let (of, rest) = unary(alloc, names, rest, room - 1)?;
+    let tree = signed(alloc, sign, of)?;
+    Ok((tree, rest))
+}
+
+// What the chain of a level is made of.
+#[cycle(expr)]
+#[tactic(auto, unfolding(crate::specs::At::operand_at, crate::specs::At::chain_at, crate::specs::At::unary_at))]
+fn operand<'a>(
+    alloc: Global,
+    names: &[Name],
+    tokens: &'a [Token],
+    room: u32,
+    level: Level,
+) -> Result<(Expr, &'a [Token]), Fault<'a>>
+    ensures { Gives (λ found. expr_tree found.0) (λ found. found.1.now) result
+        (operand_at names.now room level tokens.now) }
+{
+    match level {
+        Level::Or => chained(alloc, names, tokens, room, Level::And),
+        Level::And => chained(alloc, names, tokens, room, Level::Equal),
+        Level::Equal => chained(alloc, names, tokens, room, Level::Compare),
+        Level::Compare => chained(alloc, names, tokens, room, Level::Sum),
+        Level::Sum => unary(alloc, names, tokens, room),
+    }
+}
+
+// Operand { operator Operand }
+#[cycle(expr)]
+fn chained<'a>(
+    alloc: Global,
+    names: &[Name],
+    tokens: &'a [Token],
+    room: u32,
+    level: Level,
+) -> Result<(Expr, &'a [Token]), Fault<'a>>
+    ensures { Gives (λ found. expr_tree found.0) (λ found. found.1.now) result
+        (chain_at names.now room level tokens.now) }
+{
+    let (first, mut rest) = operand(alloc, names, tokens, room, level)?;
+    let mut links = Vec::new(alloc);
+    while let Some((op, after)) = operator(level, rest) {
+        let (right, after) = operand(alloc, names, after, room, level)?;
+        add(&mut links, link(op, right))?;
+        rest = after;
+    }
+    let tree = chain(alloc, first, links)?;
+    Ok((tree, rest))
+}
+
+// [ ? Expr : Expr ], behind a test
+#[cycle(expr)]
+#[tactic(auto, using(crate::proofs::Rooms::branches_none, crate::proofs::Rooms::branches_deep, crate::proofs::Rooms::branches_some))]
+fn branches<'a>(
+    alloc: Global,
+    names: &[Name],
+    test: Expr,
+    tokens: &'a [Token],
+    room: u32,
+) -> Result<(Expr, &'a [Token]), Fault<'a>>
+    ensures { Gives (λ found. expr_tree found.0) (λ found. found.1.now) result
+        (branches_at names.now room (expr_tree test) tokens.now) }
+{
+    let Some(rest) = behind(tokens, Fixed::Question) else {
+        return Ok((test, tokens));
+    };
+    if room == 0 {
+        return Err(too_deep(tokens));
+    }
+    let (yes, rest) = expression(alloc, names, rest, room - 1)?;
+    let rest = take(rest, Fixed::Colon)?;
+    let (no, rest) = expression(alloc, names, rest, room - 1)?;
+    let tree = conditional(alloc, test, yes, no)?;
+    Ok((tree, rest))
+}
+
+/// `Or [ ? Expr : Expr ]`
+#[cycle(expr)]
+#[tactic(auto, using(crate::proofs::Rooms::expression_is))]
+pub(crate) fn expression<'a>(
+    alloc: Global,
+    names: &[Name],
+    tokens: &'a [Token],
+    room: u32,
+) -> Result<(Expr, &'a [Token]), Fault<'a>>
+    ensures { Gives (λ found. expr_tree found.0) (λ found. found.1.now) result
+        (expression_at names.now room tokens.now) }
+{
+    let (test, rest) = chained(alloc, names, tokens, room, Level::Or)?;
+    branches(alloc, names, test, rest, room)
+}

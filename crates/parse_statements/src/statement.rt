@@ -1,0 +1,388 @@
+// From tokens to statements.
+ghost use Rattle.std.specs.Prelude.{◌≡◌, ◌<◌, [], List, map, IfOk};
+ghost use Rattle.parse_laws.specs.Reader.{read_whole};
+ghost use Rattle.parse_laws.specs.Refused.{IsRefused};
+ghost use Rattle.eval_tree.specs.Tree.{StmtTree, init_tree, stmt_tree, arm_tree, block_tree};
+ghost use Rattle.parse_syntax.specs.Grammar.{Statements, most};
+ghost use Rattle.parse_syntax.specs.Reading.{read_strict, read_statements};
+ghost use Rattle.parse_statements.specs.At.{init_at, let_at, const_at, assign_at, print_at, statement_at, statements_at, block_at, arm_at, rest_at, if_at, for_at};
+ghost use Rattle.parse_look.specs.Gives.{Gives, OnFault, IsOrMemory};
+
+use crate::expr::{args, expression, parens};
+use crate::node::{
+    add, arm, assignment, block, block_line, conditions, const_line, for_line, let_line, no_block,
+    print,
+};
+use eval_tree::{Arm, Block, Expr, Name, Stmt};
+use js_lex::Mark;
+use parse_look::{
+    Fault, Fixed, assign_op, behind, else_if, goes_on, header, name, next, refused, take, too_deep,
+};
+use parse_syntax::{Token, Word};
+use std::alloc::Global;
+
+// [ = Expr ]
+#[tactic(auto, using(crate::proofs::Lines::init_none, crate::proofs::Lines::init_some))]
+fn init<'a>(
+    alloc: Global,
+    names: &[Name],
+    tokens: &'a [Token],
+    room: u32,
+) -> Result<(Option<Expr>, &'a [Token]), Fault<'a>>
+    ensures { Gives (λ found. init_tree found.0) (λ found. found.1.now) result
+        (init_at names.now room tokens.now) }
+{
+    match behind(tokens, Fixed::Assign) {
+        None => Ok((None, tokens)),
+        Some(rest) => {
+            let (value, rest) = expression(alloc, names, rest, room)?;
+            Ok((Some(value), rest))
+        }
+    }
+}
+
+// let Name [ = Expr ] ;
+#[tactic(auto, using(crate::proofs::Lines::let_is))]
+fn declaration<'a>(
+    alloc: Global,
+    names: &[Name],
+    tokens: &'a [Token],
+    room: u32,
+) -> Result<(Stmt, &'a [Token]), Fault<'a>>
+    ensures { Gives (λ found. stmt_tree found.0) (λ found. found.1.now) result
+        (let_at names.now room tokens.now) }
+{
+    let rest = take(tokens, Fixed::Let)?;
+    let (name, rest) = name(rest)?;
+    let (init, rest) = init(alloc, names, rest, room)?;
+    let rest = take(rest, Fixed::Semicolon)?;
+    let line = let_line(alloc, names, name, init)?;
+    Ok((line, rest))
+}
+
+// const Name = Expr ;
+#[tactic(auto, using(crate::proofs::Lines::const_is))]
+fn constant<'a>(
+    alloc: Global,
+    names: &[Name],
+    tokens: &'a [Token],
+    room: u32,
+) -> Result<(Stmt, &'a [Token]), Fault<'a>>
+    ensures { Gives (λ found. stmt_tree found.0) (λ found. found.1.now) result
+        (const_at names.now room tokens.now) }
+{
+    let rest = take(tokens, Fixed::Const)?;
+    let (name, rest) = name(rest)?;
+    let rest = take(rest, Fixed::Assign)?;
+    let (init, rest) = expression(alloc, names, rest, room)?;
+    let rest = take(rest, Fixed::Semicolon)?;
+    let line = const_line(alloc, names, name, init)?;
+    Ok((line, rest))
+}
+
+// Name = Expr ; | Name += Expr ;
+#[tactic(auto, using(crate::proofs::Lines::assign_is))]
+fn assign<'a>(
+    alloc: Global,
+    names: &[Name],
+    tokens: &'a [Token],
+    room: u32,
+) -> Result<(Stmt, &'a [Token]), Fault<'a>>
+    ensures { Gives (λ found. stmt_tree found.0) (λ found. found.1.now) result
+        (assign_at names.now room tokens.now) }
+{
+    let (name, rest) = name(tokens)?;
+    let (append, rest) = assign_op(rest)?;
+    let (value, rest) = expression(alloc, names, rest, room)?;
+    let rest = take(rest, Fixed::Semicolon)?;
+    let line = assignment(alloc, names, name, append, value)?;
+    Ok((line, rest))
+}
+
+// print Args ;
+#[tactic(auto, using(crate::proofs::Lines::print_is))]
+fn print_line<'a>(
+    alloc: Global,
+    names: &[Name],
+    tokens: &'a [Token],
+    room: u32,
+) -> Result<(Stmt, &'a [Token]), Fault<'a>>
+    requires { 0 < room }
+    ensures { Gives (λ found. stmt_tree found.0) (λ found. found.1.now) result
+        (print_at names.now room tokens.now) }
+{
+    let rest = take(tokens, Fixed::Print)?;
+    let (args, rest) = args(alloc, names, rest, room)?;
+    let rest = take(rest, Fixed::Semicolon)?;
+    Ok((print(args), rest))
+}
+
+// The statements up to the end of a block or of the tokens.
+#[cycle(statements)]
+fn list<'a>(
+    alloc: Global,
+    names: &[Name],
+    tokens: &'a [Token],
+    prints: bool,
+    room: u32,
+) -> Result<(Vec<Stmt>, &'a [Token]), Fault<'a>>
+    ensures { Gives (λ found. map stmt_tree found.0.items) (λ found. found.1.now) result
+        (statements_at names.now prints room tokens.now) }
+{
+    let mut items = Vec::new(alloc);
+    let mut rest = tokens;
+    while goes_on(rest) {
+        let (item, after) = statement(alloc, names, rest, prints, room)?;
+        items.push(item)?;
+        rest = after;
+    }
+    Ok((items, rest))
+}
+
+// { { Statement } }, where one more may be open
+#[cycle(statements)]
+#[tactic(auto, using(crate::proofs::Lines::block_is))]
+fn inside<'a>(
+    alloc: Global,
+    names: &[Name],
+    tokens: &'a [Token],
+    prints: bool,
+    room: u32,
+) -> Result<(Block, &'a [Token]), Fault<'a>>
+    requires { 0 < room }
+    ensures { Gives (λ found. block_tree found.0) (λ found. found.1.now) result
+        (block_at names.now prints room tokens.now) }
+{
+    let rest = take(tokens, Fixed::OpenBrace)?;
+    let (body, rest) = list(alloc, names, rest, prints, room - 1)?;
+    let rest = take(rest, Fixed::CloseBrace)?;
+    let block = block(alloc, body)?;
+    Ok((block, rest))
+}
+
+// if ( Expr ) Block
+#[cycle(statements)]
+#[tactic(auto, using(crate::proofs::Lines::arm_is))]
+fn condition<'a>(
+    alloc: Global,
+    names: &[Name],
+    tokens: &'a [Token],
+    prints: bool,
+    room: u32,
+) -> Result<(Arm, &'a [Token]), Fault<'a>>
+    requires { 0 < room }
+    ensures { Gives (λ found. arm_tree found.0) (λ found. found.1.now) result
+        (arm_at names.now prints room tokens.now) }
+{
+    let rest = take(tokens, Fixed::If)?;
+    let (test, rest) = parens(alloc, names, rest, room)?;
+    let (body, rest) = inside(alloc, names, rest, prints, room)?;
+    Ok((arm(test, body), rest))
+}
+
+// [ else Block ]
+#[cycle(statements)]
+#[tactic(auto, using(crate::proofs::Lines::rest_none, crate::proofs::Lines::rest_some))]
+fn otherwise<'a>(
+    alloc: Global,
+    names: &[Name],
+    tokens: &'a [Token],
+    prints: bool,
+    room: u32,
+) -> Result<(Block, &'a [Token]), Fault<'a>>
+    requires { 0 < room }
+    ensures { Gives (λ found. block_tree found.0) (λ found. found.1.now) result
+        (rest_at names.now prints room tokens.now) }
+{
+    match behind(tokens, Fixed::Else) {
+        Some(rest) => inside(alloc, names, rest, prints, room),
+        None => Ok((no_block(alloc), tokens)),
+    }
+}
+
+// if ( Expr ) Block { else if ( Expr ) Block } [ else Block ]
+#[cycle(statements)]
+#[tactic(auto, using(crate::proofs::Lines::if_is))]
+fn if_statement<'a>(
+    alloc: Global,
+    names: &[Name],
+    tokens: &'a [Token],
+    prints: bool,
+    room: u32,
+) -> Result<(Stmt, &'a [Token]), Fault<'a>>
+    requires { 0 < room }
+    ensures { Gives (λ found. stmt_tree found.0) (λ found. found.1.now) result
+        (if_at names.now prints room tokens.now) }
+{
+    let (first, mut rest) = condition(alloc, names, tokens, prints, room)?;
+    let mut arms = Vec::new(alloc);
+    add(&mut arms, first)?;
+    while let Some(after) = else_if(rest) {
+        let (arm, after) = condition(alloc, names, after, prints, room)?;
+        add(&mut arms, arm)?;
+        rest = after;
+    }
+    let (last, rest) = otherwise(alloc, names, rest, prints, room)?;
+    Ok((conditions(arms, last), rest))
+}
+
+// for ( let Name = 0 ; Name < Bound ; Name ++ ) Block
+#[cycle(statements)]
+#[tactic(auto, using(crate::proofs::Lines::for_is))]
+fn for_statement<'a>(
+    alloc: Global,
+    names: &[Name],
+    tokens: &'a [Token],
+    prints: bool,
+    room: u32,
+) -> Result<(Stmt, &'a [Token]), Fault<'a>>
+    requires { 0 < room }
+    ensures { Gives (λ found. stmt_tree found.0) (λ found. found.1.now) result
+        (for_at names.now prints room tokens.now) }
+{
+    let (header, rest) = header(tokens)?;
+    let (body, rest) = inside(alloc, names, rest, prints, room)?;
+    let line = for_line(alloc, names, header, body)?;
+    Ok((line, rest))
+}
+
+#[cycle(statements)]
+#[tactic(auto, using(crate::proofs::Lines::block_here, crate::proofs::Lines::let_here, crate::proofs::Lines::const_here, crate::proofs::Lines::name_here, crate::proofs::Lines::print_refused, crate::proofs::Lines::print_here, crate::proofs::Lines::if_here, crate::proofs::Lines::for_here, crate::proofs::Lines::block_deep, crate::proofs::Lines::print_deep, crate::proofs::Lines::if_deep, crate::proofs::Lines::for_deep, crate::proofs::Lines::nothing_here, crate::proofs::Lines::other_here))]
+fn statement<'a>(
+    alloc: Global,
+    names: &[Name],
+    tokens: &'a [Token],
+    prints: bool,
+    room: u32,
+) -> Result<(Stmt, &'a [Token]), Fault<'a>>
+    ensures { Gives (λ found. stmt_tree found.0) (λ found. found.1.now) result
+        (statement_at names.now prints room tokens.now) }
+{
+    match next(tokens) {
+        Some(
+            (
+                Token::Word {
+                    word: Word::Let,
+                    ..
+                },
+                _,
+            ),
+        ) => declaration(alloc, names, tokens, room),
+        Some(
+            (
+                Token::Word {
+                    word: Word::Const,
+                    ..
+                },
+                _,
+            ),
+        ) => constant(alloc, names, tokens, room),
+        Some((Token::Name { .. }, _)) => assign(alloc, names, tokens, room),
+        Some(
+            (
+                Token::Mark {
+                    mark: Mark::OpenBrace,
+                    ..
+                },
+                _,
+            ),
+        ) => {
+            if room == 0 {
+                return Err(too_deep(tokens));
+            }
+            let (inner, rest) = inside(alloc, names, tokens, prints, room)?;
+            Ok((block_line(inner), rest))
+        }
+        Some(
+            (
+                Token::Word {
+                    word: Word::Print,
+                    ..
+                },
+                _,
+            ),
+        ) => {
+            if !prints {
+                return Err(refused(tokens));
+            }
+            if room == 0 {
+                return Err(too_deep(tokens));
+            }
+            print_line(alloc, names, tokens, room)
+        }
+        Some((Token::Word { word: Word::If, .. }, _)) => {
+            if room == 0 {
+                return Err(too_deep(tokens));
+            }
+            if_statement(alloc, names, tokens, prints, room)
+        }
+        Some(
+            (
+                Token::Word {
+                    word: Word::For,
+                    ..
+                },
+                _,
+            ),
+        ) => {
+            if room == 0 {
+                return Err(too_deep(tokens));
+            }
+            for_statement(alloc, names, tokens, prints, room)
+        }
+        _ => Err(refused(tokens)),
+    }
+}
+
+// [ Directive ]
+#[tactic(auto, using(crate::proofs::Lines::strict_none, crate::proofs::Lines::strict_some))]
+fn strict(tokens: &[Token]) -> Result<&[Token], Fault<'_>>
+    ensures { Gives (λ _. tt) (λ rest. rest.now) result (read_strict tokens.now) }
+{
+    match behind(tokens, Fixed::Directive) {
+        Some(rest) => take(rest, Fixed::Semicolon),
+        None => Ok(tokens),
+    }
+}
+
+// [ Directive ] { Statement }, and nothing after it
+#[tactic(auto, using(crate::proofs::Lines::whole_is))]
+fn whole<'a>(
+    alloc: Global,
+    names: &[Name],
+    tokens: &'a [Token],
+    prints: bool,
+    room: u32,
+) -> Result<Vec<Stmt>, Fault<'a>>
+    ensures { Gives (λ body. map stmt_tree body.items) (λ _. []) result
+        (read_whole (read_statements names.now prints room) tokens.now) }
+{
+    let rest = strict(tokens)?;
+    let (body, rest) = list(alloc, names, rest, prints, room)?;
+    match next(rest) {
+        None => Ok(body),
+        Some(_) => Err(refused(rest)),
+    }
+}
+
+fn limit() -> u32
+    ensures { result ≡ most }
+{
+    200
+}
+
+/// The statements that the tokens spell, with or without `print`, where a name's number is its place among `names`.
+pub fn statements<'a>(
+    alloc: Global,
+    names: &[Name],
+    tokens: &'a [Token],
+    prints: bool,
+) -> Result<Vec<Stmt>, Fault<'a>>
+    ensures spells { IfOk result (λ body. Statements names.now prints most tokens.now
+        (map stmt_tree body.items)) }
+    ensures found { (x : List StmtTree) → Statements names.now prints most tokens.now x
+        → IsOrMemory (λ body. map stmt_tree body.items) result x }
+    ensures refused { OnFault result (IsRefused (Statements names.now prints) most tokens.now) }
+{
+    whole(alloc, names, tokens, prints, limit())
+}

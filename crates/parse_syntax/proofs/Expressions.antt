@@ -1,0 +1,350 @@
+-- The readers of expressions are lawful and local, one level over the one below.
+use Rattle.std.proofs.Common.{◌≡◌, ℕ, ◌≤◌, List, [], ◌∷◌, ◌++◌, Bool, true, false, nat_lt, Option, Some, None, refl, ap, ◌∙◌, arith, append_assoc}
+use Rattle.js_lex.specs.declared.token.Mark.TheVariants as mark
+use Rattle.parse_laws.specs.Lang.{Lang, One, one, Then, both, Mapped, mapped, Nothing, nothing, Either, left, right, Many, end, more, if_room, first_of, second_of, ◌▸◌, ◌◂◌}
+use Rattle.parse_laws.specs.Reader.{Reader, Kind, map_by, and_then, one_of, choose, heads}
+use Rattle.parse_laws.proofs.Laws.{Holds}
+use Rattle.parse_laws.proofs.Wider.{Begins, Starts, one_starts, then_starts, either_starts, head_gives, some_of}
+use Rattle.parse_laws.proofs.Part.{anything, Part, both_hold, one_part, then_part, next_part, map_part, branch, part_of, choose_branch, nothing_branch, heads_test, Rooms, then_strict, open_branch, many_part}
+use Rattle.parse_laws.proofs.Heads.{one_heads, then_heads, mapped_heads, then_some, begins_length, room_of, in_room, deeper, over, then_lacks, lacks, one_over, first_over, lower}
+use Rattle.parse_syntax.specs.declared.token.Token.{Token}
+use Rattle.parse_syntax.specs.declared.token.Token.TheVariants as token
+use Rattle.parse_syntax.specs.declared.token.Word.TheVariants as word
+use Rattle.parse_syntax.specs.declared.token.Property.TheVariants as property
+use Rattle.eval_tree.specs.declared.tree.Op.{Op}
+use Rattle.eval_tree.specs.declared.tree.Method.TheVariants as methods
+use Rattle.eval_tree.specs.declared.tree.Builtin.{Builtin}
+use Rattle.eval_tree.specs.Tree as tree
+use Rattle.eval_tree.specs.Tree.{ExprTree, LinkTree, StepTree}
+use Rattle.parse_syntax.specs.Terminals.{string_word, symbol_word, json_word, member_word, method, from_word, symbol_function, stringify_word, opening, closing, open_bracket, close_bracket, comma, point, question, colon, sign, or_op, and_op, equal_op, compare_op, sum_op, simple}
+use Rattle.parse_syntax.specs.Grammar
+use Rattle.parse_syntax.specs.Grammar.{list_of, none_of, single_of, pair_of, index_of, call_of, builtin_of, plain_string, post_of, unary_of, link_of, chain_of, branches_of, cond_of}
+use Rattle.parse_syntax.specs.Reading.{read_parens, read_items, read_args, read_string, read_symbol, read_json, read_primary, read_member, read_index, read_step, step_mark, read_post, read_unary, read_chain, read_sum, read_comparison, read_equality, read_conjunction, read_disjunction, read_branches, read_conditional}
+use Rattle.parse_syntax.proofs.Stops.{stops, stops_more, HasLevel, question_level, or_level, and_level, equal_level, compare_level, sum_level, step_level, colon_level, closing_level, close_bracket_level, comma_level, none_of_level, class, simple_of, opening_of, string_of, symbol_of, json_of, sign_of, begins_unary, sign_begins, primary_begins, no_closing, part, point_of, bracket_of, paren_of, member_of, method_of, is_step, point_step, bracket_step}
+
+-- a token of a lower level ends what is above it
+
+pub one_stops : {A : Type 0} (v : Token → Option A) (n k : ℕ) → HasLevel v n → nat_lt n k ≡ true → (ts : List Token) (x : A) (rest : List Token) → One v ts x → stops k (ts ++ rest) ≡ true
+one_stops v n k of h _ _ rest (one t x e) = ap (λ m. nat_lt m k) (of.is t x e) ∙ h
+
+pub then_stops : {A B C : Type 0} (v : Token → Option A) {f : A → B → C} {M : Lang Token B} (n k : ℕ) → HasLevel v n → nat_lt n k ≡ true → (ts : List Token) (x : C) (rest : List Token) → Then f (One v) M ts x → stops k (ts ++ rest) ≡ true
+then_stops v n k of h _ _ rest (both a b x y ha hb) = rw (append_assoc a b rest) (one_stops v n k of h a x (b ++ rest) ha)
+
+pub heads_stop : {A : Type 0} (v : Token → Option A) (n k : ℕ) → HasLevel v n → nat_lt n k ≡ true → (s : List Token) → heads v s ≡ true → stops k s ≡ true
+heads_stop v n k of h [] e = let q : false ≡ true = e in cc
+heads_stop v n k of h (t ∷ s) e = let y = some_of (v t) e in ap (λ m. nat_lt m k) (of.is t y.0 y.1) ∙ h
+
+room_starts : {A : Type 0} (room : Bool) {L : Lang Token A} (test : Token → Bool) → Starts L test → Starts (if_room room L) test
+room_starts room {L = L} test st = record { by = λ ts x h. st.by ts x (room_of room L ts x h) }
+
+-- what is known of an expression and an operand where one more is open
+pub record Inner (P : Kind → Type 0) (room : Bool) (E U F G : Lang Token ExprTree) (e u e' u' : Reader Token ExprTree) : Type 0 where
+  pub whole : room ≡ true → Part P E F (stops 1) e e'
+  pub operand : room ≡ true → Part P U G (stops 7) u u'
+  pub first_whole : room ≡ true → Starts E begins_unary
+  pub held_whole : Holds F
+  pub held_operand : Holds G
+
+module _ (P : Kind → Type 0) where
+  pub opening_part : Part P (One opening) (One opening) anything (one_of opening) (one_of opening)
+  opening_part = one_part P opening (token.Mark 0 mark.OpenParen false) tt refl
+
+  pub closing_part : Part P (One closing) (One closing) anything (one_of closing) (one_of closing)
+  closing_part = one_part P closing (token.Mark 0 mark.CloseParen false) tt refl
+
+  point_part : Part P (One point) (One point) anything (one_of point) (one_of point)
+  point_part = one_part P point (token.Mark 0 mark.Point false) tt refl
+
+  close_bracket_part : Part P (One close_bracket) (One close_bracket) anything (one_of close_bracket) (one_of close_bracket)
+  close_bracket_part = one_part P close_bracket (token.Mark 0 mark.CloseBracket false) tt refl
+
+  colon_part : Part P (One colon) (One colon) anything (one_of colon) (one_of colon)
+  colon_part = one_part P colon (token.Mark 0 mark.Colon false) tt refl
+
+  from_part : Part P (One from_word) (One from_word) anything (one_of from_word) (one_of from_word)
+  from_part = one_part P from_word (token.Name 0 0 property.FromCharCode) _ refl
+
+  function_part : Part P (One symbol_function) (One symbol_function) anything (one_of symbol_function) (one_of symbol_function)
+  function_part = one_part P symbol_function (token.Word 0 word.For) _ refl
+
+  stringify_part : Part P (One stringify_word) (One stringify_word) anything (one_of stringify_word) (one_of stringify_word)
+  stringify_part = one_part P stringify_word (token.Name 0 0 property.Stringify) _ refl
+
+  module _ {E F : Lang Token ExprTree} {e e' : Reader Token ExprTree} (p : Part P E F (stops 1) e e') where
+    pub parens_part : Part P (Grammar.parens E) (Grammar.parens F) anything (read_parens e) (read_parens e')
+    parens_part = next_part second_of opening_part (then_part first_of p closing_part (λ b y rest h s. one_stops closing 0 1 closing_level refl b y rest h))
+
+    items_part : Part P (Grammar.items E) (Grammar.items F) (heads closing) (read_items e) (read_items e')
+    items_part = then_part list_of p (many_part (heads comma) (heads closing) (next_part second_of (one_part P comma (token.Mark 0 mark.Comma false) tt refl) p) (record {
+      test = heads_test comma;
+      none = refl;
+      eats = λ ts x h. then_some comma ts x h;
+      begins = λ ts x rest h. then_heads comma ts x rest h;
+      again = λ ts x rest h. then_stops comma 0 1 comma_level refl ts x rest h;
+      ends = closes_commas;
+      over = heads_stop closing 0 1 closing_level refl;
+    })) follows
+      where
+        no_comma : (t : Token) (x : Unit {0}) → closing t ≡ Some x → heads comma (t ∷ []) ≡ false
+        no_comma (token.Mark a mark.CloseParen l) x h = refl
+        no_comma _ x h = cc
+
+        closes_commas : (s : List Token) → heads closing s ≡ true → heads comma s ≡ false
+        closes_commas [] h = refl
+        closes_commas (t ∷ s) h = let y = some_of (closing t) h in no_comma t y.0 y.1
+
+        follows : (b : List Token) (y : List ExprTree) (rest : List Token) → Many (One comma ▸ E) b y → heads closing rest ≡ true → stops 1 (b ++ rest) ≡ true
+        follows _ _ rest end s = heads_stop closing 0 1 closing_level refl rest s
+        follows _ _ rest (more a b x xs ha hb) s = rw (append_assoc a b rest) (then_stops comma 0 1 comma_level refl a x (b ++ rest) ha)
+
+    pub args_part : Starts E begins_unary → Part P (Grammar.args E) (Grammar.args F) anything (read_args e) (read_args e')
+    args_part st = next_part second_of opening_part (part_of
+        (choose_branch (heads closing) (heads_test closing)
+        (branch (map_part none_of closing_part) (λ ts x h. left ts x h))
+        (branch (then_part first_of items_part closing_part (λ b y rest h s. one_heads closing b y rest h)) (λ ts x h. right ts x h))
+        (λ ts x rest h. mapped_heads closing ts x rest h)
+        (λ ts x rest h s. head_gives begins_unary (heads closing) false (λ t q. no_closing t q) ts rest ((then_starts first_of (Grammar.items E) (One closing) begins_unary (then_starts list_of E (Many (One comma ▸ E)) begins_unary st)).by ts x h)))
+        (record { tokens = closing_part.some.tokens; value = []; spells = left closing_part.some.tokens [] (mapped closing_part.some.tokens tt closing_part.some.spells) }))
+
+    string_part : Starts E begins_unary → Part P (Grammar.string_call E) (Grammar.string_call F) anything (read_string e) (read_string e')
+    string_part st = next_part builtin_of (one_part P string_word (token.Word 0 word.String) 0 refl) (part_of
+        (choose_branch (heads point) (heads_test point)
+        (branch (next_part second_of point_part (next_part pair_of from_part (args_part st))) (λ ts x h. left ts x h))
+        (branch (map_part plain_string (args_part st)) (λ ts x h. right ts x h))
+        (λ ts x rest h. then_heads point ts x rest h)
+        (λ ts x rest h s. plain_no_point ts x rest h))
+        (record { tokens = plain.some.tokens; value = plain.some.value; spells = right plain.some.tokens plain.some.value plain.some.spells }))
+      where
+        plain : Part P (Mapped plain_string (Grammar.args E)) (Mapped plain_string (Grammar.args F)) anything (map_by plain_string (read_args e)) (map_by plain_string (read_args e'))
+        plain = map_part plain_string (args_part st)
+
+        plain_no_point : (ts : List Token) (x : Builtin × List ExprTree) (rest : List Token) → Mapped plain_string (Grammar.args E) ts x → heads point (ts ++ rest) ≡ false
+        plain_no_point _ _ rest (mapped a x h) = then_lacks part point_of paren_of (λ q. omega arith) a x rest h
+
+    symbol_part : Starts E begins_unary → Part P (Grammar.symbol_call E) (Grammar.symbol_call F) anything (read_symbol e) (read_symbol e')
+    symbol_part st = next_part builtin_of (one_part P symbol_word (token.Word 0 word.Symbol) 0 refl) (next_part second_of point_part (next_part pair_of function_part (args_part st)))
+
+    json_part : Part P (Grammar.json_call E) (Grammar.json_call F) anything (read_json e) (read_json e')
+    json_part = next_part builtin_of (one_part P json_word (token.Word 0 word.Json) 0 refl) (next_part second_of point_part (next_part pair_of stringify_part (map_part single_of parens_part)))
+
+    index_part : Part P (Grammar.index E) (Grammar.index F) anything (read_index e) (read_index e')
+    index_part = next_part index_of (one_part P open_bracket (token.Mark 0 mark.OpenBracket false) 0 refl) (then_part first_of p close_bracket_part (λ b y rest h s. one_stops close_bracket 0 1 close_bracket_level refl b y rest h))
+
+    branches_part : Part P (Grammar.branches E) (Grammar.branches F) (stops 1) (read_branches e) (read_branches e')
+    branches_part = next_part second_of (one_part P question (token.Mark 0 mark.Question false) tt refl) (then_part branches_of p (next_part second_of colon_part p) (λ b y rest h s. then_stops colon 0 1 colon_level refl b y rest h))
+
+  -- () is a list of arguments at each level
+  pub no_args : (L : Lang Token ExprTree) → Holds (Grammar.args L)
+  no_args L = both_hold second_of opening_part.some (record { tokens = closing_part.some.tokens; value = []; spells = left closing_part.some.tokens [] (mapped closing_part.some.tokens tt closing_part.some.spells) })
+
+  -- what a word that opens goes on with
+
+  pub held_parens : {L : Lang Token ExprTree} → Holds L → Holds (Grammar.parens L)
+  held_parens h = both_hold second_of opening_part.some (both_hold first_of h closing_part.some)
+
+  held_string : (L : Lang Token ExprTree) → Holds (Either (One point ▸ Then pair_of (One from_word) (Grammar.args L)) (Mapped plain_string (Grammar.args L)))
+  held_string L = let m = no_args L in record { tokens = m.tokens; value = plain_string m.value; spells = right m.tokens (plain_string m.value) (mapped m.tokens m.value m.spells) }
+
+  held_symbol : (L : Lang Token ExprTree) → Holds (One point ▸ Then pair_of (One symbol_function) (Grammar.args L))
+  held_symbol L = both_hold second_of point_part.some (both_hold pair_of function_part.some (no_args L))
+
+  held_json : {L : Lang Token ExprTree} → Holds L → Holds (One point ▸ Then pair_of (One stringify_word) (Mapped single_of (Grammar.parens L)))
+  held_json h =
+      let m = held_parens h in
+      both_hold second_of point_part.some (both_hold pair_of stringify_part.some (record { tokens = m.tokens; value = single_of m.value; spells = mapped m.tokens m.value m.spells }))
+
+  module _ (names : List (List ℕ)) (room room' : Bool) (rs : Rooms P room room') (E U F G : Lang Token ExprTree) (e u e' u' : Reader Token ExprTree) (i : Inner P room E U F G e u e' u') where
+    -- a primary, from each of its alternatives on
+
+    abbrev From_json : Lang Token ExprTree
+    From_json = if_room room (Grammar.json_call E)
+
+    abbrev From_symbol : Lang Token ExprTree
+    From_symbol = Either (if_room room (Grammar.symbol_call E)) From_json
+
+    abbrev From_string : Lang Token ExprTree
+    From_string = Either (if_room room (Grammar.string_call E)) From_symbol
+
+    abbrev From_parens : Lang Token ExprTree
+    From_parens = Either (if_room room (Grammar.parens E)) From_string
+
+    json_starts : Starts From_json (over class 4)
+    json_starts = room_starts room (over class 4) (first_over class json_word 5 4 json_of refl)
+
+    symbol_starts : Starts From_symbol (over class 3)
+    symbol_starts = either_starts (if_room room (Grammar.symbol_call E)) From_json (over class 3) (room_starts room (over class 3) (first_over class symbol_word 4 3 symbol_of refl)) (lower class 4 3 refl json_starts)
+
+    string_starts : Starts From_string (over class 2)
+    string_starts = either_starts (if_room room (Grammar.string_call E)) From_symbol (over class 2) (room_starts room (over class 2) (first_over class string_word 3 2 string_of refl)) (lower class 3 2 refl symbol_starts)
+
+    parens_starts : Starts From_parens (over class 1)
+    parens_starts = either_starts (if_room room (Grammar.parens E)) From_string (over class 1) (room_starts room (over class 1) (first_over class opening 2 1 opening_of refl)) (lower class 2 1 refl string_starts)
+
+    primary_starts : Starts (Grammar.primary names room E) (over class 0)
+    primary_starts = either_starts (One (simple names)) From_parens (over class 0) (one_over class (simple names) 1 0 (simple_of names) refl) (lower class 1 0 refl parens_starts)
+
+    some_primary : Holds (Grammar.primary names room E)
+    some_primary = record { tokens = token.Number 0 0 ∷ []; value = tree.number 0; spells = left (token.Number 0 0 ∷ []) (tree.number 0) (one (token.Number 0 0) (tree.number 0) refl) }
+
+    primary_part : Part P (Grammar.primary names room E) (Grammar.primary names true F) anything (read_primary names room e) (read_primary names room' e')
+    primary_part =
+        let json = open_branch room room' rs json_word (λ r. branch (json_part (i.whole r)) (λ ts x h. right ts x (right ts x (right ts x (right ts x (in_room room (Grammar.json_call E) r ts x h))))))
+        some_primary (deeper builtin_of json_word (held_json i.held_whole)) (then_strict builtin_of json_word (and_then second_of (one_of point) (and_then pair_of (one_of stringify_word) (map_by single_of (read_parens e'))))) in
+        let symbols = choose_branch (heads symbol_word) (heads_test symbol_word)
+        (open_branch room room' rs symbol_word (λ r. branch (symbol_part (i.whole r) (i.first_whole r)) (λ ts x h. right ts x (right ts x (right ts x (left ts x (in_room room (Grammar.symbol_call E) r ts x h))))))
+        some_primary (deeper builtin_of symbol_word (held_symbol F)) (then_strict builtin_of symbol_word (and_then second_of (one_of point) (and_then pair_of (one_of symbol_function) (read_args e')))))
+        json (λ ts x rest h. then_heads symbol_word ts x rest (room_of room (Grammar.symbol_call E) ts x h)) (λ ts x rest h s. lacks class symbol_word 4 4 symbol_of (omega arith) json_starts ts x rest h) in
+        let strings = choose_branch (heads string_word) (heads_test string_word)
+        (open_branch room room' rs string_word (λ r. branch (string_part (i.whole r) (i.first_whole r)) (λ ts x h. right ts x (right ts x (left ts x (in_room room (Grammar.string_call E) r ts x h)))))
+        some_primary (deeper builtin_of string_word (held_string F)) (then_strict builtin_of string_word (choose (heads point) (and_then second_of (one_of point) (and_then pair_of (one_of from_word) (read_args e'))) (map_by plain_string (read_args e')))))
+        symbols (λ ts x rest h. then_heads string_word ts x rest (room_of room (Grammar.string_call E) ts x h)) (λ ts x rest h s. lacks class string_word 3 3 string_of (omega arith) symbol_starts ts x rest h) in
+        let opened = choose_branch (heads opening) (heads_test opening)
+        (open_branch room room' rs opening (λ r. branch (parens_part (i.whole r)) (λ ts x h. right ts x (left ts x (in_room room (Grammar.parens E) r ts x h))))
+        some_primary (deeper second_of opening (both_hold first_of i.held_whole closing_part.some)) (then_strict second_of opening (and_then first_of e' (one_of closing))))
+        strings (λ ts x rest h. then_heads opening ts x rest (room_of room (Grammar.parens E) ts x h)) (λ ts x rest h s. lacks class opening 2 2 opening_of (omega arith) string_starts ts x rest h) in
+        part_of (choose_branch (heads (simple names)) (heads_test (simple names)) (branch (one_part P (simple names) (token.Number 0 0) (tree.number 0) refl) (λ ts x h. left ts x h)) opened
+        (one_heads (simple names)) (λ ts x rest h s. lacks class (simple names) 1 1 (simple_of names) (omega arith) parens_starts ts x rest h)) some_primary
+
+    some_member : Holds (Either (One member_word) (if_room room (Then call_of (One method) (Grammar.args E))))
+    some_member = record { tokens = token.Name 0 0 property.Length ∷ []; value = tree.of_length; spells = left (token.Name 0 0 property.Length ∷ []) tree.of_length (one (token.Name 0 0 property.Length) tree.of_length refl) }
+
+    member_part : Part P (Grammar.member room E) (Grammar.member true F) anything (read_member room e) (read_member room' e')
+    member_part = next_part second_of point_part (part_of
+        (choose_branch (heads member_word) (heads_test member_word)
+        (branch (one_part P member_word (token.Name 0 0 property.Length) tree.of_length refl) (λ ts x h. left ts x h))
+        (open_branch room room' rs method (λ r. branch (next_part call_of (one_part P method (token.Name 0 0 (property.Method methods.At)) _ refl) (args_part (i.whole r) (i.first_whole r))) (λ ts x h. right ts x (in_room room (Then call_of (One method) (Grammar.args E)) r ts x h)))
+        some_member (deeper call_of method (no_args F)) (then_strict call_of method (read_args e')))
+        (one_heads member_word)
+        (λ ts x rest h s. then_lacks part member_of method_of (λ q. omega arith) ts x rest (room_of room (Then call_of (One method) (Grammar.args E)) ts x h)))
+        some_member)
+
+    some_step : Holds (Grammar.step room E)
+    some_step = record { tokens = member_part.some.tokens; value = member_part.some.value; spells = left member_part.some.tokens member_part.some.value member_part.some.spells }
+
+    pub step_part : Part P (Grammar.step room E) (Grammar.step true F) anything (read_step room e) (read_step room' e')
+    step_part = part_of
+        (choose_branch (heads point) (heads_test point)
+        (branch member_part (λ ts x h. left ts x h))
+        (open_branch room room' rs open_bracket (λ r. branch (index_part (i.whole r)) (λ ts x h. right ts x (in_room room (Grammar.index E) r ts x h)))
+        some_step
+        (deeper index_of open_bracket (both_hold first_of i.held_whole close_bracket_part.some))
+        (then_strict index_of open_bracket (and_then first_of e' (one_of close_bracket))))
+        (λ ts x rest h. then_heads point ts x rest h)
+        (λ ts x rest h s. then_lacks part point_of bracket_of (λ q. omega arith) ts x rest (room_of room (Grammar.index E) ts x h)))
+        some_step
+
+    pub step_starts : Starts (Grammar.step room E) is_step
+    step_starts = either_starts (Grammar.member room E) (if_room room (Grammar.index E)) is_step
+        (then_starts second_of (One point) (Either (One member_word) (if_room room (Then call_of (One method) (Grammar.args E)))) is_step (one_starts point is_step point_step))
+        (room_starts room is_step (then_starts index_of (One open_bracket) (E ◂ One close_bracket) is_step (one_starts open_bracket is_step bracket_step)))
+
+    post_part : Part P (Grammar.post names room E) (Grammar.post names true F) (stops 7) (read_post names room e) (read_post names room' e')
+    post_part = next_part post_of primary_part (many_part (heads step_mark) (stops 7) step_part (record {
+      test = heads_test step_mark;
+      none = refl;
+      eats = λ ts x h. begins_length is_step ts (step_starts.by ts x h);
+      begins = λ ts x rest h. head_gives is_step (heads step_mark) true (λ t s q. q) ts rest (step_starts.by ts x h);
+      again = λ ts x rest h. refl;
+      ends = none_of_level step_mark 7 7 step_level (omega arith);
+      over = λ rest s. refl;
+    }))
+
+    post_starts : Starts (Grammar.post names room E) (over class 0)
+    post_starts = then_starts post_of (Grammar.primary names room E) (Many (Grammar.step room E)) (over class 0) primary_starts
+
+    some_unary : Holds (Grammar.unary names room E U)
+    some_unary = record { tokens = post_part.some.tokens; value = post_part.some.value; spells = right post_part.some.tokens post_part.some.value post_part.some.spells }
+
+    pub unary_part : Part P (Grammar.unary names room E U) (Grammar.unary names true F G) (stops 7) (read_unary names room e u) (read_unary names room' e' u')
+    unary_part = part_of
+        (choose_branch (heads sign) (heads_test sign)
+        (open_branch room room' rs sign (λ r. branch (next_part unary_of (one_part P sign (token.Mark 0 mark.Minus false) _ refl) (i.operand r)) (λ ts x h. left ts x (in_room room (Then unary_of (One sign) U) r ts x h)))
+        some_unary (deeper unary_of sign i.held_operand) (then_strict unary_of sign u'))
+        (branch post_part (λ ts x h. right ts x h))
+        (λ ts x rest h. then_heads sign ts x rest (room_of room (Then unary_of (One sign) U) ts x h))
+        (λ ts x rest h s. lacks class sign 0 0 sign_of (omega arith) post_starts ts x rest h))
+        some_unary
+
+    pub unary_starts : Starts (Grammar.unary names room E U) begins_unary
+    unary_starts = either_starts (if_room room (Then unary_of (One sign) U)) (Grammar.post names room E) begins_unary
+        (room_starts room begins_unary (then_starts unary_of (One sign) U begins_unary (one_starts sign begins_unary sign_begins)))
+        (record { by = λ ts x h. raised ts (post_starts.by ts x h) })
+      where
+        raised : (ts : List Token) → Begins (over class 0) ts → Begins begins_unary ts
+        raised [] h = absurd h
+        raised (t ∷ ts) h = primary_begins t h
+
+  -- a chain of level k over what the level above ends
+  pub chain_part : (o : Token → Option (ℕ × Op)) (k k' : ℕ) → HasLevel o k → nat_lt k k' ≡ true → k ≤ k' → (t : Token) (x : ℕ × Op) → o t ≡ Some x → {L D : Lang Token ExprTree} {r r' : Reader Token ExprTree} → Part P L D (stops k') r r' → Part P (Grammar.chain o L) (Grammar.chain o D) (stops k) (read_chain o r) (read_chain o r')
+  chain_part o k k' of lt le t x some_op {L = L} p = then_part chain_of p (many_part (heads o) (stops k) (next_part link_of (one_part P o t x some_op) p) (record {
+    test = heads_test o;
+    none = refl;
+    eats = λ ts x h. then_some o ts x h;
+    begins = λ ts x rest h. then_heads o ts x rest h;
+    again = λ ts x rest h. then_stops o k k' of lt ts x rest h;
+    ends = none_of_level o k k of (omega arith);
+    over = λ rest s. stops_more k k' rest le s;
+  })) follows
+    where
+      follows : (b : List Token) (y : List LinkTree) (rest : List Token) → Many (Then link_of (One o) L) b y → stops k rest ≡ true → stops k' (b ++ rest) ≡ true
+      follows _ _ rest end s = stops_more k k' rest le s
+      follows _ _ rest (more a b x xs ha hb) s = rw (append_assoc a b rest) (then_stops o k k' of lt a x (b ++ rest) ha)
+
+  module _ (names : List (List ℕ)) (room room' : Bool) (rs : Rooms P room room') (E U F G : Lang Token ExprTree) (e u e' u' : Reader Token ExprTree) (i : Inner P room E U F G e u e' u') where
+    pub sum_part : Part P (Grammar.sum names room E U) (Grammar.sum names true F G) (stops 6) (read_sum names room e u) (read_sum names room' e' u')
+    sum_part = chain_part sum_op 6 7 sum_level refl (omega arith) (token.Mark 0 mark.Plus false) _ refl (unary_part names room room' rs E U F G e u e' u' i)
+
+    pub comparison_part : Part P (Grammar.comparison names room E U) (Grammar.comparison names true F G) (stops 5) (read_comparison names room e u) (read_comparison names room' e' u')
+    comparison_part = chain_part compare_op 5 6 compare_level refl (omega arith) (token.Mark 0 mark.Less false) _ refl sum_part
+
+    pub equality_part : Part P (Grammar.equality names room E U) (Grammar.equality names true F G) (stops 4) (read_equality names room e u) (read_equality names room' e' u')
+    equality_part = chain_part equal_op 4 5 equal_level refl (omega arith) (token.Mark 0 mark.StrictEqual false) _ refl comparison_part
+
+    pub conjunction_part : Part P (Grammar.conjunction names room E U) (Grammar.conjunction names true F G) (stops 3) (read_conjunction names room e u) (read_conjunction names room' e' u')
+    conjunction_part = chain_part and_op 3 4 and_level refl (omega arith) (token.Mark 0 mark.And false) _ refl equality_part
+
+    pub disjunction_part : Part P (Grammar.disjunction names room E U) (Grammar.disjunction names true F G) (stops 2) (read_disjunction names room e u) (read_disjunction names room' e' u')
+    disjunction_part = chain_part or_op 2 3 or_level refl (omega arith) (token.Mark 0 mark.Or false) _ refl conjunction_part
+
+    pub whole_part : Part P (Grammar.conditional names room E U) (Grammar.conditional names true F G) (stops 1) (read_conditional names room e u) (read_conditional names room' e' u')
+    whole_part = then_part cond_of disjunction_part (part_of
+        (choose_branch (heads question) (heads_test question)
+        (open_branch room room' rs question (λ r. branch (branches_part (i.whole r)) (λ ts x h. left ts x (in_room room (Grammar.branches E) r ts x h)))
+        none_here
+        (deeper second_of question (both_hold branches_of i.held_whole (both_hold second_of colon_part.some i.held_whole)))
+        (then_strict second_of question (and_then branches_of e' (and_then second_of (one_of colon) e'))))
+        (nothing_branch P None)
+        (λ ts x rest h. then_heads question ts x rest (room_of room (Grammar.branches E) ts x h))
+        ended)
+        none_here) follows
+      where
+        none_here : Holds (Either (if_room room (Grammar.branches E)) (Nothing None))
+        none_here = record { tokens = []; value = None; spells = right [] None (nothing None refl) }
+
+        ended : (ts : List Token) (x : Option (ExprTree × ExprTree)) (rest : List Token) → Nothing None ts x → stops 1 rest ≡ true → heads question (ts ++ rest) ≡ false
+        ended _ _ rest (nothing x h) s = none_of_level question 1 1 question_level (omega arith) rest s
+
+        nothing_stops : (b : List Token) (y : Option (ExprTree × ExprTree)) (rest : List Token) → Nothing None b y → stops 1 rest ≡ true → stops 2 (b ++ rest) ≡ true
+        nothing_stops _ _ rest (nothing x h) s = stops_more 1 2 rest (omega arith) s
+
+        follows : (b : List Token) (y : Option (ExprTree × ExprTree)) (rest : List Token) → Either (if_room room (Grammar.branches E)) (Nothing None) b y → stops 1 rest ≡ true → stops 2 (b ++ rest) ≡ true
+        follows _ _ rest (left b y h) s = then_stops question 1 2 question_level refl b y rest (room_of room (Grammar.branches E) b y h)
+        follows _ _ rest (right b y h) s = nothing_stops b y rest h s
+
+    pub sum_starts : Starts (Grammar.sum names room E U) begins_unary
+    sum_starts = then_starts chain_of (Grammar.unary names room E U) (Many (Then link_of (One sum_op) (Grammar.unary names room E U))) begins_unary (unary_starts names room room' rs E U F G e u e' u' i)
+
+    pub comparison_starts : Starts (Grammar.comparison names room E U) begins_unary
+    comparison_starts = then_starts chain_of (Grammar.sum names room E U) (Many (Then link_of (One compare_op) (Grammar.sum names room E U))) begins_unary sum_starts
+
+    pub equality_starts : Starts (Grammar.equality names room E U) begins_unary
+    equality_starts = then_starts chain_of (Grammar.comparison names room E U) (Many (Then link_of (One equal_op) (Grammar.comparison names room E U))) begins_unary comparison_starts
+
+    pub conjunction_starts : Starts (Grammar.conjunction names room E U) begins_unary
+    conjunction_starts = then_starts chain_of (Grammar.equality names room E U) (Many (Then link_of (One and_op) (Grammar.equality names room E U))) begins_unary equality_starts
+
+    pub disjunction_starts : Starts (Grammar.disjunction names room E U) begins_unary
+    disjunction_starts = then_starts chain_of (Grammar.conjunction names room E U) (Many (Then link_of (One or_op) (Grammar.conjunction names room E U))) begins_unary conjunction_starts
+
+    pub whole_starts : Starts (Grammar.conditional names room E U) begins_unary
+    whole_starts = then_starts cond_of (Grammar.disjunction names room E U) (Either (if_room room (Grammar.branches E)) (Nothing None)) begins_unary disjunction_starts

@@ -1,0 +1,4 @@
+pub mod Stops
+pub mod Expressions
+pub mod Statements
+pub mod Scripts

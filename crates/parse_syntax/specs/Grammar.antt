@@ -1,0 +1,279 @@
+-- The grammar of scripts, one line a production.
+use Rattle.std.specs.Prelude.{ℕ, zero, suc, Bool, true, false, List, [], ◌∷◌, ◌++◌, Option, Some, None, get_or}
+use Rattle.parse_laws.specs.Lang.{Lang, One, Then, Bind, Mapped, Nothing, Either, Many, Never, if_room, ◌▸◌, ◌◂◌}
+use Rattle.parse_syntax.specs.declared.token.Token.{Token}
+use Rattle.eval_tree.specs.declared.tree.Op.{Op}
+use Rattle.eval_tree.specs.declared.tree.Method.{Method}
+use Rattle.eval_tree.specs.declared.tree.Builtin.{Builtin}
+use Rattle.eval_tree.specs.declared.tree.Builtin.TheVariants as builtin
+use Rattle.parse_syntax.specs.Terminals.{Ident, directive, let_word, const_word, print_word, if_word, else_word, for_word, string_word, symbol_word, json_word, name, the_name, member_word, method, from_word, symbol_function, stringify_word, opening, closing, open_bracket, close_bracket, open_brace, close_brace, comma, point, semicolon, question, colon, less, assign_mark, assign_op, increment, sign, or_op, and_op, equal_op, compare_op, sum_op, nought, bound_number, simple}
+use Rattle.eval_tree.specs.Tree as tree
+use Rattle.eval_tree.specs.Tree.{ExprTree, LinkTree, StepTree, links, steps, exprs, StmtTree, BlockTree, block_of, ArmTree, arms, stmts}
+
+-- the trees of expressions
+
+abbrev pub list_of : {A : Type 0} → A → List A → List A
+list_of x xs = x ∷ xs
+
+abbrev pub none_of : {A B : Type 0} → A → List B
+none_of x = []
+
+abbrev pub single_of : {A : Type 0} → A → List A
+single_of x = x ∷ []
+
+abbrev pub pair_of : {A B : Type 0} → A → B → A × B
+pair_of x y = (x, y)
+
+abbrev pub index_of : ℕ → ExprTree → StepTree
+index_of at t = tree.of_index at t
+
+abbrev pub call_of : ℕ × Method → List ExprTree → StepTree
+call_of m ts = tree.of_call m.0 m.1 (exprs ts)
+
+-- a built-in function, at an offset, with its arguments
+abbrev pub builtin_of : ℕ → Builtin × List ExprTree → ExprTree
+builtin_of at c = tree.builtin at c.0 (exprs c.1)
+
+-- the function String itself
+abbrev pub plain_string : List ExprTree → Builtin × List ExprTree
+plain_string ts = (builtin.String, ts)
+
+-- without a step it is what it is of
+abbrev pub post_of : ExprTree → List StepTree → ExprTree
+post_of t [] = t
+post_of t (s ∷ ss) = tree.post t (steps (s ∷ ss))
+
+abbrev pub unary_of : ℕ × Bool → ExprTree → ExprTree
+unary_of s t = tree.unary s.0 s.1 t
+
+abbrev pub link_of : ℕ × Op → ExprTree → LinkTree
+link_of o t = record { at = o.0; op = o.1; right = t }
+
+-- without an operator it is the operand
+abbrev pub chain_of : ExprTree → List LinkTree → ExprTree
+chain_of t [] = t
+chain_of t (l ∷ ls) = tree.chain t (links (l ∷ ls))
+
+abbrev pub branches_of : ExprTree → ExprTree → Option (ExprTree × ExprTree)
+branches_of y n = Some (y, n)
+
+-- without branches it is the test
+abbrev pub cond_of : ExprTree → Option (ExprTree × ExprTree) → ExprTree
+cond_of t None = t
+cond_of t (Some b) = tree.conditional t b.0 b.1
+
+-- the trees of statements
+
+abbrev pub own_name : StmtTree → List (List ℕ)
+own_name (tree.let_line at name init) = name ∷ []
+own_name (tree.const_line at name init) = name ∷ []
+own_name _ = []
+
+-- the names that are declared directly among them
+abbrev pub own_names : List StmtTree → List (List ℕ)
+own_names [] = []
+own_names (s ∷ ss) = own_name s ++ own_names ss
+
+abbrev pub inside_of : List StmtTree → BlockTree
+inside_of ss = block_of (own_names ss) (stmts ss)
+
+-- no block
+abbrev pub no_inside : BlockTree
+no_inside = block_of [] tree.no_stmts
+
+abbrev pub print_of : List ExprTree → StmtTree
+print_of ts = tree.print (exprs ts)
+
+abbrev pub arm_of : ExprTree → BlockTree → ArmTree
+arm_of e b = record { test = e; body = b }
+
+abbrev pub more_of : List ArmTree → BlockTree → List ArmTree × BlockTree
+more_of others rest = (others, rest)
+
+abbrev pub if_of : ArmTree → List ArmTree × BlockTree → StmtTree
+if_of a p = tree.if_line (arms (a ∷ p.0)) p.1
+
+abbrev pub header_of : Ident → ℕ → Ident × ℕ
+header_of x bound = (x, bound)
+
+module _ (names : List (List ℕ)) where
+  -- the letters of a name
+  abbrev pub letters : Ident → List ℕ
+  letters x = get_or names x.number []
+
+  abbrev pub let_of : Ident → Option ExprTree → StmtTree
+  let_of x init = tree.let_line x.at (letters x) init
+
+  abbrev pub const_of : Ident → ExprTree → StmtTree
+  const_of x init = tree.const_line x.at (letters x) init
+
+  abbrev pub assigned : Ident → Option ℕ → ExprTree → StmtTree
+  assigned x None e = tree.assign x.at (letters x) e
+  assigned x (Some at) e = tree.append at x.at (letters x) e
+
+  abbrev pub assign_of : Ident → Option ℕ × ExprTree → StmtTree
+  assign_of x p = assigned x p.0 p.1
+
+  abbrev pub for_of : Ident × ℕ → BlockTree → StmtTree
+  for_of h b = tree.for_line (letters h.0) h.1 b
+
+-- expressions, over what an expression E and an operand U are where one more is open
+
+-- ( E )
+abbrev pub parens : Lang Token ExprTree → Lang Token ExprTree
+parens E = One opening ▸ E ◂ One closing
+
+-- E { , E }
+abbrev pub items : Lang Token ExprTree → Lang Token (List ExprTree)
+items E = Then list_of E (Many (One comma ▸ E))
+
+-- ( [ E { , E } ] )
+abbrev pub args : Lang Token ExprTree → Lang Token (List ExprTree)
+args E = One opening ▸ Either (Mapped none_of (One closing)) (items E ◂ One closing)
+
+-- String Args | String . fromCharCode Args | String . fromCodePoint Args
+abbrev pub string_call : Lang Token ExprTree → Lang Token ExprTree
+string_call E = Then builtin_of (One string_word) (Either (One point ▸ Then pair_of (One from_word) (args E)) (Mapped plain_string (args E)))
+
+-- Symbol . for Args | Symbol . keyFor Args
+abbrev pub symbol_call : Lang Token ExprTree → Lang Token ExprTree
+symbol_call E = Then builtin_of (One symbol_word) (One point ▸ Then pair_of (One symbol_function) (args E))
+
+-- JSON . stringify ( E )
+abbrev pub json_call : Lang Token ExprTree → Lang Token ExprTree
+json_call E = Then builtin_of (One json_word) (One point ▸ Then pair_of (One stringify_word) (Mapped single_of (parens E)))
+
+abbrev pub primary : List (List ℕ) → Bool → Lang Token ExprTree → Lang Token ExprTree
+primary names room E =
+    Either (One (simple names))
+    (Either (if_room room (parens E))
+    (Either (if_room room (string_call E))
+    (Either (if_room room (symbol_call E))
+    (if_room room (json_call E)))))
+
+-- . Member | . Method Args
+abbrev pub member : Bool → Lang Token ExprTree → Lang Token StepTree
+member room E = One point ▸ Either (One member_word) (if_room room (Then call_of (One method) (args E)))
+
+-- [ E ]
+abbrev pub index : Lang Token ExprTree → Lang Token StepTree
+index E = Then index_of (One open_bracket) (E ◂ One close_bracket)
+
+abbrev pub step : Bool → Lang Token ExprTree → Lang Token StepTree
+step room E = Either (member room E) (if_room room (index E))
+
+-- Primary { Step }
+abbrev pub post : List (List ℕ) → Bool → Lang Token ExprTree → Lang Token ExprTree
+post names room E = Then post_of (primary names room E) (Many (step room E))
+
+-- ( - | ! ) U | Post
+abbrev pub unary : List (List ℕ) → Bool → Lang Token ExprTree → Lang Token ExprTree → Lang Token ExprTree
+unary names room E U = Either (if_room room (Then unary_of (One sign) U)) (post names room E)
+
+-- L { o L }
+abbrev pub chain : (Token → Option (ℕ × Op)) → Lang Token ExprTree → Lang Token ExprTree
+chain o L = Then chain_of L (Many (Then link_of (One o) L))
+
+abbrev pub sum : List (List ℕ) → Bool → Lang Token ExprTree → Lang Token ExprTree → Lang Token ExprTree
+sum names room E U = chain sum_op (unary names room E U)
+
+abbrev pub comparison : List (List ℕ) → Bool → Lang Token ExprTree → Lang Token ExprTree → Lang Token ExprTree
+comparison names room E U = chain compare_op (sum names room E U)
+
+abbrev pub equality : List (List ℕ) → Bool → Lang Token ExprTree → Lang Token ExprTree → Lang Token ExprTree
+equality names room E U = chain equal_op (comparison names room E U)
+
+abbrev pub conjunction : List (List ℕ) → Bool → Lang Token ExprTree → Lang Token ExprTree → Lang Token ExprTree
+conjunction names room E U = chain and_op (equality names room E U)
+
+abbrev pub disjunction : List (List ℕ) → Bool → Lang Token ExprTree → Lang Token ExprTree → Lang Token ExprTree
+disjunction names room E U = chain or_op (conjunction names room E U)
+
+-- ? E : E
+abbrev pub branches : Lang Token ExprTree → Lang Token (Option (ExprTree × ExprTree))
+branches E = One question ▸ Then branches_of E (One colon ▸ E)
+
+-- Or [ ? E : E ]
+abbrev pub conditional : List (List ℕ) → Bool → Lang Token ExprTree → Lang Token ExprTree → Lang Token ExprTree
+conditional names room E U = Then cond_of (disjunction names room E U) (Either (if_room room (branches E)) (Nothing None))
+
+-- an expression, and the operand of a sign
+pub data Which : Type 0 where
+  Whole Operand : Which
+
+abbrev pub level : List (List ℕ) → Bool → (Which → Lang Token ExprTree) → Which → Lang Token ExprTree
+level names room I Whole = conditional names room (I Whole) (I Operand)
+level names room I Operand = unary names room (I Whole) (I Operand)
+
+-- with room for so many that are open
+abbrev pub within_room : List (List ℕ) → ℕ → Which → Lang Token ExprTree
+within_room names zero = level names false (λ w. Never)
+within_room names (suc n) = level names true (within_room names n)
+
+abbrev pub Expression : List (List ℕ) → ℕ → Lang Token ExprTree
+Expression names n = within_room names n Whole
+
+-- statements, over an expression E at this level, and what an expression I and a statement S are where one more is open
+
+-- { { Statement } }
+abbrev pub block_part : Lang Token StmtTree → Lang Token BlockTree
+block_part S = One open_brace ▸ Mapped inside_of (Many S ◂ One close_brace)
+
+abbrev pub let_line : List (List ℕ) → Lang Token ExprTree → Lang Token StmtTree
+let_line names E = One let_word ▸ Then (let_of names) (One name) (Either (Mapped Some (One assign_mark ▸ E)) (Nothing None)) ◂ One semicolon
+
+abbrev pub const_line : List (List ℕ) → Lang Token ExprTree → Lang Token StmtTree
+const_line names E = One const_word ▸ Then (const_of names) (One name) (One assign_mark ▸ E ◂ One semicolon)
+
+abbrev pub assign_line : List (List ℕ) → Lang Token ExprTree → Lang Token StmtTree
+assign_line names E = Then (assign_of names) (One name) (Then pair_of (One assign_op) (E ◂ One semicolon))
+
+abbrev pub print_line : Lang Token ExprTree → Lang Token StmtTree
+print_line I = One print_word ▸ Mapped print_of (args I ◂ One semicolon)
+
+-- if ( I ) B
+abbrev pub if_arm : Lang Token ExprTree → Lang Token StmtTree → Lang Token ArmTree
+if_arm I S = One if_word ▸ Then arm_of (parens I) (block_part S)
+
+-- if ( I ) B { else if ( I ) B } [ else B ]
+abbrev pub if_statement : Lang Token ExprTree → Lang Token StmtTree → Lang Token StmtTree
+if_statement I S = Then if_of (if_arm I S) (Then more_of (Many (One else_word ▸ if_arm I S)) (Either (One else_word ▸ block_part S) (Nothing no_inside)))
+
+-- = 0 ; x < Bound ; x ++ ), where x is the name before it
+abbrev pub turns : Ident → Lang Token ℕ
+turns x = One assign_mark ▸ One nought ▸ One semicolon ▸ One (the_name x.number) ▸ One less ▸ One bound_number ◂ One semicolon ▸ One (the_name x.number) ▸ One increment ▸ One closing
+
+-- for ( let x = 0 ; x < Bound ; x ++ )
+abbrev pub for_header : Lang Token (Ident × ℕ)
+for_header = One for_word ▸ One opening ▸ One let_word ▸ Bind header_of (One name) turns
+
+abbrev pub for_statement : List (List ℕ) → Lang Token StmtTree → Lang Token StmtTree
+for_statement names S = Then (for_of names) for_header (block_part S)
+
+-- with prints, or without
+abbrev pub statement : List (List ℕ) → Bool → Bool → Lang Token ExprTree → Lang Token ExprTree → Lang Token StmtTree → Lang Token StmtTree
+statement names prints room E I S =
+    Either (if_room room (Mapped tree.block (block_part S)))
+    (Either (let_line names E)
+    (Either (const_line names E)
+    (Either (assign_line names E)
+    (Either (if_room prints (if_room room (print_line I)))
+    (Either (if_room room (if_statement I S))
+    (if_room room (for_statement names S)))))))
+
+-- with room for so many that are open
+abbrev pub Statement : List (List ℕ) → Bool → ℕ → Lang Token StmtTree
+Statement names prints zero = statement names prints false (Expression names 0) Never Never
+Statement names prints (suc n) = statement names prints true (Expression names (suc n)) (Expression names n) (Statement names prints n)
+
+-- [ Directive ]
+abbrev pub strict : Lang Token (Unit {0})
+strict = Either (One directive ▸ One semicolon) (Nothing tt)
+
+-- [ Directive ] { Statement }
+abbrev pub Statements : List (List ℕ) → Bool → ℕ → Lang Token (List StmtTree)
+Statements names prints n = strict ▸ Many (Statement names prints n)
+
+-- so many may be open
+unfoldable pub most : ℕ
+most = 200

@@ -1,0 +1,3 @@
+pub mod Terminals
+pub mod Grammar
+pub mod Reading

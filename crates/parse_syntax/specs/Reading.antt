@@ -1,0 +1,155 @@
+-- Reading scripts from the front. No public contract cites these: they are what the parser's functions give.
+use Rattle.std.specs.Prelude.{ℕ, zero, suc, Bool, true, false, cond, List, [], ◌∷◌, Option, Some, None}
+use Rattle.js_lex.specs.declared.token.Mark.TheVariants as mark
+use Rattle.parse_laws.specs.Lang.{first_of, second_of}
+use Rattle.parse_laws.specs.Reader.{Reader, wrong, map_by, and_then, and_bind, one_of, choose, all_of, succeed, opens, is_some, heads, heads_two, allowed}
+use Rattle.parse_syntax.specs.declared.token.Token.{Token}
+use Rattle.parse_syntax.specs.declared.token.Token.TheVariants as token
+use Rattle.eval_tree.specs.declared.tree.Op.{Op}
+use Rattle.eval_tree.specs.Tree.{ExprTree, StepTree, StmtTree, BlockTree, ArmTree, block}
+use Rattle.parse_syntax.specs.Terminals.{Ident, directive, let_word, const_word, print_word, if_word, else_word, for_word, string_word, symbol_word, json_word, name, the_name, member_word, method, from_word, symbol_function, stringify_word, opening, closing, open_bracket, close_bracket, open_brace, close_brace, comma, point, semicolon, question, colon, less, assign_mark, assign_op, increment, sign, or_op, and_op, equal_op, compare_op, sum_op, nought, bound_number, simple}
+use Rattle.parse_syntax.specs.Grammar.{list_of, none_of, single_of, pair_of, index_of, call_of, builtin_of, plain_string, post_of, unary_of, link_of, chain_of, branches_of, cond_of, inside_of, no_inside, print_of, arm_of, more_of, if_of, header_of, let_of, const_of, assign_of, for_of, Which, Whole, Operand}
+
+-- expressions
+
+abbrev pub read_parens : Reader Token ExprTree → Reader Token ExprTree
+read_parens e = and_then second_of (one_of opening) (and_then first_of e (one_of closing))
+
+abbrev pub read_items : Reader Token ExprTree → Reader Token (List ExprTree)
+read_items e = and_then list_of e (all_of (heads comma) (and_then second_of (one_of comma) e))
+
+abbrev pub read_args : Reader Token ExprTree → Reader Token (List ExprTree)
+read_args e = and_then second_of (one_of opening) (choose (heads closing) (map_by none_of (one_of closing)) (and_then first_of (read_items e) (one_of closing)))
+
+abbrev pub read_string : Reader Token ExprTree → Reader Token ExprTree
+read_string e = and_then builtin_of (one_of string_word) (choose (heads point) (and_then second_of (one_of point) (and_then pair_of (one_of from_word) (read_args e))) (map_by plain_string (read_args e)))
+
+abbrev pub read_symbol : Reader Token ExprTree → Reader Token ExprTree
+read_symbol e = and_then builtin_of (one_of symbol_word) (and_then second_of (one_of point) (and_then pair_of (one_of symbol_function) (read_args e)))
+
+abbrev pub read_json : Reader Token ExprTree → Reader Token ExprTree
+read_json e = and_then builtin_of (one_of json_word) (and_then second_of (one_of point) (and_then pair_of (one_of stringify_word) (map_by single_of (read_parens e))))
+
+abbrev pub read_primary : List (List ℕ) → Bool → Reader Token ExprTree → Reader Token ExprTree
+read_primary names room e =
+    choose (heads (simple names)) (one_of (simple names))
+    (choose (heads opening) (opens room (heads opening) (read_parens e))
+    (choose (heads string_word) (opens room (heads string_word) (read_string e))
+    (choose (heads symbol_word) (opens room (heads symbol_word) (read_symbol e))
+    (opens room (heads json_word) (read_json e)))))
+
+abbrev pub read_member : Bool → Reader Token ExprTree → Reader Token StepTree
+read_member room e = and_then second_of (one_of point) (choose (heads member_word) (one_of member_word) (opens room (heads method) (and_then call_of (one_of method) (read_args e))))
+
+abbrev pub read_index : Reader Token ExprTree → Reader Token StepTree
+read_index e = and_then index_of (one_of open_bracket) (and_then first_of e (one_of close_bracket))
+
+abbrev pub read_step : Bool → Reader Token ExprTree → Reader Token StepTree
+read_step room e = choose (heads point) (read_member room e) (opens room (heads open_bracket) (read_index e))
+
+-- what begins a step
+abbrev pub step_mark : Token → Option (Unit {0})
+step_mark (token.Mark at mark.Point l) = Some tt
+step_mark (token.Mark at mark.OpenBracket l) = Some tt
+step_mark _ = None
+
+abbrev pub read_post : List (List ℕ) → Bool → Reader Token ExprTree → Reader Token ExprTree
+read_post names room e = and_then post_of (read_primary names room e) (all_of (heads step_mark) (read_step room e))
+
+abbrev pub read_unary : List (List ℕ) → Bool → Reader Token ExprTree → Reader Token ExprTree → Reader Token ExprTree
+read_unary names room e u = choose (heads sign) (opens room (heads sign) (and_then unary_of (one_of sign) u)) (read_post names room e)
+
+abbrev pub read_chain : (Token → Option (ℕ × Op)) → Reader Token ExprTree → Reader Token ExprTree
+read_chain o r = and_then chain_of r (all_of (heads o) (and_then link_of (one_of o) r))
+
+abbrev pub read_sum : List (List ℕ) → Bool → Reader Token ExprTree → Reader Token ExprTree → Reader Token ExprTree
+read_sum names room e u = read_chain sum_op (read_unary names room e u)
+
+abbrev pub read_comparison : List (List ℕ) → Bool → Reader Token ExprTree → Reader Token ExprTree → Reader Token ExprTree
+read_comparison names room e u = read_chain compare_op (read_sum names room e u)
+
+abbrev pub read_equality : List (List ℕ) → Bool → Reader Token ExprTree → Reader Token ExprTree → Reader Token ExprTree
+read_equality names room e u = read_chain equal_op (read_comparison names room e u)
+
+abbrev pub read_conjunction : List (List ℕ) → Bool → Reader Token ExprTree → Reader Token ExprTree → Reader Token ExprTree
+read_conjunction names room e u = read_chain and_op (read_equality names room e u)
+
+abbrev pub read_disjunction : List (List ℕ) → Bool → Reader Token ExprTree → Reader Token ExprTree → Reader Token ExprTree
+read_disjunction names room e u = read_chain or_op (read_conjunction names room e u)
+
+abbrev pub read_branches : Reader Token ExprTree → Reader Token (Option (ExprTree × ExprTree))
+read_branches e = and_then second_of (one_of question) (and_then branches_of e (and_then second_of (one_of colon) e))
+
+abbrev pub read_conditional : List (List ℕ) → Bool → Reader Token ExprTree → Reader Token ExprTree → Reader Token ExprTree
+read_conditional names room e u = and_then cond_of (read_disjunction names room e u) (choose (heads question) (opens room (heads question) (read_branches e)) (succeed None))
+
+abbrev pub read_level : List (List ℕ) → Bool → (Which → Reader Token ExprTree) → Which → Reader Token ExprTree
+read_level names room i Whole = read_conditional names room (i Whole) (i Operand)
+read_level names room i Operand = read_unary names room (i Whole) (i Operand)
+
+abbrev pub read_within : List (List ℕ) → ℕ → Which → Reader Token ExprTree
+read_within names zero = read_level names false (λ w. wrong)
+read_within names (suc n) = read_level names true (read_within names n)
+
+-- statements
+
+-- statements go on as long as there is a token other than an end of a block
+abbrev pub goes_on : List Token → Bool
+goes_on [] = false
+goes_on (t ∷ s) = cond (is_some (close_brace t)) false true
+
+abbrev pub read_block : Reader Token StmtTree → Reader Token BlockTree
+read_block s = and_then second_of (one_of open_brace) (map_by inside_of (and_then first_of (all_of goes_on s) (one_of close_brace)))
+
+abbrev pub read_init : Reader Token ExprTree → Reader Token (Option ExprTree)
+read_init e = choose (heads assign_mark) (map_by Some (and_then second_of (one_of assign_mark) e)) (succeed None)
+
+abbrev pub read_let : List (List ℕ) → Reader Token ExprTree → Reader Token StmtTree
+read_let names e = and_then second_of (one_of let_word) (and_then first_of (and_then (let_of names) (one_of name) (read_init e)) (one_of semicolon))
+
+abbrev pub read_const : List (List ℕ) → Reader Token ExprTree → Reader Token StmtTree
+read_const names e = and_then second_of (one_of const_word) (and_then (const_of names) (one_of name) (and_then second_of (one_of assign_mark) (and_then first_of e (one_of semicolon))))
+
+abbrev pub read_assign : List (List ℕ) → Reader Token ExprTree → Reader Token StmtTree
+read_assign names e = and_then (assign_of names) (one_of name) (and_then pair_of (one_of assign_op) (and_then first_of e (one_of semicolon)))
+
+abbrev pub read_print : Reader Token ExprTree → Reader Token StmtTree
+read_print e = and_then second_of (one_of print_word) (map_by print_of (and_then first_of (read_args e) (one_of semicolon)))
+
+abbrev pub read_arm : Reader Token ExprTree → Reader Token StmtTree → Reader Token ArmTree
+read_arm e s = and_then second_of (one_of if_word) (and_then arm_of (read_parens e) (read_block s))
+
+abbrev pub read_rest : Reader Token StmtTree → Reader Token BlockTree
+read_rest s = choose (heads else_word) (and_then second_of (one_of else_word) (read_block s)) (succeed no_inside)
+
+abbrev pub read_if : Reader Token ExprTree → Reader Token StmtTree → Reader Token StmtTree
+read_if e s = and_then if_of (read_arm e s) (and_then more_of (all_of (heads_two else_word if_word) (and_then second_of (one_of else_word) (read_arm e s))) (read_rest s))
+
+abbrev pub read_turns : Ident → Reader Token ℕ
+read_turns x = and_then second_of (one_of assign_mark) (and_then second_of (one_of nought) (and_then second_of (one_of semicolon) (and_then second_of (one_of (the_name x.number)) (and_then second_of (one_of less) (and_then first_of (one_of bound_number) (and_then second_of (one_of semicolon) (and_then second_of (one_of (the_name x.number)) (and_then second_of (one_of increment) (one_of closing)))))))))
+
+abbrev pub read_header : Reader Token (Ident × ℕ)
+read_header = and_then second_of (one_of for_word) (and_then second_of (one_of opening) (and_then second_of (one_of let_word) (and_bind header_of (one_of name) read_turns)))
+
+abbrev pub read_for : List (List ℕ) → Reader Token StmtTree → Reader Token StmtTree
+read_for names s = and_then (for_of names) read_header (read_block s)
+
+abbrev pub read_statement : List (List ℕ) → Bool → Bool → Reader Token ExprTree → Reader Token ExprTree → Reader Token StmtTree → Reader Token StmtTree
+read_statement names prints room e i s =
+    choose (heads open_brace) (opens room (heads open_brace) (map_by block (read_block s)))
+    (choose (heads let_word) (read_let names e)
+    (choose (heads const_word) (read_const names e)
+    (choose (heads name) (read_assign names e)
+    (choose (heads print_word) (allowed prints (opens room (heads print_word) (read_print i)))
+    (choose (heads if_word) (opens room (heads if_word) (read_if i s))
+    (opens room (heads for_word) (read_for names s)))))))
+
+abbrev pub read_at : List (List ℕ) → Bool → ℕ → Reader Token StmtTree
+read_at names prints zero = read_statement names prints false (read_within names 0 Whole) wrong wrong
+read_at names prints (suc n) = read_statement names prints true (read_within names (suc n) Whole) (read_within names n Whole) (read_at names prints n)
+
+abbrev pub read_strict : Reader Token (Unit {0})
+read_strict = choose (heads directive) (and_then second_of (one_of directive) (one_of semicolon)) (succeed tt)
+
+abbrev pub read_statements : List (List ℕ) → Bool → ℕ → Reader Token (List StmtTree)
+read_statements names prints n = and_then second_of read_strict (all_of goes_on (read_at names prints n))

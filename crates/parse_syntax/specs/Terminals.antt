@@ -1,0 +1,271 @@
+-- What each token is to the grammar. A terminal is a function from a token to an optional value; so one word may be
+-- a name at one place and a property at another.
+use Rattle.std.specs.Prelude.{ℕ, Bool, true, false, nat_eq, nat_lt, List, [], Option, Some, None, get_or}
+use Rattle.js_lex.specs.declared.token.Mark.TheVariants as mark
+use Rattle.parse_syntax.specs.declared.token.Token.{Token}
+use Rattle.parse_syntax.specs.declared.token.Token.TheVariants as token
+use Rattle.parse_syntax.specs.declared.token.Word.{Word}
+use Rattle.parse_syntax.specs.declared.token.Word.TheVariants as word
+use Rattle.parse_syntax.specs.declared.token.Property.{Property}
+use Rattle.parse_syntax.specs.declared.token.Property.TheVariants as property
+use Rattle.eval_tree.specs.declared.tree.Op.{Op}
+use Rattle.eval_tree.specs.declared.tree.Op.TheVariants as op
+use Rattle.eval_tree.specs.declared.tree.Method.{Method}
+use Rattle.eval_tree.specs.declared.tree.Builtin.{Builtin}
+use Rattle.eval_tree.specs.declared.tree.Builtin.TheVariants as builtin
+use Rattle.eval_tree.specs.Tree as tree
+use Rattle.eval_tree.specs.Tree.{ExprTree, StepTree}
+
+-- a name where it stands: its offset, and the number of its letters
+pub record Ident : Type 0 where
+  pub at : ℕ
+  pub number : ℕ
+
+abbrev pub when : {A : Type 0} → Bool → A → Option A
+when true x = Some x
+when false x = None
+
+-- words
+
+abbrev pub directive : Token → Option (Unit {0})
+directive (token.Directive at) = Some tt
+directive _ = None
+
+abbrev pub let_word : Token → Option (Unit {0})
+let_word (token.Word at word.Let) = Some tt
+let_word _ = None
+
+abbrev pub const_word : Token → Option (Unit {0})
+const_word (token.Word at word.Const) = Some tt
+const_word _ = None
+
+abbrev pub print_word : Token → Option (Unit {0})
+print_word (token.Word at word.Print) = Some tt
+print_word _ = None
+
+abbrev pub if_word : Token → Option (Unit {0})
+if_word (token.Word at word.If) = Some tt
+if_word _ = None
+
+abbrev pub else_word : Token → Option (Unit {0})
+else_word (token.Word at word.Else) = Some tt
+else_word _ = None
+
+abbrev pub for_word : Token → Option (Unit {0})
+for_word (token.Word at word.For) = Some tt
+for_word _ = None
+
+-- the word String, Symbol or JSON: its offset
+abbrev pub string_word : Token → Option ℕ
+string_word (token.Word at word.String) = Some at
+string_word _ = None
+
+abbrev pub symbol_word : Token → Option ℕ
+symbol_word (token.Word at word.Symbol) = Some at
+symbol_word _ = None
+
+abbrev pub json_word : Token → Option ℕ
+json_word (token.Word at word.Json) = Some at
+json_word _ = None
+
+-- names
+
+abbrev pub name : Token → Option Ident
+name (token.Name at n p) = Some (record { at = at; number = n })
+name _ = None
+
+-- a name with these letters
+abbrev pub the_name : ℕ → Token → Option (Unit {0})
+the_name m (token.Name at n p) = when (nat_eq n m) tt
+the_name m _ = None
+
+-- what stands behind a point
+
+abbrev pub member_of : Property → Option StepTree
+member_of property.Length = Some tree.of_length
+member_of property.Description = Some tree.of_description
+member_of _ = None
+
+abbrev pub member_word : Token → Option StepTree
+member_word (token.Name at n p) = member_of p
+member_word _ = None
+
+-- a method and its offset
+abbrev pub method_at : ℕ → Property → Option (ℕ × Method)
+method_at at (property.Method m) = Some (at, m)
+method_at at _ = None
+
+abbrev pub method : Token → Option (ℕ × Method)
+method (token.Name at n p) = method_at at p
+method _ = None
+
+abbrev pub from_of : Property → Option Builtin
+from_of property.FromCharCode = Some builtin.FromCharCode
+from_of property.FromCodePoint = Some builtin.FromCodePoint
+from_of _ = None
+
+abbrev pub from_word : Token → Option Builtin
+from_word (token.Name at n p) = from_of p
+from_word _ = None
+
+abbrev pub key_of : Property → Option Builtin
+key_of property.KeyFor = Some builtin.KeyFor
+key_of _ = None
+
+abbrev pub symbol_function : Token → Option Builtin
+symbol_function (token.Word at word.For) = Some builtin.SymbolFor
+symbol_function (token.Name at n p) = key_of p
+symbol_function _ = None
+
+abbrev pub stringify_of : Property → Option Builtin
+stringify_of property.Stringify = Some builtin.Stringify
+stringify_of _ = None
+
+abbrev pub stringify_word : Token → Option Builtin
+stringify_word (token.Name at n p) = stringify_of p
+stringify_word _ = None
+
+-- marks
+
+abbrev pub opening : Token → Option (Unit {0})
+opening (token.Mark at mark.OpenParen l) = Some tt
+opening _ = None
+
+abbrev pub closing : Token → Option (Unit {0})
+closing (token.Mark at mark.CloseParen l) = Some tt
+closing _ = None
+
+-- the mark [ : its offset
+abbrev pub open_bracket : Token → Option ℕ
+open_bracket (token.Mark at mark.OpenBracket l) = Some at
+open_bracket _ = None
+
+abbrev pub close_bracket : Token → Option (Unit {0})
+close_bracket (token.Mark at mark.CloseBracket l) = Some tt
+close_bracket _ = None
+
+abbrev pub open_brace : Token → Option (Unit {0})
+open_brace (token.Mark at mark.OpenBrace l) = Some tt
+open_brace _ = None
+
+abbrev pub close_brace : Token → Option (Unit {0})
+close_brace (token.Mark at mark.CloseBrace l) = Some tt
+close_brace _ = None
+
+abbrev pub comma : Token → Option (Unit {0})
+comma (token.Mark at mark.Comma l) = Some tt
+comma _ = None
+
+abbrev pub point : Token → Option (Unit {0})
+point (token.Mark at mark.Point l) = Some tt
+point _ = None
+
+abbrev pub semicolon : Token → Option (Unit {0})
+semicolon (token.Mark at mark.Semicolon l) = Some tt
+semicolon _ = None
+
+abbrev pub question : Token → Option (Unit {0})
+question (token.Mark at mark.Question l) = Some tt
+question _ = None
+
+abbrev pub colon : Token → Option (Unit {0})
+colon (token.Mark at mark.Colon l) = Some tt
+colon _ = None
+
+abbrev pub less : Token → Option (Unit {0})
+less (token.Mark at mark.Less l) = Some tt
+less _ = None
+
+abbrev pub assign_mark : Token → Option (Unit {0})
+assign_mark (token.Mark at mark.Assign l) = Some tt
+assign_mark _ = None
+
+-- = or += : the offset of +=
+abbrev pub assign_op : Token → Option (Option ℕ)
+assign_op (token.Mark at mark.Assign l) = Some None
+assign_op (token.Mark at mark.AddAssign l) = Some (Some at)
+assign_op _ = None
+
+-- ++ with no line end before it
+abbrev pub increment : Token → Option (Unit {0})
+increment (token.Mark at mark.Increment true) = None
+increment (token.Mark at mark.Increment false) = Some tt
+increment _ = None
+
+-- a sign: its offset, and whether it is a minus
+abbrev pub sign : Token → Option (ℕ × Bool)
+sign (token.Mark at mark.Minus l) = Some (at, true)
+sign (token.Mark at mark.Not l) = Some (at, false)
+sign _ = None
+
+-- the operators of each level, with their offset
+
+abbrev pub or_op : Token → Option (ℕ × Op)
+or_op (token.Mark at mark.Or l) = Some (at, op.Or)
+or_op _ = None
+
+abbrev pub and_op : Token → Option (ℕ × Op)
+and_op (token.Mark at mark.And l) = Some (at, op.And)
+and_op _ = None
+
+abbrev pub equal_op : Token → Option (ℕ × Op)
+equal_op (token.Mark at mark.StrictEqual l) = Some (at, op.Same)
+equal_op (token.Mark at mark.StrictUnequal l) = Some (at, op.NotSame)
+equal_op _ = None
+
+abbrev pub compare_op : Token → Option (ℕ × Op)
+compare_op (token.Mark at mark.Less l) = Some (at, op.Less)
+compare_op (token.Mark at mark.Greater l) = Some (at, op.Greater)
+compare_op (token.Mark at mark.AtMost l) = Some (at, op.LessEq)
+compare_op (token.Mark at mark.AtLeast l) = Some (at, op.GreaterEq)
+compare_op _ = None
+
+abbrev pub sum_op : Token → Option (ℕ × Op)
+sum_op (token.Mark at mark.Plus l) = Some (at, op.Plus)
+sum_op (token.Mark at mark.Minus l) = Some (at, op.Minus)
+sum_op _ = None
+
+-- numbers
+
+-- the number 0
+abbrev pub nought : Token → Option (Unit {0})
+nought (token.Number at n) = when (nat_eq n 0) tt
+nought _ = None
+
+-- a number of at most 1,000,000
+abbrev pub bound_number : Token → Option ℕ
+bound_number (token.Number at n) = when (nat_lt n 1000001) n
+bound_number _ = None
+
+-- a word that is an expression alone
+abbrev pub constant : Word → Option ExprTree
+constant word.Undefined = Some tree.undefined
+constant word.Null = Some tree.null
+constant word.True = Some (tree.bool true)
+constant word.False = Some (tree.bool false)
+constant word.NaN = Some tree.nan
+constant word.Infinity = Some tree.infinity
+constant _ = None
+
+-- a token that is an expression alone, where names have these letters by their numbers
+abbrev pub simple : List (List ℕ) → Token → Option ExprTree
+simple names (token.Text at n) = Some (tree.literal n)
+simple names (token.Number at n) = Some (tree.number n)
+simple names (token.Name at n p) = Some (tree.variable (get_or names n []))
+simple names (token.Word at w) = constant w
+simple names _ = None
+
+-- whether a token that can't stand where it stands is a word
+abbrev pub is_word : Token → Bool
+is_word (token.Name at n p) = true
+is_word (token.Word at w) = true
+is_word _ = false
+
+-- where a token stands
+abbrev pub place : Token → ℕ
+place (token.Directive at) = at
+place (token.Text at n) = at
+place (token.Number at n) = at
+place (token.Name at n p) = at
+place (token.Word at w) = at
+place (token.Mark at m l) = at

@@ -1,0 +1,20 @@
+use Rattle.std.proofs.Common.{◌-◌, ◌≤◌, length}
+use Rattle.std.specs.Str.{IsCharBoundary}
+use Rattle.js_lex.specs.Tokens.{Fails}
+use Rattle.js_lex.specs.declared.token.LexFault.{LexFault}
+use Rattle.parse_tokens.specs.Steps.{Agrees, Goes, before_at}
+use Rattle.parse_tokens.proofs.read.scan.Given as goal
+
+abbrev pub invariant-tokens : goal.invariant-tokens
+invariant-tokens l = record {
+  cut : IsCharBoundary l.fn.text l.at;
+  within : l.at ≤ length l.fn.text;
+  literals : length l.source.literals.items ≤ l.at;
+  names : length l.source.names.items ≤ l.at;
+  agrees : Agrees l.numbers l.source.names.items;
+  goes : Goes l.fn.text l.at l.source.tokens.items (before_at l.source.tokens.items l.source.literals.items l.source.names.items l.at);
+  fails : (fault : LexFault) → Fails l.fn.text l.at fault → Fails l.fn.text 0 fault;
+}
+
+abbrev pub decreases-tokens : goal.decreases-tokens
+decreases-tokens l = length l.text - l.at

@@ -1,0 +1,160 @@
+-- Words (ECMA-262, "Keywords and Reserved Words"), and the names that mean something behind a point.
+use Rattle.std.specs.Prelude.{ℕ, List, [], ◌∷◌, codes, Bool, true, false, Option, Some, None, if◌then◌else◌}
+use Rattle.std.specs.Str.{bytes_eq}
+use Rattle.eval_tree.specs.declared.tree.Method.{Method}
+use Rattle.eval_tree.specs.declared.tree.Method.TheVariants as method
+use Rattle.parse_syntax.specs.declared.token.Word.{Word}
+use Rattle.parse_syntax.specs.declared.token.Word.TheVariants as word
+use Rattle.parse_syntax.specs.declared.token.Property.{Property}
+use Rattle.parse_syntax.specs.declared.token.Property.TheVariants as property
+
+-- ReservedWord, with those that strict code adds
+abbrev pub reserved_words : List (List ℕ)
+reserved_words =
+    codes "break" ∷ codes "case" ∷ codes "catch" ∷ codes "class" ∷ codes "const" ∷ codes "continue" ∷
+    codes "debugger" ∷ codes "default" ∷ codes "delete" ∷ codes "do" ∷ codes "else" ∷ codes "enum" ∷
+    codes "export" ∷ codes "extends" ∷ codes "false" ∷ codes "finally" ∷ codes "for" ∷ codes "function" ∷
+    codes "if" ∷ codes "implements" ∷ codes "import" ∷ codes "in" ∷ codes "instanceof" ∷ codes "interface" ∷
+    codes "let" ∷ codes "new" ∷ codes "null" ∷ codes "package" ∷ codes "private" ∷ codes "protected" ∷
+    codes "public" ∷ codes "return" ∷ codes "static" ∷ codes "super" ∷ codes "switch" ∷ codes "this" ∷
+    codes "throw" ∷ codes "true" ∷ codes "try" ∷ codes "typeof" ∷ codes "var" ∷ codes "void" ∷ codes "while" ∷
+    codes "with" ∷ codes "yield" ∷ []
+
+-- words of the standard and of its global environment and prototypes that the profile keeps back
+abbrev pub kept_words : List (List ℕ)
+kept_words =
+    codes "await" ∷ codes "print" ∷ codes "String" ∷ codes "Symbol" ∷ codes "JSON" ∷ codes "undefined" ∷
+    codes "NaN" ∷ codes "Infinity" ∷ codes "eval" ∷ codes "arguments" ∷ codes "globalThis" ∷ codes "isFinite" ∷
+    codes "isNaN" ∷ codes "parseFloat" ∷ codes "parseInt" ∷ codes "decodeURI" ∷ codes "decodeURIComponent" ∷
+    codes "encodeURI" ∷ codes "encodeURIComponent" ∷ codes "escape" ∷ codes "unescape" ∷
+    codes "AggregateError" ∷ codes "Array" ∷ codes "ArrayBuffer" ∷ codes "Atomics" ∷ codes "BigInt" ∷
+    codes "BigInt64Array" ∷ codes "BigUint64Array" ∷ codes "Boolean" ∷ codes "DataView" ∷ codes "Date" ∷
+    codes "Error" ∷ codes "EvalError" ∷ codes "FinalizationRegistry" ∷ codes "Float32Array" ∷
+    codes "Float64Array" ∷ codes "Function" ∷ codes "Int8Array" ∷ codes "Int16Array" ∷ codes "Int32Array" ∷
+    codes "Map" ∷ codes "Math" ∷ codes "Number" ∷ codes "Object" ∷ codes "Promise" ∷ codes "Proxy" ∷
+    codes "RangeError" ∷ codes "ReferenceError" ∷ codes "Reflect" ∷ codes "RegExp" ∷ codes "Set" ∷
+    codes "SharedArrayBuffer" ∷ codes "SyntaxError" ∷ codes "TypeError" ∷ codes "URIError" ∷
+    codes "Uint8Array" ∷ codes "Uint8ClampedArray" ∷ codes "Uint16Array" ∷ codes "Uint32Array" ∷
+    codes "WeakMap" ∷ codes "WeakRef" ∷ codes "WeakSet" ∷ codes "constructor" ∷ codes "hasOwnProperty" ∷
+    codes "isPrototypeOf" ∷ codes "propertyIsEnumerable" ∷ codes "toLocaleString" ∷ codes "toString" ∷
+    codes "valueOf" ∷ codes "__proto__" ∷ codes "__defineGetter__" ∷ codes "__defineSetter__" ∷
+    codes "__lookupGetter__" ∷ codes "__lookupSetter__" ∷ []
+
+abbrev pub is_in : List ℕ → List (List ℕ) → Bool
+is_in letters [] = false
+is_in letters (w ∷ ws) = if bytes_eq letters w then true else is_in letters ws
+
+-- whether a word can't be a name
+abbrev pub is_reserved : List ℕ → Bool
+is_reserved letters = if is_in letters reserved_words then true else is_in letters kept_words
+
+-- the first of two that is there
+abbrev pub first_there : {A : Type 0} → Option A → Option A → Option A
+first_there (Some x) other = Some x
+first_there None other = other
+
+-- a word by which a statement begins or goes on
+abbrev pub statement_word : List ℕ → Option Word
+statement_word letters =
+    if bytes_eq letters (codes "let") then Some word.Let
+    else if bytes_eq letters (codes "const") then Some word.Const
+    else if bytes_eq letters (codes "print") then Some word.Print
+    else if bytes_eq letters (codes "if") then Some word.If
+    else if bytes_eq letters (codes "else") then Some word.Else
+    else if bytes_eq letters (codes "for") then Some word.For
+    else None
+
+-- a word by which an operand begins
+abbrev pub operand_word : List ℕ → Option Word
+operand_word letters =
+    if bytes_eq letters (codes "undefined") then Some word.Undefined
+    else if bytes_eq letters (codes "null") then Some word.Null
+    else if bytes_eq letters (codes "true") then Some word.True
+    else if bytes_eq letters (codes "false") then Some word.False
+    else if bytes_eq letters (codes "NaN") then Some word.NaN
+    else if bytes_eq letters (codes "Infinity") then Some word.Infinity
+    else if bytes_eq letters (codes "String") then Some word.String
+    else if bytes_eq letters (codes "Symbol") then Some word.Symbol
+    else if bytes_eq letters (codes "JSON") then Some word.Json
+    else None
+
+-- a word with a meaning of its own
+abbrev pub keyword_of : List ℕ → Option Word
+keyword_of letters = first_there (statement_word letters) (operand_word letters)
+
+-- one that has a meaning, one that has none, or a name
+abbrev pub word_or : Option Word → Bool → Option Word
+word_or (Some w) reserved = Some w
+word_or None true = Some word.Reserved
+word_or None false = None
+
+abbrev pub word_of : List ℕ → Option Word
+word_of letters = word_or (keyword_of letters) (is_reserved letters)
+
+-- a name behind a point that is no method of strings or arrays
+abbrev pub other_property : List ℕ → Option Property
+other_property letters =
+    if bytes_eq letters (codes "length") then Some property.Length
+    else if bytes_eq letters (codes "description") then Some property.Description
+    else if bytes_eq letters (codes "fromCharCode") then Some property.FromCharCode
+    else if bytes_eq letters (codes "fromCodePoint") then Some property.FromCodePoint
+    else if bytes_eq letters (codes "keyFor") then Some property.KeyFor
+    else if bytes_eq letters (codes "stringify") then Some property.Stringify
+    else None
+
+-- a method that gives or looks at single units
+abbrev pub unit_method : List ℕ → Option Method
+unit_method letters =
+    if bytes_eq letters (codes "at") then Some method.At
+    else if bytes_eq letters (codes "charAt") then Some method.CharAt
+    else if bytes_eq letters (codes "charCodeAt") then Some method.CharCodeAt
+    else if bytes_eq letters (codes "codePointAt") then Some method.CodePointAt
+    else if bytes_eq letters (codes "isWellFormed") then Some method.IsWellFormed
+    else if bytes_eq letters (codes "toWellFormed") then Some method.ToWellFormed
+    else None
+
+-- a method that searches
+abbrev pub search_method : List ℕ → Option Method
+search_method letters =
+    if bytes_eq letters (codes "endsWith") then Some method.EndsWith
+    else if bytes_eq letters (codes "includes") then Some method.Includes
+    else if bytes_eq letters (codes "indexOf") then Some method.IndexOf
+    else if bytes_eq letters (codes "lastIndexOf") then Some method.LastIndexOf
+    else if bytes_eq letters (codes "startsWith") then Some method.StartsWith
+    else None
+
+-- a method that cuts
+abbrev pub part_method : List ℕ → Option Method
+part_method letters =
+    if bytes_eq letters (codes "slice") then Some method.Slice
+    else if bytes_eq letters (codes "split") then Some method.Split
+    else if bytes_eq letters (codes "substr") then Some method.Substr
+    else if bytes_eq letters (codes "substring") then Some method.Substring
+    else if bytes_eq letters (codes "trim") then Some method.Trim
+    else if bytes_eq letters (codes "trimEnd") then Some method.TrimEnd
+    else if bytes_eq letters (codes "trimStart") then Some method.TrimStart
+    else None
+
+-- a method that builds another string
+abbrev pub building_method : List ℕ → Option Method
+building_method letters =
+    if bytes_eq letters (codes "concat") then Some method.Concat
+    else if bytes_eq letters (codes "join") then Some method.Join
+    else if bytes_eq letters (codes "padEnd") then Some method.PadEnd
+    else if bytes_eq letters (codes "padStart") then Some method.PadStart
+    else if bytes_eq letters (codes "repeat") then Some method.Repeat
+    else if bytes_eq letters (codes "replace") then Some method.Replace
+    else if bytes_eq letters (codes "replaceAll") then Some method.ReplaceAll
+    else None
+
+abbrev pub method_of : List ℕ → Option Method
+method_of letters = first_there (unit_method letters) (first_there (search_method letters) (first_there (part_method letters) (building_method letters)))
+
+abbrev property_or : Option Property → Option Method → Property
+property_or (Some p) m = p
+property_or None (Some m) = property.Method m
+property_or None None = property.Nothing
+
+-- what a name means behind a point
+abbrev pub property_of : List ℕ → Property
+property_of letters = property_or (other_property letters) (method_of letters)

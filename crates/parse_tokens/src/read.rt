@@ -1,0 +1,290 @@
+// From bytes to the tokens of the grammar.
+ghost use Rattle.std.specs.Prelude.{◌≡◌, ◌≤◌, ◌<◌, ◌⊎◌, ◌∷◌, ◌++◌, [], List, ℕ, length, IfOk, IfErr, OnOk};
+ghost use Rattle.std.specs.List.{list_any};
+ghost use Rattle.std.specs.Str.{IsCharBoundary, chars};
+ghost use Rattle.js_lex.specs.Elements.{is_line_end};
+ghost use Rattle.js_lex.specs.Spans.{slice};
+ghost use Rattle.js_lex.specs.Tokens.{LexFaultOf, Fails};
+ghost use Rattle.js_lex.specs.declared.token.LexFault.{LexFault};
+ghost use Rattle.js_lex.specs.declared.token.LexFault.TheVariants.{Memory};
+ghost use Rattle.parse_tokens.specs.Tokens as definition;
+ghost use Rattle.parse_tokens.specs.Tokens.{Reads, place_in, with_name, has_line_end, token_at, after};
+ghost use Rattle.parse_tokens.specs.Words as words;
+ghost use Rattle.parse_syntax.specs.declared.token.Token.{Token};
+ghost use Rattle.parse_tokens.specs.Steps.{Agrees, IsSource, ScannedTo, before_of};
+
+use crate::numbers::Numbers;
+use crate::word::{property_named, word_named};
+use eval_tree::Name;
+use js_lex::{LexFault, TokenKind};
+use js_units::{NoMemory, Units, split_char};
+use parse_syntax::Token;
+use std::alloc::Global;
+
+/// The tokens of a script's bytes; the units of its texts, in order, without the directive; and its
+/// names, each once, in order.
+#[derive(Drop)]
+pub struct Source {
+    pub tokens: Vec<Token>,
+    pub literals: Vec<Units>,
+    pub names: Vec<Name>,
+}
+
+// Whether it is LF, CR, U+2028 or U+2029.
+fn is_line_end(c: char) -> bool
+    ensures { result ≡ is_line_end c }
+{
+    matches!(c, '\n' | '\r' | '\u{2028}' | '\u{2029}')
+}
+
+// Whether a line end stands in the text.
+fn any_line_end(text: &str) -> bool
+    ensures { result ≡ has_line_end text.now }
+{
+    let mut text = text;
+    while let Some((c, rest)) = split_char(text) {
+        if is_line_end(c) {
+            return true;
+        }
+        text = rest;
+    }
+    false
+}
+
+// The number of a name, which is put into the table where it isn't in it.
+fn number_of(
+    alloc: Global,
+    numbers: &mut Numbers,
+    names: &mut Vec<Name>,
+    letters: &[u8],
+) -> Result<u32, NoMemory>
+    requires few { length names.old.items ≤ 1_048_576 }
+    requires agrees { Agrees numbers.old names.old.items }
+    ensures number { IfOk result (λ number. number ≡ place_in names.old.items letters.now) }
+    ensures names { OnOk result (names.new.items ≡ with_name names.old.items letters.now) }
+    ensures agrees { OnOk result (Agrees numbers.new names.new.items) }
+{
+    match numbers.get(letters) {
+        Some(number) => Ok(number),
+        None => {
+            let number = names.len() as u32;
+            numbers.insert(alloc, letters, number)?;
+            names.push(Name::new(Vec::from_slice(alloc, letters)?))?;
+            Ok(number)
+        }
+    }
+}
+
+// The token of a word.
+fn word_token(
+    alloc: Global,
+    numbers: &mut Numbers,
+    names: &mut Vec<Name>,
+    letters: &[u8],
+    at: u32,
+) -> Result<Token, NoMemory>
+    requires few { length names.old.items ≤ 1_048_576 }
+    requires agrees { Agrees numbers.old names.old.items }
+    ensures token { IfOk result (λ token. token
+        ≡ definition.word_token (words.word_of letters.now) names.old.items letters.now at) }
+    ensures names { OnOk result (names.new.items
+        ≡ definition.names_after (words.word_of letters.now) names.old.items letters.now) }
+    ensures agrees { OnOk result (Agrees numbers.new names.new.items) }
+{
+    match word_named(letters) {
+        Some(word) => Ok(Token::Word { at, word }),
+        None => {
+            let number = number_of(alloc, numbers, names, letters)?;
+            let property = property_named(letters);
+            Ok(Token::Name {
+                at,
+                number,
+                property,
+            })
+        }
+    }
+}
+
+// Whether the source is the directive's.
+fn is_use_strict(source: &[u8]) -> bool
+    ensures { result ≡ definition.is_use_strict source.now }
+{
+    if source == b"'use strict'".as_slice() {
+        true
+    } else if source == b"\"use strict\"".as_slice() {
+        true
+    } else {
+        false
+    }
+}
+
+// The token of a text, whose units are put behind the others where it isn't the directive.
+fn text_token(
+    first: bool,
+    literals: &mut Vec<Units>,
+    source: &[u8],
+    at: u32,
+    units: Units,
+) -> Result<Token, NoMemory>
+    requires few { length literals.old.items ≤ 1_048_576 }
+    ensures token { IfOk result (λ token. token
+        ≡ definition.text_token first literals.old.items source.now at) }
+    ensures literals { OnOk result (literals.new.items
+        ≡ definition.texts_after first literals.old.items source.now units) }
+{
+    if first {
+        if is_use_strict(source) {
+            return Ok(Token::Directive { at });
+        }
+    }
+    let literal = literals.len() as u32;
+    literals.push(units)?;
+    Ok(Token::Text { at, literal })
+}
+
+// The token of the grammar behind those that were read, whose text ended at a place.
+fn next(
+    alloc: Global,
+    source: &mut Source,
+    numbers: &mut Numbers,
+    text: &str,
+    end: u32,
+    token: js_lex::Token,
+) -> Result<Token, NoMemory>
+    requires texts { length source.old.literals.items ≤ 1_048_576 }
+    requires names { length source.old.names.items ≤ 1_048_576 }
+    requires agrees { Agrees numbers.old source.old.names.items }
+    requires behind { end ≤ token.from }
+    requires forward { token.from < token.to }
+    requires within { token.to ≤ length text.now }
+    requires last { IsCharBoundary text.now end }
+    requires start { IsCharBoundary text.now token.from }
+    ensures tokens { OnOk result (source.new.tokens ≡ source.old.tokens) }
+    ensures token { IfOk result (λ found. found ≡ token_at text.now (before_of source.old end) token) }
+    ensures literals { OnOk result (source.new.literals.items
+        ≡ definition.literals_after (before_of source.old end)
+        (slice text.now token.from token.to) token.kind) }
+    ensures names { OnOk result (source.new.names.items
+        ≡ definition.table_after (before_of source.old end) (slice text.now token.from token.to) token.kind) }
+    ensures agrees { OnOk result (Agrees numbers.new source.new.names.items) }
+{
+    let js_lex::Token { kind, from, to } = token;
+    let letters = &text.as_bytes()[from as usize..to as usize];
+    match kind {
+        TokenKind::Word => word_token(alloc, numbers, &mut source.names, letters, from),
+        TokenKind::Text(units) => text_token(
+            source.tokens.is_empty(),
+            &mut source.literals,
+            letters,
+            from,
+            units,
+        ),
+        TokenKind::Number(value) => Ok(Token::Number { at: from, value }),
+        TokenKind::Mark(mark) => {
+            let after_line = any_line_end(&text[end as usize..from as usize]);
+            Ok(Token::Mark {
+                at: from,
+                mark,
+                after_line,
+            })
+        }
+    }
+}
+
+// Puts the token of the grammar behind those that were read, whose text ended at a place.
+fn add(
+    alloc: Global,
+    source: &mut Source,
+    numbers: &mut Numbers,
+    text: &str,
+    end: u32,
+    token: js_lex::Token,
+) -> Result<(), NoMemory>
+    requires literals { length source.old.literals.items ≤ 1_048_576 }
+    requires names { length source.old.names.items ≤ 1_048_576 }
+    requires agrees { Agrees numbers.old source.old.names.items }
+    requires behind { end ≤ token.from }
+    requires forward { token.from < token.to }
+    requires within { token.to ≤ length text.now }
+    requires last { IsCharBoundary text.now end }
+    requires start { IsCharBoundary text.now token.from }
+    ensures tokens { OnOk result (source.new.tokens.items
+        ≡ source.old.tokens.items ++ token_at text.now (before_of source.old end) token ∷ []) }
+    ensures literals { OnOk result (source.new.literals.items
+        ≡ (after text.now (before_of source.old end) token).texts) }
+    ensures names { OnOk result (source.new.names.items
+        ≡ (after text.now (before_of source.old end) token).names) }
+    ensures agrees { OnOk result (Agrees numbers.new source.new.names.items) }
+{
+    let token = next(alloc, source, numbers, text, end, token)?;
+    source.tokens.push(token)?;
+    Ok(())
+}
+
+// No token, with room for those of an ordinary script of so many bytes.
+fn no_source(alloc: Global, bytes: usize) -> Result<Source, NoMemory>
+    requires { bytes ≤ 1_048_576 }
+    ensures tokens { IfOk result (λ source. source.tokens.items ≡ []) }
+    ensures literals { IfOk result (λ source. source.literals.items ≡ []) }
+    ensures names { IfOk result (λ source. source.names.items ≡ []) }
+{
+    Ok(Source {
+        tokens: Vec::with_capacity(alloc, bytes / 8 + 8)?,
+        literals: Vec::new(alloc),
+        names: Vec::new(alloc),
+    })
+}
+
+// The tokens of a text.
+fn scan(alloc: Global, text: &str) -> Result<Source, LexFault>
+    requires { length text.now ≤ 1_048_576 }
+    ensures read { IfOk result (ScannedTo text.now) }
+    ensures refused { IfErr result (λ fault. (fault ≡ Memory) ⊎ Fails text.now 0 fault) }
+{
+    let mut source = match no_source(alloc, text.len()) {
+        Ok(source) => source,
+        Err(NoMemory) => return Err(LexFault::Memory),
+    };
+    let mut numbers = Numbers::new(alloc);
+    let mut at: u32 = 0;
+    'tokens: loop {
+        match js_lex::next_token(alloc, text, at) {
+            Ok(Some(token)) => {
+                let end = token.to;
+                if add(alloc, &mut source, &mut numbers, text, at, token).is_err() {
+                    return Err(LexFault::Memory);
+                }
+                at = end;
+            }
+            Ok(None) => return Ok(source),
+            Err(fault) => return Err(fault),
+        }
+    }
+}
+
+/// What `tokens` answers, against the relations alone.
+fn read(alloc: Global, bytes: &[u8]) -> Result<Source, LexFault>
+    requires { length bytes.now ≤ 1_048_576 }
+    ensures read { IfOk result
+        (λ source. Reads bytes.now source.tokens.items source.literals.items source.names.items) }
+    ensures refused { IfErr result (λ fault. (fault ≡ Memory) ⊎ LexFaultOf bytes.now fault) }
+{
+    match js_lex::source_text(bytes) {
+        Ok(text) => scan(alloc, text),
+        Err(fault) => Err(fault),
+    }
+}
+
+/// The tokens of the grammar of a script's bytes, or the first lexical fault.
+pub fn tokens(alloc: Global, bytes: &[u8]) -> Result<Source, LexFault>
+    requires { length bytes.now ≤ 1_048_576 }
+    ensures read { IfOk result
+        (λ source. Reads bytes.now source.tokens.items source.literals.items source.names.items) }
+    ensures refused { IfErr result (λ fault. (fault ≡ Memory) ⊎ LexFaultOf bytes.now fault) }
+    ensures found { (ts : List Token) (texts names : List (List ℕ)) → Reads bytes.now ts texts names
+        → IfOk result (λ source. IsSource source ts texts names) × IfErr result (λ fault. fault ≡ Memory) }
+    ensures faults { (f : LexFault) → LexFaultOf bytes.now f
+        → IfOk result (λ source. ⊥) × IfErr result (λ fault. (fault ≡ f) ⊎ (fault ≡ Memory)) }
+{
+    read(alloc, bytes)
+}

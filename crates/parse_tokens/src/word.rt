@@ -1,0 +1,215 @@
+// What a word is.
+ghost use Rattle.std.specs.Prelude.{◌≡◌};
+ghost use Rattle.parse_tokens.specs.Words as words;
+
+use crate::reserved::is_reserved;
+use eval_tree::Method;
+use parse_syntax::{Property, Word};
+
+// A word by which a statement begins or goes on.
+fn statement_word(letters: &[u8]) -> Option<Word>
+    ensures { result ≡ words.statement_word letters.now }
+{
+    if letters == b"let".as_slice() {
+        Some(Word::Let)
+    } else if letters == b"const".as_slice() {
+        Some(Word::Const)
+    } else if letters == b"print".as_slice() {
+        Some(Word::Print)
+    } else if letters == b"if".as_slice() {
+        Some(Word::If)
+    } else if letters == b"else".as_slice() {
+        Some(Word::Else)
+    } else if letters == b"for".as_slice() {
+        Some(Word::For)
+    } else {
+        None
+    }
+}
+
+// A word by which an operand begins.
+fn operand_word(letters: &[u8]) -> Option<Word>
+    ensures { result ≡ words.operand_word letters.now }
+{
+    if letters == b"undefined".as_slice() {
+        Some(Word::Undefined)
+    } else if letters == b"null".as_slice() {
+        Some(Word::Null)
+    } else if letters == b"true".as_slice() {
+        Some(Word::True)
+    } else if letters == b"false".as_slice() {
+        Some(Word::False)
+    } else if letters == b"NaN".as_slice() {
+        Some(Word::NaN)
+    } else if letters == b"Infinity".as_slice() {
+        Some(Word::Infinity)
+    } else if letters == b"String".as_slice() {
+        Some(Word::String)
+    } else if letters == b"Symbol".as_slice() {
+        Some(Word::Symbol)
+    } else if letters == b"JSON".as_slice() {
+        Some(Word::Json)
+    } else {
+        None
+    }
+}
+
+fn keyword(letters: &[u8]) -> Option<Word>
+    ensures { result ≡ words.keyword_of letters.now }
+{
+    if let Some(word) = statement_word(letters) {
+        return Some(word);
+    }
+    operand_word(letters)
+}
+
+/// The word, where it is no name.
+pub(crate) fn word_named(letters: &[u8]) -> Option<Word>
+    ensures { result ≡ words.word_of letters.now }
+{
+    match keyword(letters) {
+        Some(word) => Some(word),
+        None => {
+            if is_reserved(letters) {
+                Some(Word::Reserved)
+            } else {
+                None
+            }
+        }
+    }
+}
+
+// A name behind a point that is no method of strings or arrays.
+fn other_property(letters: &[u8]) -> Option<Property>
+    ensures { result ≡ words.other_property letters.now }
+{
+    if letters == b"length".as_slice() {
+        Some(Property::Length)
+    } else if letters == b"description".as_slice() {
+        Some(Property::Description)
+    } else if letters == b"fromCharCode".as_slice() {
+        Some(Property::FromCharCode)
+    } else if letters == b"fromCodePoint".as_slice() {
+        Some(Property::FromCodePoint)
+    } else if letters == b"keyFor".as_slice() {
+        Some(Property::KeyFor)
+    } else if letters == b"stringify".as_slice() {
+        Some(Property::Stringify)
+    } else {
+        None
+    }
+}
+
+// A method that gives or looks at single units.
+fn unit_method(letters: &[u8]) -> Option<Method>
+    ensures { result ≡ words.unit_method letters.now }
+{
+    if letters == b"at".as_slice() {
+        Some(Method::At)
+    } else if letters == b"charAt".as_slice() {
+        Some(Method::CharAt)
+    } else if letters == b"charCodeAt".as_slice() {
+        Some(Method::CharCodeAt)
+    } else if letters == b"codePointAt".as_slice() {
+        Some(Method::CodePointAt)
+    } else if letters == b"isWellFormed".as_slice() {
+        Some(Method::IsWellFormed)
+    } else if letters == b"toWellFormed".as_slice() {
+        Some(Method::ToWellFormed)
+    } else {
+        None
+    }
+}
+
+// A method that searches.
+fn search_method(letters: &[u8]) -> Option<Method>
+    ensures { result ≡ words.search_method letters.now }
+{
+    if letters == b"endsWith".as_slice() {
+        Some(Method::EndsWith)
+    } else if letters == b"includes".as_slice() {
+        Some(Method::Includes)
+    } else if letters == b"indexOf".as_slice() {
+        Some(Method::IndexOf)
+    } else if letters == b"lastIndexOf".as_slice() {
+        Some(Method::LastIndexOf)
+    } else if letters == b"startsWith".as_slice() {
+        Some(Method::StartsWith)
+    } else {
+        None
+    }
+}
+
+// A method that cuts.
+fn part_method(letters: &[u8]) -> Option<Method>
+    ensures { result ≡ words.part_method letters.now }
+{
+    if letters == b"slice".as_slice() {
+        Some(Method::Slice)
+    } else if letters == b"split".as_slice() {
+        Some(Method::Split)
+    } else if letters == b"substr".as_slice() {
+        Some(Method::Substr)
+    } else if letters == b"substring".as_slice() {
+        Some(Method::Substring)
+    } else if letters == b"trim".as_slice() {
+        Some(Method::Trim)
+    } else if letters == b"trimEnd".as_slice() {
+        Some(Method::TrimEnd)
+    } else if letters == b"trimStart".as_slice() {
+        Some(Method::TrimStart)
+    } else {
+        None
+    }
+}
+
+// A method that builds another string.
+fn building_method(letters: &[u8]) -> Option<Method>
+    ensures { result ≡ words.building_method letters.now }
+{
+    if letters == b"concat".as_slice() {
+        Some(Method::Concat)
+    } else if letters == b"join".as_slice() {
+        Some(Method::Join)
+    } else if letters == b"padEnd".as_slice() {
+        Some(Method::PadEnd)
+    } else if letters == b"padStart".as_slice() {
+        Some(Method::PadStart)
+    } else if letters == b"repeat".as_slice() {
+        Some(Method::Repeat)
+    } else if letters == b"replace".as_slice() {
+        Some(Method::Replace)
+    } else if letters == b"replaceAll".as_slice() {
+        Some(Method::ReplaceAll)
+    } else {
+        None
+    }
+}
+
+fn method_named(letters: &[u8]) -> Option<Method>
+    ensures { result ≡ words.method_of letters.now }
+{
+    if let Some(method) = unit_method(letters) {
+        return Some(method);
+    }
+    if let Some(method) = search_method(letters) {
+        return Some(method);
+    }
+    if let Some(method) = part_method(letters) {
+        return Some(method);
+    }
+    building_method(letters)
+}
+
+/// What a name means behind a point.
+pub(crate) fn property_named(letters: &[u8]) -> Property
+    ensures { result ≡ words.property_of letters.now }
+{
+    if let Some(property) = other_property(letters) {
+        return property;
+    }
+    match method_named(letters) {
+        Some(method) => Property::Method(method),
+        None => Property::Nothing,
+    }
+}

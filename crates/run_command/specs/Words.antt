@@ -1,0 +1,155 @@
+-- What the words of the command line ask for.
+use Rattle.std.specs.Prelude.{◌≡◌, ◌==◌, ◌&&◌, ◌||◌, not, is_some, ◌+◌, ◌^◌, ◌<◌, ◌≤◌, ⊤, ℕ, Bool, false, List, [], ◌∷◌, Option, None, Some, codes, if◌then◌else◌, length, map, nat_le, pos, option_and_then, option_map, unwrap_or}
+use Rattle.std.specs.Option.{option_map_or}
+use Rattle.std.specs.Str.{bytes_eq}
+use Rattle.std.specs.Str.Parse.{digits_value, without_leading_sign}
+use Rattle.clap.specs.ValueTests.{is_signed_in}
+use Rattle.clap.specs.Walk.{is_empty}
+use Rattle.clap.specs.Words.{Row, Text, all_of, first_of, matches_of, one_of}
+use Rattle.js_store.specs.declared.limit.Limit.{Limit}
+use Rattle.js_store.specs.declared.limit.Limit.TheVariants.{Bits32, Bits64}
+use Rattle.run_command.specs.Command.{command, gives_matches}
+use Rattle.run_command.specs.declared.plan.Plan.{Plan}
+use Rattle.run_command.specs.declared.plan.Sizes.{Sizes}
+use Rattle.run_command.specs.declared.plan.Source.{Source}
+use Rattle.run_command.specs.declared.plan.Source.TheVariants as source
+use Rattle.run_command.specs.declared.plan.WordsFault.{WordsFault}
+use Rattle.run_command.specs.declared.plan.WordsFault.TheVariants.{Refused, Memory}
+
+-- a word that names a file, by its bytes
+abbrev pub Name : Type 0
+Name = List ℕ
+
+-- what is run: a prelude or none and the scripts, by the names of their files, or the texts that are made from a number
+pub data Asked : Type 0 where
+  files : Option Name → List Name → Asked
+  made_from : ℕ → Asked
+
+-- what is asked for
+pub record Request : Type 0 where
+  pub asked : Asked
+  pub jobs : ℕ
+  pub sizes : Sizes
+  pub summary : Bool
+  pub limit : Limit
+
+-- ---- values of options
+
+-- the number that a text spells, where it is in the range: decimal digits, behind a sign or none, as the command takes them
+abbrev pub number_in : ℕ → ℕ → Text → Option ℕ
+number_in least most text = if is_signed_in (pos least) (pos most) text then Some (digits_value 10 (without_leading_sign text)) else None
+
+-- the number of an option
+abbrev pub number_of : ℕ → ℕ → Text → List Row → Option ℕ
+number_of least most id rows = option_and_then (number_in least most) (first_of id rows)
+
+abbrev pub most_jobs : ℕ
+most_jobs = 64
+
+-- the most that one size of a heap may be, 2^29 - 1, and the most that all three may add up to, 2^29
+abbrev pub most_size : ℕ
+most_size = 536870911
+
+abbrev pub most_together : ℕ
+most_together = 536870912
+
+abbrev pub sizes_by : Option ℕ → Option ℕ → Option ℕ → Option Sizes
+sizes_by (Some ids) (Some heap_words) (Some slots) =
+    if nat_le (ids + heap_words + slots) most_together then Some (record { ids = ids; heap_words = heap_words; slots = slots }) else None
+sizes_by _ _ _ = None
+
+abbrev pub sizes_in : List Row → Option Sizes
+sizes_in rows = sizes_by (number_of 1 most_size (codes "ids") rows) (number_of 1 most_size (codes "heap-words") rows) (number_of 1 most_size (codes "slots") rows)
+
+-- `--limit`: 32 or 64
+abbrev pub limit_by : ℕ → Option Limit
+limit_by bits = if bits == 32 then Some Bits32 else (if bits == 64 then Some Bits64 else None)
+
+abbrev pub limit_in : List Row → Option Limit
+limit_in rows = option_and_then limit_by (number_of 32 64 (codes "limit") rows)
+
+abbrev pub jobs_in : List Row → Option ℕ
+jobs_in rows = number_of 1 most_jobs (codes "jobs") rows
+
+-- `--summary` was given
+abbrev pub summary_in : List Row → Bool
+summary_in rows = option_map_or (λ text. bytes_eq text (codes "true")) (one_of (codes "summary") rows) false
+
+-- ---- what is run
+
+-- the words that name files, in order
+abbrev pub files_in : List Row → List Name
+files_in rows = unwrap_or (all_of (codes "FILE") rows) []
+
+abbrev pub most_files : ℕ
+most_files = 4096
+
+abbrev pub is_some_files : List Name → Bool
+is_some_files scripts = nat_le 1 (length scripts) && nat_le (length scripts) most_files
+
+-- files, one or more, but not too many, and a prelude or none
+abbrev pub named_in : List Row → Option Asked
+named_in rows = if is_some_files (files_in rows) then Some (files (first_of (codes "prelude") rows) (files_in rows)) else None
+
+-- the number of `--generate`, and neither a prelude nor a file
+abbrev pub generated_in : List Row → Option Asked
+generated_in rows =
+    if is_some (first_of (codes "prelude") rows) || not (is_empty (files_in rows)) then None
+    else option_map made_from (number_of 0 4294967295 (codes "generate") rows)
+
+-- files; or `--generate` with its number
+abbrev pub asked_in : List Row → Option Asked
+asked_in rows = if is_some (first_of (codes "generate") rows) then generated_in rows else named_in rows
+
+-- ---- the whole
+
+abbrev pub request_by : Asked → Option ℕ → Option Sizes → Option Limit → Bool → Option Request
+request_by asked (Some jobs) (Some sizes) (Some limit) summary =
+    Some (record { asked = asked; jobs = jobs; sizes = sizes; summary = summary; limit = limit })
+request_by asked _ _ _ summary = None
+
+abbrev pub request_with : Asked → List Row → Option Request
+request_with asked rows = request_by asked (jobs_in rows) (sizes_in rows) (limit_in rows) (summary_in rows)
+
+abbrev pub request_in : List Row → Option Request
+request_in rows = option_and_then (λ asked. request_with asked rows) (asked_in rows)
+
+-- lawful words: the command gives matches for them, each number is in its range, the limit is 32 or 64, the three sizes are not too much together,
+-- and either files are named, one or more but not too many, or there is a number that texts are made from, with neither a file nor a prelude
+abbrev pub request_of : List Text → Option Request
+request_of words = if gives_matches words then request_in (matches_of command words) else None
+
+-- ---- what the code answers
+
+abbrev pub asked_for : Source → Asked
+asked_for (source.Files prelude scripts) = files (option_map (λ n. n.now) prelude) (map (λ n. n.now) scripts.items)
+asked_for (source.Generated number) = made_from number
+
+-- the request that a plan is
+abbrev pub request_for : Plan → Request
+request_for plan = record {
+  asked = asked_for plan.source;
+  jobs = plan.jobs;
+  sizes = plan.sizes;
+  summary = plan.summary;
+  limit = plan.limit;
+}
+
+-- why there is no plan: the words ask for nothing that is lawful; want of memory says nothing
+abbrev pub IsRefusal : {T : Type 0} → Option T → WordsFault → Type 0
+IsRefusal asked Refused = asked ≡ None
+IsRefusal asked Memory = ⊤
+
+-- 1 to 4,096 files
+abbrev pub IsSomeFiles : Asked → Type 0
+IsSomeFiles (files prelude scripts) = (1 ≤ length scripts) × (length scripts ≤ most_files)
+IsSomeFiles (made_from number) = number < 2 ^ 32
+
+-- what holds of every request of lawful words
+pub record IsInRange (request : Request) : Type 0 where
+  pub files : IsSomeFiles request.asked
+  pub jobs : (1 ≤ request.jobs) × (request.jobs ≤ most_jobs)
+  pub ids : (1 ≤ request.sizes.ids) × (request.sizes.ids ≤ most_size)
+  pub heap_words : (1 ≤ request.sizes.heap_words) × (request.sizes.heap_words ≤ most_size)
+  pub slots : (1 ≤ request.sizes.slots) × (request.sizes.slots ≤ most_size)
+  pub together : request.sizes.ids + request.sizes.heap_words + request.sizes.slots ≤ most_together

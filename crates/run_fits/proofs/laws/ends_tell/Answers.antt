@@ -1,0 +1,13 @@
+use Rattle.js_store.specs.Limits.{limit_units}
+use Rattle.heap_intern.specs.Sessions.{state_in, table_of, view_in}
+use Rattle.heap_intern.specs.Sound.{sound_of}
+use Rattle.heap_intern.proofs.Whole.{whole_all}
+use Rattle.run_fits.specs.Fits.{all_meant}
+use Rattle.run_fits.proofs.First.{are_first}
+use Rattle.run_fits.proofs.Tells.{tells}
+use Rattle.run_fits.proofs.laws.ends_tell.Goals as goal
+
+pub returns : goal.returns
+returns c whole z prelude scripts files run of = let s = c.args._session.now in let table = table_of s.text.heap.now in
+    tells z (state_in s) (all_meant prelude scripts) files (whole_all (view_in s) (limit_units s.limit) table s.belongs.5 whole) (sound_of (view_in s) s.limit table s.belongs.5) run
+    (are_first (state_in s) prelude scripts files run.each of)

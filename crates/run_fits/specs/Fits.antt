@@ -1,0 +1,47 @@
+-- What scripts may ask of a heap by their meanings, and when its sizes are enough for all of them.
+use Rattle.std.specs.Prelude.{ℕ, ◌+◌, ◌≤◌, List, [], ◌∷◌, nat_eq, flat_map, Option, Some, None}
+use Rattle.std.specs.Cmp.Lexicographic.{pointwise}
+use Rattle.std.specs.Set.{distinct_count}
+use Rattle.js_store.specs.State.{Sizes}
+use Rattle.eval_values.specs.Outcome.{Out, gave, ended}
+use Rattle.js_eval.specs.Script.{Flow, interned, need_ids, need_words}
+
+-- What is meant by a prelude, if there is one, and by scripts. Where the prelude doesn't come to the end of its statements, no script is run.
+abbrev pub after_prelude : Out (Unit {0}) → List Flow → List Flow
+after_prelude (gave x l) scripts = scripts
+after_prelude (ended e l) scripts = []
+
+abbrev pub all_meant : Option Flow → List Flow → List Flow
+all_meant None scripts = scripts
+all_meant (Some prelude) scripts = prelude ∷ after_prelude prelude.out scripts
+
+-- the needs of all together
+abbrev pub ids_needed : List Flow → ℕ
+ids_needed [] = 0
+ids_needed (m ∷ ms) = need_ids m + ids_needed ms
+
+abbrev pub words_needed : List Flow → ℕ
+words_needed [] = 0
+words_needed (m ∷ ms) = need_words m + words_needed ms
+
+-- the lists of units that all intern, in order, and how many different ones there are among some
+abbrev pub lists_interned : List Flow → List (List ℕ)
+lists_interned means = flat_map interned means
+
+unfoldable pub count_different : List (List ℕ) → ℕ
+count_different lists = distinct_count (pointwise nat_eq) lists
+
+abbrev pub FitsIds : Sizes → List Flow → Type 0
+FitsIds z means = ids_needed means ≤ z.ids
+
+abbrev pub FitsWords : Sizes → List Flow → Type 0
+FitsWords z means = words_needed means ≤ z.words
+
+abbrev pub FitsSlots : Sizes → List Flow → Type 0
+FitsSlots z means = count_different (lists_interned means) ≤ z.slots
+
+-- a heap of these sizes is enough
+pub record Fits (z : Sizes) (means : List Flow) : Type 0 where
+  pub ids : FitsIds z means
+  pub words : FitsWords z means
+  pub slots : FitsSlots z means

@@ -1,0 +1,23 @@
+// Laws of files that were run on one heap, which a call brings into a proof.
+ghost use Rattle.heap_intern.specs.Sessions.{state_in};
+ghost use Rattle.run_fits.specs.Laws.{JobsRun, NoneRun, ScriptRun, StaysRun, TotalsRun};
+ghost use Rattle.run_fits.specs.Tells.{WholeTells};
+
+use heap_intern::Session;
+
+/// No file was run on a heap that was just made. After others a script is evaluated, or jobs are
+/// run. A call that uses nothing and interns nothing leaves what was run, and so does the reading
+/// of both counters.
+pub fn files_are_run()
+    ensures none { NoneRun }
+    ensures script { ScriptRun }
+    ensures jobs { JobsRun }
+    ensures stays { StaysRun }
+    ensures totals { TotalsRun }
+{}
+
+/// What the ends of all files that were run tell, by the last session, which has the whole share:
+/// where a full heap was told it was full, and the needs of the prelude and the scripts didn't fit.
+pub fn ends_tell(_session: &Session)
+    ensures { WholeTells (state_in _session.now) }
+{}

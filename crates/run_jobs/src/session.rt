@@ -1,0 +1,31 @@
+// A session on the heap is split among threads, and joined again.
+use crate::shared::Shared;
+use eval_tree::Script;
+use heap_intern::Session;
+use heap_text::JsStr;
+use js_eval::{End, Env, Lines, eval};
+use std::alloc::Global;
+
+impl<'h> Shared for Session<'h> {
+    ghost use Rattle.heap_intern.specs.Sessions.{state_in};
+
+    ghost state = { λ s. state_in s };
+
+    fn lend(&mut self, give: u32) -> Session<'h> {
+        self.split(give)
+    }
+
+    fn take_back(&mut self, other: Session<'h>) {
+        self.join(other);
+    }
+
+    fn run(
+        &mut self,
+        alloc: Global,
+        script: &Script,
+        env: &mut Env<JsStr>,
+        lines: &mut Lines,
+    ) -> End {
+        eval(alloc, script, env, self, lines)
+    }
+}

@@ -1,0 +1,142 @@
+-- What is told of a heap on which all files were run.
+use Rattle.std.proofs.Common.{◌≡◌, ℕ, List, refl, sym, ap, subst, ◌∙◌, arith, Option, Some, None}
+use Rattle.atomic_table.specs.Seated.{TableId}
+use Rattle.js_store.specs.Faults.{Step}
+use Rattle.js_store.specs.Limits.{limit_units}
+use Rattle.js_store.specs.State.{State, Sizes, Grows}
+use Rattle.eval_tree.specs.Tree.{Tree}
+use Rattle.js_eval.specs.Script.{Flow}
+use Rattle.heap_rule.specs.Agents.{first_view}
+use Rattle.heap_rule.specs.declared.size.HeapSize.{HeapSize}
+use Rattle.heap_rule.specs.declared.view.View.{View}
+use Rattle.heap_table.specs.Agents.{Belongs, size_of, view_of}
+use Rattle.heap_table.specs.declared.heap.Heap.{Heap}
+use Rattle.heap_string_table.specs.Counting.{different}
+use Rattle.heap_intern.specs.Sessions.{SessionFrame, state_by, table_of}
+use Rattle.heap_intern.specs.Shares.{IsWhole, IsOf, total_by}
+use Rattle.heap_intern.specs.Sound.{sound_of}
+use Rattle.heap_intern.specs.Whole.{HasAll}
+use Rattle.heap_intern.proofs.Whole.{whole_all}
+use Rattle.run_jobs.specs.declared.job.Outcome.{Outcome}
+use Rattle.run_fits.specs.Files.{RunFile, AreRun}
+use Rattle.run_fits.proofs.Files.{run_stays, run_totals}
+use Rattle.run_fits.proofs.First.{are_first}
+use Rattle.run_fits.proofs.Tells.{tells}
+use Rattle.run_program.specs.declared.ran.Ran.{Ran}
+use Rattle.run_program.specs.declared.ran.Setup.{Setup}
+use Rattle.run_program.specs.Meant.{prelude_meant}
+use Rattle.run_program.specs.Ran.{IsRan, HasOutcome, all_by, counted, prelude_by, scripts_by, sizes_by, state_kept}
+use Rattle.run_program.specs.Stages.{HaveRun, HaveRunFrom, IsTold}
+
+-- the first moment of a session on a new heap
+abbrev pub begun : Setup → TableId → State SessionFrame
+begun setup table = state_by (first_view setup.size setup.jobs) (limit_units setup.limit) table
+
+pub same_state : (v w : View) (l m : ℕ) (t u : TableId) → v ≡ w → l ≡ m → t ≡ u → state_by v l t ≡ state_by w m u
+same_state v w l m t u a b c = ap (λ (x : View). state_by x l t) a ∙ (ap (λ (n : ℕ). state_by w n t) b ∙ ap (λ (x : TableId). state_by w m x) c)
+
+-- a later moment of the same session, at which the same files were run
+have_later : (z : Sizes) (s t : State SessionFrame) (prelude : Option Flow) (scripts : List Flow) (first : Option Outcome) (os : List Outcome)
+    → ((files : List RunFile) → AreRun z s files → AreRun z t files) → HaveRun z s prelude scripts first os → HaveRun z t prelude scripts first os
+have_later z s t prelude scripts first os later h = record {
+  files = h.files;
+  are = h.are;
+  ends = h.ends;
+  lines = h.lines;
+  has_prelude = h.has_prelude;
+  in_places = h.in_places;
+  run = later h.files h.run;
+}
+
+-- The files were run, both counters were read, and then the lists counted or not.
+module _ (setup : Setup) (table : TableId) (prelude : Option Tree) (trees : List Tree) (first : Option Outcome) (os : List Outcome) (interned : Option ℕ) (b d : State SessionFrame)
+    (g : Grows (begun setup table) b) (have : HaveRunFrom (begun setup table) b prelude trees first os) where
+  is_whole : IsWhole b
+  is_whole = ap (λ (f : SessionFrame). f.share) g.frame ∙ sym (ap (λ (f : SessionFrame). f.agents) g.frame)
+
+  module _ (all : HasAll b) (step : Step (total_by b) d None 0 0) (history : d.history ≡ b.history) (counts : interned ≡ counted setup.count (different b.history)) where
+    frame : d.frame ≡ (begun setup table).frame
+    frame = step.grows.frame ∙ g.frame
+
+    told : IsTold setup d prelude trees first os interned
+    told = record {
+      have = have_later (sizes_by setup) b d (prelude_by setup prelude) (scripts_by setup prelude trees) first os
+          (λ files r. run_stays (sizes_by setup) (total_by b) d files (run_totals (sizes_by setup) b files all r) step history) have;
+      agents = ap (λ (f : SessionFrame). f.agents) frame;
+      whole = ap (λ (f : SessionFrame). f.share) frame ∙ sym (ap (λ (f : SessionFrame). f.agents) frame);
+      seen_ids = (let w = step.within_ids in let l = step.grows.low_ids in omega arith);
+      seen_words = (let w = step.within_words in let l = step.grows.low_words in omega arith);
+      counts = counts ∙ ap (λ h. counted setup.count (different h)) (sym history);
+    }
+
+    table_is : d.frame.table ≡ table
+    table_is = ap (λ (f : SessionFrame). f.table) frame
+
+    limit_is : d.limit ≡ limit_units setup.limit
+    limit_is = step.grows.limit ∙ g.limit
+
+    is_of : (h : Heap) → table ≡ table_of h → size_of h ≡ setup.size → IsOf d h
+    is_of h same size = (table_is ∙ same, step.grows.sizes ∙ (g.sizes ∙ ap (λ (z : HeapSize). record { ids = z.ids; words = z.words; slots = z.slots }) (sym size)))
+
+-- the same by what each call tells: of a session of this heap, b after the files were run, t after both counters were read, d at last
+module _ (setup : Setup) (h : Heap) (prelude : Option Tree) (trees : List Tree) (first : Option Outcome) (os : List Outcome) (interned : Option ℕ) (a b t d : State SessionFrame)
+    (is : a ≡ begun setup (table_of h)) (size : size_of h ≡ setup.size) (g : Grows a b) (have : HaveRunFrom a b prelude trees first os) (all : IsWhole b → HasAll b)
+    (total : t ≡ total_by b) (step : Step t d None 0 0) (history : d.history ≡ t.history) (counts : interned ≡ counted setup.count (different t.history)) where
+  grows_begun : Grows (begun setup (table_of h)) b
+  grows_begun = subst (λ (x : State SessionFrame). Grows x b) is g
+
+  have_begun : HaveRunFrom (begun setup (table_of h)) b prelude trees first os
+  have_begun = subst (λ (x : State SessionFrame). HaveRunFrom x b prelude trees first os) is have
+
+  has_all : HasAll b
+  has_all = all (is_whole setup (table_of h) prelude trees first os interned b d grows_begun have_begun)
+
+  step_total : Step (total_by b) d None 0 0
+  step_total = subst (λ (x : State SessionFrame). Step x d None 0 0) total step
+
+  same_history : d.history ≡ b.history
+  same_history = history ∙ ap (λ (x : State SessionFrame). x.history) total
+
+  counts_begun : interned ≡ counted setup.count (different b.history)
+  counts_begun = counts ∙ ap (λ (x : State SessionFrame). counted setup.count (different x.history)) total
+
+  pub kept_of : IsOf d h
+  kept_of = is_of setup (table_of h) prelude trees first os interned b d grows_begun have_begun has_all step_total same_history counts_begun h refl size
+
+  pub kept_limit : d.limit ≡ limit_units setup.limit
+  kept_limit = limit_is setup (table_of h) prelude trees first os interned b d grows_begun have_begun has_all step_total same_history counts_begun
+
+  pub kept_told : IsTold setup d prelude trees first os interned
+  kept_told = told setup (table_of h) prelude trees first os interned b d grows_begun have_begun has_all step_total same_history counts_begun
+
+-- what is kept
+same_prelude : (limit : ℕ) (prelude : Option Tree) (first : Option Outcome) → HasOutcome (prelude_meant limit prelude) first → HasOutcome prelude first
+same_prelude limit None None h = tt
+same_prelude limit (Some tree) (Some o) h = tt
+same_prelude limit None (Some o) h = absurd h
+same_prelude limit (Some tree) None h = absurd h
+
+pub is_ran : (setup : Setup) (prelude : Option Tree) (trees : List Tree) (ran : Ran) → size_of ran.kept.heap ≡ setup.size → Belongs ran.kept.agent ran.kept.heap
+    → IsTold setup (state_kept setup ran.kept) prelude trees ran.prelude ran.scripts.items ran.interned → IsRan setup prelude trees ran
+is_ran setup prelude trees ran size belongs t = let h = t.have in
+    let v = view_of ran.kept.agent in
+    let s : State SessionFrame = state_kept setup ran.kept in
+    let table = table_of ran.kept.heap in
+    let all : HasAll s = whole_all v (limit_units setup.limit) table belongs.5 t.whole in record {
+      files = h.files;
+      are = h.are;
+      ends = h.ends;
+      lines = h.lines;
+      has_prelude = same_prelude (limit_units setup.limit) prelude ran.prelude h.has_prelude;
+      in_places = h.in_places;
+      run = h.run;
+      tells = tells (sizes_by setup) s (all_by setup prelude trees) h.files all (sound_of v setup.limit table belongs.5) h.run
+          (are_first s (prelude_by setup prelude) (scripts_by setup prelude trees) h.files h.run.each h.are);
+      sizes = size;
+      belongs = belongs;
+      agents = t.agents;
+      whole = t.whole;
+      seen_ids = omega (arith, all.low_ids, t.seen_ids);
+      seen_words = omega (arith, all.low_words, t.seen_words);
+      interned = t.counts;
+    }

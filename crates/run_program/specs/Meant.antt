@@ -1,0 +1,20 @@
+-- What is meant by a prelude, if there is one, and by scripts that begin with the bindings which the prelude is meant to leave.
+use Rattle.std.specs.Prelude.{ℕ, List, [], map, Option, Some, None}
+use Rattle.eval_tree.specs.Tree.{Tree}
+use Rattle.eval_scopes.specs.Bindings.{Bound}
+use Rattle.eval_values.specs.Outcome.{Val}
+use Rattle.js_eval.specs.Script.{Flow, meaning}
+
+-- the prelude begins with no bindings
+abbrev pub prelude_meant : ℕ → Option Tree → Option Flow
+prelude_meant limit None = None
+prelude_meant limit (Some tree) = Some (meaning tree [] limit)
+
+-- the bindings at the top that are left then; none without a prelude
+abbrev pub left_by : Option Flow → List (Bound Val)
+left_by None = []
+left_by (Some flow) = flow.bindings.top
+
+-- each script by itself, from those bindings
+abbrev pub scripts_meant : ℕ → Option Tree → List Tree → List Flow
+scripts_meant limit prelude scripts = map (λ tree. meaning tree (left_by (prelude_meant limit prelude)) limit) scripts

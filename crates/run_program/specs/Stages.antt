@@ -1,0 +1,49 @@
+-- What the stages of a run leave. No public contract cites these.
+use Rattle.std.specs.Prelude.{◌≡◌, ℕ, ◌+◌, ◌≤◌, List, [], ◌∷◌, map, Option}
+use Rattle.js_store.specs.State.{State, Sizes}
+use Rattle.eval_tree.specs.Tree.{Tree, tree_of}
+use Rattle.js_eval.specs.Script.{Flow}
+use Rattle.heap_string_table.specs.Counting.{different}
+use Rattle.heap_intern.specs.Sessions.{SessionFrame}
+use Rattle.heap_intern.specs.Shares.{IsWhole}
+use Rattle.run_jobs.specs.declared.job.Job.{Job}
+use Rattle.run_jobs.specs.declared.job.Outcome.{Outcome}
+use Rattle.run_fits.specs.Files.{RunFile, AreRun, AreFilesOf}
+use Rattle.run_program.specs.Meant.{prelude_meant, scripts_meant}
+use Rattle.run_program.specs.declared.ran.Setup.{Setup}
+use Rattle.run_program.specs.Ran.{all_outcomes, counted, HasOutcome, AreInPlaces, prelude_by, scripts_by, sizes_by}
+
+abbrev pub job_trees : List Job → List Tree
+job_trees jobs = map (λ job. tree_of job.script) jobs
+
+-- each job has the number of its place, from this one up
+abbrev pub AreNumbered : ℕ → List Job → Type 0
+AreNumbered place [] = Unit {0}
+AreNumbered place (job ∷ jobs) = (job.index ≡ place) × AreNumbered (place + 1) jobs
+
+-- no file was run
+abbrev pub IsUnused : State SessionFrame → Type 0
+IsUnused s = AreRun s.sizes s []
+
+-- files with these meanings were run, and these are their outcomes
+pub record HaveRun (z : Sizes) (s : State SessionFrame) (prelude : Option Flow) (scripts : List Flow) (first : Option Outcome) (outcomes : List Outcome) : Type 0 where
+  pub files : List RunFile
+  pub are : AreFilesOf prelude scripts files
+  pub ends : map (λ f. f.end) files ≡ map (λ o. o.end) (all_outcomes first outcomes)
+  pub lines : map (λ f. f.lines) files ≡ map (λ o. o.lines) (all_outcomes first outcomes)
+  pub has_prelude : HasOutcome prelude first
+  pub in_places : AreInPlaces 0 outcomes
+  pub run : AreRun z s files
+
+-- between two moments, on a heap where no file was run before
+abbrev pub HaveRunFrom : State SessionFrame → State SessionFrame → Option Tree → List Tree → Option Outcome → List Outcome → Type 0
+HaveRunFrom a b prelude scripts first outcomes = HaveRun a.sizes b (prelude_meant a.limit prelude) (scripts_meant a.limit prelude scripts) first outcomes
+
+-- the same on a heap that was made for it, by the agent with the whole share, and what is told of the heap
+pub record IsTold (setup : Setup) (s : State SessionFrame) (prelude : Option Tree) (scripts : List Tree) (first : Option Outcome) (outcomes : List Outcome) (interned : Option ℕ) : Type 0 where
+  pub have : HaveRun (sizes_by setup) s (prelude_by setup prelude) (scripts_by setup prelude scripts) first outcomes
+  pub agents : s.frame.agents ≡ setup.jobs
+  pub whole : IsWhole s
+  pub seen_ids : s.used_ids ≤ s.low_ids
+  pub seen_words : s.used_words ≤ s.low_words
+  pub counts : interned ≡ counted setup.count (different s.history)

@@ -1,0 +1,119 @@
+// A heap, the files on it, and what is told of it.
+ghost use Rattle.std.specs.Prelude.{◌≡◌, ◌≤◌, length, All, IfOk, None};
+ghost use Rattle.js_store.specs.Faults.{Step};
+ghost use Rattle.js_store.specs.Limits.{limit_units};
+ghost use Rattle.heap_rule.specs.Agents.{first_view};
+ghost use Rattle.heap_table.specs.Agents.{Belongs, size_of, view_of};
+ghost use Rattle.heap_table.specs.MayMake.{MayMake};
+ghost use Rattle.heap_string_table.specs.Counting.{different};
+ghost use Rattle.heap_intern.specs.Sessions.{state_by, state_in, table_of};
+ghost use Rattle.heap_intern.specs.Shares.{IsWhole};
+ghost use Rattle.run_jobs.specs.Jobs.{HasNoLines};
+ghost use Rattle.run_program.specs.Ran.{IsRan, counted, tree_if, trees_of};
+ghost use Rattle.run_program.specs.Stages.{AreNumbered, IsTold, job_trees};
+
+use crate::prepare::{jobs_of, places};
+use crate::ran::{Kept, Ran, Setup};
+use crate::stages::run_files;
+use eval_tree::Script;
+use heap_intern::{Session, whole_has_all};
+use heap_table::{Agent, Heap};
+use js_io::Gate;
+use js_units::NoMemory;
+use run_jobs::{Job, Outcome};
+use std::alloc::Global;
+use std::marker::Sync;
+use std::thread::Threads;
+
+// The number of different lists that were interned, where it is asked for.
+fn count_if(session: &mut Session<'_>, count: bool) -> Option<u32>
+    requires { IsWhole (state_in session.old) }
+    ensures count { result ≡ counted count (different (state_in session.old).history) }
+    ensures step { Step (state_in session.old) (state_in session.new) None 0 0 }
+    ensures history { (state_in session.new).history ≡ (state_in session.old).history }
+{
+    if !count {
+        return None;
+    }
+    Some(session.count_interned())
+}
+
+// Runs the files on a heap that was just made. The agent of all is given back.
+fn run_on<R: Threads + Sync, G: Gate + Sync>(
+    rt: &R,
+    alloc: Global,
+    heap: &Heap,
+    agent: Agent,
+    prelude: Option<&Script>,
+    jobs: &[Job],
+    outcomes: &mut Vec<Outcome>,
+    setup: Setup,
+    gate: &G,
+) -> (Option<Outcome>, Option<u32>, Agent)
+    requires some { 1 ≤ setup.jobs }
+    requires belongs { Belongs agent heap.now }
+    requires view { view_of agent ≡ first_view setup.size setup.jobs }
+    requires size { size_of heap.now ≡ setup.size }
+    requires lengths { length outcomes.old.items ≡ length jobs.now }
+    requires empty { All HasNoLines outcomes.old.items }
+    requires numbered { AreNumbered 0 jobs.now }
+    ensures belongs { Belongs result.2 heap.now }
+    ensures told { IsTold setup (state_by (view_of result.2) (limit_units setup.limit) (table_of heap.now))
+        (tree_if prelude.entry) (job_trees jobs.now) result.0 outcomes.new.items result.1 }
+{
+    let mut session = Session::new(heap, agent, setup.limit);
+    let first = run_files(
+        rt,
+        alloc,
+        &mut session,
+        prelude,
+        jobs,
+        outcomes,
+        setup.jobs,
+        gate,
+    );
+    whole_has_all(&session);
+    session.totals();
+    let interned = count_if(&mut session, setup.count);
+    (first, interned, session.into_agent())
+}
+
+/// Runs a prelude, if there is one, from no bindings, and where it ended Done the scripts, each from
+/// the bindings that it left, on a heap of their own in `setup.jobs` groups. A script's number at
+/// the gate and in its outcome is its place. Memory is wanting only before anything runs; what finds
+/// none later ends so itself.
+pub fn run_program<R: Threads + Sync, G: Gate + Sync>(
+    rt: &R,
+    alloc: Global,
+    prelude: Option<&Script>,
+    scripts: Vec<Script>,
+    setup: Setup,
+    gate: &G,
+) -> Result<Ran, NoMemory>
+    requires may { MayMake setup.size setup.jobs }
+    requires few { length scripts.items ≤ 4294967295 }
+    ensures { IfOk result (λ ran. IsRan setup (tree_if prelude.entry) (trees_of scripts.items) ran) }
+{
+    let jobs = jobs_of(alloc, scripts)?;
+    let mut outcomes = places(alloc, jobs.len())?;
+    let Ok((heap, agent)) = Heap::make(alloc, setup.size, setup.jobs) else {
+        return Err(NoMemory);
+    };
+    let (first, interned, agent) = run_on(
+        rt,
+        alloc,
+        &heap,
+        agent,
+        prelude,
+        &jobs,
+        &mut outcomes,
+        setup,
+        gate,
+    );
+    Ok(Ran {
+        prelude: first,
+        scripts: outcomes,
+        interned,
+        kept: Kept { heap, agent },
+    })
+}

@@ -1,0 +1,34 @@
+// How a program is to be run, and what comes of it.
+use heap_rule::HeapSize;
+use heap_table::{Agent, Heap};
+use js_store::Limit;
+use run_jobs::Outcome;
+
+/// How a program is to be run: in how many groups of scripts, on a heap of which sizes, with which
+/// limit of the length of a string, and whether the different strings that were interned are
+/// counted.
+#[derive(Clone, Copy, Debug)]
+pub struct Setup {
+    pub jobs: u32,
+    pub size: HeapSize,
+    pub limit: Limit,
+    pub count: bool,
+}
+
+/// The heap on which a program was run, and the agent into which all others were joined.
+#[derive(Drop)]
+pub struct Kept {
+    pub heap: Heap,
+    pub agent: Agent,
+}
+
+/// What came of a program: of its prelude, if there is one, and of its scripts in their order, of
+/// which none was run where the prelude didn't end Done; how many different strings were interned,
+/// where that was asked for; and what is kept. The `index` of the prelude's outcome says nothing.
+#[derive(Drop)]
+pub struct Ran {
+    pub prelude: Option<Outcome>,
+    pub scripts: Vec<Outcome>,
+    pub interned: Option<u32>,
+    pub kept: Kept,
+}

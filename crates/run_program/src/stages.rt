@@ -1,0 +1,134 @@
+// The prelude, and behind it the scripts, on a session of the heap.
+ghost use Rattle.std.specs.Prelude.{◌≡◌, ◌≤◌, ◌↔◌, length, All, IsTrue, None, Some};
+ghost use Rattle.js_store.specs.State.{Grows};
+ghost use Rattle.eval_tree.specs.Tree.{tree_of};
+ghost use Rattle.js_eval.specs.declared.ending.End.TheVariants.{Done};
+ghost use Rattle.heap_intern.specs.Sessions.{state_in};
+ghost use Rattle.run_jobs.specs.Jobs.{HasNoLines};
+ghost use Rattle.run_program.specs.Ran.{tree_if};
+ghost use Rattle.run_program.specs.Stages.{AreNumbered, HaveRunFrom, IsUnused, job_trees};
+
+use eval_tree::Script;
+use heap_intern::Session;
+use js_eval::{End, Env, Lines, eval};
+use js_io::Gate;
+use run_jobs::{Job, Outcome, run_all};
+use std::alloc::Global;
+use std::marker::Sync;
+use std::thread::Threads;
+
+fn is_done(end: End) -> bool
+    ensures { IsTrue result ↔ (end ≡ Done) }
+{
+    match end {
+        End::Done => true,
+        End::Threw(_) => false,
+        End::Unsupported { .. } => false,
+        End::Full(_) => false,
+        End::Memory => false,
+    }
+}
+
+// Runs scripts with no prelude.
+fn run_alone<R: Threads + Sync, G: Gate + Sync>(
+    rt: &R,
+    alloc: Global,
+    session: &mut Session<'_>,
+    jobs: &[Job],
+    outcomes: &mut [Outcome],
+    groups: u32,
+    gate: &G,
+)
+    requires some { 1 ≤ groups }
+    requires share { groups ≤ (state_in session.old).frame.share }
+    requires lengths { length outcomes.old ≡ length jobs.now }
+    requires empty { All HasNoLines outcomes.old }
+    requires numbered { AreNumbered 0 jobs.now }
+    requires unused { IsUnused (state_in session.old) }
+    ensures grows { Grows (state_in session.old) (state_in session.new) }
+    ensures ran { HaveRunFrom (state_in session.old) (state_in session.new) None (job_trees jobs.now) None
+        outcomes.new }
+{
+    let env = Env::new(alloc);
+    run_all(rt, alloc, session, jobs, outcomes, groups, &env, gate);
+}
+
+// Runs a prelude, and where it ended Done the scripts from the bindings that it left. Else their
+// places are taken away.
+fn run_behind<R: Threads + Sync, G: Gate + Sync>(
+    rt: &R,
+    alloc: Global,
+    session: &mut Session<'_>,
+    prelude: &Script,
+    jobs: &[Job],
+    outcomes: &mut Vec<Outcome>,
+    groups: u32,
+    gate: &G,
+) -> Outcome
+    requires some { 1 ≤ groups }
+    requires share { groups ≤ (state_in session.old).frame.share }
+    requires lengths { length outcomes.old.items ≡ length jobs.now }
+    requires empty { All HasNoLines outcomes.old.items }
+    requires numbered { AreNumbered 0 jobs.now }
+    requires unused { IsUnused (state_in session.old) }
+    ensures grows { Grows (state_in session.old) (state_in session.new) }
+    ensures ran { HaveRunFrom (state_in session.old) (state_in session.new) (Some (tree_of prelude.now))
+        (job_trees jobs.now) (Some result) outcomes.new.items }
+{
+    let mut env = Env::new(alloc);
+    let mut lines = Lines::new(alloc);
+    let end = eval(alloc, prelude, &mut env, session, &mut lines);
+    let first = Outcome {
+        index: 0,
+        lines,
+        end,
+    };
+    if !is_done(end) {
+        outcomes.clear();
+        return first;
+    }
+    let places = outcomes.as_mut_slice();
+    run_all(rt, alloc, session, jobs, places, groups, &env, gate);
+    first
+}
+
+// Runs the prelude, if there is one, and the scripts.
+pub(crate) fn run_files<R: Threads + Sync, G: Gate + Sync>(
+    rt: &R,
+    alloc: Global,
+    session: &mut Session<'_>,
+    prelude: Option<&Script>,
+    jobs: &[Job],
+    outcomes: &mut Vec<Outcome>,
+    groups: u32,
+    gate: &G,
+) -> Option<Outcome>
+    requires some { 1 ≤ groups }
+    requires share { groups ≤ (state_in session.old).frame.share }
+    requires lengths { length outcomes.old.items ≡ length jobs.now }
+    requires empty { All HasNoLines outcomes.old.items }
+    requires numbered { AreNumbered 0 jobs.now }
+    requires unused { IsUnused (state_in session.old) }
+    ensures grows { Grows (state_in session.old) (state_in session.new) }
+    ensures ran { HaveRunFrom (state_in session.old) (state_in session.new) (tree_if prelude.entry)
+        (job_trees jobs.now) result outcomes.new.items }
+{
+    match prelude {
+        None => {
+            run_alone(
+                rt,
+                alloc,
+                session,
+                jobs,
+                outcomes.as_mut_slice(),
+                groups,
+                gate,
+            );
+            None
+        }
+        Some(script) => {
+            let first = run_behind(rt, alloc, session, script, jobs, outcomes, groups, gate);
+            Some(first)
+        }
+    }
+}

@@ -1,0 +1,30 @@
+-- A prelude or none, and scripts: by the names of their files, by their texts, or by their trees.
+use Rattle.std.specs.Prelude.{ℕ, List, [], ◌∷◌, Option, None, Some}
+use Rattle.run_generate.specs.Texts.{Named}
+use Rattle.eval_tree.specs.Tree.{Tree}
+
+-- a word that names a file, by its bytes
+abbrev pub Name : Type 0
+Name = List ℕ
+
+pub record Program (T : Type 0) : Type 0 where
+  pub prelude : Option T
+  pub scripts : List T
+
+-- the prelude, if there is one, and then the scripts
+abbrev pub with_prelude : {T : Type 0} → Option T → List T → List T
+with_prelude None scripts = scripts
+with_prelude (Some prelude) scripts = prelude ∷ scripts
+
+abbrev pub in_order : {T : Type 0} → Program T → List T
+in_order program = with_prelude program.prelude program.scripts
+
+-- texts of which the first is the prelude
+abbrev pub program_from : List Named → Program Named
+program_from [] = record { prelude = None; scripts = [] }
+program_from (prelude ∷ scripts) = record { prelude = Some prelude; scripts = scripts }
+
+-- the names that the prelude declares at its top; none without a prelude
+abbrev pub outer_of : Option Tree → List (List ℕ)
+outer_of None = []
+outer_of (Some tree) = tree.top

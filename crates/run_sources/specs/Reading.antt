@@ -1,0 +1,67 @@
+-- Which files were read, and which one was not. With every answer but that a file can't be read or is too large, no read
+-- failed or found too large a file.
+use Rattle.std.specs.Prelude.{◌≡◌, ◌≤◌, ⊤, ℕ, List, [], ◌∷◌, ◌++◌, length, Option, None, Some}
+use Rattle.run_generate.specs.Texts.{Named}
+use Rattle.js_io.specs.Counts.{next_count}
+use Rattle.js_io.specs.FilesState.{Tells, IsTooLarge, FilesState}
+use Rattle.js_io.specs.declared.files.TheConstants.{FILE_MAX}
+use Rattle.run_sources.specs.Program.{Name, Program}
+
+-- the files are as they were, as far as they are told, and no count fell
+pub record KeepsFiles (old new : FilesState) : Type 0 where
+  pub held : (name : Name) → new.held name ≡ old.held name
+  pub faults : old.faults ≤ new.faults
+  pub oversize : old.oversize ≤ new.oversize
+
+-- no read failed or found too large a file: both counts, and the blamed name, are as they were
+pub record IsQuiet (old new : FilesState) : Type 0 where
+  pub calm : new.faults ≡ old.faults
+  pub not_large : new.oversize ≡ old.oversize
+  pub unblamed : new.blamed ≡ old.blamed
+
+-- the file of this name has this text, as far as files are told. It is not too large: this is what keeps a told file that is
+-- too large from being taken for one that was read.
+pub record IsRead (held : Name → Option (List ℕ)) (name : Name) (source : Named) : Type 0 where
+  pub named : source.name ≡ name
+  pub tells : Tells (held name) source.text
+  pub small : length source.text ≤ FILE_MAX
+
+-- files of these names have these texts, in order
+pub data Read (held : Name → Option (List ℕ)) : List Name → List Named → Type 0 where
+  none : Read held [] []
+  next : (name : Name) (names : List Name) (source : Named) (sources : List Named)
+      → IsRead held name source → Read held names sources → Read held (name ∷ names) (source ∷ sources)
+
+-- the prelude's file, if there is one
+abbrev pub IsPreludeRead : (Name → Option (List ℕ)) → Option Name → Option Named → Type 0
+IsPreludeRead held None None = ⊤
+IsPreludeRead held None (Some source) = ⊥
+IsPreludeRead held (Some name) None = ⊥
+IsPreludeRead held (Some name) (Some source) = IsRead held name source
+
+-- all files
+pub record AreRead (held : Name → Option (List ℕ)) (names : Program Name) (sources : Program Named) : Type 0 where
+  pub prelude : IsPreludeRead held names.prelude sources.prelude
+  pub scripts : Read held names.scripts sources.scripts
+
+-- the files before the one of this name were read
+pub record ReadUpTo (held : Name → Option (List ℕ)) (names : List Name) (name : Name) : Type 0 where
+  pub before : List Name
+  pub after : List Name
+  pub sources : List Named
+  pub split : names ≡ before ++ name ∷ after
+  pub read : Read held before sources
+
+-- one read failed, that of the file of this name, and none found too large a file; all files before it were read
+pub record IsUnread (old new : FilesState) (names : List Name) (name : Name) : Type 0 where
+  pub up_to : ReadUpTo old.held names name
+  pub once : new.faults ≡ next_count old.faults
+  pub not_large : new.oversize ≡ old.oversize
+  pub blames : new.blamed ≡ name
+
+-- no read failed, the file of this name is too large, and all files before it were read
+pub record IsLarge (old new : FilesState) (names : List Name) (name : Name) : Type 0 where
+  pub up_to : ReadUpTo old.held names name
+  pub calm : new.faults ≡ old.faults
+  pub larger : IsTooLarge (old.held name) old.oversize new.oversize
+  pub blames : new.blamed ≡ name

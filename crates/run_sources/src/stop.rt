@@ -1,0 +1,34 @@
+// Why there are no scripts.
+ghost use Rattle.std.specs.Prelude.{◌≡◌};
+ghost use Rattle.run_sources.specs.declared.stop.Stop.TheVariants as stop;
+
+use js_parse::ParseFault;
+use std::alloc::{AllocError, AllocFailed};
+
+/// Why there are no scripts, with the word that names the file.
+#[derive(Clone, Copy, Debug)]
+pub enum Stop<'a> {
+    /// The file can't be read.
+    NotRead(&'a str),
+    /// It has more than [`js_io::FILE_MAX`] bytes.
+    TooLarge(&'a str),
+    /// It spells no script. The fault is never want of memory.
+    Refused(&'a str, ParseFault),
+    NoMemory,
+}
+
+impl From<AllocError> for Stop<'_> {
+    ghost from_gives = { λ _ e. e ≡ stop.NoMemory };
+
+    fn from(_: AllocError) -> Self {
+        Stop::NoMemory
+    }
+}
+
+impl<T: Drop> From<AllocFailed<T>> for Stop<'_> {
+    ghost from_gives = { λ _ e. e ≡ stop.NoMemory };
+
+    fn from(_: AllocFailed<T>) -> Self {
+        Stop::NoMemory
+    }
+}

@@ -1,0 +1,11 @@
+use Rattle.std.proofs.Common.{◌≡◌}
+use Rattle.heap_rule.specs.Maps.{HasKey}
+use Rattle.heap_table.specs.Agents.{Belongs, view_of}
+use Rattle.test_heap_text.proofs.ropes.doubled_often.Given as goal
+
+abbrev pub invariant-loop-turn : goal.invariant-loop-turn
+invariant-loop-turn l = record {
+  text : Belongs l.text.agent l.text.heap.now;
+  heap : l.text.heap ≡ l.fn.text.heap;
+  known : HasKey (view_of l.text.agent).units l.s.id;
+}

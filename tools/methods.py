@@ -1,0 +1,40 @@
+"""The methods of strings and arrays, once for all tools."""
+
+import collections
+
+# What each method's arguments become: n a number, s a number of units or times, t a text, p a template, a anything, which becomes a
+# text. What it gives: a text, a number, a truth or a list. And what it is of an array: nothing, which is a TypeError; left out by the
+# profile, which is unsupported; or the one that arrays have.
+Method = collections.namedtuple("Method", "name takes gives of_array", defaults=("nothing",))
+
+METHODS = [
+    Method("at", "n", "text", "left out"),
+    Method("charAt", "n", "text"),
+    Method("charCodeAt", "n", "number"),
+    Method("codePointAt", "n", "number"),
+    Method("concat", "ta", "text", "left out"),
+    Method("endsWith", "tn", "truth"),
+    Method("includes", "tn", "truth", "left out"),
+    Method("indexOf", "tn", "number", "left out"),
+    Method("isWellFormed", "", "truth"),
+    Method("join", "t", "text", "its own"),
+    Method("lastIndexOf", "tn", "number", "left out"),
+    Method("padEnd", "st", "text"),
+    Method("padStart", "st", "text"),
+    Method("repeat", "s", "text"),
+    Method("replace", "tp", "text"),
+    Method("replaceAll", "tp", "text"),
+    Method("slice", "nn", "text", "left out"),
+    Method("split", "tn", "list"),
+    Method("startsWith", "tn", "truth"),
+    Method("substr", "nn", "text"),
+    Method("substring", "nn", "text"),
+    Method("toWellFormed", "", "text"),
+    Method("trim", "", "text"),
+    Method("trimEnd", "", "text"),
+    Method("trimStart", "", "text"),
+]
+OF_STRINGS = [it for it in METHODS if it.of_array != "its own"]
+# Their places of numbers, by their names, and those that the profile leaves out of arrays.
+NUMBERS = {it.name: [kind in "ns" for kind in it.takes] for it in OF_STRINGS}
+LEFT_OUT = [it.name for it in METHODS if it.of_array == "left out"]
