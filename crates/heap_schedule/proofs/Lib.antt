@@ -4,4 +4,5 @@ pub mod Turns
 pub mod Entered
 pub mod Played
 pub mod Written
+pub mod Kept
 pub mod Told

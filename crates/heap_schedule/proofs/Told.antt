@@ -1,18 +1,24 @@
 -- What was written, and why a call ends so.
-use Rattle.std.proofs.Common.{◌≡◌, inl, inr, ℕ, ◌+◌, ◌≤◌, arith, ◌++◌, List, [], ◌∷◌, length, refl, sym, ap, ◌∙◌, subst, codes, Option, Some, None, Result, Ok, Err, eq-eqb, ne_eqb}
+use Rattle.std.proofs.Common.{◌≡◌, inl, inr, ℕ, ◌+◌, ◌≤◌, arith, ◌++◌, List, [], ◌∷◌, length, map, take, refl, sym, ap, ◌∙◌, subst, codes, Option, Some, None, Result, Ok, Err, eq-eqb, ne_eqb}
 use Rattle.std.specs.Prelude.{decimal, ◌==◌, true}
 use Rattle.std.proofs.lemmas.Bool.{and_parts, cond-true, cond-false, leb-true}
 use Rattle.heap_rule.specs.Layout.{IsLawful}
 use Rattle.js_io.specs.Counts.{next_count}
+use Rattle.js_io.specs.declared.files.TheConstants.{FILE_MAX}
 use Rattle.js_io.specs.FilesState.{FilesState, IsTooLarge, Tells}
 use Rattle.js_io.specs.SinkState.{SinkState, WritesAll}
 use Rattle.js_io.proofs.Prefixes.{Appends-nil}
+use Rattle.heap_core.specs.Core.{Core}
+use Rattle.heap_core.specs.Events.{IsSoundCore}
+use Rattle.heap_schedule.specs.declared.line.Line.{Line}
 use Rattle.heap_schedule.specs.declared.line.Making.{Making}
-use Rattle.heap_schedule.specs.Lines.{Turn, is_small}
+use Rattle.heap_schedule.specs.Lines.{Turn, is_small, named}
 use Rattle.heap_schedule.specs.Text.{reads, refuses, schedule_of}
 use Rattle.heap_schedule.specs.Play.{EndsAfter, all_played, made, words_for}
+use Rattle.heap_schedule.specs.Kept.{WasPlayed}
 use Rattle.heap_schedule.specs.Shown.{shown}
-use Rattle.heap_schedule.specs.Outcome.{FileOutcome, HasCause, IsEnd, IsQuiet, IsShown, IsTold, Outcome, Sinks, TakesAll, TakesUntil, TextOutcome, Verdict, CauseBy, IsOf, bad_words, file_in, no_memory, not_of_form, not_read, play_status, printed, report_of, sinks, stop_line, too_large, was_played}
+use Rattle.heap_schedule.specs.Outcome.{FileOutcome, HasCause, IsEnd, IsHeld, IsQuiet, IsShown, IsTold, Outcome, Sinks, TakesAll, TakesUntil, TextOutcome, Verdict, CauseBy, IsOf, bad_words, file_in, no_memory, not_of_form, not_read, play_status, printed, report_of, sinks, stop_line, too_large, was_played}
+use Rattle.heap_schedule.proofs.Kept.{play_kept}
 
 takes_nothing : (a : SinkState) → TakesAll a a []
 takes_nothing a = record { took = Appends-nil a.taken; calm = refl }
@@ -55,6 +61,21 @@ module _ {E : Type 0} (lines n : ℕ) (bytes : List ℕ) (o p e f : SinkState) w
     err = takes_nothing e;
   }))
 
+-- ---- of a play
+
+-- the lines were played, the bytes are made from what they found and led to
+pub play_shown : (m : Making) (ls ds : List Line) (s t : Core) (xs ys bytes : List ℕ) (n : ℕ) → ds ≡ ls → s ≡ made m → IsSoundCore s
+    → EndsAfter (map named ds) s (length xs) → t ≡ all_played (take (length xs) (map named ds)) s → xs ≡ words_for (take (length xs) (map named ds)) s
+    → bytes ≡ shown t ys → ys ≡ xs → n ≡ length xs → IsShown m (map named ls) bytes n
+play_shown m ls ds s t xs ys bytes n lines first sound ends after found made_of same long =
+    let P : ℕ → Core → Type 0 = λ k c. WasPlayed (map named ds) c k
+        × (bytes ≡ shown (all_played (take k (map named ds)) c) (words_for (take k (map named ds)) c)) in
+    let here : P (length xs) s = (play_kept ds (length xs) s sound ends,
+        made_of ∙ ap (shown t) same ∙ ap (λ c. shown c xs) after ∙ ap (shown (all_played (take (length xs) (map named ds)) s)) found) in
+    let counted : P n s = subst (λ k. P k s) (sym long) here in
+    let begun : P n (made m) = subst (P n) first counted in
+    subst (λ l. IsShown m (map named l) bytes n) lines begun
+
 -- ---- of a text
 
 module _ (text : List ℕ) (code : ℕ) (old new : Sinks) where
@@ -76,15 +97,18 @@ module _ (text : List ℕ) (code : ℕ) (old new : Sinks) where
 -- ---- of a file
 
 module _ (name : List ℕ) (old new : FilesState) (code : ℕ) (s t : Sinks) where
-  pub file_text : (text : List ℕ) → Tells (old.held name) text → IsQuiet old new → TextOutcome text code s t → FileOutcome name old new code s t
-  file_text text tells quiet o = by o.verdict o.cause o.ending where
+  pub file_text : (text : List ℕ) → Tells (old.held name) text → length text ≤ FILE_MAX → IsQuiet old new → TextOutcome text code s t → FileOutcome name old new code s t
+  file_text text tells small quiet o = by o.verdict o.cause o.ending where
+    held : IsHeld name old new text
+    held = record { bytes = tells; small = small; quiet = quiet }
+
     by : (v : Verdict) → IsOf text v → IsEnd (report_of v) code s t → FileOutcome name old new code s t
     by bad_words cause end = absurd cause
     by (not_read n) cause end = absurd cause
     by (too_large n) cause end = absurd cause
-    by (not_of_form k) cause end = record { verdict = not_of_form k; cause = (text, tells, quiet, cause); ending = end }
+    by (not_of_form k) cause end = record { verdict = not_of_form k; cause = (text, held, cause); ending = end }
     by no_memory cause end = record { verdict = no_memory; cause = quiet; ending = end }
-    by (was_played m ts n) cause end = record { verdict = was_played m ts n; cause = (text, tells, quiet, cause.0, cause.1); ending = end }
+    by (was_played m ts n) cause end = record { verdict = was_played m ts n; cause = (text, held, cause.0, cause.1); ending = end }
 
   pub file_unread : new.faults ≡ next_count old.faults → new.blamed ≡ name → IsEnd (report_of (not_read name)) code s t → FileOutcome name old new code s t
   file_unread faults blamed end = record { verdict = not_read name; cause = (refl, faults, blamed); ending = end }
@@ -112,9 +136,9 @@ module _ (words : List (List ℕ)) (old new : FilesState) (code : ℕ) (s t : Si
       cause = (is ∙ ap Some (sym cause.0), subst (λ x. IsTooLarge (old.held x) old.oversize new.oversize) (sym cause.0) cause.1, cause.2, cause.3 ∙ sym cause.0);
       ending = end;
     }
-    by (not_of_form k) cause end = record { verdict = not_of_form k; cause = (cause.0, (name, is, cause.1, cause.2), cause.3); ending = end }
+    by (not_of_form k) cause end = record { verdict = not_of_form k; cause = (cause.0, (name, is, cause.1), cause.2); ending = end }
     by no_memory cause end = record { verdict = no_memory; cause = (name, is, cause); ending = end }
-    by (was_played m ts n) cause end = record { verdict = was_played m ts n; cause = (cause.0, (name, is, cause.1, cause.2), cause.3, cause.4); ending = end }
+    by (was_played m ts n) cause end = record { verdict = was_played m ts n; cause = (cause.0, (name, is, cause.1), cause.2, cause.3); ending = end }
 
 -- ---- the first line
 

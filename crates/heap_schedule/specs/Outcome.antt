@@ -1,12 +1,14 @@
 -- How a call ends: why, with which status, and what each sink took.
 use Rattle.std.specs.Prelude.{◌≡◌, ◌⊎◌, ℕ, ◌+◌, ◌≤◌, ◌==◌, not, if◌then◌else◌, List, [], ◌∷◌, ◌++◌, codes, decimal, length, slice_index, take, Option, None, Some}
 use Rattle.js_io.specs.Counts.{next_count}
+use Rattle.js_io.specs.declared.files.TheConstants.{FILE_MAX}
 use Rattle.js_io.specs.FilesState.{FilesState, IsTooLarge, Tells}
 use Rattle.js_io.specs.SinkState.{SinkState, Takes, TakesPrefix}
 use Rattle.heap_schedule.specs.declared.line.Making.{Making}
 use Rattle.heap_schedule.specs.Lines.{Turn}
 use Rattle.heap_schedule.specs.Text.{reads, refuses, schedule_of}
-use Rattle.heap_schedule.specs.Play.{EndsAfter, all_played, made, words_for}
+use Rattle.heap_schedule.specs.Play.{all_played, made, words_for}
+use Rattle.heap_schedule.specs.Kept.{WasPlayed}
 use Rattle.heap_schedule.specs.Shown.{shown}
 
 -- the program's name and one word that doesn't begin with `-`
@@ -30,9 +32,14 @@ pub data Verdict : Type 0 where
 abbrev pub IsQuiet : FilesState → FilesState → Type 0
 IsQuiet old new = (new.faults ≡ old.faults) × (new.oversize ≡ old.oversize)
 
--- the file of this name was read, and its bytes are these where they are told
+-- the file of this name was read, which isn't too large; its bytes are these where they are told
+pub record IsHeld (name : List ℕ) (old new : FilesState) (text : List ℕ) : Type 0 where
+  pub bytes : Tells (old.held name) text
+  pub small : length text ≤ FILE_MAX
+  pub quiet : IsQuiet old new
+
 abbrev pub WasRead : List (List ℕ) → FilesState → FilesState → List ℕ → Type 0
-WasRead words old new text = (name : List ℕ) × (file_in words ≡ Some name) × Tells (old.held name) text × IsQuiet old new
+WasRead words old new text = (name : List ℕ) × (file_in words ≡ Some name) × IsHeld name old new text
 
 abbrev pub HasCause : List (List ℕ) → FilesState → FilesState → Verdict → Type 0
 HasCause words old new bad_words = (file_in words ≡ None) × IsQuiet old new
@@ -42,7 +49,7 @@ HasCause words old new (too_large name) = (file_in words ≡ Some name) × IsToo
 HasCause words old new (not_of_form k) = (text : List ℕ) × WasRead words old new text × (schedule_of text ≡ refuses k)
 HasCause words old new no_memory = (name : List ℕ) × (file_in words ≡ Some name) × IsQuiet old new
 HasCause words old new (was_played m ts n) = (text : List ℕ) × WasRead words old new text
-    × (schedule_of text ≡ reads m ts) × EndsAfter ts (made m) n
+    × (schedule_of text ≡ reads m ts) × WasPlayed ts (made m) n
 
 -- nothing was played, and a line is told; or this was written
 pub data Report : Type 0 where
@@ -122,7 +129,7 @@ pub record Outcome (words : List (List ℕ)) (old_files new_files : FilesState) 
 abbrev pub IsOf : List ℕ → Verdict → Type 0
 IsOf text (not_of_form k) = schedule_of text ≡ refuses k
 IsOf text no_memory = Unit {0}
-IsOf text (was_played m ts n) = (schedule_of text ≡ reads m ts) × EndsAfter ts (made m) n
+IsOf text (was_played m ts n) = (schedule_of text ≡ reads m ts) × WasPlayed ts (made m) n
 IsOf text _ = ⊥
 
 pub record TextOutcome (text : List ℕ) (code : ℕ) (old new : Sinks) : Type 0 where
@@ -135,10 +142,10 @@ abbrev pub CauseBy : List ℕ → FilesState → FilesState → Verdict → Type
 CauseBy name old new (not_read blamed) = (blamed ≡ name) × (new.faults ≡ next_count old.faults) × (new.blamed ≡ name)
 CauseBy name old new (too_large blamed) = (blamed ≡ name) × IsTooLarge (old.held name) old.oversize new.oversize
     × (new.faults ≡ old.faults) × (new.blamed ≡ name)
-CauseBy name old new (not_of_form k) = (text : List ℕ) × Tells (old.held name) text × IsQuiet old new × (schedule_of text ≡ refuses k)
+CauseBy name old new (not_of_form k) = (text : List ℕ) × IsHeld name old new text × (schedule_of text ≡ refuses k)
 CauseBy name old new no_memory = IsQuiet old new
-CauseBy name old new (was_played m ts n) = (text : List ℕ) × Tells (old.held name) text × IsQuiet old new
-    × (schedule_of text ≡ reads m ts) × EndsAfter ts (made m) n
+CauseBy name old new (was_played m ts n) = (text : List ℕ) × IsHeld name old new text
+    × (schedule_of text ≡ reads m ts) × WasPlayed ts (made m) n
 CauseBy name old new bad_words = ⊥
 
 pub record FileOutcome (name : List ℕ) (old_files new_files : FilesState) (code : ℕ) (old new : Sinks) : Type 0 where
@@ -148,4 +155,4 @@ pub record FileOutcome (name : List ℕ) (old_files new_files : FilesState) (cod
 
 -- what a play came to: what is shown of it, and how many lines were played
 abbrev pub IsShown : Making → List Turn → List ℕ → ℕ → Type 0
-IsShown m ts bytes n = EndsAfter ts (made m) n × (bytes ≡ shown (all_played (take n ts) (made m)) (words_for (take n ts) (made m)))
+IsShown m ts bytes n = WasPlayed ts (made m) n × (bytes ≡ shown (all_played (take n ts) (made m)) (words_for (take n ts) (made m)))
