@@ -28,7 +28,7 @@ may s (event.Thin j i old t names) h = h
 may s (event.LoadSlot j k entry names) h = h
 may s (event.TakeSlot j k i names) h = h
 
-may_back : (s : Core) (e : Event) → CanPlay s (turn_of e) → Enabled s e
+pub may_back : (s : Core) (e : Event) → CanPlay s (turn_of e) → Enabled s e
 may_back s (event.Make z a) h = h
 may_back s (event.Split j g) h = h
 may_back s (event.Join j o) h = h
@@ -44,7 +44,7 @@ may_back s (event.Thin j i old t names) h = h
 may_back s (event.LoadSlot j k entry names) h = h
 may_back s (event.TakeSlot j k i names) h = h
 
-same_after : (s : Core) (e : Event) → after s e ≡ played s (turn_of e)
+pub same_after : (s : Core) (e : Event) → after s e ≡ played s (turn_of e)
 same_after s (event.Make z a) = refl
 same_after s (event.Split j g) = refl
 same_after s (event.Join j o) = refl

@@ -1,7 +1,7 @@
 -- What was written, and why a call ends so.
-use Rattle.std.proofs.Common.{◌≡◌, inl, inr, ℕ, ◌+◌, ◌≤◌, arith, ◌++◌, List, [], ◌∷◌, length, map, take, refl, sym, ap, ◌∙◌, subst, codes, Option, Some, None, Result, Ok, Err, eq-eqb, ne_eqb}
+use Rattle.std.proofs.Common.{◌≡◌, inl, inr, ℕ, ◌+◌, ◌≤◌, arith, ◌++◌, List, [], ◌∷◌, length, map, take, refl, sym, ap, ◌∙◌, subst, codes, Option, Some, None, Result, Ok, Err, ne_eqb}
 use Rattle.std.specs.Prelude.{decimal, ◌==◌, true}
-use Rattle.std.proofs.lemmas.Bool.{and_parts, cond-true, cond-false, leb-true}
+use Rattle.std.proofs.lemmas.Bool.{and_parts, cond-false, leb-true}
 use Rattle.heap_rule.specs.Layout.{IsLawful}
 use Rattle.js_io.specs.Counts.{next_count}
 use Rattle.js_io.specs.declared.files.TheConstants.{FILE_MAX}
@@ -29,37 +29,19 @@ told status line (Ok done) out a b w = record { status = refl; silent = takes_no
 told status line (Err e) out a b w = record { status = refl; silent = takes_nothing out; told = inr (record { took = w.prefix; once = w.once; counted = w.counted }) }
 
 module _ {E : Type 0} (lines n : ℕ) (bytes : List ℕ) (o p e f : SinkState) where
-  -- all was played, and it was written
-  pub all_told : n ≡ lines → WritesAll {E = E} (Ok tt) o p bytes → IsEnd (printed (play_status lines n) bytes (stop_line lines n)) 0 (sinks o e) (sinks p e)
-  all_told at v = inl (record {
-    status = sym (cond-true _ _ _ (eq-eqb n lines at));
-    out = record { took = v.all; calm = v.calm };
-    err = subst (TakesAll e e) (sym (cond-true _ _ _ (eq-eqb n lines at))) (takes_nothing e);
-  })
-
-  -- a line isn't enabled, and it was told
-  pub stop_told : (n ≡ lines → ⊥) → WritesAll {E = E} (Ok tt) o p bytes → WritesAll {E = E} (Ok tt) e f (decimal (n + 2) ++ codes ": not enabled\n")
-      → IsEnd (printed (play_status lines n) bytes (stop_line lines n)) 1 (sinks o e) (sinks p f)
-  stop_told at v w = inl (record {
-    status = sym (cond-false _ _ _ (ne_eqb n lines at));
-    out = record { took = v.all; calm = v.calm };
-    err = subst (TakesAll e f) (sym (cond-false _ _ _ (ne_eqb n lines at))) (record { took = w.all; calm = w.calm });
-  })
-
-  pub stop_cut : (fault : E) → (n ≡ lines → ⊥) → WritesAll {E = E} (Ok tt) o p bytes → WritesAll {E = E} (Err fault) e f (decimal (n + 2) ++ codes ": not enabled\n")
+  -- a line isn't enabled, and telling it was cut
+  pub stop_cut : (fault : E) (next : ℕ) (ds : List ℕ) → next ≡ n + 2 → ds ≡ bytes → (n ≡ lines → ⊥) → WritesAll {E = E} (Ok tt) o p ds
+      → WritesAll {E = E} (Err fault) e f (decimal next ++ codes ": not enabled\n")
       → IsEnd (printed (play_status lines n) bytes (stop_line lines n)) 7 (sinks o e) (sinks p f)
-  stop_cut fault at v w = inr (inr (record {
-    status = refl;
-    out = record { took = v.all; calm = v.calm };
-    err = subst (TakesUntil e f) (sym (cond-false _ _ _ (ne_eqb n lines at))) (record { took = w.prefix; once = w.once; counted = w.counted });
-  }))
-
-  pub out_cut : (fault : E) → WritesAll {E = E} (Err fault) o p bytes → IsEnd (printed (play_status lines n) bytes (stop_line lines n)) 7 (sinks o e) (sinks p e)
-  out_cut fault v = inr (inl (record {
-    status = refl;
-    out = record { took = v.prefix; once = v.once; counted = v.counted };
-    err = takes_nothing e;
-  }))
+  stop_cut fault next ds is same at v w =
+      let w' : WritesAll {E = E} (Err fault) e f (decimal (n + 2) ++ codes ": not enabled\n") =
+      subst (λ k. WritesAll {E = E} (Err fault) e f (decimal k ++ codes ": not enabled\n")) is w in
+      let v' : WritesAll {E = E} (Ok tt) o p bytes = subst (λ bs. WritesAll {E = E} (Ok tt) o p bs) same v in
+      inr (inr (record {
+        status = refl;
+        out = record { took = v'.all; calm = v'.calm };
+        err = subst (TakesUntil e f) (sym (cond-false _ _ _ (ne_eqb n lines at))) (record { took = w'.prefix; once = w'.once; counted = w'.counted });
+      }))
 
 -- ---- of a play
 
@@ -69,9 +51,11 @@ pub play_shown : (m : Making) (ls ds : List Line) (s t : Core) (xs ys bytes : Li
     → bytes ≡ shown t ys → ys ≡ xs → n ≡ length xs → IsShown m (map named ls) bytes n
 play_shown m ls ds s t xs ys bytes n lines first sound ends after found made_of same long =
     let P : ℕ → Core → Type 0 = λ k c. WasPlayed (map named ds) c k
-        × (bytes ≡ shown (all_played (take k (map named ds)) c) (words_for (take k (map named ds)) c)) in
-    let here : P (length xs) s = (play_kept ds (length xs) s sound ends,
-        made_of ∙ ap (shown t) same ∙ ap (λ c. shown c xs) after ∙ ap (shown (all_played (take (length xs) (map named ds)) s)) found) in
+    × (bytes ≡ shown (all_played (take k (map named ds)) c) (words_for (take k (map named ds)) c)) in
+    let here : P (length xs) s = (
+      play_kept ds (length xs) s sound ends,
+      made_of ∙ ap (shown t) same ∙ ap (λ c. shown c xs) after ∙ ap (shown (all_played (take (length xs) (map named ds)) s)) found,
+    ) in
     let counted : P n s = subst (λ k. P k s) (sym long) here in
     let begun : P n (made m) = subst (P n) first counted in
     subst (λ l. IsShown m (map named l) bytes n) lines begun
