@@ -55,6 +55,13 @@ impl CoreState {
         }
     }
 
+    /// The sizes of the heap, all 0 where there is none yet.
+    pub fn size(&self) -> HeapSize
+        ensures { result ≡ self.now.size }
+    {
+        self.size
+    }
+
     /// The words of the heap.
     pub fn words(&self) -> &[u64]
         ensures { result.now ≡ self.now.words }

@@ -1,0 +1,7 @@
+use Rattle.heap_schedule.proofs.Told.{told}
+use Rattle.heap_schedule.proofs.run.tell_large.Goals as goal
+
+pub returns : goal.returns
+returns g c =
+    let state = g.E.Sink.state in
+    λ out. told 3 _ c.write_both.result out (state c.args.err.now) (state c.write_both.new.sink) (rw (c.as_bytes.ensures.value) at c.write_both.ensures)
