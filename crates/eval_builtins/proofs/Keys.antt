@@ -5,9 +5,9 @@ use Rattle.std.proofs.lemmas.List.{append-nil}
 use Rattle.std.proofs.lemmas.List.Elements.{Contains-append_right}
 use Rattle.js_store.specs.State.{State, Has, IsKnown, Interned, text as units_of}
 use Rattle.js_store.specs.Faults.{Step, SlotsShut, NeverSlots}
-use Rattle.js_store.specs.Answers.{full_part, IsStoreFault}
-use Rattle.js_store.specs.declared.faults.MethodFault.{MethodFault}
-use Rattle.js_store.specs.declared.faults.MethodFault.TheVariants as method
+use Rattle.js_texts.specs.Answers.{full_part, IsStoreFault}
+use Rattle.js_texts.specs.declared.faults.MethodFault.{MethodFault}
+use Rattle.js_texts.specs.declared.faults.MethodFault.TheVariants as method
 use Rattle.js_store.specs.Rows.{intern_words}
 use Rattle.js_store.specs.declared.faults.StoreFault.{StoreFault}
 use Rattle.js_store.specs.declared.faults.StoreFault.TheVariants.{Full, Memory}

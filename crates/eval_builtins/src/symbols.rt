@@ -4,7 +4,7 @@ ghost use Rattle.std.specs.Prelude.{◌≡◌, ◌+◌, ◌++◌, ◌≤◌, ℕ
 ghost use Rattle.js_store.specs.State.{Has, Grows, IsKnown, text};
 ghost use Rattle.js_store.specs.Rows.{wide_words, flat_words};
 ghost use Rattle.js_store.specs.Faults.{Step, NeverSlots};
-ghost use Rattle.js_store.specs.Answers.{NeverThrows, full_of};
+ghost use Rattle.js_texts.specs.Answers.{NeverThrows, full_of};
 ghost use Rattle.eval_values.specs.Arguments.{first_of};
 ghost use Rattle.eval_values.specs.Outcome.{needing};
 ghost use Rattle.eval_values.specs.Outcome;
@@ -16,8 +16,8 @@ ghost use Rattle.eval_builtins.specs.Symbols.{description_of, shown_symbol, show
 use crate::quoting::give_text;
 use eval_values::{Kind, Stop, Value, to_text};
 use js_number::append_text;
-use js_store::{MethodFault, Strings};
-use js_texts::read;
+use js_store::Strings;
+use js_texts::{MethodFault, read};
 use js_units::{NoMemory, Units};
 use std::alloc::Global;
 

@@ -1,7 +1,8 @@
 -- Two strings joined, which may be too long for a string.
 use Rattle.std.proofs.Common.{◌≡◌, ℕ, ◌+◌, List, ◌++◌, refl, arith, Some, Err}
 use Rattle.js_store.specs.State.{State}
-use Rattle.js_store.specs.Faults.{Step, NeverSlots, method_part}
+use Rattle.js_store.specs.Faults.{Step, NeverSlots}
+use Rattle.js_texts.specs.Answers.{method_part, IsLong}
 use Rattle.js_store.specs.Rows.{join_ids, join_words}
 use Rattle.js_store.proofs.Laws.{joined_within}
 use Rattle.js_store.specs.declared.faults.StoreFault.{StoreFault}
@@ -9,9 +10,8 @@ use Rattle.eval_values.specs.Stops.{stop_of}
 use Rattle.eval_values.specs.Outcome.{gave, ended, threw, cost, ledger_of}
 use Rattle.eval_values.specs.Need.{joins, joins_ids, joins_words}
 use Rattle.eval_values.specs.declared.value.Kind.TheVariants.{RangeError}
-use Rattle.js_store.specs.Answers.{IsLong}
-use Rattle.js_store.specs.declared.faults.MethodFault.{MethodFault}
-use Rattle.js_store.specs.declared.faults.MethodFault.TheVariants as method
+use Rattle.js_texts.specs.declared.faults.MethodFault.{MethodFault}
+use Rattle.js_texts.specs.declared.faults.MethodFault.TheVariants as method
 use Rattle.eval_members.specs.Building.{joined_text}
 use Rattle.std.specs.Prelude.{nat_le, if◌then◌else◌, true, false, length}
 use Rattle.eval_values.specs.Ran.{Cut}

@@ -2,11 +2,11 @@
 use Rattle.std.proofs.Common.{arith, ◌≡◌, ℕ, ◌+◌, ◌<◌, ◌≤◌, List, length, refl, Bool, true, false, nat_le, if◌then◌else◌, None, Ok, Err}
 use Rattle.js_store.specs.State.{State, Has}
 use Rattle.js_store.specs.Faults.{Step, NeverSlots}
-use Rattle.js_store.specs.Answers.{full_part, IsLong}
+use Rattle.js_texts.specs.Answers.{full_part, IsLong}
 use Rattle.js_store.specs.declared.faults.StoreFault.{StoreFault}
-use Rattle.js_store.specs.declared.faults.MethodFault.{MethodFault}
-use Rattle.js_store.specs.declared.faults.MethodFault.TheVariants.{Store as MethodStore}
-use Rattle.js_store.specs.declared.faults.MethodFault.TheVariants as method
+use Rattle.js_texts.specs.declared.faults.MethodFault.{MethodFault}
+use Rattle.js_texts.specs.declared.faults.MethodFault.TheVariants.{Store as MethodStore}
+use Rattle.js_texts.specs.declared.faults.MethodFault.TheVariants as method
 use Rattle.js_texts.specs.Use.{made_words}
 use Rattle.eval_values.specs.declared.value.Value.TheVariants.{Text}
 use Rattle.eval_values.specs.declared.value.Kind.TheVariants.{RangeError}

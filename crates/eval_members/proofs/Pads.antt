@@ -2,11 +2,12 @@
 use Rattle.std.proofs.Common.{arith, ◌≡◌, ℕ, ◌+◌, ◌<◌, ◌≤◌, List, length, refl, subst, Bool, true, false, nat_le, Some, None, Result, Ok, Err}
 use Rattle.js_number.specs.declared.Num.{Num}
 use Rattle.js_store.specs.State.{State, Grows, IsKnown, text}
-use Rattle.js_store.specs.Faults.{Step, NeverSlots, method_part}
-use Rattle.js_store.specs.declared.faults.MethodFault.{MethodFault}
-use Rattle.js_store.specs.declared.faults.MethodFault.TheVariants as method
+use Rattle.js_store.specs.Faults.{Step, NeverSlots}
+use Rattle.js_texts.specs.Answers.{method_part}
+use Rattle.js_texts.specs.declared.faults.MethodFault.{MethodFault}
+use Rattle.js_texts.specs.declared.faults.MethodFault.TheVariants as method
 use Rattle.js_store.specs.declared.faults.StoreFault.{StoreFault}
-use Rattle.js_store.specs.declared.faults.Cause.{Cause}
+use Rattle.js_texts.specs.declared.faults.Cause.{Cause}
 use Rattle.js_store.proofs.Laws.{text_still}
 use Rattle.js_methods.specs.Repeating.{is_count, repeat_of, IsCountFault, IsRepeatFault}
 use Rattle.eval_values.specs.declared.value.Value.{Value}

@@ -5,10 +5,10 @@ use Rattle.js_store.specs.State.{State, Has, Grows, IsKnown, text as units_of}
 use Rattle.js_store.specs.Faults.{Step, NeverSlots}
 use Rattle.js_store.specs.Rows.{copy_words, settle_words, wide_words}
 use Rattle.js_store.specs.declared.faults.StoreFault.{StoreFault}
-use Rattle.js_store.specs.declared.faults.MethodFault.{MethodFault}
-use Rattle.js_store.specs.declared.faults.MethodFault.TheVariants.{Store as MethodStore}
-use Rattle.js_store.specs.declared.faults.MethodFault.TheVariants as method
-use Rattle.js_store.specs.Answers.{full_part, IsStoreFault}
+use Rattle.js_texts.specs.declared.faults.MethodFault.{MethodFault}
+use Rattle.js_texts.specs.declared.faults.MethodFault.TheVariants.{Store as MethodStore}
+use Rattle.js_texts.specs.declared.faults.MethodFault.TheVariants as method
+use Rattle.js_texts.specs.Answers.{full_part, IsStoreFault}
 use Rattle.js_store.proofs.Laws.{known_has, text_still}
 use Rattle.js_texts.specs.Texts.{texts, AllKnown}
 use Rattle.js_replace.specs.Parts.{parts}

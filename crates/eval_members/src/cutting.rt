@@ -4,8 +4,8 @@ ghost use Rattle.js_number.specs.Places.{IsLawful};
 ghost use Rattle.js_units.specs.Text.{well};
 ghost use Rattle.js_store.specs.State.{Has, Grows, IsKnown, text};
 ghost use Rattle.js_store.specs.Rows.{wide_words};
-ghost use Rattle.js_store.specs.Faults.{Step, method_fault_of, NeverSlots};
-ghost use Rattle.js_store.specs.Answers.{ThrowsLong};
+ghost use Rattle.js_store.specs.Faults.{Step, NeverSlots};
+ghost use Rattle.js_texts.specs.Answers.{method_fault_of, ThrowsLong};
 ghost use Rattle.eval_values.specs.Conversions.{to_number, all_units};
 ghost use Rattle.eval_values.specs.Arguments.{first_of, second_of, end_in};
 ghost use Rattle.eval_values.specs.Limited.{limited};
@@ -16,7 +16,8 @@ ghost use Rattle.eval_values.specs.Does.{Does};
 
 use eval_values::{Stop, Value, first_number, second_or_none};
 use js_number::Num;
-use js_store::{MethodFault, Strings};
+use js_store::Strings;
+use js_texts::MethodFault;
 use std::alloc::Global;
 
 /// A method that gives the part between two numbers.

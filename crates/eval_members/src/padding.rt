@@ -1,8 +1,8 @@
 // Methods that repeat a string or a filler.
 ghost use Rattle.std.specs.Prelude.{◌≡◌, ◌+◌, ◌∷◌, [], length, IfOk};
 ghost use Rattle.js_store.specs.State.{Has, Grows, IsKnown, text};
-ghost use Rattle.js_store.specs.Faults.{Step, method_fault_of, NeverSlots};
-ghost use Rattle.js_store.specs.Answers.{ThrowsLong};
+ghost use Rattle.js_store.specs.Faults.{Step, NeverSlots};
+ghost use Rattle.js_texts.specs.Answers.{method_fault_of, ThrowsLong};
 ghost use Rattle.js_methods.specs.Padding as methods;
 ghost use Rattle.eval_values.specs.Conversions.{to_number};
 ghost use Rattle.eval_values.specs.Arguments.{first_of, second_of};
@@ -15,7 +15,8 @@ ghost use Rattle.eval_values.specs.Does.{Does};
 
 use crate::building::itself;
 use eval_values::{Stop, Value, first_number, second_is_missing, second_text};
-use js_store::{MethodFault, Strings};
+use js_store::Strings;
+use js_texts::MethodFault;
 use std::alloc::Global;
 
 /// A method that adds a filler at one side.

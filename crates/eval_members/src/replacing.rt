@@ -2,7 +2,7 @@
 ghost use Rattle.std.specs.Prelude.{◌≡◌, ℕ, ◌+◌, ◌≤◌, length, IfOk};
 ghost use Rattle.js_store.specs.State.{Has, Grows, IsKnown, text};
 ghost use Rattle.js_store.specs.Faults.{Step, NeverSlots};
-ghost use Rattle.js_store.specs.Answers.{ThrowsLong, full_of};
+ghost use Rattle.js_texts.specs.Answers.{ThrowsLong, full_of};
 ghost use Rattle.js_texts.specs.Use.{settling, made_words};
 ghost use Rattle.eval_values.specs.Conversions.{text_units, all_units, first_text_units};
 ghost use Rattle.eval_values.specs.Arguments.{first_of, second_of};
@@ -12,7 +12,8 @@ ghost use Rattle.eval_values.specs.Seen.{seen, IsFine, all_seen, AllFine};
 ghost use Rattle.eval_values.specs.Does.{Does};
 
 use eval_values::{Stop, Value, to_text};
-use js_store::{MethodFault, Strings};
+use js_store::Strings;
+use js_texts::MethodFault;
 use std::alloc::Global;
 
 /// Which matches a method replaces.

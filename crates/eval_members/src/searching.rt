@@ -3,8 +3,8 @@ ghost use Rattle.std.specs.Prelude.{◌≡◌, ℕ, ◌+◌, ◌≤◌, length, 
 ghost use Rattle.js_number.specs.Places.{IsLawful};
 ghost use Rattle.js_store.specs.State.{Grows, IsKnown, text};
 ghost use Rattle.js_store.specs.Rows.{wide_words};
-ghost use Rattle.js_store.specs.Faults.{Step, method_fault_of, NeverSlots};
-ghost use Rattle.js_store.specs.Answers.{NeverThrows};
+ghost use Rattle.js_store.specs.Faults.{Step, NeverSlots};
+ghost use Rattle.js_texts.specs.Answers.{method_fault_of, NeverThrows};
 ghost use Rattle.js_methods.specs.Searching.{ends_at};
 ghost use Rattle.eval_values.specs.Outcome;
 ghost use Rattle.eval_values.specs.Conversions.{to_number, all_units, first_text_units};
@@ -17,7 +17,8 @@ ghost use Rattle.eval_values.specs.Does.{Does};
 
 use eval_values::{Refusal, Stop, Value, first_text, second_number, second_or_none};
 use js_number::Num;
-use js_store::{MethodFault, Strings};
+use js_store::Strings;
+use js_texts::MethodFault;
 use std::alloc::Global;
 
 /// A method that takes a string and a number.

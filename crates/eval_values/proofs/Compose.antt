@@ -12,8 +12,8 @@ use Rattle.eval_values.specs.declared.value.Stop.{Stop}
 use Rattle.eval_values.specs.declared.value.Stop.TheVariants.{Threw, Unsupported, Store}
 use Rattle.eval_values.specs.Need.{Row, ids_in, words_in}
 use Rattle.eval_values.specs.Outcome.{Ledger, both, free, cost, Out, gave, ended, threw, unsupported, after, bind, converting, ledger_of}
-use Rattle.js_store.specs.Answers.{full_part}
-use Rattle.js_store.specs.declared.faults.MethodFault.TheVariants.{Store as MethodStore}
+use Rattle.js_texts.specs.Answers.{full_part}
+use Rattle.js_texts.specs.declared.faults.MethodFault.TheVariants.{Store as MethodStore}
 use Rattle.js_texts.specs.Texts.{full_only}
 use Rattle.eval_values.specs.Ran.{Interns, Ran, NextShut, Cut, Did}
 

@@ -1,17 +1,17 @@
 -- Methods whose result may be too long for a string.
 use Rattle.std.proofs.Common.{◌≡◌, ℕ, ◌<◌, ◌≤◌, List, refl, ap, arith, Some, None, Ok, Err}
 use Rattle.js_store.specs.State.{State, Has}
-use Rattle.js_store.specs.Faults.{Step, NeverSlots, method_part}
+use Rattle.js_store.specs.Faults.{Step, NeverSlots}
+use Rattle.js_texts.specs.Answers.{method_part, full_part, IsLong, IsStoreFault}
 use Rattle.js_store.proofs.Laws.{has_text, has_known}
 use Rattle.js_store.specs.declared.faults.StoreFault.{StoreFault}
 use Rattle.eval_values.specs.declared.value.Stop.TheVariants.{Threw}
 use Rattle.eval_values.specs.Stops.{stop_of}
 use Rattle.eval_values.specs.Outcome.{Val, ledger_of, gives, throws, text}
 use Rattle.eval_values.specs.declared.value.Kind.TheVariants.{RangeError}
-use Rattle.js_store.specs.Answers.{full_part, IsLong, IsStoreFault}
-use Rattle.js_store.specs.declared.faults.MethodFault.{MethodFault}
-use Rattle.js_store.specs.declared.faults.MethodFault.TheVariants.{Store as MethodStore}
-use Rattle.js_store.specs.declared.faults.MethodFault.TheVariants as method
+use Rattle.js_texts.specs.declared.faults.MethodFault.{MethodFault}
+use Rattle.js_texts.specs.declared.faults.MethodFault.TheVariants.{Store as MethodStore}
+use Rattle.js_texts.specs.declared.faults.MethodFault.TheVariants as method
 use Rattle.eval_values.specs.declared.value.Value.TheVariants.{Text}
 use Rattle.eval_values.specs.Limited.{within}
 use Rattle.std.specs.Prelude.{nat_le, if◌then◌else◌, true, false, length}

@@ -3,10 +3,10 @@ use Rattle.std.proofs.Common.{arith, ◌≡◌, ℕ, zero, suc, ◌+◌, ◌<◌
 use Rattle.js_store.specs.State.{State}
 use Rattle.js_store.specs.Rows.{flat_words, wide_words}
 use Rattle.js_store.specs.Faults.{Step, NeverSlots}
-use Rattle.js_store.specs.Answers.{full_part}
+use Rattle.js_texts.specs.Answers.{full_part}
 use Rattle.js_store.specs.declared.faults.StoreFault.{StoreFault}
 use Rattle.js_store.specs.declared.faults.StoreFault.TheVariants.{Full, Memory}
-use Rattle.js_store.specs.declared.faults.MethodFault.TheVariants.{Store as MethodStore}
+use Rattle.js_texts.specs.declared.faults.MethodFault.TheVariants.{Store as MethodStore}
 use Rattle.js_store.proofs.Laws.{flat_words_most}
 use Rattle.js_texts.specs.Use.{made_words}
 use Rattle.eval_values.specs.Outcome.{Ledger}

@@ -1,7 +1,7 @@
 -- How a method's fault, and a conversion that was refused, stop an evaluation.
 use Rattle.std.specs.Prelude.{Result, Ok, Err}
-use Rattle.js_store.specs.declared.faults.MethodFault.{MethodFault}
-use Rattle.js_store.specs.declared.faults.MethodFault.TheVariants as method
+use Rattle.js_texts.specs.declared.faults.MethodFault.{MethodFault}
+use Rattle.js_texts.specs.declared.faults.MethodFault.TheVariants as method
 use Rattle.eval_values.specs.declared.value.Kind.TheVariants as kind
 use Rattle.eval_values.specs.declared.value.Refusal.{Refusal}
 use Rattle.eval_values.specs.declared.value.Refusal.TheVariants as refusal

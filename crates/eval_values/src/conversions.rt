@@ -4,7 +4,7 @@ ghost use Rattle.js_number.specs.Places.{IsLawful};
 ghost use Rattle.js_number.specs.Arith.{text_of};
 ghost use Rattle.js_store.specs.State.{Has, Grows, IsKnown, IsSettled, text};
 ghost use Rattle.js_store.specs.Faults.{Step, NeverSlots};
-ghost use Rattle.js_store.specs.Answers.{ThrowsLong, full_of};
+ghost use Rattle.js_texts.specs.Answers.{ThrowsLong, full_of};
 ghost use Rattle.js_texts.specs.Use.{made_words};
 ghost use Rattle.js_store.specs.Rows.{wide_words, settle_words};
 ghost use Rattle.eval_values.specs.Outcome.{each};
@@ -17,7 +17,8 @@ ghost use Rattle.eval_values.specs.Does.{GivesText, GivesTexts, string_words};
 use crate::lists::push;
 use crate::value::{Kind, Refusal, Stop, Value};
 use js_number::{Num, append_text};
-use js_store::{MethodFault, StoreFault, Strings};
+use js_store::{StoreFault, Strings};
+use js_texts::MethodFault;
 use js_units::Units;
 use std::alloc::Global;
 

@@ -4,7 +4,8 @@ ghost use Rattle.eval_values.specs.Copies.{content};
 ghost use Rattle.eval_values.specs.Seen.{IsWritten};
 
 use js_number::Num;
-use js_store::{MethodFault, StoreFault};
+use js_store::StoreFault;
+use js_texts::MethodFault;
 use js_units::NoMemory;
 use std::alloc::Global;
 

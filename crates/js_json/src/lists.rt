@@ -3,13 +3,13 @@ ghost use Rattle.std.specs.Prelude.{◌≡◌, ◌+◌, ◌*◌, ◌≤◌, ◌+
 ghost use Rattle.js_store.specs.State.{Has, IsKnown, text as text_of};
 ghost use Rattle.js_store.specs.Rows.{flat_words, settle_words};
 ghost use Rattle.js_store.specs.Faults.{Step, NeverSlots};
-ghost use Rattle.js_store.specs.Answers.{ThrowsLong, full_of};
+ghost use Rattle.js_texts.specs.Answers.{ThrowsLong, full_of};
 ghost use Rattle.js_json.specs.Quoting.{quoted, elements, list_rest, list_text};
 ghost use Rattle.js_texts.specs.Texts.{texts, AllKnown, settle_most, full_fault_of};
 
 use crate::escapes::{push_quoted, quoted_len};
-use js_store::{Cause, MethodFault, StoreFault, Strings};
-use js_texts::read;
+use js_store::{StoreFault, Strings};
+use js_texts::{Cause, MethodFault, read};
 use js_units::Units;
 use std::alloc::Global;
 

@@ -7,7 +7,7 @@ use Rattle.js_number.specs.declared.Num.{Num}
 use Rattle.js_store.specs.State.{State, Has, IsKnown, text}
 use Rattle.js_store.specs.Faults.{Step}
 use Rattle.js_store.specs.declared.faults.StoreFault.{StoreFault}
-use Rattle.js_store.specs.declared.faults.Cause.TheVariants.{TooLong as Length}
+use Rattle.js_texts.specs.declared.faults.Cause.TheVariants.{TooLong as Length}
 use Rattle.js_store.proofs.Laws.{step_after, has_still, known_has, text_still}
 use Rattle.js_methods.specs.Repeating.{is_count, copies, repeat_of, IsCountFault, repeat_ids, repeat_words}
 use Rattle.js_methods.proofs.Copies.{length-copies}

@@ -4,9 +4,9 @@ use Rattle.std.specs.List.{flat_map, list_all}
 use Rattle.js_units.specs.Text.{utf16_of}
 use Rattle.js_number.specs.declared.Num.{Num}
 use Rattle.js_number.specs.declared.Num.TheVariants.{Int}
-use Rattle.js_store.specs.declared.faults.Cause.TheVariants.{BadCodePoint}
-use Rattle.js_store.specs.declared.faults.MethodFault.{MethodFault}
-use Rattle.js_store.specs.declared.faults.MethodFault.TheVariants.{RangeError, Store}
+use Rattle.js_texts.specs.declared.faults.Cause.TheVariants.{BadCodePoint}
+use Rattle.js_texts.specs.declared.faults.MethodFault.{MethodFault}
+use Rattle.js_texts.specs.declared.faults.MethodFault.TheVariants.{RangeError, Store}
 
 -- whether the number is a code point, a whole number in 0..10FFFF hexadecimal
 abbrev pub is_code_point : Num → Bool

@@ -3,10 +3,10 @@ use Rattle.std.specs.Prelude.{◌≡◌, ℕ, ◌<◌, ◌≤◌, Bool, true, fa
 use Rattle.std.specs.List.{repeat}
 use Rattle.js_number.specs.declared.Num.{Num}
 use Rattle.js_number.specs.declared.Num.TheVariants.{Int, NaN, PosInf, NegInf}
-use Rattle.js_store.specs.declared.faults.Cause.{Cause}
-use Rattle.js_store.specs.declared.faults.Cause.TheVariants.{BadCount, TooLong as Length}
-use Rattle.js_store.specs.declared.faults.MethodFault.{MethodFault}
-use Rattle.js_store.specs.declared.faults.MethodFault.TheVariants.{RangeError, Store}
+use Rattle.js_texts.specs.declared.faults.Cause.{Cause}
+use Rattle.js_texts.specs.declared.faults.Cause.TheVariants.{BadCount, TooLong as Length}
+use Rattle.js_texts.specs.declared.faults.MethodFault.{MethodFault}
+use Rattle.js_texts.specs.declared.faults.MethodFault.TheVariants.{RangeError, Store}
 
 -- whether the integer or infinity of the number is a count, neither negative nor infinite
 abbrev pub is_count : Num → Bool

@@ -5,14 +5,15 @@ ghost use Rattle.js_units.specs.Text.{well};
 ghost use Rattle.js_store.specs.State.{Has, IsKnown, IsSettled, text};
 ghost use Rattle.js_store.specs.Rows.{flat_words, wide_words};
 ghost use Rattle.js_store.specs.Faults.{Step, NeverSlots};
-ghost use Rattle.js_store.specs.Answers.{NeverThrows, ThrowsLong, full_of};
+ghost use Rattle.js_texts.specs.Answers.{NeverThrows, ThrowsLong, full_of};
 ghost use Rattle.js_number.specs.Places.{IsLawful};
 ghost use Rattle.js_number.specs.Arith.{modulo};
 ghost use Rattle.js_methods.specs.Waiting.{IsLeadOrNone, well_after};
 ghost use Rattle.js_methods.specs.Building.{is_code_point, code_units, code_units_of, ThrowsBadPoint, PointsAnswer};
 
 use js_number::Num;
-use js_store::{Cause, MethodFault, Strings};
+use js_store::Strings;
+use js_texts::{Cause, MethodFault};
 use js_units::{NoMemory, Units, is_lead, is_trail};
 use std::alloc::Global;
 

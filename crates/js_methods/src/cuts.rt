@@ -2,13 +2,14 @@
 ghost use Rattle.std.specs.Prelude.{◌≡◌, ◌+◌, ◌*◌, ◌≤◌, ◌++◌, length, slice_range, IfOk, IfSome};
 ghost use Rattle.js_store.specs.State.{Has, IsKnown, IsSettled, text};
 ghost use Rattle.js_store.specs.Rows.{wide_words, join_ids, join_words};
-ghost use Rattle.js_store.specs.Faults.{Step, fault_of, method_fault_of, NeverSlots};
-ghost use Rattle.js_store.specs.Answers.{ThrowsLong};
+ghost use Rattle.js_store.specs.Faults.{Step, fault_of, NeverSlots};
+ghost use Rattle.js_texts.specs.Answers.{method_fault_of, ThrowsLong};
 ghost use Rattle.js_number.specs.Places.{IsLawful};
 ghost use Rattle.js_methods.specs.Cuts.{slice_of, substring_of, substr_of};
 
 use js_number::Num;
-use js_store::{Cause, ConcatFault, MethodFault, StoreFault, Strings};
+use js_store::{ConcatFault, StoreFault, Strings};
+use js_texts::{Cause, MethodFault};
 use js_units::{NoMemory, Units};
 use std::alloc::Global;
 

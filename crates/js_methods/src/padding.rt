@@ -2,13 +2,14 @@
 ghost use Rattle.std.specs.Prelude.{◌≡◌, ◌+◌, ◌-◌, ◌*◌, ◌≤◌, length, take, None, IfOk};
 ghost use Rattle.js_store.specs.State.{Has, IsKnown, text};
 ghost use Rattle.js_store.specs.Rows.{wide_words};
-ghost use Rattle.js_store.specs.Faults.{Step, fault_of, method_fault_of, NeverSlots};
-ghost use Rattle.js_store.specs.Answers.{ThrowsLong};
+ghost use Rattle.js_store.specs.Faults.{Step, fault_of, NeverSlots};
+ghost use Rattle.js_texts.specs.Answers.{method_fault_of, ThrowsLong};
 ghost use Rattle.js_methods.specs.Padding.{filling, pad_start_of, pad_end_of, pad_ids, pad_words};
 
 use crate::cuts::joined;
 use crate::repeating::doubled;
-use js_store::{Cause, MethodFault, StoreFault, Strings};
+use js_store::{StoreFault, Strings};
+use js_texts::{Cause, MethodFault};
 
 /// The string with the filler, repeated and cut, behind it, so that it has `max` units; the
 /// string itself where it has as many, or where the filler is empty

@@ -2,12 +2,14 @@
 ghost use Rattle.std.specs.Prelude.{◌≡◌, ℕ, ◌+◌, ◌-◌, ◌*◌, ◌/◌, ◌<◌, ◌≤◌, ◌^◌, length, IfOk, MatchOption, true, false};
 ghost use Rattle.std.specs.List.{repeat as repeated};
 ghost use Rattle.js_store.specs.State.{Has, IsKnown, text};
-ghost use Rattle.js_store.specs.Faults.{Step, fault_of, method_fault_of, NeverSlots};
+ghost use Rattle.js_store.specs.Faults.{Step, fault_of, NeverSlots};
+ghost use Rattle.js_texts.specs.Answers.{method_fault_of};
 ghost use Rattle.js_methods.specs.Repeating.{is_count, copies, repeat_of, ThrowsCount, repeat_ids, repeat_words};
 
 use crate::cuts::joined;
 use js_number::Num;
-use js_store::{Cause, MethodFault, StoreFault, Strings};
+use js_store::{StoreFault, Strings};
+use js_texts::{Cause, MethodFault};
 
 /// As many copies as the integer of `count` says. It throws where that is negative or infinite,
 /// whatever the string is ("String.prototype.repeat").

@@ -2,13 +2,14 @@
 ghost use Rattle.std.specs.Prelude.{◌≡◌, ◌+◌, ◌≤◌, length, IfOk, IfSome, OnOk};
 ghost use Rattle.js_store.specs.State.{IsKnown, IsSettled, text};
 ghost use Rattle.js_store.specs.Rows.{wide_words};
-ghost use Rattle.js_store.specs.Faults.{Step, fault_of, method_fault_of, NeverSlots};
-ghost use Rattle.js_store.specs.Answers.{NeverThrows};
+ghost use Rattle.js_store.specs.Faults.{Step, fault_of, NeverSlots};
+ghost use Rattle.js_texts.specs.Answers.{method_fault_of, NeverThrows};
 ghost use Rattle.js_number.specs.Places.{IsLawful};
 ghost use Rattle.js_methods.specs.Searching.{index_from, includes_from, last_index_up_to, limit_of, starts_at, ends_at, end_at};
 
 use js_number::Num;
-use js_store::{MethodFault, StoreFault, Strings};
+use js_store::{StoreFault, Strings};
+use js_texts::MethodFault;
 
 /// Whether `w` ends in `s` at `end`, which is the string's end where it is none
 /// ("String.prototype.endsWith").

@@ -2,11 +2,12 @@
 ghost use Rattle.std.specs.Prelude.{◌≡◌, ◌+◌, ◌*◌, ◌≤◌, ℕ, ◌-◌, length, drop, reverse, slice_range, IfOk, OnOk};
 ghost use Rattle.js_store.specs.State.{Has, IsKnown, IsSettled, text};
 ghost use Rattle.js_store.specs.Rows.{wide_words, cut_ids, cut_words};
-ghost use Rattle.js_store.specs.Faults.{Step, method_fault_of, NeverSlots};
-ghost use Rattle.js_store.specs.Answers.{ThrowsLong};
+ghost use Rattle.js_store.specs.Faults.{Step, NeverSlots};
+ghost use Rattle.js_texts.specs.Answers.{method_fault_of, ThrowsLong};
 ghost use Rattle.js_methods.specs.Trimming.{blanks, trimmed, trimmed_start, trimmed_end};
 
-use js_store::{Cause, MethodFault, Strings};
+use js_store::Strings;
+use js_texts::{Cause, MethodFault};
 use js_units::is_trimmed;
 
 /// The string without the white space at both ends ("String.prototype.trim").

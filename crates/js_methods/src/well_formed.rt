@@ -3,11 +3,12 @@ ghost use Rattle.std.specs.Prelude.{◌≡◌, ◌↔◌, IsTrue, length, IfOk, 
 ghost use Rattle.js_units.specs.Text.{well};
 ghost use Rattle.js_store.specs.State.{IsKnown, IsSettled, text};
 ghost use Rattle.js_store.specs.Rows.{settle_words};
-ghost use Rattle.js_store.specs.Faults.{Step, method_fault_of, NeverSlots};
-ghost use Rattle.js_store.specs.Answers.{NeverThrows};
+ghost use Rattle.js_store.specs.Faults.{Step, NeverSlots};
+ghost use Rattle.js_texts.specs.Answers.{method_fault_of, NeverThrows};
 ghost use Rattle.js_methods.specs.WellFormed.{all_paired};
 
-use js_store::{MethodFault, Strings};
+use js_store::Strings;
+use js_texts::MethodFault;
 use js_units::{is_lead, is_trail};
 
 /// Whether there is no unpaired surrogate ("String.prototype.isWellFormed"), so that

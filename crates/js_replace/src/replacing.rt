@@ -2,15 +2,15 @@
 ghost use Rattle.std.specs.Prelude.{◌≡◌, ◌+◌, ◌≤◌, ◌++◌, ℕ, List, length, IfOk, OnOk};
 ghost use Rattle.js_store.specs.State.{Has, IsKnown, IsSettled, text};
 ghost use Rattle.js_store.specs.Faults.{Step, fault_of, NeverSlots};
-ghost use Rattle.js_store.specs.Answers.{ThrowsLong, full_of};
+ghost use Rattle.js_texts.specs.Answers.{ThrowsLong, full_of};
 ghost use Rattle.js_replace.specs.Matches.{AreMatches, first_matches, matches, InOrder};
 ghost use Rattle.js_replace.specs.Replaced.{replaced_at, replaced_first, replaced_all};
 ghost use Rattle.js_texts.specs.Use.{settling, made_words};
 
 use crate::matching::places;
 use crate::pieces::{Shape, push_substituted};
-use js_store::{Cause, MethodFault, StoreFault, Strings};
-use js_texts::copied;
+use js_store::{StoreFault, Strings};
+use js_texts::{Cause, MethodFault, copied};
 use js_units::{NoMemory, Units};
 use std::alloc::Global;
 

@@ -4,7 +4,7 @@ ghost use Rattle.std.specs.Option.{option_map};
 ghost use Rattle.js_store.specs.State.{IsKnown, IsSettled, text};
 ghost use Rattle.js_store.specs.Faults.{Step, NeverSlots};
 ghost use Rattle.js_store.specs.Rows.{copy_words};
-ghost use Rattle.js_store.specs.Answers.{NeverThrows, full_of};
+ghost use Rattle.js_texts.specs.Answers.{NeverThrows, full_of};
 ghost use Rattle.js_texts.specs.Texts.{texts, AllKnown, full_fault_of};
 ghost use Rattle.js_replace.specs.Matches.{InOrder};
 ghost use Rattle.js_replace.specs.Parts;
@@ -13,7 +13,8 @@ ghost use Rattle.js_texts.specs.Use.{settling};
 ghost use Rattle.js_replace.specs.Use.{copies, split_ids, split_words};
 
 use crate::matching::places;
-use js_store::{MethodFault, StoreFault, Strings};
+use js_store::{StoreFault, Strings};
+use js_texts::MethodFault;
 use std::alloc::Global;
 
 /// The parts of the string between the matches of the separator, at most `limit` of them: the

@@ -2,15 +2,15 @@
 ghost use Rattle.std.specs.Prelude.{◌≡◌, ◌+◌, ◌≤◌, length, IfOk};
 ghost use Rattle.js_store.specs.State.{Has, IsKnown, IsSettled, text};
 ghost use Rattle.js_store.specs.Faults.{Step, NeverSlots};
-ghost use Rattle.js_store.specs.Answers.{ThrowsLong, full_of};
+ghost use Rattle.js_texts.specs.Answers.{ThrowsLong, full_of};
 ghost use Rattle.js_texts.specs.Texts.{full_fault_of};
 ghost use Rattle.js_search.specs.Places.{Stands};
 ghost use Rattle.js_replace.specs.Substitution.{substituted};
 ghost use Rattle.js_texts.specs.Use.{settling, made_words};
 
 use crate::pieces::{Shape, push_substituted};
-use js_store::{Cause, MethodFault, StoreFault, Strings};
-use js_texts::read;
+use js_store::{StoreFault, Strings};
+use js_texts::{Cause, MethodFault, read};
 use js_units::Units;
 use std::alloc::Global;
 

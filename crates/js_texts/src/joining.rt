@@ -2,14 +2,15 @@
 ghost use Rattle.std.specs.Prelude.{◌≡◌, ◌+◌, ◌++◌, length, IfOk, IfErr, OnOk};
 ghost use Rattle.js_store.specs.State.{Has, IsKnown, IsSettled, text as text_of};
 ghost use Rattle.js_store.specs.Faults.{Step, NeverSlots};
-ghost use Rattle.js_store.specs.Answers.{ThrowsLong, full_of};
+ghost use Rattle.js_texts.specs.Answers.{ThrowsLong, full_of};
 ghost use Rattle.js_texts.specs.Texts.{texts, AllKnown, settle_most, full_fault_of};
 ghost use Rattle.js_texts.specs.Joined.{joined, with_each};
 ghost use Rattle.js_texts.specs.Use.{settling, made_words};
 
+use crate::faults::{Cause, MethodFault};
 use crate::making::make;
 use crate::reading::read;
-use js_store::{Cause, MethodFault, StoreFault, Strings};
+use js_store::{StoreFault, Strings};
 use js_units::Units;
 use std::alloc::Global;
 

@@ -1,14 +1,17 @@
 //! The units of strings of a store: of one string as a list, of several strings joined, and the
-//! words in which the crates above speak of several strings, one after another.
+//! words in which the crates above speak of several strings, one after another; and the faults of
+//! methods ([`MethodFault`]).
 //!
 //! Each call keeps what the store knows and the history of interned strings, settles what it reads,
 //! and never finds the string table full.
 #![tactic(auto)]
 
+mod faults;
 mod joining;
 mod making;
 mod reading;
 
+pub use faults::{Cause, MethodFault};
 pub use joining::join;
 pub use making::make;
 pub use reading::{copied, read};

@@ -3,8 +3,8 @@ ghost use Rattle.std.specs.Prelude.{◌≤◌, length};
 
 use js_replace::substitution;
 use js_search::{compare, equal, stands_at};
-use js_store::{Limit, MethodFault, StoreFault, Strings};
-use js_texts::copied;
+use js_store::{Limit, StoreFault, Strings};
+use js_texts::{MethodFault, copied};
 use plain_store::PlainStore;
 use std::alloc::Global;
 use std::cmp::Ordering;
