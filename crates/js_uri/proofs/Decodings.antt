@@ -1,7 +1,10 @@
 -- Decoding, piece by piece.
-use Rattle.std.proofs.Common.{◌≡◌, ℕ, zero, suc, ◌+◌, ◌-◌, ◌<◌, ◌≤◌, List, [], ◌∷◌, ◌++◌, length, drop, Bool, Option, Some, None, Ok, Err, arith, refl, ap, sym, subst, ◌∙◌, append_assoc}
+use Rattle.std.proofs.Common.{◌≡◌, ℕ, zero, suc, ◌+◌, ◌-◌, ◌<◌, ◌≤◌, List, [], ◌∷◌, ◌++◌, length, drop, take, length-take, Bool, Option, Some, None, Ok, Err, arith, refl, ap, sym, subst, ◌∙◌, append_assoc}
 use Rattle.std.specs.Prelude.{IsOk, option_map, unwrap_or}
 use Rattle.js_uri.specs.Outcome.{Outcome, after, after_some, measure, units}
+use Rattle.js_uri.specs.declared.decoding.Piece.{Piece}
+use Rattle.js_uri.specs.declared.decoding.Piece.TheVariants.{Same, Char}
+use Rattle.js_uri.specs.Pieces.{taken_by, length_of, units_given}
 use Rattle.js_uri.specs.Decoding.{Part, first_part, after_part, decoded_behind, decoded}
 use Rattle.js_uri.proofs.Outcomes.{counted, counted_turn, counted_halt, written_rest, written_units}
 
@@ -32,12 +35,12 @@ pub decoded_end : (hold : ℕ → Bool) (us : List ℕ) → length us ≡ 0 → 
 decoded_end hold [] h = refl
 decoded_end hold (u ∷ us) h = absurd (omega arith)
 
--- the length, or the place, of the units ws, of which us are left
-pub length_turn : (hold : ℕ → Bool) (ws us : List ℕ) (p : Part) (len : ℕ) → measure (decoded ws hold) ≡ counted (length ws - length us) len (measure (decoded us hold)) → Some p ≡ first_part hold us → 1 ≤ p.taken → p.taken ≤ length us → length us ≤ length ws → measure (decoded ws hold) ≡ counted (length ws - (length us - p.taken)) (len + length p.units) (measure (decoded (drop p.taken us) hold))
-length_turn hold ws us p len h q l m k =
+-- the length, or the place, of the units ws, of which us are left, and then vs
+pub length_turn : (hold : ℕ → Bool) (ws us vs : List ℕ) (p : Part) (n len : ℕ) → measure (decoded ws hold) ≡ counted (length ws - length us) len (measure (decoded us hold)) → Some p ≡ first_part hold us → 1 ≤ p.taken → vs ≡ drop p.taken us → length us ≡ p.taken + length vs → length us ≤ length ws → n ≡ length p.units → measure (decoded ws hold) ≡ counted (length ws - length vs) (len + n) (measure (decoded vs hold))
+length_turn hold ws us vs p n len h q l e m k f =
     let at : ℕ = length ws - length us in
-    let more : at + p.taken ≡ length ws - (length us - p.taken) = omega arith in
-    h ∙ ap (λ r. counted at len (measure r)) (decoded_turn hold us p (sym q) l) ∙ counted_turn (Some p.units) (decoded (drop p.taken us) hold) at p.taken len (length p.units) refl ∙ ap (λ a. counted a (len + length p.units) (measure (decoded (drop p.taken us) hold))) more
+    let more : at + p.taken ≡ length ws - length vs = omega arith in
+    h ∙ ap (λ r. counted at len (measure r)) (decoded_turn hold us p (sym q) l ∙ ap (λ ys. after_some p.taken (Some p.units) (decoded ys hold)) (sym e)) ∙ counted_turn (Some p.units) (decoded vs hold) at p.taken len n (ap Some f) ∙ ap (λ a. counted a (len + n) (measure (decoded vs hold))) more
 
 pub length_halt : (hold : ℕ → Bool) (ws us : List ℕ) (len : ℕ) → measure (decoded ws hold) ≡ counted (length ws - length us) len (measure (decoded us hold)) → None ≡ first_part hold us → 0 < length us → Err (length ws - length us) ≡ measure (decoded ws hold)
 length_halt hold ws us len h q l =
@@ -50,14 +53,17 @@ length_end hold ws us len h e =
     sym (h ∙ ap (λ r. counted (length ws - length us) len (measure r)) (decoded_end hold us e) ∙ ap Ok more)
 
 -- what is written of the units us, of which none is malformed
-pub rest_is_ok : (hold : ℕ → Bool) (us : List ℕ) (p : Part) → Some p ≡ first_part hold us → 1 ≤ p.taken → IsOk (decoded us hold) → IsOk (decoded (drop p.taken us) hold)
-rest_is_ok hold us p q l h = written_rest (Some p.units) (decoded (drop p.taken us) hold) p.taken (subst (λ (r : Outcome). IsOk r) (decoded_turn hold us p (sym q) l) h)
+pub rest_is_ok : (hold : ℕ → Bool) (us vs : List ℕ) (p : Part) → Some p ≡ first_part hold us → 1 ≤ p.taken → vs ≡ drop p.taken us → IsOk (decoded us hold) → IsOk (decoded vs hold)
+rest_is_ok hold us vs p q l e h =
+    let ok = written_rest (Some p.units) (decoded (drop p.taken us) hold) p.taken (subst (λ (r : Outcome). IsOk r) (decoded_turn hold us p (sym q) l) h) in
+    subst (λ (ys : List ℕ). IsOk (decoded ys hold)) (sym e) ok
 
-pub units_turn : (hold : ℕ → Bool) (t m l us : List ℕ) (p : Part) → Some p ≡ first_part hold us → 1 ≤ p.taken → IsOk (decoded us hold) → m ≡ t ++ p.units → t ++ units (decoded us hold) ≡ l → m ++ units (decoded (drop p.taken us) hold) ≡ l
-units_turn hold t m l us p q n h e f =
+pub units_turn : (hold : ℕ → Bool) (t m l us vs : List ℕ) (p : Part) → Some p ≡ first_part hold us → 1 ≤ p.taken → vs ≡ drop p.taken us → IsOk (decoded us hold) → m ≡ t ++ p.units → t ++ units (decoded us hold) ≡ l → m ++ units (decoded vs hold) ≡ l
+units_turn hold t m l us vs p q n d h e f =
     let turn = decoded_turn hold us p (sym q) n in
-    let split : units (decoded us hold) ≡ p.units ++ units (decoded (drop p.taken us) hold) = ap units turn ∙ written_units (Some p.units) (decoded (drop p.taken us) hold) p.taken (subst (λ (r : Outcome). IsOk r) turn h) in
-    ap (λ q. q ++ units (decoded (drop p.taken us) hold)) e ∙ append_assoc t _ _ ∙ ap (λ q. t ++ q) (sym split) ∙ f
+    let rest : List ℕ = units (decoded (drop p.taken us) hold) in
+    let split : units (decoded us hold) ≡ p.units ++ rest = ap units turn ∙ written_units (Some p.units) (decoded (drop p.taken us) hold) p.taken (subst (λ (r : Outcome). IsOk r) turn h) in
+    ap (λ ys. m ++ units (decoded ys hold)) d ∙ ap (λ k. k ++ rest) e ∙ append_assoc t p.units rest ∙ ap (λ k. t ++ k) (sym split) ∙ f
 
 -- where no piece is left, nothing is left
 pub none_left : (hold : ℕ → Bool) (us : List ℕ) → None ≡ first_part hold us → IsOk (decoded us hold) → length us ≡ 0
@@ -66,3 +72,8 @@ none_left hold (u ∷ us) q h = let e : decoded (u ∷ us) hold ≡ Err 0 = deco
 
 pub units_end : (hold : ℕ → Bool) (t l us : List ℕ) → length us ≡ 0 → t ++ units (decoded us hold) ≡ l → t ++ [] ≡ l
 units_end hold t l us e f = ap (λ r. t ++ units r) (sym (decoded_end hold us e)) ∙ f
+
+-- a piece's length is that of its units
+pub length_given : (p : Piece) (us : List ℕ) → taken_by p ≤ length us → length_of p ≡ length (units_given p us)
+length_given (Same n) us h = omega (arith, length-take n us)
+length_given (Char c taken) us h = refl

@@ -1,5 +1,5 @@
 // How the four URI functions answer.
-ghost use Rattle.std.specs.Prelude.{◌≡◌, ◌+◌, ◌++◌, ◌<◌, ◌^◌, IfOk, OnOk, IsOk, IsTrue, Ok, length};
+ghost use Rattle.std.specs.Prelude.{◌≡◌, ◌+◌, ◌++◌, ◌<◌, ◌^◌, IfOk, OnOk, IsOk, IsTrue, Ok, None, length};
 ghost use Rattle.js_store.specs.State.{IsKnown, IsSettled, text as text_of};
 ghost use Rattle.js_store.specs.Faults.{Step, NeverSlots};
 ghost use Rattle.js_texts.specs.Use.{settling};
@@ -56,7 +56,26 @@ impl UriCall {
         }
     }
 
-    // The answer of the call. The length is found before anything of that size is made.
+    // What the call makes of units. The length is found before anything of that size is made.
+    fn make_units(self, alloc: Global, units: &[u16], limit: u32) -> Result<Units, UriFault>
+        requires { length units.now < 2 ^ 32 }
+        ensures value { IfOk result (λ us. outcome self units.now ≡ Ok us) }
+        ensures throws { Throws result limit (outcome self units.now) }
+        ensures silent { full_of result ≡ None }
+    {
+        let length = match self.measure(units) {
+            Ok(length) => length,
+            Err(at) => return Err(UriFault::Malformed { at }),
+        };
+        if length > u128::from(limit) {
+            return Err(UriFault::RangeError(Cause::TooLong { length }));
+        }
+        let mut text = Units::new(alloc);
+        self.write(units, &mut text)?;
+        Ok(text)
+    }
+
+    // The answer of the call.
     pub fn answer<S: Strings>(self, alloc: Global, store: &mut S, s: S::Ref) -> Result<S::Ref, UriFault>
         requires { IsKnown (S.state store.old) (S.number s) }
         ensures value { IfOk result
@@ -74,18 +93,11 @@ impl UriCall {
         store.settle(s)?;
         let copy = copied(alloc, store, s)?;
         let units = copy.as_slice();
-        if units.len() <= store.limit() as usize && self.leaves(units) {
+        let limit = store.limit();
+        if units.len() <= limit as usize && self.leaves(units) {
             return Ok(s);
         }
-        let length = match self.measure(units) {
-            Ok(length) => length,
-            Err(at) => return Err(UriFault::Malformed { at }),
-        };
-        if length > u128::from(store.limit()) {
-            return Err(UriFault::RangeError(Cause::TooLong { length }));
-        }
-        let mut text = Units::new(alloc);
-        self.write(units, &mut text)?;
+        let text = self.make_units(alloc, units, limit)?;
         Ok(make(store, text.as_slice())?)
     }
 }

@@ -68,29 +68,70 @@ fn six_bits(byte: u8) -> u32
     u32::from(byte % 64)
 }
 
+// The character whose UTF-8 the first escape is.
+fn char_of_one(units: &[u16]) -> Option<char>
+    ensures value { result ≡ utf8_point (escaped_bytes 1 units.now) }
+    ensures within { IfSome result (λ _. 3 ≤ length units.now) }
+{
+    let (a, _) = split_escape(units)?;
+    spelled_char(&[a], u32::from(a % 32))
+}
+
+// The same of the first two, three and four escapes.
+fn char_of_two(units: &[u16]) -> Option<char>
+    ensures value { result ≡ utf8_point (escaped_bytes 2 units.now) }
+    ensures within { IfSome result (λ _. 6 ≤ length units.now) }
+{
+    let (a, rest) = split_escape(units)?;
+    let (b, _) = split_escape(rest)?;
+    spelled_char(&[a, b], u32::from(a % 32) * 64 + six_bits(b))
+}
+
+fn char_of_three(units: &[u16]) -> Option<char>
+    ensures value { result ≡ utf8_point (escaped_bytes 3 units.now) }
+    ensures within { IfSome result (λ _. 9 ≤ length units.now) }
+{
+    let (a, rest) = split_escape(units)?;
+    let (b, rest) = split_escape(rest)?;
+    let (c, _) = split_escape(rest)?;
+    let value = (u32::from(a % 16) * 64 + six_bits(b)) * 64 + six_bits(c);
+    spelled_char(&[a, b, c], value)
+}
+
+fn char_of_four(units: &[u16]) -> Option<char>
+    ensures value { result ≡ utf8_point (escaped_bytes 4 units.now) }
+    ensures within { IfSome result (λ _. 12 ≤ length units.now) }
+{
+    let (a, rest) = split_escape(units)?;
+    let (b, rest) = split_escape(rest)?;
+    let (c, rest) = split_escape(rest)?;
+    let (d, _) = split_escape(rest)?;
+    let value = ((u32::from(a % 8) * 64 + six_bits(b)) * 64 + six_bits(c)) * 64 + six_bits(d);
+    spelled_char(&[a, b, c, d], value)
+}
+
 // The character whose UTF-8 the first n escapes are.
 fn sequence_char(units: &[u16], n: usize) -> Option<char>
     requires low { 1 ≤ n }
     requires high { n ≤ 4 }
     ensures value { result ≡ utf8_point (escaped_bytes n units.now) }
-    ensures within { IfSome result (λ c. 3 * n ≤ length units.now) }
+    ensures within { IfSome result (λ _. 3 * n ≤ length units.now) }
 {
-    let (a, rest) = split_escape(units)?;
-    if n == 1 {
-        return spelled_char(&[a], u32::from(a % 32));
+    match n {
+        1 => char_of_one(units),
+        2 => char_of_two(units),
+        3 => char_of_three(units),
+        _ => char_of_four(units),
     }
-    let (b, rest) = split_escape(rest)?;
-    if n == 2 {
-        return spelled_char(&[a, b], u32::from(a % 32) * 64 + six_bits(b));
-    }
-    let (c, rest) = split_escape(rest)?;
-    if n == 3 {
-        let value = u32::from(a % 16) * 4096 + six_bits(b) * 64 + six_bits(c);
-        return spelled_char(&[a, b, c], value);
-    }
-    let (d, _) = split_escape(rest)?;
-    let value = u32::from(a % 8) * 262144 + six_bits(b) * 4096 + six_bits(c) * 64 + six_bits(d);
-    spelled_char(&[a, b, c, d], value)
+}
+
+// The units behind the first n.
+fn behind(units: &[u16], n: usize) -> &[u16]
+    requires { n ≤ length units.now }
+    ensures rest { result.now ≡ drop n units.now }
+    ensures shorter { length units.now ≡ n + length result.now }
+{
+    &units[n..]
 }
 
 // What the first units stand for: so many of them for themselves, or for a character.
@@ -191,7 +232,7 @@ pub fn decoded_len(units: &[u16], part: UriPart) -> Result<u128, u32>
         match first_piece(rest, part) {
             Some(piece) => {
                 len += piece.len() as u128;
-                rest = &rest[piece.taken()..];
+                rest = behind(rest, piece.taken());
             }
             None => return Err((units.len() - rest.len()) as u32),
         }
@@ -207,7 +248,7 @@ pub fn push_decoded(text: &mut Units, units: &[u16], part: UriPart) -> Result<()
     let mut rest = units;
     while let Some(piece) = first_piece(rest, part) {
         piece.push_to(rest, text)?;
-        rest = &rest[piece.taken()..];
+        rest = behind(rest, piece.taken());
     }
     Ok(())
 }
