@@ -1,7 +1,6 @@
 -- The escapes of bytes.
-use Rattle.std.proofs.Common.{◌≡◌, ℕ, ◌+◌, ◌*◌, ◌<◌, ◌≤◌, List, [], ◌∷◌, ◌++◌, length, Bool, true, false, Option, Some, None, arith, refl, ap, sym, ◌∙◌, inl, inr, length-append}
-use Rattle.std.specs.Prelude.{◌⊎◌, ◌||◌, option_map, encode_utf8, flat_map, if◌then◌else◌}
-use Rattle.std.specs.Int.{IsInRange}
+use Rattle.std.proofs.Common.{◌≡◌, ℕ, ◌*◌, List, [], ◌∷◌, length, Bool, true, false, Some, None, arith, ap, inl, inr, length-append}
+use Rattle.std.specs.Prelude.{◌||◌, option_map, encode_utf8, flat_map, if◌then◌else◌}
 use Rattle.std.specs.Char.{InScalarRange}
 use Rattle.std.proofs.lemmas.Bool.{and_left, and_right, or_from, lt-leb, le-ltb}
 use Rattle.js_units.specs.Text.{is_lead, is_trail, utf16_of}

@@ -18,11 +18,11 @@ pub loop-point-preserved : goal.loop-point-preserved
 loop-point-preserved c =
     let us = c.loop-point.rest.now in
     let vs = c.in-Some.behind.now in
-    let here : points us ≡ c.in-Some.point ∷ points vs = cc (c.in-Some.ensures.parts) in
-    let less : length us ≡ length (utf16_of c.in-Some.point) + length vs = cc (c.in-Some.ensures.parts) in
+    let here : points us ≡ c.in-Some.point ∷ points vs = c.in-Some.ensures.parts.0 in
+    let less : length us ≡ length (utf16_of c.in-Some.point) + length vs = c.in-Some.ensures.parts.1 in
     let most = c.loop-point.invariant.most in
     let within : length us ≤ length c.args.units.now = omega arith in
-    let more : Some c.in-Some-point_len.n ≡ option_map length (encoded_point (keep_of c.args.part) c.in-Some.point) = cc (c.in-Some-point_len.ensures.value) in
+    let more : Some c.in-Some-point_len.n ≡ option_map length (encoded_point (keep_of c.args.part) c.in-Some.point) = c.in-Some-point_len.ensures.value in
     let few = c.in-Some-point_len.ensures.most in
     let shorter = c.in-Some.ensures.parts.2 in
     record {
