@@ -176,11 +176,11 @@ escaped_back : (c : ℕ) (w x : List ℕ) → is_scalar c ≡ true → c < 0x110
 escaped_back c w x s h e = elim (cases_lt c 128) [
   | inl one ↦ ascii_back c w x one e
   | inr k ↦ elim (cases_lt c 2048) [
-      | inl two ↦ sequence_back c _ _ w x s (two_bytes c k two) e
-      | inr l ↦ elim (cases_lt c 65536) [
-          | inl three ↦ sequence_back c _ _ w x s (three_bytes c l three) e
-          | inr m ↦ sequence_back c _ _ w x s (four_bytes c m h) e
-      ]
+    | inl two ↦ sequence_back c _ _ w x s (two_bytes c k two) e
+    | inr l ↦ elim (cases_lt c 65536) [
+      | inl three ↦ sequence_back c _ _ w x s (three_bytes c l three) e
+      | inr m ↦ sequence_back c _ _ w x s (four_bytes c m h) e
+    ]
   ]
 ]
 

@@ -7,7 +7,7 @@ ghost use Rattle.js_uri.specs.Outcome.{measure, units as units_of};
 ghost use Rattle.js_uri.specs.Answers.{HasOutcome, Throws, full_of, outcome_words};
 ghost use Rattle.js_uri.specs.Calls.{outcome};
 
-use crate::decoding::{decoded_len, is_decoded, push_decoded};
+use crate::decoding::{decoded_len, has_no_percent, push_decoded};
 use crate::encoding::{encoded_len, is_encoded, push_encoded};
 use crate::faults::UriFault;
 use crate::sets::UriPart;
@@ -30,7 +30,7 @@ impl UriCall {
     {
         match self {
             UriCall::Encode(part) => is_encoded(units, part),
-            UriCall::Decode(part) => is_decoded(units, part),
+            UriCall::Decode(_) => has_no_percent(units),
         }
     }
 
@@ -76,11 +76,18 @@ impl UriCall {
     }
 
     // The answer of the call.
-    pub fn answer<S: Strings>(self, alloc: Global, store: &mut S, s: S::Ref) -> Result<S::Ref, UriFault>
+    #[tactic(auto, using(js_store::proofs::Laws::has_known))]
+    pub fn answer<S: Strings>(
+        self,
+        alloc: Global,
+        store: &mut S,
+        s: S::Ref,
+    ) -> Result<S::Ref, UriFault>
         requires { IsKnown (S.state store.old) (S.number s) }
         ensures value { IfOk result
             (λ r. HasOutcome (S.state store.new) (S.number r)
             (outcome self (text_of (S.state store.old) (S.number s)))) }
+        ensures known { IfOk result (λ r. IsKnown (S.state store.new) (S.number r)) }
         ensures settled { IfOk result (λ r. IsSettled (S.state store.new) (S.number r)) }
         ensures throws { Throws result (S.state store.old).limit
             (outcome self (text_of (S.state store.old) (S.number s))) }

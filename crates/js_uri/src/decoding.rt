@@ -1,5 +1,5 @@
 // Units with each escape as what it stands for.
-ghost use Rattle.std.specs.Prelude.{◌≡◌, ◌+◌, ◌*◌, ◌%◌, ◌^◌, ◌<◌, ◌≤◌, ◌++◌, ◌∷◌, [], length, drop, OnOk, IsOk, IfSome, Some, None, MatchOption, option_map, IsTrue, Ok};
+ghost use Rattle.std.specs.Prelude.{◌≡◌, ℕ, Bool, ◌+◌, ◌*◌, ◌%◌, ◌^◌, ◌<◌, ◌≤◌, ◌++◌, ◌∷◌, [], length, drop, OnOk, IsOk, IfSome, Some, None, MatchOption, option_map, IsTrue, Ok};
 ghost use Rattle.js_uri.specs.Outcome.{measure, units as units_of};
 ghost use Rattle.js_uri.specs.Calls.{hold_of};
 ghost use Rattle.js_uri.specs.Decoding.{escaped_byte, escaped_bytes, utf8_point, spelled_by, sequence_len as asked_len, escaped_part, first_part, decoded};
@@ -210,8 +210,8 @@ fn first_piece(units: &[u16], part: UriPart) -> Option<Piece>
 }
 
 // Whether there is nothing to decode.
-pub fn is_decoded(units: &[u16], part: UriPart) -> bool
-    ensures { IsTrue result → decoded units.now (hold_of part) ≡ Ok units.now }
+pub fn has_no_percent(units: &[u16]) -> bool
+    ensures { IsTrue result → ((hold : ℕ → Bool) → decoded units.now hold ≡ Ok units.now) }
 {
     for unit in units {
         if *unit == PERCENT {
