@@ -1,0 +1,104 @@
+-- Units with each escape as what it stands for (ECMA-262, "Decode").
+use Rattle.std.specs.Prelude.{ℕ, zero, suc, ◌+◌, ◌-◌, ◌*◌, ◌%◌, Bool, nat_lt, nat_le, not, ◌&&◌, ◌||◌, ◌==◌, if◌then◌else◌, List, [], ◌∷◌, take, drop, length, Option, Some, None, Ok, Err, encode_utf8, bytes_eq}
+use Rattle.js_units.specs.Text.{is_lead, is_trail, utf16_of}
+use Rattle.js_uri.specs.Outcome.{Outcome, after}
+
+-- the value of a hexadecimal digit, of either case
+abbrev pub digit : ℕ → Option ℕ
+digit u =
+    if nat_le 0x30 u && nat_le u 0x39 then Some (u - 0x30)
+    else if nat_le 0x41 u && nat_le u 0x46 then Some (u - 0x37)
+    else if nat_le 0x61 u && nat_le u 0x66 then Some (u - 0x57)
+    else None
+
+abbrev pub byte_of : Option ℕ → Option ℕ → Option ℕ
+byte_of (Some x) (Some y) = Some (x * 16 + y)
+byte_of (Some x) None = None
+byte_of None y = None
+
+-- the byte of the escape that the units begin with, which is % and two digits
+abbrev pub escaped_byte : List ℕ → Option ℕ
+escaped_byte [] = None
+escaped_byte (p ∷ []) = None
+escaped_byte (p ∷ x ∷ []) = None
+escaped_byte (p ∷ x ∷ y ∷ us) = if p == 0x25 then byte_of (digit x) (digit y) else None
+
+abbrev pub cons_bytes : Option ℕ → Option (List ℕ) → Option (List ℕ)
+cons_bytes (Some b) (Some bs) = Some (b ∷ bs)
+cons_bytes (Some b) None = None
+cons_bytes None bs = None
+
+-- the bytes of n escapes that the units begin with
+abbrev pub escaped_bytes : ℕ → List ℕ → Option (List ℕ)
+escaped_bytes zero us = Some []
+escaped_bytes (suc n) us = cons_bytes (escaped_byte us) (escaped_bytes n (drop 3 us))
+
+-- how many bytes UTF-8 asks for where the first is this one of 80 or more, which is as many as it has leading bits of 1; no sequence
+-- begins with one of 80 to BF, or of F8 or more
+abbrev pub sequence_len : ℕ → ℕ
+sequence_len b = if nat_lt b 0xC0 then 1 else if nat_lt b 0xE0 then 2 else if nat_lt b 0xF0 then 3 else 4
+
+-- the bits of a code point that its first byte holds in a sequence of n bytes, and those of the others, six in each
+abbrev pub first_bits : ℕ → ℕ → ℕ
+first_bits n b = if nat_lt n 3 then b % 32 else if nat_lt n 4 then b % 16 else b % 8
+
+abbrev pub with_bits : ℕ → List ℕ → ℕ
+with_bits c [] = c
+with_bits c (b ∷ bs) = with_bits (c * 64 + b % 64) bs
+
+abbrev pub bits : List ℕ → ℕ
+bits [] = 0
+bits (b ∷ bs) = with_bits (first_bits (length (b ∷ bs)) b) bs
+
+-- Unicode's scalar values
+abbrev pub is_scalar : ℕ → Bool
+is_scalar c = nat_lt c 0x110000 && not (is_lead c || is_trail c)
+
+-- the code point whose UTF-8 the bytes are, where they are well formed: no surrogate, at most 10FFFF, and in as few bytes as can be
+abbrev pub spelled_by : List ℕ → ℕ → Option ℕ
+spelled_by bs c = if is_scalar c && bytes_eq (encode_utf8 c) bs then Some c else None
+
+abbrev pub utf8_point : Option (List ℕ) → Option ℕ
+utf8_point None = None
+utf8_point (Some bs) = spelled_by bs (bits bs)
+
+-- units that stand for others: the others, and how many units these are
+pub record Part : Type 0 where
+  pub units : List ℕ
+  pub taken : ℕ
+
+-- the escape of a byte below 80
+abbrev pub ascii_part : (ℕ → Bool) → List ℕ → ℕ → Part
+ascii_part hold us b = record { units = if hold b then take 3 us else b ∷ []; taken = 3 }
+
+-- n escapes
+abbrev pub point_part : ℕ → Option ℕ → Option Part
+point_part n None = None
+point_part n (Some c) = Some (record { units = utf16_of c; taken = 3 * n })
+
+abbrev pub escaped_part : (ℕ → Bool) → List ℕ → Option ℕ → Option Part
+escaped_part hold us None = None
+escaped_part hold us (Some b) =
+    if nat_lt b 0x80 then Some (ascii_part hold us b) else point_part (sequence_len b) (utf8_point (escaped_bytes (sequence_len b) us))
+
+-- the first part of units; nothing where it is malformed
+abbrev pub first_part : (ℕ → Bool) → List ℕ → Option Part
+first_part hold [] = None
+first_part hold (u ∷ us) =
+    if u == 0x25 then escaped_part hold (u ∷ us) (escaped_byte (u ∷ us)) else Some (record { units = u ∷ []; taken = 1 })
+
+-- a part, and what the units behind its first come to where so many of them are passed over
+abbrev pub after_part : Option Part → (ℕ → Outcome) → Outcome
+after_part None rest = Err 0
+after_part (Some p) rest = after p.taken p.units (rest (p.taken - 1))
+
+-- the units from the front, the first n passed over
+abbrev pub decoded_behind : (ℕ → Bool) → ℕ → List ℕ → Outcome
+decoded_behind hold n [] = Ok []
+decoded_behind hold zero (u ∷ us) = after_part (first_part hold (u ∷ us)) (λ n. decoded_behind hold n us)
+decoded_behind hold (suc n) (u ∷ us) = decoded_behind hold n us
+
+-- the units decoded; malformed at the % of the first escape that isn't whole, or of the first
+-- sequence that isn't well-formed UTF-8
+abbrev pub decoded : List ℕ → (ℕ → Bool) → Outcome
+decoded us hold = decoded_behind hold 0 us

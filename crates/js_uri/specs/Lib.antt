@@ -1,0 +1,7 @@
+pub mod Sets
+pub mod Outcome
+pub mod Encoding
+pub mod Decoding
+pub mod Calls
+pub mod Answers
+pub mod Laws

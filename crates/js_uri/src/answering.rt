@@ -1,0 +1,82 @@
+// How the four URI functions answer.
+ghost use Rattle.std.specs.Prelude.{◌≡◌, ◌+◌, ◌++◌, ◌<◌, ◌^◌, IfOk, OnOk, IsOk, length};
+ghost use Rattle.js_store.specs.State.{IsKnown, IsSettled, text as text_of};
+ghost use Rattle.js_store.specs.Faults.{Step, NeverSlots};
+ghost use Rattle.js_texts.specs.Use.{settling};
+ghost use Rattle.js_uri.specs.Outcome.{measure, units as units_of};
+ghost use Rattle.js_uri.specs.Answers.{HasOutcome, Throws, full_of, outcome_words};
+ghost use Rattle.js_uri.specs.Calls.{outcome};
+
+use crate::decoding::{decoded_len, push_decoded};
+use crate::encoding::{encoded_len, push_encoded};
+use crate::faults::UriFault;
+use crate::sets::UriPart;
+use js_store::Strings;
+use js_texts::{Cause, copied, make};
+use js_units::{NoMemory, Units};
+use std::alloc::Global;
+
+// Which of the four functions it is.
+#[derive(Clone, Copy)]
+pub enum UriCall {
+    Encode(UriPart),
+    Decode(UriPart),
+}
+
+impl UriCall {
+    // The place of the unit that is malformed, or how many units the call makes of these.
+    fn measure(self, units: &[u16]) -> Result<u128, u32>
+        requires { length units.now < 2 ^ 32 }
+        ensures { result ≡ measure (outcome self units.now) }
+    {
+        match self {
+            UriCall::Encode(part) => encoded_len(units, part),
+            UriCall::Decode(part) => decoded_len(units, part),
+        }
+    }
+
+    // Adds what the call makes of units of which none is malformed.
+    fn write(self, units: &[u16], text: &mut Units) -> Result<(), NoMemory>
+        requires { IsOk (outcome self units.now) }
+        ensures added { OnOk result (text.new ≡ text.old ++ units_of (outcome self units.now)) }
+    {
+        match self {
+            UriCall::Encode(part) => push_encoded(text, units, part),
+            UriCall::Decode(part) => push_decoded(text, units, part),
+        }
+    }
+
+    // The answer of the call. The length is found before anything of that size is made; where it
+    // stays, no unit changes.
+    pub fn answer<S: Strings>(self, alloc: Global, store: &mut S, s: S::Ref) -> Result<S::Ref, UriFault>
+        requires { IsKnown (S.state store.old) (S.number s) }
+        ensures value { IfOk result
+            (λ r. HasOutcome (S.state store.new) (S.number r)
+            (outcome self (text_of (S.state store.old) (S.number s)))) }
+        ensures settled { IfOk result (λ r. IsSettled (S.state store.new) (S.number r)) }
+        ensures throws { Throws result (S.state store.old).limit
+            (outcome self (text_of (S.state store.old) (S.number s))) }
+        ensures step { Step (S.state store.old) (S.state store.new) (full_of result) 1
+            (settling (S.state store.old) (S.number s) + outcome_words (S.state store.old).limit
+            (outcome self (text_of (S.state store.old) (S.number s)))) }
+        ensures slots { NeverSlots (full_of result) }
+        ensures history { (S.state store.new).history ≡ (S.state store.old).history }
+    {
+        store.settle(s)?;
+        let copy = copied(alloc, store, s)?;
+        let units = copy.as_slice();
+        let length = match self.measure(units) {
+            Ok(length) => length,
+            Err(at) => return Err(UriFault::Malformed { at }),
+        };
+        if length > u128::from(store.limit()) {
+            return Err(UriFault::RangeError(Cause::TooLong { length }));
+        }
+        if length == units.len() as u128 {
+            return Ok(s);
+        }
+        let mut text = Units::new(alloc);
+        self.write(units, &mut text)?;
+        Ok(make(store, text.as_slice())?)
+    }
+}

@@ -1,0 +1,94 @@
+// The URI functions.
+ghost use Rattle.std.specs.Prelude.{◌≡◌, ◌+◌, IfOk};
+ghost use Rattle.js_store.specs.State.{IsKnown, IsSettled, text};
+ghost use Rattle.js_store.specs.Faults.{Step, NeverSlots};
+ghost use Rattle.js_texts.specs.Use.{settling};
+ghost use Rattle.js_uri.specs.Answers.{HasOutcome, Throws, full_of, outcome_words};
+ghost use Rattle.js_uri.specs.Sets.{component_keep, uri_keep, no_hold, uri_hold};
+ghost use Rattle.js_uri.specs.Encoding.{encoded};
+ghost use Rattle.js_uri.specs.Decoding.{decoded};
+
+use crate::answering::UriCall;
+use crate::faults::UriFault;
+use crate::sets::UriPart;
+use js_store::Strings;
+use std::alloc::Global;
+
+/// The string with each code point as the escapes of its UTF-8, but for letters, digits, the marks
+/// `- _ . ! ~ * ' ( )` and `; / ? : @ & = + $ , #` ("encodeURI"). An unpaired surrogate is
+/// malformed.
+pub fn encode_uri<S: Strings>(alloc: Global, store: &mut S, s: S::Ref) -> Result<S::Ref, UriFault>
+    requires { IsKnown (S.state store.old) (S.number s) }
+    ensures value { IfOk result
+        (λ r. HasOutcome (S.state store.new) (S.number r)
+        (encoded (text (S.state store.old) (S.number s)) uri_keep)) }
+    ensures settled { IfOk result (λ r. IsSettled (S.state store.new) (S.number r)) }
+    ensures throws { Throws result (S.state store.old).limit
+        (encoded (text (S.state store.old) (S.number s)) uri_keep) }
+    ensures step { Step (S.state store.old) (S.state store.new) (full_of result) 1
+        (settling (S.state store.old) (S.number s) + outcome_words (S.state store.old).limit
+        (encoded (text (S.state store.old) (S.number s)) uri_keep)) }
+    ensures slots { NeverSlots (full_of result) }
+    ensures history { (S.state store.new).history ≡ (S.state store.old).history }
+{
+    UriCall::Encode(UriPart::Whole).answer(alloc, store, s)
+}
+
+/// The string with each code point as the escapes of its UTF-8, but for letters, digits and the
+/// marks `- _ . ! ~ * ' ( )` ("encodeURIComponent"). An unpaired surrogate is malformed.
+pub fn encode_uri_component<S: Strings>(alloc: Global, store: &mut S, s: S::Ref) -> Result<S::Ref, UriFault>
+    requires { IsKnown (S.state store.old) (S.number s) }
+    ensures value { IfOk result
+        (λ r. HasOutcome (S.state store.new) (S.number r)
+        (encoded (text (S.state store.old) (S.number s)) component_keep)) }
+    ensures settled { IfOk result (λ r. IsSettled (S.state store.new) (S.number r)) }
+    ensures throws { Throws result (S.state store.old).limit
+        (encoded (text (S.state store.old) (S.number s)) component_keep) }
+    ensures step { Step (S.state store.old) (S.state store.new) (full_of result) 1
+        (settling (S.state store.old) (S.number s) + outcome_words (S.state store.old).limit
+        (encoded (text (S.state store.old) (S.number s)) component_keep)) }
+    ensures slots { NeverSlots (full_of result) }
+    ensures history { (S.state store.new).history ≡ (S.state store.old).history }
+{
+    UriCall::Encode(UriPart::Component).answer(alloc, store, s)
+}
+
+/// The string with each escape, and each sequence of escapes that is the UTF-8 of a code point, as
+/// what it stands for, but for the escapes of `; / ? : @ & = + $ , #` ("decodeURI"). A `%` without
+/// two hexadecimal digits is malformed, and so is the `%` at which escapes begin that are no
+/// well-formed UTF-8.
+pub fn decode_uri<S: Strings>(alloc: Global, store: &mut S, s: S::Ref) -> Result<S::Ref, UriFault>
+    requires { IsKnown (S.state store.old) (S.number s) }
+    ensures value { IfOk result
+        (λ r. HasOutcome (S.state store.new) (S.number r)
+        (decoded (text (S.state store.old) (S.number s)) uri_hold)) }
+    ensures settled { IfOk result (λ r. IsSettled (S.state store.new) (S.number r)) }
+    ensures throws { Throws result (S.state store.old).limit
+        (decoded (text (S.state store.old) (S.number s)) uri_hold) }
+    ensures step { Step (S.state store.old) (S.state store.new) (full_of result) 1
+        (settling (S.state store.old) (S.number s) + outcome_words (S.state store.old).limit
+        (decoded (text (S.state store.old) (S.number s)) uri_hold)) }
+    ensures slots { NeverSlots (full_of result) }
+    ensures history { (S.state store.new).history ≡ (S.state store.old).history }
+{
+    UriCall::Decode(UriPart::Whole).answer(alloc, store, s)
+}
+
+/// The string with each escape, and each sequence of escapes that is the UTF-8 of a code point, as
+/// what it stands for ("decodeURIComponent"). What is malformed is so for [`decode_uri`], too.
+pub fn decode_uri_component<S: Strings>(alloc: Global, store: &mut S, s: S::Ref) -> Result<S::Ref, UriFault>
+    requires { IsKnown (S.state store.old) (S.number s) }
+    ensures value { IfOk result
+        (λ r. HasOutcome (S.state store.new) (S.number r)
+        (decoded (text (S.state store.old) (S.number s)) no_hold)) }
+    ensures settled { IfOk result (λ r. IsSettled (S.state store.new) (S.number r)) }
+    ensures throws { Throws result (S.state store.old).limit
+        (decoded (text (S.state store.old) (S.number s)) no_hold) }
+    ensures step { Step (S.state store.old) (S.state store.new) (full_of result) 1
+        (settling (S.state store.old) (S.number s) + outcome_words (S.state store.old).limit
+        (decoded (text (S.state store.old) (S.number s)) no_hold)) }
+    ensures slots { NeverSlots (full_of result) }
+    ensures history { (S.state store.new).history ≡ (S.state store.old).history }
+{
+    UriCall::Decode(UriPart::Component).answer(alloc, store, s)
+}

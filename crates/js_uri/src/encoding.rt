@@ -1,0 +1,114 @@
+// Units with each code point outside a set as escapes.
+ghost use Rattle.std.specs.Prelude.{◌≡◌, ◌+◌, ◌*◌, ◌^◌, ◌<◌, ◌≤◌, ◌++◌, ◌∷◌, [], length, OnOk, IsOk, IfSome, IsSome, MatchOption, option_map, unwrap_or};
+ghost use Rattle.js_units.specs.Text.{points, utf16_of};
+ghost use Rattle.js_uri.specs.Outcome.{measure, units as units_of};
+ghost use Rattle.js_uri.specs.Calls.{keep_of};
+ghost use Rattle.js_uri.specs.Encoding.{escape, escapes, encoded_point, encoded};
+ghost use Rattle.js_uri.specs.Encoding;
+
+use crate::sets::UriPart;
+use js_units::{NoMemory, Units, code_point, is_lead, is_trail};
+
+// The first code point, an unpaired surrogate as itself, and the units behind it.
+fn split_point(units: &[u16]) -> Option<(u32, &[u16])>
+    ensures range { IfSome result (λ p. p.0 < 0x110000) }
+    ensures parts { MatchOption result (length units.now ≡ 0)
+        (λ p. (points units.now ≡ p.0 ∷ points p.1.now)
+        × (length units.now ≡ length (utf16_of p.0) + length p.1.now)
+        × (length p.1.now < length units.now)) }
+{
+    let first = *units.first()?;
+    let rest = &units[1..];
+    match rest.first() {
+        Some(second) if is_lead(first) && is_trail(*second) => {
+            Some((code_point(first, *second), &rest[1..]))
+        }
+        _ => Some((u32::from(first), rest)),
+    }
+}
+
+// A hexadecimal digit, in upper case.
+fn hex(digit: u8) -> u8
+    requires { digit < 16 }
+    ensures { result ≡ Encoding.hex digit }
+{
+    if digit < 10 {
+        0x30 + digit
+    } else {
+        0x37 + digit
+    }
+}
+
+// Adds the escape of a byte.
+fn push_escape(text: &mut Units, byte: u8) -> Result<(), NoMemory>
+    ensures added { OnOk result (text.new ≡ text.old ++ escape byte) }
+{
+    text.extend_from_latin1(&[0x25, hex(byte / 16), hex(byte % 16)])
+}
+
+// Adds the escapes of the UTF-8 of a character.
+fn push_escapes(text: &mut Units, c: char) -> Result<(), NoMemory>
+    ensures added { OnOk result (text.new ≡ text.old ++ escapes c) }
+{
+    let mut room = [0; 4];
+    for byte in c.encode_utf8(&mut room).as_bytes() {
+        push_escape(text, *byte)?;
+    }
+    Ok(())
+}
+
+// Adds what stands for a code point that is no surrogate.
+fn push_point(text: &mut Units, point: u32, part: UriPart) -> Result<(), NoMemory>
+    requires range { point < 0x110000 }
+    requires some { IsSome (encoded_point (keep_of part) point) }
+    ensures added { OnOk result (text.new ≡ text.old ++ unwrap_or (encoded_point (keep_of part) point) []) }
+{
+    match char::from_u32(point) {
+        Some(c) if part.keeps(point) => text.push_code_point(c),
+        Some(c) => push_escapes(text, c),
+        None => Ok(()),
+    }
+}
+
+// How many units stand for a code point, nothing where it is a surrogate.
+fn point_len(point: u32, part: UriPart) -> Option<usize>
+    requires { point < 0x110000 }
+    ensures value { result ≡ option_map length (encoded_point (keep_of part) point) }
+    ensures most { IfSome result (λ n. n ≤ 12) }
+{
+    let c = char::from_u32(point)?;
+    if part.keeps(point) {
+        return Some(c.len_utf16());
+    }
+    Some(3 * c.len_utf8())
+}
+
+// How many units the encoded text has, or the place of the first unpaired surrogate.
+pub fn encoded_len(units: &[u16], part: UriPart) -> Result<u128, u32>
+    requires { length units.now < 2 ^ 32 }
+    ensures { result ≡ measure (encoded units.now (keep_of part)) }
+{
+    let mut len = 0;
+    let mut rest = units;
+    while let Some((point, behind)) = split_point(rest) {
+        match point_len(point, part) {
+            Some(n) => len += n as u128,
+            None => return Err((units.len() - rest.len()) as u32),
+        }
+        rest = behind;
+    }
+    Ok(len)
+}
+
+// Adds the encoded text of units without an unpaired surrogate.
+pub fn push_encoded(text: &mut Units, units: &[u16], part: UriPart) -> Result<(), NoMemory>
+    requires { IsOk (encoded units.now (keep_of part)) }
+    ensures added { OnOk result (text.new ≡ text.old ++ units_of (encoded units.now (keep_of part))) }
+{
+    let mut rest = units;
+    while let Some((point, behind)) = split_point(rest) {
+        push_point(text, point, part)?;
+        rest = behind;
+    }
+    Ok(())
+}
