@@ -1,5 +1,5 @@
 // How the four URI functions answer.
-ghost use Rattle.std.specs.Prelude.{◌≡◌, ◌+◌, ◌++◌, ◌<◌, ◌^◌, IfOk, OnOk, IsOk, length};
+ghost use Rattle.std.specs.Prelude.{◌≡◌, ◌+◌, ◌++◌, ◌<◌, ◌^◌, IfOk, OnOk, IsOk, IsTrue, Ok, length};
 ghost use Rattle.js_store.specs.State.{IsKnown, IsSettled, text as text_of};
 ghost use Rattle.js_store.specs.Faults.{Step, NeverSlots};
 ghost use Rattle.js_texts.specs.Use.{settling};
@@ -7,8 +7,8 @@ ghost use Rattle.js_uri.specs.Outcome.{measure, units as units_of};
 ghost use Rattle.js_uri.specs.Answers.{HasOutcome, Throws, full_of, outcome_words};
 ghost use Rattle.js_uri.specs.Calls.{outcome};
 
-use crate::decoding::{decoded_len, push_decoded};
-use crate::encoding::{encoded_len, push_encoded};
+use crate::decoding::{decoded_len, is_decoded, push_decoded};
+use crate::encoding::{encoded_len, is_encoded, push_encoded};
 use crate::faults::UriFault;
 use crate::sets::UriPart;
 use js_store::Strings;
@@ -24,6 +24,16 @@ pub enum UriCall {
 }
 
 impl UriCall {
+    // Whether the units stay as they are.
+    fn leaves(self, units: &[u16]) -> bool
+        ensures { IsTrue result → outcome self units.now ≡ Ok units.now }
+    {
+        match self {
+            UriCall::Encode(part) => is_encoded(units, part),
+            UriCall::Decode(part) => is_decoded(units, part),
+        }
+    }
+
     // The place of the unit that is malformed, or how many units the call makes of these.
     fn measure(self, units: &[u16]) -> Result<u128, u32>
         requires { length units.now < 2 ^ 32 }
@@ -46,8 +56,7 @@ impl UriCall {
         }
     }
 
-    // The answer of the call. The length is found before anything of that size is made; where it
-    // stays, no unit changes.
+    // The answer of the call. The length is found before anything of that size is made.
     pub fn answer<S: Strings>(self, alloc: Global, store: &mut S, s: S::Ref) -> Result<S::Ref, UriFault>
         requires { IsKnown (S.state store.old) (S.number s) }
         ensures value { IfOk result
@@ -65,15 +74,15 @@ impl UriCall {
         store.settle(s)?;
         let copy = copied(alloc, store, s)?;
         let units = copy.as_slice();
+        if units.len() <= store.limit() as usize && self.leaves(units) {
+            return Ok(s);
+        }
         let length = match self.measure(units) {
             Ok(length) => length,
             Err(at) => return Err(UriFault::Malformed { at }),
         };
         if length > u128::from(store.limit()) {
             return Err(UriFault::RangeError(Cause::TooLong { length }));
-        }
-        if length == units.len() as u128 {
-            return Ok(s);
         }
         let mut text = Units::new(alloc);
         self.write(units, &mut text)?;

@@ -1,10 +1,10 @@
 // Units with each escape as what it stands for.
-ghost use Rattle.std.specs.Prelude.{◌≡◌, ◌+◌, ◌*◌, ◌^◌, ◌<◌, ◌≤◌, ◌++◌, ◌∷◌, [], length, drop, OnOk, IsOk, IfSome, Some, None, MatchOption};
+ghost use Rattle.std.specs.Prelude.{◌≡◌, ◌+◌, ◌*◌, ◌%◌, ◌^◌, ◌<◌, ◌≤◌, ◌++◌, ◌∷◌, [], length, drop, OnOk, IsOk, IfSome, Some, None, MatchOption, option_map, IsTrue, Ok};
 ghost use Rattle.js_uri.specs.Outcome.{measure, units as units_of};
 ghost use Rattle.js_uri.specs.Calls.{hold_of};
-ghost use Rattle.js_uri.specs.Decoding.{escaped_byte, escaped_bytes, utf8_point, spelled_by, sequence_len as asked_len, first_part as part_of, decoded};
+ghost use Rattle.js_uri.specs.Decoding.{escaped_byte, escaped_bytes, utf8_point, spelled_by, sequence_len as asked_len, escaped_part, first_part, decoded};
 ghost use Rattle.js_uri.specs.Decoding;
-ghost use Rattle.js_uri.specs.Parts.{seen};
+ghost use Rattle.js_uri.specs.Pieces.{taken_by, length_of, units_given, seen};
 
 use crate::sets::UriPart;
 use js_units::{NoMemory, Units};
@@ -72,7 +72,7 @@ fn six_bits(byte: u8) -> u32
 fn sequence_char(units: &[u16], n: usize) -> Option<char>
     requires low { 1 ≤ n }
     requires high { n ≤ 4 }
-    ensures { result ≡ utf8_point (escaped_bytes n units.now) }
+    ensures value { result ≡ utf8_point (escaped_bytes n units.now) }
     ensures within { IfSome result (λ c. 3 * n ≤ length units.now) }
 {
     let (a, rest) = split_escape(units)?;
@@ -95,7 +95,119 @@ fn sequence_char(units: &[u16], n: usize) -> Option<char>
 
 // What the first units stand for: so many of them for themselves, or for a character.
 #[derive(Clone, Copy)]
-enum Part {
+enum Piece {
     Same(usize),
     Char { c: char, taken: usize },
+}
+
+impl Piece {
+    // How many units it takes.
+    fn taken(self) -> usize
+        ensures { result ≡ taken_by self }
+    {
+        match self {
+            Piece::Same(n) => n,
+            Piece::Char { c: _, taken } => taken,
+        }
+    }
+
+    // How many units it gives.
+    fn len(self) -> usize
+        ensures { result ≡ length_of self }
+    {
+        match self {
+            Piece::Same(n) => n,
+            Piece::Char { c, taken: _ } => c.len_utf16(),
+        }
+    }
+
+    // Adds the units that it gives, where it stands in front of these.
+    fn push_to(self, units: &[u16], text: &mut Units) -> Result<(), NoMemory>
+        requires { taken_by self ≤ length units.now }
+        ensures added { OnOk result (text.new ≡ text.old ++ units_given self units.now) }
+    {
+        match self {
+            Piece::Same(n) => text.extend_from_slice(&units[..n]),
+            Piece::Char { c, taken: _ } => text.push_code_point(c),
+        }
+    }
+}
+
+// The piece of the escapes that the units begin with.
+fn escaped_piece(units: &[u16], part: UriPart) -> Option<Piece>
+    ensures value { option_map (λ p. seen p units.now) result
+        ≡ escaped_part (hold_of part) units.now (escaped_byte units.now) }
+    ensures taken { IfSome result (λ p. (1 ≤ taken_by p) × (taken_by p ≤ length units.now)) }
+    ensures most { IfSome result (λ p. length_of p ≤ 3) }
+{
+    let (byte, _) = split_escape(units)?;
+    if byte >= 0x80 {
+        let n = sequence_len(byte);
+        let c = sequence_char(units, n)?;
+        return Some(Piece::Char { c, taken: 3 * n });
+    }
+    if part.holds(u32::from(byte)) {
+        return Some(Piece::Same(3));
+    }
+    Some(Piece::Char {
+        c: char::from(byte),
+        taken: 3,
+    })
+}
+
+// The piece that the units begin with.
+fn first_piece(units: &[u16], part: UriPart) -> Option<Piece>
+    ensures value { option_map (λ p. seen p units.now) result ≡ first_part (hold_of part) units.now }
+    ensures taken { IfSome result (λ p. (1 ≤ taken_by p) × (taken_by p ≤ length units.now)) }
+    ensures most { IfSome result (λ p. length_of p ≤ 3) }
+{
+    let first = *units.first()?;
+    if first == PERCENT {
+        return escaped_piece(units, part);
+    }
+    Some(Piece::Same(1))
+}
+
+// Whether there is nothing to decode.
+pub fn is_decoded(units: &[u16], part: UriPart) -> bool
+    ensures { IsTrue result → decoded units.now (hold_of part) ≡ Ok units.now }
+{
+    for unit in units {
+        if *unit == PERCENT {
+            return false;
+        }
+    }
+    true
+}
+
+// How many units the decoded text has, or the place of the first unit that is malformed.
+pub fn decoded_len(units: &[u16], part: UriPart) -> Result<u128, u32>
+    requires { length units.now < 2 ^ 32 }
+    ensures { result ≡ measure (decoded units.now (hold_of part)) }
+{
+    let mut len = 0;
+    let mut rest = units;
+    while !rest.is_empty() {
+        match first_piece(rest, part) {
+            Some(piece) => {
+                len += piece.len() as u128;
+                rest = &rest[piece.taken()..];
+            }
+            None => return Err((units.len() - rest.len()) as u32),
+        }
+    }
+    Ok(len)
+}
+
+// Adds the decoded text of units of which none is malformed.
+pub fn push_decoded(text: &mut Units, units: &[u16], part: UriPart) -> Result<(), NoMemory>
+    requires { IsOk (decoded units.now (hold_of part)) }
+    ensures added { OnOk result (text.new ≡ text.old ++ units_of (decoded units.now (hold_of part))) }
+{
+    let mut rest = units;
+    while let Some(piece) = first_piece(rest, part) {
+        piece.push_to(rest, text)?;
+        rest = &rest[piece.taken()..];
+    }
+    Ok(())
 }

@@ -1,5 +1,5 @@
 // Units with each code point outside a set as escapes.
-ghost use Rattle.std.specs.Prelude.{◌≡◌, ◌+◌, ◌*◌, ◌^◌, ◌<◌, ◌≤◌, ◌++◌, ◌∷◌, [], length, OnOk, IsOk, IfSome, IsSome, MatchOption, option_map, unwrap_or};
+ghost use Rattle.std.specs.Prelude.{◌≡◌, ◌+◌, ◌*◌, ◌^◌, ◌<◌, ◌≤◌, ◌++◌, ◌∷◌, [], length, OnOk, IsOk, IfSome, IsSome, MatchOption, option_map, unwrap_or, IsTrue, Ok};
 ghost use Rattle.js_units.specs.Text.{points, utf16_of};
 ghost use Rattle.js_uri.specs.Outcome.{measure, units as units_of};
 ghost use Rattle.js_uri.specs.Calls.{keep_of};
@@ -81,6 +81,18 @@ fn point_len(point: u32, part: UriPart) -> Option<usize>
         return Some(c.len_utf16());
     }
     Some(3 * c.len_utf8())
+}
+
+// Whether encoding leaves all units as they are.
+pub fn is_encoded(units: &[u16], part: UriPart) -> bool
+    ensures { IsTrue result → encoded units.now (keep_of part) ≡ Ok units.now }
+{
+    for unit in units {
+        if *unit >= 0x80 || !part.keeps(u32::from(*unit)) {
+            return false;
+        }
+    }
+    true
 }
 
 // How many units the encoded text has, or the place of the first unpaired surrogate.

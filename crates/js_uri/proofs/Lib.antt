@@ -1,0 +1,6 @@
+pub mod Outcomes
+pub mod Escapes
+pub mod Encodings
+pub mod Decodings
+pub mod Unchanged
+pub mod RoundTrip
