@@ -292,12 +292,12 @@ pub fn next_opener(tokens: &[Token]) -> Option<Opener>
             (
                 Token::Word {
                     word: Word::String
-                        | Word::Symbol
-                        | Word::Json
-                        | Word::EncodeUri
-                        | Word::EncodeUriComponent
-                        | Word::DecodeUri
-                        | Word::DecodeUriComponent,
+                    | Word::Symbol
+                    | Word::Json
+                    | Word::EncodeUri
+                    | Word::EncodeUriComponent
+                    | Word::DecodeUri
+                    | Word::DecodeUriComponent,
                     ..
                 },
                 _,
