@@ -1,17 +1,13 @@
 -- Encoding, code point by code point.
-use Rattle.std.proofs.Common.{◌≡◌, ℕ, ◌+◌, ◌-◌, ◌≤◌, List, [], ◌∷◌, ◌++◌, length, Bool, Option, Some, None, Ok, Err, arith, refl, ap, sym, subst, ◌∙◌, append_assoc}
+use Rattle.std.proofs.Common.{◌≡◌, ℕ, ◌+◌, ◌-◌, ◌≤◌, List, [], ◌∷◌, ◌++◌, length, Bool, Some, arith, ap, sym, subst, ◌∙◌, append_assoc}
 use Rattle.std.specs.Prelude.{IsOk, option_map, unwrap_or}
 use Rattle.js_units.specs.Text.{points, utf16_of}
 use Rattle.js_uri.specs.Outcome.{Outcome, after_some, measure, units}
 use Rattle.js_uri.specs.Encoding.{encoded_point, encoded_points, encoded}
-use Rattle.js_uri.proofs.Outcomes.{counted, counted_turn, counted_halt, written_first, written_rest, written_units}
+use Rattle.js_uri.proofs.Outcomes.{counted, counted_turn, written_rest, written_units}
 
 pub encoded_turn : (keep : ℕ → Bool) (us vs : List ℕ) (c : ℕ) → points us ≡ c ∷ points vs → encoded us keep ≡ after_some (length (utf16_of c)) (encoded_point keep c) (encoded vs keep)
 encoded_turn keep us vs c h = ap (encoded_points keep) h
-
-pub encoded_end : (keep : ℕ → Bool) (us : List ℕ) → length us ≡ 0 → encoded us keep ≡ Ok []
-encoded_end keep [] h = refl
-encoded_end keep (u ∷ us) h = absurd (omega arith)
 
 -- the length, or the place, of the units ws, of which us are left
 pub length_turn : (keep : ℕ → Bool) (ws us vs : List ℕ) (c n len : ℕ) → measure (encoded ws keep) ≡ counted (length ws - length us) len (measure (encoded us keep)) → points us ≡ c ∷ points vs → length us ≡ length (utf16_of c) + length vs → length us ≤ length ws → Some n ≡ option_map length (encoded_point keep c) → measure (encoded ws keep) ≡ counted (length ws - length vs) (len + n) (measure (encoded vs keep))
@@ -21,19 +17,6 @@ length_turn keep ws us vs c n len h p l m e =
     let more : at + w ≡ length ws - length vs = omega arith in
     h ∙ ap (λ r. counted at len (measure r)) (encoded_turn keep us vs c p) ∙ counted_turn (encoded_point keep c) (encoded vs keep) at w len n e ∙ ap (λ a. counted a (len + n) (measure (encoded vs keep))) more
 
-pub length_halt : (keep : ℕ → Bool) (ws us vs : List ℕ) (c len : ℕ) → measure (encoded ws keep) ≡ counted (length ws - length us) len (measure (encoded us keep)) → points us ≡ c ∷ points vs → None ≡ option_map length (encoded_point keep c) → Err (length ws - length us) ≡ measure (encoded ws keep)
-length_halt keep ws us vs c len h p e =
-    sym (h ∙ ap (λ r. counted (length ws - length us) len (measure r)) (encoded_turn keep us vs c p) ∙ counted_halt (encoded_point keep c) (encoded vs keep) (length ws - length us) (length (utf16_of c)) len e)
-
-pub length_end : (keep : ℕ → Bool) (ws us : List ℕ) (len : ℕ) → measure (encoded ws keep) ≡ counted (length ws - length us) len (measure (encoded us keep)) → length us ≡ 0 → Ok len ≡ measure (encoded ws keep)
-length_end keep ws us len h e =
-    let more : len + 0 ≡ len = omega arith in
-    sym (h ∙ ap (λ r. counted (length ws - length us) len (measure r)) (encoded_end keep us e) ∙ ap Ok more)
-
--- what is written of the units us, of which none is malformed
-pub first_is_some : (keep : ℕ → Bool) (us vs : List ℕ) (c : ℕ) → points us ≡ c ∷ points vs → IsOk (encoded us keep) → encoded_point keep c ≡ Some (unwrap_or (encoded_point keep c) [])
-first_is_some keep us vs c p h = written_first (encoded_point keep c) (encoded vs keep) (length (utf16_of c)) (subst (λ (r : Outcome). IsOk r) (encoded_turn keep us vs c p) h)
-
 pub rest_is_ok : (keep : ℕ → Bool) (us vs : List ℕ) (c : ℕ) → points us ≡ c ∷ points vs → IsOk (encoded us keep) → IsOk (encoded vs keep)
 rest_is_ok keep us vs c p h = written_rest (encoded_point keep c) (encoded vs keep) (length (utf16_of c)) (subst (λ (r : Outcome). IsOk r) (encoded_turn keep us vs c p) h)
 
@@ -42,6 +25,3 @@ units_turn keep t m l us vs c p h e f =
     let turn = encoded_turn keep us vs c p in
     let split : units (encoded us keep) ≡ unwrap_or (encoded_point keep c) [] ++ units (encoded vs keep) = ap units turn ∙ written_units (encoded_point keep c) (encoded vs keep) (length (utf16_of c)) (subst (λ (r : Outcome). IsOk r) turn h) in
     ap (λ q. q ++ units (encoded vs keep)) e ∙ append_assoc t _ _ ∙ ap (λ q. t ++ q) (sym split) ∙ f
-
-pub units_end : (keep : ℕ → Bool) (t l us : List ℕ) → length us ≡ 0 → t ++ units (encoded us keep) ≡ l → t ++ [] ≡ l
-units_end keep t l us e f = ap (λ r. t ++ units r) (sym (encoded_end keep us e)) ∙ f

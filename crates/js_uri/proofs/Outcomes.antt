@@ -17,15 +17,6 @@ counted_turn None r at w len n h = cc
 counted_turn (Some us) (Ok vs) at w len n h = let e : n ≡ length us = cc in ap Ok (omega (arith, length-append us vs))
 counted_turn (Some us) (Err k) at w len n h = ap Err (omega arith)
 
-pub counted_halt : (o : Option (List ℕ)) (r : Outcome) (at w len : ℕ) → None ≡ option_map length o → counted at len (measure (after_some w o r)) ≡ Err at
-counted_halt None r at w len h = ap Err (omega arith)
-counted_halt (Some us) r at w len h = cc
-
--- what is written of an outcome with a list
-pub written_first : (o : Option (List ℕ)) (r : Outcome) (w : ℕ) → IsOk (after_some w o r) → o ≡ Some (unwrap_or o [])
-written_first None r w h = cc
-written_first (Some us) r w h = refl
-
 pub written_rest : (o : Option (List ℕ)) (r : Outcome) (w : ℕ) → IsOk (after_some w o r) → IsOk r
 written_rest None r w h = cc
 written_rest (Some us) (Ok vs) w h = refl

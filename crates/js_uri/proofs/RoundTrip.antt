@@ -1,14 +1,14 @@
 -- Decoding what encoding made.
 use Rattle.std.proofs.Common.{◌≡◌, ℕ, zero, suc, ◌+◌, ◌-◌, ◌*◌, ◌/◌, ◌%◌, ◌<◌, ◌≤◌, List, [], ◌∷◌, ◌++◌, length, drop, Bool, true, false, Option, Some, None, Ok, Err, arith, refl, ap, sym, ◌∙◌, inl, inr, All}
-use Rattle.std.specs.Prelude.{◌⊎◌, ◌&&◌, ◌||◌, ◌==◌, not, nat_eq, nat_lt, nat_le, if◌then◌else◌, encode_utf8, bytes_eq, flat_map, IsTrue}
+use Rattle.std.specs.Prelude.{◌&&◌, ◌||◌, ◌==◌, nat_eq, nat_lt, if◌then◌else◌, encode_utf8, bytes_eq, flat_map}
 use Rattle.std.specs.List.{list_all}
-use Rattle.std.proofs.lemmas.Bool.{cases_eq, cases_lt, cases_Bool, and_parts, and_from, and_left, and_right, not-true, eqb-true, ne_eqb, lt-ltb, le-ltb, ltb-true, leb-true, cond-true, cond-false}
+use Rattle.std.proofs.lemmas.Bool.{cases_eq, cases_lt, cases_Bool, and_parts, and_from, not-true, eqb-true, ne_eqb, lt-ltb, le-ltb, ltb-true, leb-true, cond-true, cond-false}
 use Rattle.std.proofs.lemmas.Str.{encode_ascii}
 use lib.Pointwise.{bytes_decides}
 use Rattle.js_units.specs.Text.{is_lead, is_trail, pair_value, points, utf16_of}
 use Rattle.js_uri.specs.Outcome.{Outcome, after, after_some, and_then}
 use Rattle.js_uri.specs.Sets.{no_hold}
-use Rattle.js_uri.specs.Encoding.{hex, escape, escapes, encoded_point, encoded_points, encoded}
+use Rattle.js_uri.specs.Encoding.{hex, escape, escapes, encoded_point, encoded_points}
 use Rattle.js_uri.specs.Decoding.{Part, digit, byte_of, escaped_byte, cons_bytes, escaped_bytes, sequence_len, bits, is_scalar, spelled_by, utf8_point, ascii_part, point_part, escaped_part, after_part, decoded_behind, decoded}
 use Rattle.js_uri.specs.Decoding.{first_part}
 use Rattle.js_uri.specs.Laws.{Undoes}
@@ -176,11 +176,11 @@ escaped_back : (c : ℕ) (w x : List ℕ) → is_scalar c ≡ true → c < 0x110
 escaped_back c w x s h e = elim (cases_lt c 128) [
   | inl one ↦ ascii_back c w x one e
   | inr k ↦ elim (cases_lt c 2048) [
-      | inl two ↦ sequence_back c _ _ w x s (two_bytes c k two) e
-      | inr l ↦ elim (cases_lt c 65536) [
-          | inl three ↦ sequence_back c _ _ w x s (three_bytes c l three) e
-          | inr m ↦ sequence_back c _ _ w x s (four_bytes c m h) e
-      ]
+    | inl two ↦ sequence_back c _ _ w x s (two_bytes c k two) e
+    | inr l ↦ elim (cases_lt c 65536) [
+      | inl three ↦ sequence_back c _ _ w x s (three_bytes c l three) e
+      | inr m ↦ sequence_back c _ _ w x s (four_bytes c m h) e
+    ]
   ]
 ]
 

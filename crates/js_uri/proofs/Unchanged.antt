@@ -1,11 +1,11 @@
 -- Units that stay as they are.
-use Rattle.std.proofs.Common.{◌≡◌, ℕ, ◌+◌, ◌<◌, ◌≤◌, List, [], ◌∷◌, ◌++◌, length, Bool, true, false, Option, Some, None, Ok, arith, refl, ap, sym, ◌∙◌}
-use Rattle.std.specs.Prelude.{◌&&◌, ◌||◌, ◌==◌, not, nat_lt, nat_le, if◌then◌else◌}
+use Rattle.std.proofs.Common.{◌≡◌, ℕ, ◌<◌, List, [], ◌∷◌, length, Bool, true, false, Some, Ok, arith, refl, ap, ◌∙◌}
+use Rattle.std.specs.Prelude.{◌&&◌, ◌||◌, ◌==◌, not, nat_lt, if◌then◌else◌}
 use Rattle.std.specs.List.{list_all}
 use Rattle.std.proofs.lemmas.Bool.{and_parts, and_left, or_from, not-true, ltb-true, lt-ltb, lt-leb, cond-true, cond-false}
 use Rattle.js_units.specs.Text.{is_lead, is_trail, points, pair_value, utf16_of}
 use Rattle.js_uri.specs.Outcome.{after_some, after}
-use Rattle.js_uri.specs.Encoding.{escapes, encoded_point, encoded_points, encoded}
+use Rattle.js_uri.specs.Encoding.{encoded_point, encoded_points, encoded}
 use Rattle.js_uri.specs.Decoding.{escaped_part, escaped_byte, after_part, decoded_behind, decoded}
 
 -- an ASCII character of the set, and a unit other than %

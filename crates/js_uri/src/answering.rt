@@ -1,5 +1,5 @@
 // How the four URI functions answer.
-ghost use Rattle.std.specs.Prelude.{◌≡◌, ◌+◌, ◌++◌, ◌<◌, ◌^◌, IfOk, OnOk, IsOk, IsTrue, Ok, length};
+ghost use Rattle.std.specs.Prelude.{◌≡◌, ◌+◌, ◌++◌, ◌<◌, ◌^◌, IfOk, OnOk, IsOk, IsTrue, Ok, None, length};
 ghost use Rattle.js_store.specs.State.{IsKnown, IsSettled, text as text_of};
 ghost use Rattle.js_store.specs.Faults.{Step, NeverSlots};
 ghost use Rattle.js_texts.specs.Use.{settling};
@@ -7,7 +7,7 @@ ghost use Rattle.js_uri.specs.Outcome.{measure, units as units_of};
 ghost use Rattle.js_uri.specs.Answers.{HasOutcome, Throws, full_of, outcome_words};
 ghost use Rattle.js_uri.specs.Calls.{outcome};
 
-use crate::decoding::{decoded_len, is_decoded, push_decoded};
+use crate::decoding::{decoded_len, has_no_percent, push_decoded};
 use crate::encoding::{encoded_len, is_encoded, push_encoded};
 use crate::faults::UriFault;
 use crate::sets::UriPart;
@@ -30,7 +30,7 @@ impl UriCall {
     {
         match self {
             UriCall::Encode(part) => is_encoded(units, part),
-            UriCall::Decode(part) => is_decoded(units, part),
+            UriCall::Decode(_) => has_no_percent(units),
         }
     }
 
@@ -56,12 +56,38 @@ impl UriCall {
         }
     }
 
-    // The answer of the call. The length is found before anything of that size is made.
-    pub fn answer<S: Strings>(self, alloc: Global, store: &mut S, s: S::Ref) -> Result<S::Ref, UriFault>
+    // What the call makes of units. The length is found before anything of that size is made.
+    fn make_units(self, alloc: Global, units: &[u16], limit: u32) -> Result<Units, UriFault>
+        requires { length units.now < 2 ^ 32 }
+        ensures value { IfOk result (λ us. outcome self units.now ≡ Ok us) }
+        ensures throws { Throws result limit (outcome self units.now) }
+        ensures silent { full_of result ≡ None }
+    {
+        let length = match self.measure(units) {
+            Ok(length) => length,
+            Err(at) => return Err(UriFault::Malformed { at }),
+        };
+        if length > u128::from(limit) {
+            return Err(UriFault::RangeError(Cause::TooLong { length }));
+        }
+        let mut text = Units::new(alloc);
+        self.write(units, &mut text)?;
+        Ok(text)
+    }
+
+    // The answer of the call.
+    #[tactic(auto, using(js_store::proofs::Laws::has_known))]
+    pub fn answer<S: Strings>(
+        self,
+        alloc: Global,
+        store: &mut S,
+        s: S::Ref,
+    ) -> Result<S::Ref, UriFault>
         requires { IsKnown (S.state store.old) (S.number s) }
         ensures value { IfOk result
             (λ r. HasOutcome (S.state store.new) (S.number r)
             (outcome self (text_of (S.state store.old) (S.number s)))) }
+        ensures known { IfOk result (λ r. IsKnown (S.state store.new) (S.number r)) }
         ensures settled { IfOk result (λ r. IsSettled (S.state store.new) (S.number r)) }
         ensures throws { Throws result (S.state store.old).limit
             (outcome self (text_of (S.state store.old) (S.number s))) }
@@ -74,18 +100,11 @@ impl UriCall {
         store.settle(s)?;
         let copy = copied(alloc, store, s)?;
         let units = copy.as_slice();
-        if units.len() <= store.limit() as usize && self.leaves(units) {
+        let limit = store.limit();
+        if units.len() <= limit as usize && self.leaves(units) {
             return Ok(s);
         }
-        let length = match self.measure(units) {
-            Ok(length) => length,
-            Err(at) => return Err(UriFault::Malformed { at }),
-        };
-        if length > u128::from(store.limit()) {
-            return Err(UriFault::RangeError(Cause::TooLong { length }));
-        }
-        let mut text = Units::new(alloc);
-        self.write(units, &mut text)?;
+        let text = self.make_units(alloc, units, limit)?;
         Ok(make(store, text.as_slice())?)
     }
 }

@@ -22,6 +22,7 @@ pub fn encode_uri<S: Strings>(alloc: Global, store: &mut S, s: S::Ref) -> Result
     ensures value { IfOk result
         (λ r. HasOutcome (S.state store.new) (S.number r)
         (encoded (text (S.state store.old) (S.number s)) uri_keep)) }
+    ensures known { IfOk result (λ r. IsKnown (S.state store.new) (S.number r)) }
     ensures settled { IfOk result (λ r. IsSettled (S.state store.new) (S.number r)) }
     ensures throws { Throws result (S.state store.old).limit
         (encoded (text (S.state store.old) (S.number s)) uri_keep) }
@@ -36,11 +37,16 @@ pub fn encode_uri<S: Strings>(alloc: Global, store: &mut S, s: S::Ref) -> Result
 
 /// The string with each code point as the escapes of its UTF-8, but for letters, digits and the
 /// marks `- _ . ! ~ * ' ( )` ("encodeURIComponent"). An unpaired surrogate is malformed.
-pub fn encode_uri_component<S: Strings>(alloc: Global, store: &mut S, s: S::Ref) -> Result<S::Ref, UriFault>
+pub fn encode_uri_component<S: Strings>(
+    alloc: Global,
+    store: &mut S,
+    s: S::Ref,
+) -> Result<S::Ref, UriFault>
     requires { IsKnown (S.state store.old) (S.number s) }
     ensures value { IfOk result
         (λ r. HasOutcome (S.state store.new) (S.number r)
         (encoded (text (S.state store.old) (S.number s)) component_keep)) }
+    ensures known { IfOk result (λ r. IsKnown (S.state store.new) (S.number r)) }
     ensures settled { IfOk result (λ r. IsSettled (S.state store.new) (S.number r)) }
     ensures throws { Throws result (S.state store.old).limit
         (encoded (text (S.state store.old) (S.number s)) component_keep) }
@@ -62,6 +68,7 @@ pub fn decode_uri<S: Strings>(alloc: Global, store: &mut S, s: S::Ref) -> Result
     ensures value { IfOk result
         (λ r. HasOutcome (S.state store.new) (S.number r)
         (decoded (text (S.state store.old) (S.number s)) uri_hold)) }
+    ensures known { IfOk result (λ r. IsKnown (S.state store.new) (S.number r)) }
     ensures settled { IfOk result (λ r. IsSettled (S.state store.new) (S.number r)) }
     ensures throws { Throws result (S.state store.old).limit
         (decoded (text (S.state store.old) (S.number s)) uri_hold) }
@@ -76,11 +83,16 @@ pub fn decode_uri<S: Strings>(alloc: Global, store: &mut S, s: S::Ref) -> Result
 
 /// The string with each escape, and each sequence of escapes that is the UTF-8 of a code point, as
 /// what it stands for ("decodeURIComponent"). What is malformed is so for [`decode_uri`], too.
-pub fn decode_uri_component<S: Strings>(alloc: Global, store: &mut S, s: S::Ref) -> Result<S::Ref, UriFault>
+pub fn decode_uri_component<S: Strings>(
+    alloc: Global,
+    store: &mut S,
+    s: S::Ref,
+) -> Result<S::Ref, UriFault>
     requires { IsKnown (S.state store.old) (S.number s) }
     ensures value { IfOk result
         (λ r. HasOutcome (S.state store.new) (S.number r)
         (decoded (text (S.state store.old) (S.number s)) no_hold)) }
+    ensures known { IfOk result (λ r. IsKnown (S.state store.new) (S.number r)) }
     ensures settled { IfOk result (λ r. IsSettled (S.state store.new) (S.number r)) }
     ensures throws { Throws result (S.state store.old).limit
         (decoded (text (S.state store.old) (S.number s)) no_hold) }

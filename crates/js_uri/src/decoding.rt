@@ -1,5 +1,5 @@
 // Units with each escape as what it stands for.
-ghost use Rattle.std.specs.Prelude.{◌≡◌, ◌+◌, ◌*◌, ◌%◌, ◌^◌, ◌<◌, ◌≤◌, ◌++◌, ◌∷◌, [], length, drop, OnOk, IsOk, IfSome, Some, None, MatchOption, option_map, IsTrue, Ok};
+ghost use Rattle.std.specs.Prelude.{◌≡◌, ℕ, Bool, ◌+◌, ◌*◌, ◌%◌, ◌^◌, ◌<◌, ◌≤◌, ◌++◌, ◌∷◌, [], length, drop, OnOk, IsOk, IfSome, Some, None, MatchOption, option_map, IsTrue, Ok};
 ghost use Rattle.js_uri.specs.Outcome.{measure, units as units_of};
 ghost use Rattle.js_uri.specs.Calls.{hold_of};
 ghost use Rattle.js_uri.specs.Decoding.{escaped_byte, escaped_bytes, utf8_point, spelled_by, sequence_len as asked_len, escaped_part, first_part, decoded};
@@ -68,29 +68,70 @@ fn six_bits(byte: u8) -> u32
     u32::from(byte % 64)
 }
 
+// The character whose UTF-8 the first escape is.
+fn char_of_one(units: &[u16]) -> Option<char>
+    ensures value { result ≡ utf8_point (escaped_bytes 1 units.now) }
+    ensures within { IfSome result (λ _. 3 ≤ length units.now) }
+{
+    let (a, _) = split_escape(units)?;
+    spelled_char(&[a], u32::from(a % 32))
+}
+
+// The same of the first two, three and four escapes.
+fn char_of_two(units: &[u16]) -> Option<char>
+    ensures value { result ≡ utf8_point (escaped_bytes 2 units.now) }
+    ensures within { IfSome result (λ _. 6 ≤ length units.now) }
+{
+    let (a, rest) = split_escape(units)?;
+    let (b, _) = split_escape(rest)?;
+    spelled_char(&[a, b], u32::from(a % 32) * 64 + six_bits(b))
+}
+
+fn char_of_three(units: &[u16]) -> Option<char>
+    ensures value { result ≡ utf8_point (escaped_bytes 3 units.now) }
+    ensures within { IfSome result (λ _. 9 ≤ length units.now) }
+{
+    let (a, rest) = split_escape(units)?;
+    let (b, rest) = split_escape(rest)?;
+    let (c, _) = split_escape(rest)?;
+    let value = (u32::from(a % 16) * 64 + six_bits(b)) * 64 + six_bits(c);
+    spelled_char(&[a, b, c], value)
+}
+
+fn char_of_four(units: &[u16]) -> Option<char>
+    ensures value { result ≡ utf8_point (escaped_bytes 4 units.now) }
+    ensures within { IfSome result (λ _. 12 ≤ length units.now) }
+{
+    let (a, rest) = split_escape(units)?;
+    let (b, rest) = split_escape(rest)?;
+    let (c, rest) = split_escape(rest)?;
+    let (d, _) = split_escape(rest)?;
+    let value = ((u32::from(a % 8) * 64 + six_bits(b)) * 64 + six_bits(c)) * 64 + six_bits(d);
+    spelled_char(&[a, b, c, d], value)
+}
+
 // The character whose UTF-8 the first n escapes are.
 fn sequence_char(units: &[u16], n: usize) -> Option<char>
     requires low { 1 ≤ n }
     requires high { n ≤ 4 }
     ensures value { result ≡ utf8_point (escaped_bytes n units.now) }
-    ensures within { IfSome result (λ c. 3 * n ≤ length units.now) }
+    ensures within { IfSome result (λ _. 3 * n ≤ length units.now) }
 {
-    let (a, rest) = split_escape(units)?;
-    if n == 1 {
-        return spelled_char(&[a], u32::from(a % 32));
+    match n {
+        1 => char_of_one(units),
+        2 => char_of_two(units),
+        3 => char_of_three(units),
+        _ => char_of_four(units),
     }
-    let (b, rest) = split_escape(rest)?;
-    if n == 2 {
-        return spelled_char(&[a, b], u32::from(a % 32) * 64 + six_bits(b));
-    }
-    let (c, rest) = split_escape(rest)?;
-    if n == 3 {
-        let value = u32::from(a % 16) * 4096 + six_bits(b) * 64 + six_bits(c);
-        return spelled_char(&[a, b, c], value);
-    }
-    let (d, _) = split_escape(rest)?;
-    let value = u32::from(a % 8) * 262144 + six_bits(b) * 4096 + six_bits(c) * 64 + six_bits(d);
-    spelled_char(&[a, b, c, d], value)
+}
+
+// The units behind the first n.
+fn behind(units: &[u16], n: usize) -> &[u16]
+    requires { n ≤ length units.now }
+    ensures rest { result.now ≡ drop n units.now }
+    ensures shorter { length units.now ≡ n + length result.now }
+{
+    &units[n..]
 }
 
 // What the first units stand for: so many of them for themselves, or for a character.
@@ -169,8 +210,8 @@ fn first_piece(units: &[u16], part: UriPart) -> Option<Piece>
 }
 
 // Whether there is nothing to decode.
-pub fn is_decoded(units: &[u16], part: UriPart) -> bool
-    ensures { IsTrue result → decoded units.now (hold_of part) ≡ Ok units.now }
+pub fn has_no_percent(units: &[u16]) -> bool
+    ensures { IsTrue result → ((hold : ℕ → Bool) → decoded units.now hold ≡ Ok units.now) }
 {
     for unit in units {
         if *unit == PERCENT {
@@ -191,7 +232,7 @@ pub fn decoded_len(units: &[u16], part: UriPart) -> Result<u128, u32>
         match first_piece(rest, part) {
             Some(piece) => {
                 len += piece.len() as u128;
-                rest = &rest[piece.taken()..];
+                rest = behind(rest, piece.taken());
             }
             None => return Err((units.len() - rest.len()) as u32),
         }
@@ -207,7 +248,7 @@ pub fn push_decoded(text: &mut Units, units: &[u16], part: UriPart) -> Result<()
     let mut rest = units;
     while let Some(piece) = first_piece(rest, part) {
         piece.push_to(rest, text)?;
-        rest = &rest[piece.taken()..];
+        rest = behind(rest, piece.taken());
     }
     Ok(())
 }
