@@ -1,4 +1,4 @@
 mod Numbers
 mod Quoted
 mod Keys
-mod Uris
+mod UriCalls

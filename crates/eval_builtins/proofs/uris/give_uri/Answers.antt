@@ -3,7 +3,7 @@ use Rattle.js_store.specs.State.{text}
 use Rattle.js_texts.specs.Use.{settling}
 use Rattle.js_uri.specs.Answers.{outcome_words}
 use Rattle.eval_builtins.specs.UriFunctions.{outcome_of}
-use Rattle.eval_builtins.proofs.Uris.{uri_given, uri_stops}
+use Rattle.eval_builtins.proofs.UriCalls.{uri_given, uri_stops}
 use Rattle.eval_builtins.proofs.uris.give_uri.Goals as goal
 
 pub returns-in-Ok-clause-did : goal.returns-in-Ok-clause-did

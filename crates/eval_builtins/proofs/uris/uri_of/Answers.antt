@@ -1,6 +1,6 @@
 use Rattle.std.proofs.lemmas.Result.{err_from_is_err_and}
 use Rattle.eval_builtins.specs.UriFunctions.{outcome_of}
-use Rattle.eval_builtins.proofs.Uris.{uri_does, uri_ends}
+use Rattle.eval_builtins.proofs.UriCalls.{uri_does, uri_ends}
 use Rattle.eval_builtins.proofs.uris.uri_of.Goals as goal
 
 pub returns-in_err-text-clause-did : goal.returns-in_err-text-clause-did
