@@ -41,6 +41,10 @@ SCRIPTS = [
     ("200,000 trims", ["--ids", "2000000", "--heap-words", "4000000"], "let n = 0; for (let i = 0; i < 200000; i++) { n += ('   \\t' + i + ' \\n  ').trim().length; } print(n);"),
     ("a walk over 1,000,000 units", ["--ids", "1100000", "--heap-words", "1300000"],
      "let s = 'abcdefghix'.repeat(100000); let n = 0; for (let i = 0; i < 1000000; i++) { if (s[i] === 'x') { n = n + 1; } } print(n);"),
+    ("1,000,000 units encoded and decoded, of which every third is escaped", [],
+     "let s = 'ab '.repeat(333333) + 'c'; let e = encodeURIComponent(s); print(e.length, decodeURIComponent(e).length);"),
+    ("1,000,000 units encoded and decoded, of which every third has three bytes", [],
+     "let s = 'ab\\u20ac'.repeat(333333) + 'c'; let e = encodeURI(s); print(e.length, decodeURI(e).length);"),
     ("100,000 printed lines", ["--ids", "900000"], "for (let i = 0; i < 100000; i++) { print('line', i, 'of a hundred thousand'); }"),
 ]
 

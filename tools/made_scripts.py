@@ -7,6 +7,8 @@ import re
 import methods
 import reading
 
+# What is written with escapes, mostly as it may be, for the functions that decode it.
+ESCAPED = ["'%41b%20'", "'%2f%3F%25x'", "'%C3%A9%f0%9f%98%80'", "'a%E2%82%AC'", "'%23%26'", "'%00%7f'", "'%zz'", "'%C3%41'", "'%'"]
 TEXTS = ["''", "'a'", "'abc'", "\"it's\"", "'abab'", "' \\t a b\\uFEFF'", "'\\u{1F600}x'", "'\\ud800'", "'$&$1$$'", "'a,b,,c'", "'é\\x41'", "'k'", "'12'", "','"]
 NUMBERS = ["0", "1", "2", "3", "5", "17", "4294967296", "9007199254740991", "NaN", "Infinity"]
 ODD = ["undefined", "null", "true", "false", "NaN", "''", "0", "'0'", "Symbol.for('k')", "'a,b'.split(',')", "gone", "(-1)"]
@@ -15,7 +17,7 @@ NAMES = ["a", "b", "s", "n", "list", "at", "length", "of", "let1", "$", "_", "ke
 OPERATORS = ["===", "!==", "<", ">", "<=", ">="]
 KINDS = ["text", "number", "truth", "list", "symbol"]
 # What is put into a text to damage it.
-PIECES = reading.MARKS + ["let", "const", "if", "else", "for", "print", "String", "Symbol", "JSON", "var", "length", "at", "i", "a", "'", "\"", "\\", "0", "1.5", "'b'", "1000001",
+PIECES = reading.MARKS + ["let", "const", "if", "else", "for", "print", "String", "Symbol", "JSON", "encodeURI", "decodeURIComponent", "var", "length", "at", "i", "a", "'", "\"", "\\", "0", "1.5", "'b'", "1000001",
                           "\n", "/*", "//", "#", "\u00e9", "'use strict'", "undefined", "eval"]
 
 
@@ -69,7 +71,13 @@ class Maker:
                            lambda: f"{self.asked('text', room)}[{self.value('number', room)}]", lambda: f"String({self.value(anything, room)})",
                            lambda: f"JSON.stringify({self.value(anything, room)})", lambda: f"{self.asked('symbol', room)}.description",
                            lambda: f"Symbol.keyFor({self.value('symbol', room)})", lambda: f"{self.asked('list', room)}.join({self.value('text', room)})",
-                           lambda: f"String.fromCharCode({self.value('number', room)}, 98)", lambda: f"String.fromCodePoint({self.rng.choice(['65', '128512'] * 9 + ['1114112'])})")
+                           lambda: self.uri_call(anything, room), lambda: f"String.fromCharCode({self.value('number', room)}, 98)", lambda: f"String.fromCodePoint({self.rng.choice(['65', '128512'] * 9 + ['1114112'])})")
+
+    def uri_call(self, kind, room):
+        function = self.rng.choice(methods.URI_FUNCTIONS)
+        if function.startswith("decode") and self.rng.random() < 0.7:
+            return f"{function}({self.rng.choice(ESCAPED[:-3] * 4 + ESCAPED)})"
+        return f"{function}({self.value(kind, room) if self.rng.random() > 0.05 else ''})"
 
     def number(self, room):
         return self.one_of(lambda: self.call("number", room), lambda: f"{self.asked(self.rng.choice(['text', 'list']), room)}.length",

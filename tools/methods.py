@@ -1,4 +1,4 @@
-"""The methods of strings and arrays, once for all tools."""
+"""The methods of strings and arrays and the URI handling functions, once for all tools."""
 
 import collections
 
@@ -34,6 +34,7 @@ METHODS = [
     Method("trimEnd", "", "text"),
     Method("trimStart", "", "text"),
 ]
+URI_FUNCTIONS = ["encodeURI", "encodeURIComponent", "decodeURI", "decodeURIComponent"]
 OF_STRINGS = [it for it in METHODS if it.of_array != "its own"]
 # Their places of numbers, by their names, and those that the profile leaves out of arrays.
 NUMBERS = {it.name: [kind in "ns" for kind in it.takes] for it in OF_STRINGS}

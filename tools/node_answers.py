@@ -167,6 +167,8 @@ class Rewriter:
         if self.front() == "(":
             return f"({self.arguments()})"
         at, word = self.place(), self.take()
+        if word in methods.URI_FUNCTIONS:
+            return f"{word}({self.arguments()})"
         if word not in ("String", "Symbol", "JSON"):
             return word
         if self.front() == "(":

@@ -44,6 +44,7 @@ Primary   = Text | Number | Name | 'undefined' | 'null' | 'true' | 'false' | 'Na
           | 'String' '.' 'fromCharCode' Args | 'String' '.' 'fromCodePoint' Args
           | 'Symbol' '.' 'for' Args | 'Symbol' '.' 'keyFor' Args
           | 'JSON' '.' 'stringify' Test
+          | 'encodeURI' Args | 'encodeURIComponent' Args | 'decodeURI' Args | 'decodeURIComponent' Args
 """
 
 NAMES_OF_METHODS = frozenset(it.name for it in methods.METHODS)

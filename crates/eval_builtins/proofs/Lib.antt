@@ -1,3 +1,4 @@
 mod Numbers
 mod Quoted
 mod Keys
+mod UriCalls

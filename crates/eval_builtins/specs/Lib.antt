@@ -1,5 +1,7 @@
 pub mod Codes
 pub mod Quoting
 pub mod Symbols
+pub mod Uris
 pub mod Builtins
 pub mod Numbers
+pub mod UriFunctions

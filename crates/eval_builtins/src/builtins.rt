@@ -8,6 +8,7 @@ ghost use Rattle.eval_builtins.specs.Builtins.{built};
 use crate::codes::{Codes, from_codes};
 use crate::quoting::call_stringify;
 use crate::symbols::{call_key_for, call_string_function, call_symbol_for};
+use crate::uris::{UriFunction, call_uri};
 use eval_tree::Builtin;
 use eval_values::{Stop, Value};
 use js_store::Strings;
@@ -35,5 +36,9 @@ pub fn call_builtin<S: Strings>(
         Builtin::SymbolFor => call_symbol_for(alloc, store, args),
         Builtin::KeyFor => call_key_for(store, args),
         Builtin::Stringify => call_stringify(alloc, store, args),
+        Builtin::EncodeUri => call_uri(alloc, store, UriFunction::Encode, args),
+        Builtin::EncodeUriComponent => call_uri(alloc, store, UriFunction::EncodeComponent, args),
+        Builtin::DecodeUri => call_uri(alloc, store, UriFunction::Decode, args),
+        Builtin::DecodeUriComponent => call_uri(alloc, store, UriFunction::DecodeComponent, args),
     }
 }

@@ -198,7 +198,8 @@ pub enum Method {
 }
 
 /// A built-in function that is called by its name: `String`, `String.fromCharCode`,
-/// `String.fromCodePoint`, `Symbol.for`, `Symbol.keyFor`, and `JSON.stringify` with its one argument.
+/// `String.fromCodePoint`, `Symbol.for`, `Symbol.keyFor`, `JSON.stringify` with its one argument, and
+/// the URI handling functions `encodeURI`, `encodeURIComponent`, `decodeURI`, `decodeURIComponent`.
 #[derive(Clone, Copy, Debug, PartialEq, Eq)]
 pub enum Builtin {
     String,
@@ -207,6 +208,10 @@ pub enum Builtin {
     SymbolFor,
     KeyFor,
     Stringify,
+    EncodeUri,
+    EncodeUriComponent,
+    DecodeUri,
+    DecodeUriComponent,
 }
 
 /// A name. Contracts see it as the list of its bytes. Its key, a number that most names have alone,

@@ -15,6 +15,7 @@ pub enum Kind {
     RangeError,
     TypeError,
     ReferenceError,
+    UriError,
 }
 
 /// A value (ECMA-262, "ECMAScript Language Types"), where strings are references into a store. A

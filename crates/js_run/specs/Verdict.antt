@@ -4,7 +4,7 @@ use Rattle.js_parse.specs.declared.fault.ParseFault.{ParseFault}
 use Rattle.js_store.specs.declared.faults.FullReport.{FullReport}
 use Rattle.js_store.specs.declared.faults.FullReport.TheVariants.{Ids, Words, Slots}
 use Rattle.eval_values.specs.declared.value.Kind.{Kind}
-use Rattle.eval_values.specs.declared.value.Kind.TheVariants.{RangeError, TypeError, ReferenceError}
+use Rattle.eval_values.specs.declared.value.Kind.TheVariants.{RangeError, TypeError, ReferenceError, UriError}
 use Rattle.js_eval.specs.declared.ending.End.{End}
 use Rattle.js_eval.specs.declared.ending.End.TheVariants.{Done, Threw, Unsupported, Full, Memory}
 use Rattle.run_jobs.specs.declared.job.Outcome.{Outcome}
@@ -48,6 +48,7 @@ abbrev pub kind_text : Kind → List ℕ
 kind_text RangeError = codes ": uncaught RangeError\n"
 kind_text TypeError = codes ": uncaught TypeError\n"
 kind_text ReferenceError = codes ": uncaught ReferenceError\n"
+kind_text UriError = codes ": uncaught URIError\n"
 
 abbrev pub full_text : FullReport → List ℕ
 full_text (Ids at want end) = codes ": heap full: ids\n"

@@ -60,6 +60,7 @@ fn kind_words(kind: Kind) -> &'static [u8]
         Kind::RangeError => b": uncaught RangeError\n",
         Kind::TypeError => b": uncaught TypeError\n",
         Kind::ReferenceError => b": uncaught ReferenceError\n",
+        Kind::UriError => b": uncaught URIError\n",
     }
 }
 

@@ -291,7 +291,13 @@ pub fn next_opener(tokens: &[Token]) -> Option<Opener>
         Some(
             (
                 Token::Word {
-                    word: Word::String | Word::Symbol | Word::Json,
+                    word: Word::String
+                    | Word::Symbol
+                    | Word::Json
+                    | Word::EncodeUri
+                    | Word::EncodeUriComponent
+                    | Word::DecodeUri
+                    | Word::DecodeUriComponent,
                     ..
                 },
                 _,
@@ -464,8 +470,26 @@ fn json_called(tokens: &[Token]) -> Result<(Builtin, &[Token]), Fault<'_>>
     json_function(rest)
 }
 
+// A URI handling function.
+fn uri_function(tokens: &[Token]) -> Result<((u32, Builtin), &[Token]), Fault<'_>>
+    ensures { Gives (λ found. (found.0.0, found.0.1)) (λ found. found.1.now) result
+        (one_of terminals.uri_function tokens.now) }
+{
+    let Some((Token::Word { at, word }, rest)) = next(tokens) else {
+        return Err(refused(tokens));
+    };
+    match word {
+        Word::EncodeUri => Ok(((at, Builtin::EncodeUri), rest)),
+        Word::EncodeUriComponent => Ok(((at, Builtin::EncodeUriComponent), rest)),
+        Word::DecodeUri => Ok(((at, Builtin::DecodeUri), rest)),
+        Word::DecodeUriComponent => Ok(((at, Builtin::DecodeUriComponent), rest)),
+        _ => Err(refused(tokens)),
+    }
+}
+
 /// The built-in function that is called, with the offset of its first word: `String`,
-/// `String . fromCharCode`, `String . fromCodePoint`, `Symbol . for`, `Symbol . keyFor`, `JSON . stringify`.
+/// `String . fromCharCode`, `String . fromCodePoint`, `Symbol . for`, `Symbol . keyFor`, `JSON . stringify`,
+/// or a URI handling function.
 pub fn called(tokens: &[Token]) -> Result<((u32, Builtin), &[Token]), Fault<'_>>
     ensures { Gives (λ found. (found.0.0, found.0.1)) (λ found. found.1.now) result (read_called tokens.now) }
 {
@@ -506,7 +530,7 @@ pub fn called(tokens: &[Token]) -> Result<((u32, Builtin), &[Token]), Fault<'_>>
             let (which, rest) = json_called(rest)?;
             Ok(((at, which), rest))
         }
-        _ => Err(refused(tokens)),
+        _ => uri_function(tokens),
     }
 }
 

@@ -13,9 +13,9 @@ use Rattle.eval_tree.specs.declared.tree.Builtin.{Builtin}
 use Rattle.eval_tree.specs.declared.tree.Builtin.TheVariants as builtin
 use Rattle.eval_tree.specs.Tree as tree
 use Rattle.eval_tree.specs.Tree.{ExprTree, StepTree}
-use Rattle.parse_syntax.specs.Terminals.{member_word, method, opening, closing, open_bracket, close_bracket, point, question, colon, sign, simple, string_word, symbol_word, json_word, from_word, symbol_function, stringify_word}
-use Rattle.parse_syntax.specs.Grammar.{Whole, Operand, pair_of, single_of, plain_string, builtin_of, call_of, index_of, unary_of, branches_of, cond_of}
-use Rattle.parse_syntax.specs.Reading.{read_within, read_parens, read_args, read_index, read_json}
+use Rattle.parse_syntax.specs.Terminals.{member_word, method, opening, closing, open_bracket, close_bracket, point, question, colon, sign, simple, string_word, symbol_word, json_word, uri_function, from_word, symbol_function, stringify_word}
+use Rattle.parse_syntax.specs.Grammar.{Whole, Operand, pair_of, single_of, plain_string, builtin_of, uri_of, call_of, index_of, unary_of, branches_of, cond_of}
+use Rattle.parse_syntax.specs.Reading.{read_within, read_parens, read_args, read_index, read_uri}
 use Rattle.parse_look.specs.declared.look.Level.TheVariants as level
 use Rattle.parse_look.specs.declared.look.Opener.{Opener}
 use Rattle.parse_look.specs.declared.look.Opener.TheVariants as opener
@@ -83,6 +83,14 @@ no_json : (s : List Token) → openers s ≡ None → heads json_word s ≡ fals
 no_json [] o = refl
 no_json (token.Word at word.Json ∷ s) o = cc
 no_json (_ ∷ s) o = refl
+
+no_uri : (s : List Token) → openers s ≡ None → heads uri_function s ≡ false
+no_uri [] o = refl
+no_uri (token.Word at word.EncodeUri ∷ s) o = cc
+no_uri (token.Word at word.EncodeUriComponent ∷ s) o = cc
+no_uri (token.Word at word.DecodeUri ∷ s) o = cc
+no_uri (token.Word at word.DecodeUriComponent ∷ s) o = cc
+no_uri (_ ∷ s) o = refl
 
 -- the functions of String and Symbol have any number of arguments
 
@@ -167,6 +175,10 @@ module _ (names : List (List ℕ)) where
   unfolding given_at
   given_single n w r h = rw h refl
 
+  -- so have the URI handling functions
+  uri_call : (n at : ℕ) (w : Builtin) (s : List Token) → (w ≡ builtin.Stringify → ⊥) → (read_args (inner names n Whole) s >>= λ ts r. Got (uri_of (at, w) ts) r) ≡ calling n at w s
+  uri_call n at w s h = ap (λ a. a >>= λ ts r. Got (uri_of (at, w) ts) r) (given_plain n w s h)
+
   string_call : (n at : ℕ) (s : List Token) → (choose (heads point) (and_then second_of (one_of point) (and_then pair_of (one_of from_word) (read_args (inner names n Whole)))) (map_by plain_string (read_args (inner names n Whole))) s >>= λ p r. Got (builtin_of at p) r) ≡ (read_string_called s >>= λ w r. calling n at w r)
   string_call n at s = go (heads point s) refl
     where
@@ -194,6 +206,10 @@ module _ (names : List (List ℕ)) where
       ∙ ap (λ f. one_of point s >>= f) (λ i _ r. function_call n at stringify_word (map_by single_of (read_parens (inner names n Whole))) r (λ w r' e. given_single n w r' (json_one r r' w e)) i)
       ∙ sym (behind s (one_of stringify_word) (λ w r. calling n at w r))
       ∙ sym (paired at (and_then second_of (one_of point) (one_of stringify_word) s) (λ c r. calling n c.0 c.1 r))
+  builtin_is n (token.Word at word.EncodeUri ∷ s) = uri_call n at builtin.EncodeUri s (λ h. cc)
+  builtin_is n (token.Word at word.EncodeUriComponent ∷ s) = uri_call n at builtin.EncodeUriComponent s (λ h. cc)
+  builtin_is n (token.Word at word.DecodeUri ∷ s) = uri_call n at builtin.DecodeUri s (λ h. cc)
+  builtin_is n (token.Word at word.DecodeUriComponent ∷ s) = uri_call n at builtin.DecodeUriComponent s (λ h. cc)
   builtin_is n (_ ∷ s) = refl
 
   -- primaries
@@ -204,11 +220,11 @@ module _ (names : List (List ℕ)) where
 
   pub primary_none : (n : ℕ) (s : List Token) → heads (simple names) s ≡ false → openers s ≡ None → primary_at names n s ≡ wrong s
   unfolding primary_at
-  primary_none n s h o = rw (h, no_opening s o, no_string s o, no_symbol s o) (last n)
+  primary_none n s h o = rw (h, no_opening s o, no_string s o, no_symbol s o, no_json s o) (last n)
     where
-      last : (n : ℕ) → opens (has_room n) (heads json_word) (read_json (inner names n Whole)) s ≡ wrong s
-      last zero = rw (no_json s o) refl
-      last (suc n) = (then_strict builtin_of json_word (and_then second_of (one_of point) (and_then pair_of (one_of stringify_word) (map_by single_of (read_parens (inner names (suc n) Whole)))))).fails s (no_json s o)
+      last : (n : ℕ) → opens (has_room n) (heads uri_function) (read_uri (inner names n Whole)) s ≡ wrong s
+      last zero = rw (no_uri s o) refl
+      last (suc n) = (then_strict uri_of uri_function (read_args (inner names (suc n) Whole))).fails s (no_uri s o)
 
   pub primary_deep : (n : ℕ) (s : List Token) (o : Opener) → openers s ≡ Some o → n ≡ 0 → primary_at names n s ≡ too_deep s
   unfolding primary_at
@@ -217,6 +233,10 @@ module _ (names : List (List ℕ)) where
   primary_deep n (token.Word at word.String ∷ s) o e h = rw (no_room_for n h) refl
   primary_deep n (token.Word at word.Symbol ∷ s) o e h = rw (no_room_for n h) refl
   primary_deep n (token.Word at word.Json ∷ s) o e h = rw (no_room_for n h) refl
+  primary_deep n (token.Word at word.EncodeUri ∷ s) o e h = rw (no_room_for n h) refl
+  primary_deep n (token.Word at word.EncodeUriComponent ∷ s) o e h = rw (no_room_for n h) refl
+  primary_deep n (token.Word at word.DecodeUri ∷ s) o e h = rw (no_room_for n h) refl
+  primary_deep n (token.Word at word.DecodeUriComponent ∷ s) o e h = rw (no_room_for n h) refl
   primary_deep n (_ ∷ s) o e h = absurd cc
 
   pub primary_paren : (n : ℕ) (s : List Token) → openers s ≡ Some opener.Paren → 0 < n → primary_at names n s ≡ parens_at names n s
@@ -226,6 +246,10 @@ module _ (names : List (List ℕ)) where
   primary_paren n (token.Word at word.String ∷ s) e h = absurd cc
   primary_paren n (token.Word at word.Symbol ∷ s) e h = absurd cc
   primary_paren n (token.Word at word.Json ∷ s) e h = absurd cc
+  primary_paren n (token.Word at word.EncodeUri ∷ s) e h = absurd cc
+  primary_paren n (token.Word at word.EncodeUriComponent ∷ s) e h = absurd cc
+  primary_paren n (token.Word at word.DecodeUri ∷ s) e h = absurd cc
+  primary_paren n (token.Word at word.DecodeUriComponent ∷ s) e h = absurd cc
   primary_paren n (_ ∷ s) e h = absurd cc
 
   pub primary_builtin : (n : ℕ) (s : List Token) → openers s ≡ Some opener.Builtin → 0 < n → primary_at names n s ≡ builtin_at names n s
@@ -234,6 +258,10 @@ module _ (names : List (List ℕ)) where
   primary_builtin n (token.Word at word.String ∷ s) e h = rw (room_for n h) refl
   primary_builtin n (token.Word at word.Symbol ∷ s) e h = rw (room_for n h) refl
   primary_builtin n (token.Word at word.Json ∷ s) e h = rw (room_for n h) refl
+  primary_builtin n (token.Word at word.EncodeUri ∷ s) e h = rw (room_for n h) refl
+  primary_builtin n (token.Word at word.EncodeUriComponent ∷ s) e h = rw (room_for n h) refl
+  primary_builtin n (token.Word at word.DecodeUri ∷ s) e h = rw (room_for n h) refl
+  primary_builtin n (token.Word at word.DecodeUriComponent ∷ s) e h = rw (room_for n h) refl
   primary_builtin n (token.Mark at mark.OpenParen l ∷ s) e h = absurd cc
   primary_builtin n (_ ∷ s) e h = absurd cc
 

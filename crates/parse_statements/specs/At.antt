@@ -6,9 +6,9 @@ use Rattle.parse_syntax.specs.declared.token.Token.{Token}
 use Rattle.eval_tree.specs.declared.tree.Builtin.{Builtin}
 use Rattle.eval_tree.specs.declared.tree.Builtin.TheVariants as builtin
 use Rattle.eval_tree.specs.Tree.{ExprTree, StepTree, StmtTree, BlockTree, ArmTree}
-use Rattle.parse_syntax.specs.Terminals.{member_word, method, else_word, if_word, string_word, symbol_word, question}
+use Rattle.parse_syntax.specs.Terminals.{member_word, method, else_word, if_word, string_word, symbol_word, json_word, question}
 use Rattle.parse_syntax.specs.Grammar.{Which, Whole, Operand, single_of, call_of, cond_of}
-use Rattle.parse_syntax.specs.Reading.{read_within, read_parens, read_args, read_string, read_symbol, read_json, read_primary, read_branches, read_step, read_post, read_unary, read_sum, read_comparison, read_equality, read_conjunction, read_disjunction, read_conditional, goes_on, read_block, read_init, read_let, read_const, read_assign, read_print, read_arm, read_rest, read_if, read_for, read_statement, read_at}
+use Rattle.parse_syntax.specs.Reading.{read_within, read_parens, read_args, read_string, read_symbol, read_json, read_uri, read_primary, read_branches, read_step, read_post, read_unary, read_sum, read_comparison, read_equality, read_conjunction, read_disjunction, read_conditional, goes_on, read_block, read_init, read_let, read_const, read_assign, read_print, read_arm, read_rest, read_if, read_for, read_statement, read_at}
 use Rattle.parse_look.specs.declared.look.Level.{Level}
 use Rattle.parse_look.specs.declared.look.Level.TheVariants as level
 
@@ -34,7 +34,7 @@ module _ (names : List (List ℕ)) where
   given_at n _ = read_args (inner n Whole)
 
   unfoldable pub builtin_at : ℕ → Reader Token ExprTree
-  builtin_at n = choose (heads string_word) (read_string (inner n Whole)) (choose (heads symbol_word) (read_symbol (inner n Whole)) (read_json (inner n Whole)))
+  builtin_at n = choose (heads string_word) (read_string (inner n Whole)) (choose (heads symbol_word) (read_symbol (inner n Whole)) (choose (heads json_word) (read_json (inner n Whole)) (read_uri (inner n Whole))))
 
   unfoldable pub primary_at : ℕ → Reader Token ExprTree
   primary_at n = read_primary names (has_room n) (inner n Whole)

@@ -86,6 +86,7 @@ fn given<'a>(
 
 // String Args | String . fromCharCode Args | String . fromCodePoint Args
 // | Symbol . for Args | Symbol . keyFor Args | JSON . stringify ( Expr )
+// | encodeURI Args | encodeURIComponent Args | decodeURI Args | decodeURIComponent Args
 #[cycle(expr)]
 #[tactic(auto, using(crate::proofs::Rooms::builtin_is))]
 fn builtin_call<'a>(

@@ -16,11 +16,11 @@ use Rattle.eval_tree.specs.declared.tree.Method.TheVariants as methods
 use Rattle.eval_tree.specs.declared.tree.Builtin.{Builtin}
 use Rattle.eval_tree.specs.Tree as tree
 use Rattle.eval_tree.specs.Tree.{ExprTree, LinkTree, StepTree}
-use Rattle.parse_syntax.specs.Terminals.{string_word, symbol_word, json_word, member_word, method, from_word, symbol_function, stringify_word, opening, closing, open_bracket, close_bracket, comma, point, question, colon, sign, or_op, and_op, equal_op, compare_op, sum_op, simple}
+use Rattle.parse_syntax.specs.Terminals.{string_word, symbol_word, json_word, uri_function, member_word, method, from_word, symbol_function, stringify_word, opening, closing, open_bracket, close_bracket, comma, point, question, colon, sign, or_op, and_op, equal_op, compare_op, sum_op, simple}
 use Rattle.parse_syntax.specs.Grammar
-use Rattle.parse_syntax.specs.Grammar.{list_of, none_of, single_of, pair_of, index_of, call_of, builtin_of, plain_string, post_of, unary_of, link_of, chain_of, branches_of, cond_of}
-use Rattle.parse_syntax.specs.Reading.{read_parens, read_items, read_args, read_string, read_symbol, read_json, read_primary, read_member, read_index, read_step, step_mark, read_post, read_unary, read_chain, read_sum, read_comparison, read_equality, read_conjunction, read_disjunction, read_branches, read_conditional}
-use Rattle.parse_syntax.proofs.Stops.{stops, stops_more, HasLevel, question_level, or_level, and_level, equal_level, compare_level, sum_level, step_level, colon_level, closing_level, close_bracket_level, comma_level, none_of_level, class, simple_of, opening_of, string_of, symbol_of, json_of, sign_of, begins_unary, sign_begins, primary_begins, no_closing, part, point_of, bracket_of, paren_of, member_of, method_of, is_step, point_step, bracket_step}
+use Rattle.parse_syntax.specs.Grammar.{list_of, none_of, single_of, pair_of, index_of, call_of, builtin_of, uri_of, plain_string, post_of, unary_of, link_of, chain_of, branches_of, cond_of}
+use Rattle.parse_syntax.specs.Reading.{read_parens, read_items, read_args, read_string, read_symbol, read_json, read_uri, read_primary, read_member, read_index, read_step, step_mark, read_post, read_unary, read_chain, read_sum, read_comparison, read_equality, read_conjunction, read_disjunction, read_branches, read_conditional}
+use Rattle.parse_syntax.proofs.Stops.{stops, stops_more, HasLevel, question_level, or_level, and_level, equal_level, compare_level, sum_level, step_level, colon_level, closing_level, close_bracket_level, comma_level, none_of_level, class, simple_of, opening_of, string_of, symbol_of, json_of, uri_function_of, sign_of, begins_unary, sign_begins, primary_begins, no_closing, part, point_of, bracket_of, paren_of, member_of, method_of, is_step, point_step, bracket_step}
 
 -- a token of a lower level ends what is above it
 
@@ -127,6 +127,9 @@ module _ (P : Kind → Type 0) where
     json_part : Part P (Grammar.json_call E) (Grammar.json_call F) anything (read_json e) (read_json e')
     json_part = next_part builtin_of (one_part P json_word (token.Word 0 word.Json) 0 refl) (next_part second_of point_part (next_part pair_of stringify_part (map_part single_of parens_part)))
 
+    uri_part : Starts E begins_unary → Part P (Grammar.uri_call E) (Grammar.uri_call F) anything (read_uri e) (read_uri e')
+    uri_part st = next_part uri_of (one_part P uri_function (token.Word 0 word.EncodeUri) _ refl) (args_part st)
+
     index_part : Part P (Grammar.index E) (Grammar.index F) anything (read_index e) (read_index e')
     index_part = next_part index_of (one_part P open_bracket (token.Mark 0 mark.OpenBracket false) 0 refl) (then_part first_of p close_bracket_part (λ b y rest h s. one_stops close_bracket 0 1 close_bracket_level refl b y rest h))
 
@@ -156,8 +159,11 @@ module _ (P : Kind → Type 0) where
   module _ (names : List (List ℕ)) (room room' : Bool) (rs : Rooms P room room') (E U F G : Lang Token ExprTree) (e u e' u' : Reader Token ExprTree) (i : Inner P room E U F G e u e' u') where
     -- a primary, from each of its alternatives on
 
+    abbrev From_uri : Lang Token ExprTree
+    From_uri = if_room room (Grammar.uri_call E)
+
     abbrev From_json : Lang Token ExprTree
-    From_json = if_room room (Grammar.json_call E)
+    From_json = Either (if_room room (Grammar.json_call E)) From_uri
 
     abbrev From_symbol : Lang Token ExprTree
     From_symbol = Either (if_room room (Grammar.symbol_call E)) From_json
@@ -168,8 +174,11 @@ module _ (P : Kind → Type 0) where
     abbrev From_parens : Lang Token ExprTree
     From_parens = Either (if_room room (Grammar.parens E)) From_string
 
+    uri_starts : Starts From_uri (over class 5)
+    uri_starts = room_starts room (over class 5) (first_over class uri_function 6 5 uri_function_of refl)
+
     json_starts : Starts From_json (over class 4)
-    json_starts = room_starts room (over class 4) (first_over class json_word 5 4 json_of refl)
+    json_starts = either_starts (if_room room (Grammar.json_call E)) From_uri (over class 4) (room_starts room (over class 4) (first_over class json_word 5 4 json_of refl)) (lower class 5 4 refl uri_starts)
 
     symbol_starts : Starts From_symbol (over class 3)
     symbol_starts = either_starts (if_room room (Grammar.symbol_call E)) From_json (over class 3) (room_starts room (over class 3) (first_over class symbol_word 4 3 symbol_of refl)) (lower class 4 3 refl json_starts)
@@ -188,8 +197,12 @@ module _ (P : Kind → Type 0) where
 
     primary_part : Part P (Grammar.primary names room E) (Grammar.primary names true F) anything (read_primary names room e) (read_primary names room' e')
     primary_part =
-        let json = open_branch room room' rs json_word (λ r. branch (json_part (i.whole r)) (λ ts x h. right ts x (right ts x (right ts x (right ts x (in_room room (Grammar.json_call E) r ts x h))))))
-        some_primary (deeper builtin_of json_word (held_json i.held_whole)) (then_strict builtin_of json_word (and_then second_of (one_of point) (and_then pair_of (one_of stringify_word) (map_by single_of (read_parens e'))))) in
+        let uris = open_branch room room' rs uri_function (λ r. branch (uri_part (i.whole r) (i.first_whole r)) (λ ts x h. right ts x (right ts x (right ts x (right ts x (right ts x (in_room room (Grammar.uri_call E) r ts x h)))))))
+        some_primary (deeper uri_of uri_function (no_args F)) (then_strict uri_of uri_function (read_args e')) in
+        let json = choose_branch (heads json_word) (heads_test json_word)
+        (open_branch room room' rs json_word (λ r. branch (json_part (i.whole r)) (λ ts x h. right ts x (right ts x (right ts x (right ts x (left ts x (in_room room (Grammar.json_call E) r ts x h)))))))
+        some_primary (deeper builtin_of json_word (held_json i.held_whole)) (then_strict builtin_of json_word (and_then second_of (one_of point) (and_then pair_of (one_of stringify_word) (map_by single_of (read_parens e'))))))
+        uris (λ ts x rest h. then_heads json_word ts x rest (room_of room (Grammar.json_call E) ts x h)) (λ ts x rest h s. lacks class json_word 5 5 json_of (omega arith) uri_starts ts x rest h) in
         let symbols = choose_branch (heads symbol_word) (heads_test symbol_word)
         (open_branch room room' rs symbol_word (λ r. branch (symbol_part (i.whole r) (i.first_whole r)) (λ ts x h. right ts x (right ts x (right ts x (left ts x (in_room room (Grammar.symbol_call E) r ts x h))))))
         some_primary (deeper builtin_of symbol_word (held_symbol F)) (then_strict builtin_of symbol_word (and_then second_of (one_of point) (and_then pair_of (one_of symbol_function) (read_args e')))))

@@ -10,7 +10,7 @@ use Rattle.parse_syntax.specs.declared.token.Word.TheVariants as word
 use Rattle.parse_syntax.specs.declared.token.Property.TheVariants as property
 use Rattle.eval_tree.specs.declared.tree.Method.{Method}
 use Rattle.eval_tree.specs.Tree.{ExprTree, StepTree}
-use Rattle.parse_syntax.specs.Terminals.{string_word, symbol_word, json_word, member_word, method, opening, closing, open_bracket, close_bracket, comma, point, question, colon, sign, or_op, and_op, equal_op, compare_op, sum_op, simple, constant}
+use Rattle.parse_syntax.specs.Terminals.{string_word, symbol_word, json_word, uri_function, member_word, method, opening, closing, open_bracket, close_bracket, comma, point, question, colon, sign, or_op, and_op, equal_op, compare_op, sum_op, simple, constant}
 use Rattle.parse_syntax.specs.Reading.{step_mark}
 
 -- an operator has the level of its chain, and what begins a step the one above
@@ -157,6 +157,10 @@ class (token.Mark at mark.OpenParen l) = 2
 class (token.Word at word.String) = 3
 class (token.Word at word.Symbol) = 4
 class (token.Word at word.Json) = 5
+class (token.Word at word.EncodeUri) = 6
+class (token.Word at word.EncodeUriComponent) = 6
+class (token.Word at word.DecodeUri) = 6
+class (token.Word at word.DecodeUriComponent) = 6
 class _ = 0
 
 pub simple_of : (names : List (List ℕ)) → IsOf class (simple names) 1
@@ -205,6 +209,16 @@ json_of = record { is = go }
   where
     go : (t : Token) (x : _) → json_word t ≡ Some x → class t ≡ 5
     go (token.Word at word.Json) x e = refl
+    go _ x e = cc
+
+pub uri_function_of : IsOf class uri_function 6
+uri_function_of = record { is = go }
+  where
+    go : (t : Token) (x : _) → uri_function t ≡ Some x → class t ≡ 6
+    go (token.Word at word.EncodeUri) x e = refl
+    go (token.Word at word.EncodeUriComponent) x e = refl
+    go (token.Word at word.DecodeUri) x e = refl
+    go (token.Word at word.DecodeUriComponent) x e = refl
     go _ x e = cc
 
 pub sign_of : IsOf class sign 0

@@ -6,7 +6,7 @@ use Rattle.eval_tree.specs.declared.tree.Op.{Op}
 use Rattle.eval_tree.specs.declared.tree.Method.{Method}
 use Rattle.eval_tree.specs.declared.tree.Builtin.{Builtin}
 use Rattle.eval_tree.specs.declared.tree.Builtin.TheVariants as builtin
-use Rattle.parse_syntax.specs.Terminals.{Ident, directive, let_word, const_word, print_word, if_word, else_word, for_word, string_word, symbol_word, json_word, name, the_name, member_word, method, from_word, symbol_function, stringify_word, opening, closing, open_bracket, close_bracket, open_brace, close_brace, comma, point, semicolon, question, colon, less, assign_mark, assign_op, increment, sign, or_op, and_op, equal_op, compare_op, sum_op, nought, bound_number, simple}
+use Rattle.parse_syntax.specs.Terminals.{Ident, directive, let_word, const_word, print_word, if_word, else_word, for_word, string_word, symbol_word, json_word, uri_function, name, the_name, member_word, method, from_word, symbol_function, stringify_word, opening, closing, open_bracket, close_bracket, open_brace, close_brace, comma, point, semicolon, question, colon, less, assign_mark, assign_op, increment, sign, or_op, and_op, equal_op, compare_op, sum_op, nought, bound_number, simple}
 use Rattle.eval_tree.specs.Tree as tree
 use Rattle.eval_tree.specs.Tree.{ExprTree, LinkTree, StepTree, links, steps, exprs, StmtTree, BlockTree, block_of, ArmTree, arms, stmts}
 
@@ -33,6 +33,10 @@ call_of m ts = tree.of_call m.0 m.1 (exprs ts)
 -- a built-in function, at an offset, with its arguments
 abbrev pub builtin_of : ℕ → Builtin × List ExprTree → ExprTree
 builtin_of at c = tree.builtin at c.0 (exprs c.1)
+
+-- a URI handling function with its arguments
+abbrev pub uri_of : ℕ × Builtin → List ExprTree → ExprTree
+uri_of f ts = tree.builtin f.0 f.1 (exprs ts)
 
 -- the function String itself
 abbrev pub plain_string : List ExprTree → Builtin × List ExprTree
@@ -143,13 +147,18 @@ symbol_call E = Then builtin_of (One symbol_word) (One point ▸ Then pair_of (O
 abbrev pub json_call : Lang Token ExprTree → Lang Token ExprTree
 json_call E = Then builtin_of (One json_word) (One point ▸ Then pair_of (One stringify_word) (Mapped single_of (parens E)))
 
+-- encodeURI Args | encodeURIComponent Args | decodeURI Args | decodeURIComponent Args
+abbrev pub uri_call : Lang Token ExprTree → Lang Token ExprTree
+uri_call E = Then uri_of (One uri_function) (args E)
+
 abbrev pub primary : List (List ℕ) → Bool → Lang Token ExprTree → Lang Token ExprTree
 primary names room E =
     Either (One (simple names))
     (Either (if_room room (parens E))
     (Either (if_room room (string_call E))
     (Either (if_room room (symbol_call E))
-    (if_room room (json_call E)))))
+    (Either (if_room room (json_call E))
+    (if_room room (uri_call E))))))
 
 -- . Member | . Method Args
 abbrev pub member : Bool → Lang Token ExprTree → Lang Token StepTree

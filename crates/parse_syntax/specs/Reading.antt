@@ -7,8 +7,8 @@ use Rattle.parse_syntax.specs.declared.token.Token.{Token}
 use Rattle.parse_syntax.specs.declared.token.Token.TheVariants as token
 use Rattle.eval_tree.specs.declared.tree.Op.{Op}
 use Rattle.eval_tree.specs.Tree.{ExprTree, StepTree, StmtTree, BlockTree, ArmTree, block}
-use Rattle.parse_syntax.specs.Terminals.{Ident, directive, let_word, const_word, print_word, if_word, else_word, for_word, string_word, symbol_word, json_word, name, the_name, member_word, method, from_word, symbol_function, stringify_word, opening, closing, open_bracket, close_bracket, open_brace, close_brace, comma, point, semicolon, question, colon, less, assign_mark, assign_op, increment, sign, or_op, and_op, equal_op, compare_op, sum_op, nought, bound_number, simple}
-use Rattle.parse_syntax.specs.Grammar.{list_of, none_of, single_of, pair_of, index_of, call_of, builtin_of, plain_string, post_of, unary_of, link_of, chain_of, branches_of, cond_of, inside_of, no_inside, print_of, arm_of, more_of, if_of, header_of, let_of, const_of, assign_of, for_of, Which, Whole, Operand}
+use Rattle.parse_syntax.specs.Terminals.{Ident, directive, let_word, const_word, print_word, if_word, else_word, for_word, string_word, symbol_word, json_word, uri_function, name, the_name, member_word, method, from_word, symbol_function, stringify_word, opening, closing, open_bracket, close_bracket, open_brace, close_brace, comma, point, semicolon, question, colon, less, assign_mark, assign_op, increment, sign, or_op, and_op, equal_op, compare_op, sum_op, nought, bound_number, simple}
+use Rattle.parse_syntax.specs.Grammar.{list_of, none_of, single_of, pair_of, index_of, call_of, builtin_of, uri_of, plain_string, post_of, unary_of, link_of, chain_of, branches_of, cond_of, inside_of, no_inside, print_of, arm_of, more_of, if_of, header_of, let_of, const_of, assign_of, for_of, Which, Whole, Operand}
 
 -- expressions
 
@@ -30,13 +30,17 @@ read_symbol e = and_then builtin_of (one_of symbol_word) (and_then second_of (on
 abbrev pub read_json : Reader Token ExprTree → Reader Token ExprTree
 read_json e = and_then builtin_of (one_of json_word) (and_then second_of (one_of point) (and_then pair_of (one_of stringify_word) (map_by single_of (read_parens e))))
 
+abbrev pub read_uri : Reader Token ExprTree → Reader Token ExprTree
+read_uri e = and_then uri_of (one_of uri_function) (read_args e)
+
 abbrev pub read_primary : List (List ℕ) → Bool → Reader Token ExprTree → Reader Token ExprTree
 read_primary names room e =
     choose (heads (simple names)) (one_of (simple names))
     (choose (heads opening) (opens room (heads opening) (read_parens e))
     (choose (heads string_word) (opens room (heads string_word) (read_string e))
     (choose (heads symbol_word) (opens room (heads symbol_word) (read_symbol e))
-    (opens room (heads json_word) (read_json e)))))
+    (choose (heads json_word) (opens room (heads json_word) (read_json e))
+    (opens room (heads uri_function) (read_uri e))))))
 
 abbrev pub read_member : Bool → Reader Token ExprTree → Reader Token StepTree
 read_member room e = and_then second_of (one_of point) (choose (heads member_word) (one_of member_word) (opens room (heads method) (and_then call_of (one_of method) (read_args e))))

@@ -68,6 +68,14 @@ abbrev pub json_word : Token → Option ℕ
 json_word (token.Word at word.Json) = Some at
 json_word _ = None
 
+-- a URI handling function: its offset, and which (ECMA-262, "URI Handling Functions")
+abbrev pub uri_function : Token → Option (ℕ × Builtin)
+uri_function (token.Word at word.EncodeUri) = Some (at, builtin.EncodeUri)
+uri_function (token.Word at word.EncodeUriComponent) = Some (at, builtin.EncodeUriComponent)
+uri_function (token.Word at word.DecodeUri) = Some (at, builtin.DecodeUri)
+uri_function (token.Word at word.DecodeUriComponent) = Some (at, builtin.DecodeUriComponent)
+uri_function _ = None
+
 -- names
 
 abbrev pub name : Token → Option Ident

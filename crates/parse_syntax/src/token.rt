@@ -21,6 +21,10 @@ pub enum Word {
     String,
     Symbol,
     Json,
+    EncodeUri,
+    EncodeUriComponent,
+    DecodeUri,
+    DecodeUriComponent,
     /// Any other word that can't be a name. It stands nowhere.
     Reserved,
 }

@@ -76,6 +76,10 @@ operand_word letters =
     else if bytes_eq letters (codes "String") then Some word.String
     else if bytes_eq letters (codes "Symbol") then Some word.Symbol
     else if bytes_eq letters (codes "JSON") then Some word.Json
+    else if bytes_eq letters (codes "encodeURI") then Some word.EncodeUri
+    else if bytes_eq letters (codes "encodeURIComponent") then Some word.EncodeUriComponent
+    else if bytes_eq letters (codes "decodeURI") then Some word.DecodeUri
+    else if bytes_eq letters (codes "decodeURIComponent") then Some word.DecodeUriComponent
     else None
 
 -- a word with a meaning of its own

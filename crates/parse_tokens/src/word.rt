@@ -49,6 +49,14 @@ fn operand_word(letters: &[u8]) -> Option<Word>
         Some(Word::Symbol)
     } else if letters == b"JSON".as_slice() {
         Some(Word::Json)
+    } else if letters == b"encodeURI".as_slice() {
+        Some(Word::EncodeUri)
+    } else if letters == b"encodeURIComponent".as_slice() {
+        Some(Word::EncodeUriComponent)
+    } else if letters == b"decodeURI".as_slice() {
+        Some(Word::DecodeUri)
+    } else if letters == b"decodeURIComponent".as_slice() {
+        Some(Word::DecodeUriComponent)
     } else {
         None
     }
