@@ -75,6 +75,8 @@ impl<'h> Reader<'h> {
         ensures own_ids { (view_in self.new).own_ids ≡ (view_in self.old).own_ids }
         ensures own_words { (c : ℕ) → HasKey (view_in self.old).own_words c
             → HasKey (view_in self.new).own_words c }
+        ensures fresh { IfOk result (λ start. (q : ℕ) → q < words_over wide n
+            → HasKey (view_in self.old).own_words (start + q) → ⊥) }
         ensures ok { IfOk result
             (λ start. IsWritten (view_in self.new) wide start (listed_in self.old source.now)
             × ((view_in self.new).used.words ≡ (view_in self.old).used.words + words_over wide n)) }

@@ -49,3 +49,6 @@ loop-at-preserved c = let v : View = c.args.self.now.agent.seat.me.0 in let u : 
       own = λ q l. subst (λ (x : View). HasKey x.own_words (start + q)) (sym f.view) (key_more p.own_words (start + at) (start + q) word (subst (λ (m : FinMap nat_cmp ℕ). HasKey m (start + q)) (sym e.reads.view.own_words) (i.own q l)));
       done = subst (λ (d : ℕ). AreWords w c.args.wide start us d) next (subst (λ (x : View). AreWords x c.args.wide start us (suc at)) (sym f.view) (words_stored p c.args.wide start at word us done is));
     }
+
+pub returns-clause-fresh : goal.returns-clause-fresh
+returns-clause-fresh c q l h = let a = c.in_ok-start.ensures.above_own (c.in_ok-start.start + q) h in absurd (omega arith)
