@@ -8,7 +8,7 @@ use Rattle.std.specs.Ordering.{nat_cmp}
 use Rattle.heap_rule.specs.declared.view.View.{View}
 use Rattle.heap_rule.specs.declared.size.Counter.TheVariants.{Ids, Words}
 use Rattle.heap_rule.specs.declared.size.Counters.{Counters}
-use Rattle.heap_rule.specs.Maps.{HasKey, with_run}
+use Rattle.heap_rule.specs.Maps.{Has, HasKey, with_run}
 use Rattle.heap_rule.specs.Claims.{loaded_counter, won_claim}
 use Rattle.heap_rule.specs.Births.{stored_word, stored_length}
 use Rattle.heap_rule.proofs.MapLemmas.{key_of, insert_same, insert_other}
@@ -143,6 +143,11 @@ module _ {X : Type 0} where
   pub run_kept : (m : FinMap nat_cmp X) (k n q : ℕ) (x : X) → HasKey m q → HasKey (with_run m k n x) q
   run_kept m k zero q x h = h
   run_kept m k (suc n) q x h = run_kept (insert m k x) (suc k) n q x (key_more m k q x h)
+
+  -- what stands below a run
+  pub run_below : (m : FinMap nat_cmp X) (k n q : ℕ) (x y : X) → q < k → Has m q y → Has (with_run m k n x) q y
+  run_below m k zero q x y l h = h
+  run_below m k (suc n) q x y l h = run_below (insert m k x) (suc k) n q x y (omega arith) (insert_other m k q x (λ e. omega arith) ∙ h)
 
   -- the keys of a run
   pub run_keys : (m : FinMap nat_cmp X) (k n q : ℕ) (x : X) → q < n → HasKey (with_run m k n x) (k + q)

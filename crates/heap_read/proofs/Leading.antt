@@ -13,7 +13,7 @@ use Rattle.heap_rule.specs.Sound.{IsPossible, StandsIn}
 use Rattle.heap_rule.specs.Views.{HasLength, LeadsTo}
 use Rattle.heap_rule.proofs.Possible.{possible_length}
 use Rattle.heap_table.specs.Known.{KeepsKnown}
-use Rattle.heap_read.specs.Windows.{IsLed, IsWindow, StandsFor}
+use Rattle.heap_read.specs.Windows.{IsLed, IsWindow, IsWindowOf, StandsFor}
 use Rattle.heap_read.proofs.Showing.{forms_held, stands_for_kept}
 
 none_later : (f : Form) (wide : Bool) (start : ℕ) → IsLater f (Flat wide start true) → ⊥
@@ -136,3 +136,15 @@ module _ (v w : View) (s by : ℕ) (wide : Bool) (start before n : ℕ) (us : Li
     },
     size,
   )
+
+-- what leads from a string to a Flat does so while forms stay
+pub led_later : (v w : View) (s by : ℕ) (wide : Bool) (start before : ℕ) → w.forms ≡ v.forms → IsLed v s by wide start before → IsLed w s by wide start before
+led_later v w s by wide start before same led = record {
+  id = led.id;
+  fixed = led.fixed;
+  form = forms_held v w same led.id (Flat wide start led.fixed) led.form;
+  way = ⊎_elim
+      (λ (t : StandsFor v s led.id × (by ≡ led.id) × (before ≡ 0)). inl (stands_for_kept v w (forms_held v w same) s led.id t.0, t.1, t.2))
+      (λ t. inr (t.0, t.1, forms_held v w same s (Sliced t.0 t.1 before) t.2, stands_for_kept v w (forms_held v w same) t.1 led.id t.3, t.4))
+      led.way;
+}

@@ -45,3 +45,10 @@ pub record IsWindow (v : View) (w : Window) (us : List ℕ) : Type 0 where
 -- the window shows all units of the string s, by what w knows; v knew which units these are
 abbrev pub ShowsAll : View → View → ℕ → Window → Type 0
 ShowsAll v w s window = (us : List ℕ) → Has v.units s us → IsWindow w window us × (window.len ≡ length us)
+
+-- The window has all units of the string s: its words are those of the Flat to which the view leads from s, and its length is known, by that of s or
+-- of what s forwards to.
+pub record IsWindowOf (v : View) (s : ℕ) (w : Window) : Type 0 where
+  pub by : ℕ
+  pub led : IsLed v s by w.wide w.start w.offset
+  pub long : Has v.lengths by w.len

@@ -7,7 +7,7 @@ ghost use Rattle.heap_rule.specs.Maps.{Has, HasKey};
 ghost use Rattle.heap_table.specs.Agents.{size_of};
 ghost use Rattle.heap_table.specs.Full.{IsFull};
 ghost use Rattle.heap_read.specs.Readers.{Moves, view_in};
-ghost use Rattle.heap_read.specs.Reads.{Continues, Reads};
+ghost use Rattle.heap_read.specs.Reads.{Continues, KeepsForms, Reads};
 ghost use Rattle.heap_read.specs.Sources.{Shows, listed_in};
 ghost use Rattle.heap_read.specs.Written.{Holds, IsWritten};
 
@@ -25,6 +25,7 @@ impl<'h> Reader<'h> {
         ensures shows { Shows (view_in self.new) source.now }
         ensures listed { listed_in self.new source.now ≡ listed_in self.old source.now }
         ensures wide { result ≡ is_wide (listed_in self.old source.now) }
+        ensures forms { KeepsForms (view_in self.old) (view_in self.new) }
     {
         if let Source::Units(units) = source {
             return js_units::has_wide(units);
@@ -50,6 +51,7 @@ impl<'h> Reader<'h> {
         ensures listed { listed_in self.new source.now ≡ listed_in self.old source.now }
         ensures holds { Holds (listed_in self.old source.now) held.new }
         ensures word { IsWordOf wide (listed_in self.old source.now) at result }
+        ensures forms { KeepsForms (view_in self.old) (view_in self.new) }
     {
         if let Source::Units(units) = source {
             return js_units::pack(units, wide, at);
@@ -81,6 +83,10 @@ impl<'h> Reader<'h> {
         ensures refused { IfErr result (λ f. IsFull f (words_over wide n) (size_of self.old.heap.now).words
             × ((view_in self.new).low.words ≡ f.at)
             × ((view_in self.new).used.words ≡ (view_in self.old).used.words)) }
+        ensures forms { KeepsForms (view_in self.old) (view_in self.new) }
+        ensures stays { (c x : ℕ) → Has (view_in self.old).own_words c x → Has (view_in self.new).own_words c x }
+        ensures fresh { IfOk result
+            (λ start. (q : ℕ) → q < words_over wide n → HasKey (view_in self.old).own_words (start + q) → ⊥) }
     {
         let want = words_for(n, wide);
         if want == 0 {

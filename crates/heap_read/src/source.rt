@@ -184,6 +184,7 @@ impl<'h> Reader<'h> {
         ensures holds { Holds (listed_in self.old source.now) held.new }
         ensures fits { result < 65536 }
         ensures unit { result ≡ slice_index (listed_in self.old source.now) i }
+        ensures forms { KeepsForms (view_in self.old) (view_in self.new) }
     {
         if i < n {
             self.unit_held(source, i, held)

@@ -10,7 +10,7 @@ ghost use Rattle.heap_read.specs.Frozen.{IsFixedBy, IsFixedWindow, IsLearned};
 ghost use Rattle.heap_read.specs.Readers.{Moves, view_in};
 ghost use Rattle.heap_read.specs.Reads.{HoldsForms, KeepsForms, Reads};
 ghost use Rattle.heap_read.specs.Sides.{KnowsSide, LoadsForms, target_loads};
-ghost use Rattle.heap_read.specs.Windows.{IsLed, ShowsAll, StandsFor};
+ghost use Rattle.heap_read.specs.Windows.{IsLed, IsWindowOf, ShowsAll, StandsFor};
 
 use crate::lanes::Run;
 use crate::reader::Reader;
@@ -26,6 +26,7 @@ impl<'h> Reader<'h> {
         ensures reads { Moves Reads self.old self.new }
         ensures forms { KeepsForms (view_in self.old) (view_in self.new) }
         ensures shows { ShowsAll (view_in self.old) (view_in self.new) of.id result }
+        ensures over { IsWindowOf (view_in self.new) of.id result }
     {
         Window {
             wide: run.wide,
@@ -79,6 +80,7 @@ impl<'h> Reader<'h> {
         ensures held { HoldsForms (view_in self.old) (view_in self.new) }
         ensures shows { ShowsAll (view_in self.old) (view_in self.new) of.id result }
         ensures loads { LoadsForms (view_in self.old) (view_in self.new) (target_loads form) }
+        ensures over { IsWindowOf (view_in self.new) of.id result }
     {
         match form {
             Form::Flat { wide, start, .. } => {
@@ -104,6 +106,7 @@ impl<'h> Reader<'h> {
         ensures held { HoldsForms (view_in self.old) (view_in self.new) }
         ensures shows { ShowsAll (view_in self.old) (view_in self.new) of.id result }
         ensures loads { LoadsForms (view_in self.old) (view_in self.new) (target_loads under) }
+        ensures over { IsWindowOf (view_in self.new) of.id result }
     {
         let run = self.solid_run(parent, under);
         self.window_over(of, of.id, run, offset)

@@ -5,6 +5,7 @@ use Rattle.heap_read.specs.declared.source.Source.{Source}
 use Rattle.heap_read.specs.Sources.{listed}
 use Rattle.heap_read.specs.Written.{Holds}
 use Rattle.heap_read.proofs.Loaded.{reads_trans}
+use Rattle.heap_read.proofs.WindowLemmas.{forms_trans}
 use Rattle.js_units.proofs.PackedWords.{base_some, fits_of, lanes_then, one_more, unit_fits}
 use Rattle.heap_read.proofs.reader.Reader.pack.Goals as goal
 
@@ -29,6 +30,7 @@ loop-k-preserved c = let k = c.loop-k.k in let wide = c.args.wide in let v : Vie
     let next : suc k ≡ k + 1 = omega arith in let before : suc o ≡ c.args.at * lane_count wide + (lane_count wide - k) = omega arith in let after : o ≡ c.args.at * lane_count wide + (lane_count wide - (k + 1)) = omega arith in record {
       heap = e.reads.heap ∙ c.loop-k.invariant.heap;
       reads = reads_trans v c.loop-k.self.agent.seat.me.0 c.unit_or_zero-unit.new.self.agent.seat.me.0 c.loop-k.invariant.reads e.reads.view;
+      forms = forms_trans v c.loop-k.self.agent.seat.me.0 c.unit_or_zero-unit.new.self.agent.seat.me.0 c.loop-k.invariant.forms e.forms;
       shows = e.shows;
       holds = subst (λ (xs : List ℕ). Holds xs c.unit_or_zero-unit.new.held) c.loop-k.invariant.same e.holds;
       same = e.listed ∙ c.loop-k.invariant.same;

@@ -1,4 +1,4 @@
-use Rattle.std.proofs.Common.{◌≡◌, ◌+◌, ◌∙◌, ℕ, List, suc, refl, ap, subst, sym, arith}
+use Rattle.std.proofs.Common.{◌≡◌, ◌<◌, ◌+◌, ◌∙◌, ℕ, List, suc, refl, ap, subst, sym, arith}
 use Rattle.js_units.specs.Lanes.{IsWordOf}
 use Rattle.std.specs.FinMap.{FinMap}
 use Rattle.std.specs.Ordering.{nat_cmp}
@@ -6,13 +6,15 @@ use Rattle.heap_rule.specs.declared.view.View.{View}
 use Rattle.heap_rule.specs.declared.size.Counters.{Counters}
 use Rattle.heap_rule.specs.Maps.{Has, HasKey}
 use Rattle.heap_table.specs.Known.{KeepsKnown}
-use Rattle.heap_read.specs.Reads.{Continues}
+use Rattle.heap_rule.proofs.MapLemmas.{insert_other, key_of}
+use Rattle.heap_read.specs.Reads.{Continues, KeepsForms}
 use Rattle.heap_read.specs.Sources.{listed}
 use Rattle.heap_read.specs.Written.{AreWords, Holds}
-use Rattle.heap_read.proofs.Going.{continues_reads, continues_stored, continues_trans, continues_words, known_stored, known_words, run_kept, run_keys, words_stored}
+use Rattle.heap_read.proofs.Going.{continues_reads, continues_stored, continues_trans, continues_words, known_stored, known_words, run_below, run_kept, run_keys, words_stored}
 use Rattle.heap_read.proofs.Loaded.{key_more}
 use Rattle.heap_read.proofs.Listing.{listed_same, shows_kept}
 use Rattle.heap_read.proofs.Showing.{forms_held}
+use Rattle.heap_read.proofs.WindowLemmas.{forms_trans}
 use Rattle.heap_read.proofs.reader.Reader.write.Goals as goal
 
 pub loop-at-init : goal.loop-at-init
@@ -27,6 +29,8 @@ loop-at-init c = let v : View = c.args.self.now.agent.seat.me.0 in let w : View 
       words = ap (λ (x : View). x.used.words) e.view;
       own_ids = ap (λ (x : View). x.own_ids) e.view;
       kept = λ q h. subst (λ (x : View). HasKey x.own_words q) (sym e.view) (run_kept v.own_words start want q 0 h);
+      forms = (ap (λ (x : View). x.forms) e.view, ap (λ (x : View). x.form_loads) e.view);
+      stays = λ q x h. subst (λ (y : View). Has y.own_words q x) (sym e.view) (run_below v.own_words start want q 0 x (e.above_own q (key_of v.own_words q x h)) h);
       own = λ q l. subst (λ (x : View). HasKey x.own_words (start + q)) (sym e.view) (run_keys v.own_words start want q 0 l);
       done = record { each = λ q l. absurd (omega arith) };
     }
@@ -46,6 +50,12 @@ loop-at-preserved c = let v : View = c.args.self.now.agent.seat.me.0 in let u : 
       words = ap (λ (x : View). x.used.words) f.view ∙ (ap (λ (n : Counters). n.words) e.reads.view.used ∙ i.words);
       own_ids = ap (λ (x : View). x.own_ids) f.view ∙ (e.reads.view.own_ids ∙ i.own_ids);
       kept = λ q h. subst (λ (x : View). HasKey x.own_words q) (sym f.view) (key_more p.own_words (start + at) q word (subst (λ (m : FinMap nat_cmp ℕ). HasKey m q) (sym e.reads.view.own_words) (i.kept q h)));
+      forms = forms_trans v u w i.forms (forms_trans u p w e.forms (ap (λ (x : View). x.forms) f.view, ap (λ (x : View). x.form_loads) f.view));
+      stays = λ q x h. let above = c.in_ok-start.ensures.above_own q (key_of v.own_words q x h) in let old : Has p.own_words q x = subst (λ (m : FinMap nat_cmp ℕ). Has m q x) (sym e.reads.view.own_words) (i.stays q x h) in
+          subst (λ (y : View). Has y.own_words q x) (sym f.view) (insert_other p.own_words (start + at) q word (λ d. omega arith) ∙ old);
       own = λ q l. subst (λ (x : View). HasKey x.own_words (start + q)) (sym f.view) (key_more p.own_words (start + at) (start + q) word (subst (λ (m : FinMap nat_cmp ℕ). HasKey m (start + q)) (sym e.reads.view.own_words) (i.own q l)));
       done = subst (λ (d : ℕ). AreWords w c.args.wide start us d) next (subst (λ (x : View). AreWords x c.args.wide start us (suc at)) (sym f.view) (words_stored p c.args.wide start at word us done is));
     }
+
+pub returns-clause-fresh : goal.returns-clause-fresh
+returns-clause-fresh c q l own = let above = c.in_ok-start.ensures.above_own (c.in_ok-start.start + q) own in omega arith
