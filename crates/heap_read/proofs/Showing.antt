@@ -40,7 +40,7 @@ module _ (v u : View) (holds : HoldsForms v u) where
   pub stands_for_kept : (p i : ℕ) → StandsFor v p i → StandsFor u p i
   stands_for_kept p i way = ⊎_elim (λ (e : p ≡ i). inl e) (λ (h : Has v.forms p (Thin i)). inr (holds p (Thin i) h)) way
 
-  leads_kept : (s i o : ℕ) → LeadsTo v s i o → LeadsTo u s i o
+  pub leads_kept : (s i o : ℕ) → LeadsTo v s i o → LeadsTo u s i o
   leads_kept s i o way = ⊎_elim
       (λ (t : StandsFor v s i × (o ≡ 0)). inl (stands_for_kept s i t.0, t.1))
       (λ (t : (wide : Bool) × (parent : ℕ) × Has v.forms s (Sliced wide parent o) × StandsFor v parent i). inr (t.0, t.1, holds s (Sliced t.0 t.1 o) t.2, stands_for_kept t.1 i t.3))
