@@ -1,7 +1,4 @@
-//! A counter of steps that takes no bytes and costs nothing at run time, for calls whose contracts
-//! bound their work. Which step is counted is said by the call that takes the counter.
+//! The counter of steps of [`heap_read`], under the name by which callers had it.
 #![tactic(auto)]
 
-mod steps;
-
-pub use steps::Steps;
+pub use heap_read::Steps;

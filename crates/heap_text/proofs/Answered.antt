@@ -11,9 +11,9 @@ use Rattle.heap_rule.specs.Births.{part}
 use Rattle.heap_rule.specs.Maps.{Has}
 use Rattle.heap_rule.specs.Views.{IsSettled}
 use Rattle.heap_text.specs.declared.faults.TextFull.{TextFull}
-use Rattle.heap_text.specs.declared.string.JsStr.{JsStr}
+use Rattle.heap_read.specs.declared.string.JsStr.{JsStr}
 use Rattle.heap_text.specs.Joins.{IsCopied, IsCopy, IsCut, IsJoined, IsNoId, IsPart, IsPartCut, IsRefused, IsRope, MIN_CONS, offset_of, parent_of}
-use Rattle.heap_text.specs.Texts.{is_wide}
+use Rattle.js_units.specs.Lanes.{is_wide}
 
 module _ (v w : View) (z : HeapSize) where
   pub joined_units : (most : ℕ) (a b t : JsStr) (us vs : List ℕ) → IsJoined v w z most a b us vs (Ok t) → Has w.units a.id us → Has w.units b.id vs → Has w.units t.id (us ++ vs)

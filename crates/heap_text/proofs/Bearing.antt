@@ -17,8 +17,8 @@ use Rattle.heap_rule.proofs.Birth.{length_span}
 use Rattle.heap_rule.proofs.MapLemmas.{insert_same, key_of}
 use Rattle.heap_rule.proofs.Possible.{span_lane}
 use Rattle.heap_table.specs.Known.{KeepsKnown}
-use Rattle.heap_text.specs.Texts.{Continues}
-use Rattle.heap_text.specs.Written.{IsWritten}
+use Rattle.heap_read.specs.Reads.{Continues}
+use Rattle.heap_read.specs.Written.{IsWritten}
 
 -- the word and the lane of a unit
 word_of_lane : (wide : Bool) (n o : ℕ) → o < words_over wide n * lane_count wide → o / lane_count wide < words_over wide n

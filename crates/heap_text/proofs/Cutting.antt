@@ -24,10 +24,10 @@ use Rattle.heap_rule.proofs.MapLemmas.{insert_other, insert_same, key_of}
 use Rattle.heap_rule.proofs.Parts.{shown_part_right}
 use Rattle.heap_table.specs.Known.{KeepsKnown}
 use Rattle.heap_text.specs.declared.faults.TextFull.{TextFull}
-use Rattle.heap_text.specs.declared.string.JsStr.{JsStr}
+use Rattle.heap_read.specs.declared.string.JsStr.{JsStr}
 use Rattle.heap_text.specs.Joins.{IsNoId, IsPart, IsPartCut, offset_of, parent_of}
-use Rattle.heap_text.specs.Settling.{KnowsSide}
-use Rattle.heap_text.specs.Texts.{Continues, Reads}
+use Rattle.heap_read.specs.Sides.{KnowsSide}
+use Rattle.heap_read.specs.Reads.{Continues, Reads}
 use Rattle.heap_text.proofs.Pieces.{part_part, spared_after, uses_after}
 use Rattle.heap_text.proofs.Sides.{first_at, first_two}
 

@@ -25,10 +25,10 @@ use Rattle.heap_table.specs.Headers.{IsMoved, header_found}
 use Rattle.heap_table.specs.Known.{KeepsKnown}
 use Rattle.heap_table.specs.declared.stores.Step.{Step}
 use Rattle.heap_table.specs.declared.stores.Step.TheVariants.{Won, Lost}
-use Rattle.heap_text.specs.Filling.{IsFilled, own_word}
-use Rattle.heap_text.specs.Texts.{Continues}
-use Rattle.heap_text.proofs.Packing.{lane_past}
-use Rattle.heap_text.proofs.Storing.{shown_own}
+use Rattle.heap_read.specs.Filling.{IsFilled, own_word}
+use Rattle.heap_read.specs.Reads.{Continues}
+use Rattle.js_units.proofs.PackedWords.{lane_past}
+use Rattle.heap_read.proofs.Storing.{shown_own}
 
 -- the words of a claim are 0
 put_still : (m : FinMap nat_cmp ℕ) (k q : ℕ) → Has m q 0 → Has (insert m k 0) q 0

@@ -2,8 +2,9 @@
 use Rattle.std.proofs.Common.{◌≡◌, ℕ, ◌+◌, ◌-◌, ◌<◌, ◌≤◌, Bool, true, false, List, length, get_or, sym, subst, arith}
 use Rattle.js_units.specs.Lanes.{words_over}
 use Rattle.heap_rule.specs.Forms.{IsNarrow}
-use Rattle.heap_text.specs.Filling.{IsBoth, IsFilled}
-use Rattle.heap_text.proofs.Placing.{filled_then}
+use Rattle.heap_text.specs.Filling.{IsBoth}
+use Rattle.heap_read.specs.Filling.{IsFilled}
+use Rattle.heap_read.proofs.Placing.{filled_then}
 
 pub narrow_units : (wide : Bool) (us : List ℕ) → IsNarrow wide us → wide ≡ false → (k : ℕ) → k < length us → get_or us k 0 < 256
 narrow_units true us h e k l = absurd (cc)

@@ -5,7 +5,7 @@ use Rattle.std.proofs.lemmas.List.Elements.{All-append}
 use Rattle.std.proofs.Math.Logic.{∥∥₁_elim}
 use Rattle.std.proofs.Props.{props}
 use Rattle.std.specs.FinMap.{get}
-use Rattle.js_units.specs.Lanes.{words_over}
+use Rattle.js_units.specs.Lanes.{words_over, is_wide}
 use Rattle.js_header.specs.declared.form.Form.{Form}
 use Rattle.js_header.specs.declared.form.Form.TheVariants.{Unborn, Flat, Cons, Sliced, Thin}
 use Rattle.heap_rule.specs.declared.size.HeapSize.{HeapSize}
@@ -19,11 +19,11 @@ use Rattle.heap_table.specs.Known.{KeepsKnown}
 use Rattle.heap_text.specs.declared.faults.JoinFault.{JoinFault}
 use Rattle.heap_text.specs.declared.faults.JoinFault.TheVariants.{Full}
 use Rattle.heap_text.specs.declared.faults.TextFull.{TextFull}
-use Rattle.heap_text.specs.declared.string.JsStr.{JsStr}
+use Rattle.heap_read.specs.declared.string.JsStr.{JsStr}
 use Rattle.heap_text.specs.Joins.{IsCopied, IsCopy, IsLinked, IsNoId, IsRefused, IsRope, IsWideIn, wide_bit}
-use Rattle.heap_text.specs.Settling.{KnowsSide}
-use Rattle.heap_text.specs.Texts.{Continues, Reads, is_wide}
-use Rattle.heap_text.proofs.Leading.{narrow_sliced, narrow_thin}
+use Rattle.heap_read.specs.Sides.{KnowsSide}
+use Rattle.heap_read.specs.Reads.{Continues, Reads}
+use Rattle.heap_read.proofs.Leading.{narrow_sliced, narrow_thin}
 use Rattle.heap_text.proofs.Pieces.{spared_after, uses_after}
 
 flat_in : (v : View) → StandsIn v → (i : ℕ) (wide : Bool) (start : ℕ) (fixed : Bool) (us : List ℕ) → Has v.forms i (Flat wide start fixed) → Has v.units i us → IsNarrow wide us

@@ -8,11 +8,13 @@ use Rattle.heap_rule.specs.declared.size.Counters.{Counters}
 use Rattle.heap_rule.specs.Births.{part}
 use Rattle.heap_rule.specs.Maps.{Has, HasKey}
 use Rattle.heap_rule.proofs.MapLemmas.{key_of}
-use Rattle.heap_text.specs.declared.string.JsStr.{JsStr}
-use Rattle.heap_text.specs.declared.string.Window.{Window}
-use Rattle.heap_text.specs.Sources.{ShowsPiece, piece_units}
+use Rattle.heap_read.specs.declared.string.JsStr.{JsStr}
+use Rattle.heap_read.specs.declared.string.Window.{Window}
+use Rattle.heap_read.specs.Sources.{ShowsPiece, piece_units}
 use Rattle.heap_text.specs.Joins.{IsCopy, IsRefused}
-use Rattle.heap_text.specs.Texts.{IsSpared, Reads, Told, Uses, is_wide}
+use Rattle.heap_text.specs.Texts.{IsSpared, Told, Uses}
+use Rattle.heap_read.specs.Reads.{Reads}
+use Rattle.js_units.specs.Lanes.{is_wide, words_over}
 use Rattle.heap_text.specs.declared.faults.TextFull.{TextFull}
 use Rattle.heap_text.specs.declared.faults.TextFull.TheVariants.{Ids, Words}
 use Rattle.heap_rule.specs.declared.size.Counter.TheVariants as counter
@@ -21,11 +23,10 @@ use Rattle.heap_table.specs.Full.{IsFull}
 use Rattle.heap_table.specs.declared.claims.CounterFull.{CounterFull}
 use Rattle.std.specs.FinMap.{FinMap}
 use Rattle.std.specs.Ordering.{nat_cmp}
-use Rattle.js_units.specs.Lanes.{words_over}
 use Rattle.js_header.specs.declared.form.Form.TheVariants.{Flat}
 use Rattle.heap_rule.specs.declared.size.HeapSize.{HeapSize}
-use Rattle.heap_text.specs.Windows.{IsWindow}
-use Rattle.heap_text.proofs.Showing.{part_unit}
+use Rattle.heap_read.specs.Windows.{IsWindow}
+use Rattle.heap_read.proofs.Showing.{part_unit}
 
 pub length_part : (o n : ℕ) (us : List ℕ) → o + n ≤ length us → length (part o n us) ≡ n
 length_part o n us l = let d = length-drop o us in length-take-le n (drop o us) (omega arith)

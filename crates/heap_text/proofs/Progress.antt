@@ -2,8 +2,9 @@
 -- left, `us0` those of the whole; nothing here knows of ids.
 use Rattle.std.proofs.Common.{◌≡◌, ℕ, ◌+◌, ◌-◌, ◌<◌, ◌≤◌, Bool, false, List, ◌++◌, length, get_or, ap, sym, subst, ◌∙◌, arith}
 use Rattle.std.proofs.lemmas.List.{get_or_append_left, get_or-append_right}
-use Rattle.heap_text.specs.Filling.{IsBoth, IsFilled}
-use Rattle.heap_text.proofs.Placing.{filled_back, filled_then}
+use Rattle.heap_text.specs.Filling.{IsBoth}
+use Rattle.heap_read.specs.Filling.{IsFilled}
+use Rattle.heap_read.proofs.Placing.{filled_back, filled_then}
 
 pub record IsFilling (wide : Bool) (start : ℕ) (first now : ℕ → ℕ) (at0 n0 : ℕ) (us0 : List ℕ) (at n : ℕ) (us : List ℕ) : Type 0 where
   pub count : length us ≡ n

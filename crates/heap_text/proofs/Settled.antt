@@ -15,7 +15,7 @@ use Rattle.heap_table.specs.Known.{KeepsKnown}
 use Rattle.heap_text.specs.Filling.{IsBoth, units_at}
 use Rattle.heap_text.specs.Settling.{HasSides, IsFlattened, IsNoRoom}
 use Rattle.heap_text.proofs.Sides.{units_there}
-use Rattle.heap_text.specs.Texts.{Reads}
+use Rattle.heap_read.specs.Reads.{Reads}
 use Rattle.heap_text.proofs.Pieces.{spared_after, uses_after}
 
 module _ {A E : Type 0} where

@@ -20,7 +20,7 @@ use Rattle.heap_rule.specs.Sound.{IsPossible, StandsIn}
 use Rattle.heap_rule.proofs.MapLemmas.{has_key, insert_same, key_of}
 use Rattle.heap_table.proofs.Fitting.{or_rest}
 use Rattle.heap_text.specs.Filling.{IsBoth, units_at}
-use Rattle.heap_text.proofs.Loaded.{key_more}
+use Rattle.heap_read.proofs.Loaded.{key_more}
 
 abbrev IsIn : ℕ → List ℕ → Type 0
 IsIn i [] = ⊥

@@ -4,17 +4,15 @@ use Rattle.heap_rule.specs.declared.view.View.{View}
 use Rattle.heap_rule.specs.Maps.{HasKey}
 use Rattle.heap_rule.proofs.MapLemmas.{key_of}
 use Rattle.heap_table.specs.Known.{KeepsKnown}
-use Rattle.heap_text.specs.Filling.{IsBoth, IsFilled, own_word, units_at}
-use Rattle.heap_text.specs.Texts.{Reads}
+use Rattle.heap_text.specs.Filling.{IsBoth, units_at}
+use Rattle.heap_read.specs.Filling.{IsFilled, own_word}
+use Rattle.heap_read.specs.Reads.{Reads}
 use Rattle.heap_text.proofs.Progress.{IsFilling, filled_left, filled_right}
 use Rattle.heap_text.proofs.Sides.{units_are, units_there}
 
 -- units that are known stay
 pub units_kept : (v w : View) (i : ℕ) → KeepsKnown v w → HasKey v.units i → units_at w i ≡ units_at v i
 units_kept v w i k h = units_are w i (units_at v i) (k.units i (units_at v i) (units_there v i h))
-
-pub key_kept : (v w : View) (i : ℕ) → KeepsKnown v w → HasKey v.units i → HasKey w.units i
-key_kept v w i k h = key_of w.units i (units_at v i) (k.units i (units_at v i) (units_there v i h))
 
 -- u is the view before the turn, f has loaded the form, g the length of the left side, and h is that after the side was filled
 module _ (wide : Bool) (start : ℕ) (first : ℕ → ℕ) (at0 n0 : ℕ) (us0 : List ℕ) (at n : ℕ) (u f g h : View) (id left right m : ℕ) where

@@ -1,6 +1,6 @@
 -- What joining two strings and cutting one answer.
 use Rattle.std.specs.Prelude.{◌≡◌, ℕ, ◌+◌, ◌-◌, ◌<◌, ◌≤◌, ◌++◌, ◌||◌, ◌⊎◌, Bool, false, true, List, length, Result, Ok, Err}
-use Rattle.js_units.specs.Lanes.{words_over}
+use Rattle.js_units.specs.Lanes.{is_wide, words_over}
 use Rattle.js_header.specs.declared.form.Form.{Form}
 use Rattle.js_header.specs.declared.form.Form.TheVariants.{Flat, Cons, Sliced, Thin}
 use Rattle.heap_rule.specs.declared.size.HeapSize.{HeapSize}
@@ -12,8 +12,8 @@ use Rattle.heap_text.specs.declared.faults.JoinFault.TheVariants.{TooLong, Full}
 use Rattle.heap_text.specs.declared.faults.TextFull.{TextFull}
 use Rattle.heap_text.specs.declared.faults.TextFull.TheVariants.{Ids}
 use Rattle.heap_table.specs.declared.claims.CounterFull.{CounterFull}
-use Rattle.heap_text.specs.declared.string.JsStr.{JsStr}
-use Rattle.heap_text.specs.Texts.{IsSpared, Told, Uses, is_wide}
+use Rattle.heap_read.specs.declared.string.JsStr.{JsStr}
+use Rattle.heap_text.specs.Texts.{IsSpared, Told, Uses}
 
 -- a new flat string with these units: one id, and the words that hold them
 abbrev pub IsCopy : View → View → JsStr → List ℕ → Type 0

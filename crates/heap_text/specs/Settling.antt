@@ -2,28 +2,16 @@
 use Rattle.std.specs.Prelude.{◌≡◌, ℕ, ◌+◌, ◌++◌, ◌<◌, ◌⊎◌, Bool, false, List, length}
 use Rattle.js_units.specs.Lanes.{words_over}
 use Rattle.js_header.specs.declared.form.Form.{Form}
-use Rattle.js_header.specs.declared.form.Form.TheVariants.{Cons, Flat, Sliced, Thin}
+use Rattle.js_header.specs.declared.form.Form.TheVariants.{Cons, Flat}
 use Rattle.heap_rule.specs.declared.size.HeapSize.{HeapSize}
 use Rattle.heap_rule.specs.declared.view.View.{View}
 use Rattle.heap_rule.specs.Forms.{IsLater, IsNarrow}
 use Rattle.heap_rule.specs.Maps.{Has, HasKey}
-use Rattle.heap_rule.specs.Views.{IsKnown}
 use Rattle.heap_table.specs.declared.claims.CounterFull.{CounterFull}
 use Rattle.heap_text.specs.declared.faults.TextFull.{TextFull}
 use Rattle.heap_text.specs.declared.faults.TextFull.TheVariants.{Words}
-use Rattle.heap_text.specs.Texts.{IsSpared, Reads, Told, Uses}
-
--- the string that a form names first is known: the left side of a Cons, the parent of a Sliced, the target of a Thin
-abbrev pub KnowsSide : View → Form → Type 0
-KnowsSide v (Cons wide left right) = IsKnown v left
-KnowsSide v (Sliced wide parent offset) = IsKnown v parent
-KnowsSide v (Thin target) = IsKnown v target
-KnowsSide v _ = Unit {0}
-
--- how often the form of another string is loaded to find the words of one that is a Flat or a Thin: that of a Thin's target is
-abbrev pub target_loads : Form → ℕ
-target_loads (Thin target) = 1
-target_loads _ = 0
+use Rattle.heap_read.specs.Reads.{Reads}
+use Rattle.heap_text.specs.Texts.{IsSpared, Told, Uses}
 
 -- Two strings that are known, neither of them empty, with smaller numbers than i, have the units us between them.
 pub record HasSides (w : View) (i : ℕ) (us : List ℕ) : Type 0 where

@@ -3,7 +3,7 @@ use Rattle.heap_rule.specs.declared.view.View.{View}
 use Rattle.heap_table.specs.declared.agent.Agent.{Agent}
 use Rattle.heap_table.specs.declared.heap.Heap.{Heap}
 use Rattle.heap_table.specs.Agents.{Belongs, view_of}
-use Rattle.heap_text.specs.Texts.{Continues}
+use Rattle.heap_read.specs.Reads.{Continues}
 
 -- the agent knew v before; it belongs to the heap, and goes on from v
 pub record GoesOn (v : View) (a : Agent) (h : Heap) : Type 0 where

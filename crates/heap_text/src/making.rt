@@ -1,21 +1,23 @@
 // Making strings: of given units, of two strings, of a part of one.
-ghost use Rattle.std.specs.Prelude.{◌≡◌, ℕ, List, ◌+◌, ◌++◌, ◌*◌, ◌/◌, ◌%◌, ◌≤◌, ◌<◌, ◌^◌, ◌-◌, ◌||◌, ◌≢◌, IfOk, IfErr, IsErr, Ok, Err, Some, false, true, slice_index, length};
-ghost use Rattle.js_units.specs.Lanes.{words_over};
+ghost use Rattle.std.specs.Prelude.{◌≡◌, ℕ, List, ◌+◌, ◌++◌, ◌≤◌, ◌<◌, ◌-◌, ◌||◌, ◌≢◌, IfOk, IfErr, false, length};
+ghost use Rattle.js_units.specs.Lanes.{is_wide, words_over};
 ghost use Rattle.js_header.specs.declared.form.Form.TheVariants.{Flat, Unborn};
 ghost use Rattle.heap_rule.specs.Layout.{MAX};
 ghost use Rattle.heap_rule.specs.Births.{part};
 ghost use Rattle.heap_rule.specs.Maps.{Has, HasKey};
 ghost use Rattle.heap_rule.specs.Views.{IsSettled};
-ghost use Rattle.heap_table.specs.Agents.{Belongs, view_of, size_of};
-ghost use Rattle.heap_text.specs.Texts.{Continues, HoldsForms, IsSpared, Reads, Told, Uses, is_wide};
-ghost use Rattle.heap_text.specs.Settling.{KnowsSide};
+ghost use Rattle.heap_table.specs.Agents.{Belongs, size_of, view_of};
+ghost use Rattle.heap_read.specs.Readers.{Moves, view_in};
+ghost use Rattle.heap_read.specs.Reads.{Continues, HoldsForms, Reads};
+ghost use Rattle.heap_read.specs.Sides.{KnowsSide};
+ghost use Rattle.heap_text.specs.Texts.{IsSpared, Told, Uses};
 ghost use Rattle.heap_text.specs.Joins.{AreJoinable, IsCopied, IsCut, IsJoined, IsLinked, IsPartCut, IsWideIn, MIN_CONS, wide_bit};
 ghost use Rattle.heap_text.specs.Joins as joins;
 
+use crate::copying::copy;
 use crate::faults::{JoinFault, TextFull};
-use crate::source::{Piece, Source};
-use crate::string::{JsStr, Window};
 use crate::text::Text;
+use heap_read::{JsStr, Piece, Reader, Source, Window};
 use js_header::Form;
 
 // The fewest units of a Cons, and of a Sliced.
@@ -25,155 +27,26 @@ impl<'h> Text<'h> {
     /// A new string with these units: flat, and wide exactly where a unit is over 255. It takes
     /// one id, and the content words that hold the units.
     pub fn make_flat(&mut self, units: &[u16]) -> Result<JsStr, TextFull>
-        requires text { Belongs self.old.agent self.old.heap.now }
         requires short { length units.now ≤ MAX }
-        ensures text { Belongs self.new.agent self.new.heap.now }
-        ensures heap { self.new.heap ≡ self.old.heap }
+        ensures text { Belongs self.new.reader.agent self.new.reader.heap.now }
+        ensures heap { self.new.reader.heap ≡ self.old.reader.heap }
         ensures limit { self.new.limit ≡ self.old.limit }
-        ensures continues { Continues (view_of self.old.agent) (view_of self.new.agent) }
-        ensures units { IfOk result (λ s. Has (view_of self.new.agent).units s.id units.now) }
+        ensures continues { Continues (view_of self.old.reader.agent) (view_of self.new.reader.agent) }
+        ensures units { IfOk result (λ s. Has (view_of self.new.reader.agent).units s.id units.now) }
         ensures form { IfOk result
             (λ s. (start : ℕ)
-            × Has (view_of self.new.agent).forms s.id (Flat (is_wide units.now) start false)) }
+            × Has (view_of self.new.reader.agent).forms s.id (Flat (is_wide units.now) start false)) }
         ensures used { IfOk result
-            (λ s. Uses (view_of self.old.agent) (view_of self.new.agent) 1
+            (λ s. Uses (view_of self.old.reader.agent) (view_of self.new.reader.agent) 1
             (words_over (is_wide units.now) (length units.now))) }
         ensures refused { IfErr result
-            (λ f. Told (view_of self.new.agent) (size_of self.old.heap.now)
+            (λ f. Told (view_of self.new.reader.agent) (size_of self.old.reader.heap.now)
             (words_over (is_wide units.now) (length units.now)) f) }
         ensures spared { IfErr result
-            (λ f. IsSpared (view_of self.old.agent) (view_of self.new.agent)
+            (λ f. IsSpared (view_of self.old.reader.agent) (view_of self.new.reader.agent)
             (words_over (is_wide units.now) (length units.now)) f) }
     {
-        self.copy(&Source::Units(units), units.len() as u32)
-    }
-
-    // A flat string with the units of two strings that are too short for a Cons.
-    fn copy_both(&mut self, a: JsStr, b: JsStr, n: u32) -> Result<JsStr, TextFull>
-        requires text { Belongs self.old.agent self.old.heap.now }
-        requires known { AreJoinable (view_of self.old.agent) a b n }
-        requires short { n < MIN_CONS }
-        ensures text { Belongs self.new.agent self.new.heap.now }
-        ensures heap { self.new.heap ≡ self.old.heap }
-        ensures limit { self.new.limit ≡ self.old.limit }
-        ensures continues { Continues (view_of self.old.agent) (view_of self.new.agent) }
-        ensures copied { (us vs : List ℕ) → Has (view_of self.old.agent).units a.id us
-            → Has (view_of self.old.agent).units b.id vs
-            → IsCopied (view_of self.old.agent) (view_of self.new.agent) (size_of self.old.heap.now)
-            (us ++ vs) result }
-    {
-        let (left, right) = self.side_forms(a, b);
-        let front = self.solid_window(a, left);
-        let back = self.solid_window(b, right);
-        let source = Source::Pieces(
-            Piece {
-                of: a,
-                from: 0,
-                window: front,
-            },
-            Piece {
-                of: b,
-                from: 0,
-                window: back,
-            },
-        );
-        self.copy(&source, n)
-    }
-
-    // The forms of two strings, by one load where they are one string.
-    fn side_forms(&mut self, a: JsStr, b: JsStr) -> (Form, Form)
-        requires text { Belongs self.old.agent self.old.heap.now }
-        requires known { HasKey (view_of self.old.agent).units a.id
-            × HasKey (view_of self.old.agent).units b.id }
-        ensures text { Belongs self.new.agent self.new.heap.now }
-        ensures heap { self.new.heap ≡ self.old.heap }
-        ensures limit { self.new.limit ≡ self.old.limit }
-        ensures reads { Reads (view_of self.old.agent) (view_of self.new.agent) }
-        ensures seen { Has (view_of self.new.agent).forms a.id result.0
-            × Has (view_of self.new.agent).forms b.id result.1 }
-        ensures born { (result.0 ≢ Unborn) × (result.1 ≢ Unborn) }
-        ensures sides { KnowsSide (view_of self.new.agent) result.0
-            × KnowsSide (view_of self.new.agent) result.1 }
-    {
-        let front = self.form_now(a.id);
-        if a.id == b.id {
-            return (front, front);
-        }
-        (front, self.form_now(b.id))
-    }
-
-    // Whether a string that was seen with this form is wide; of a Thin its target tells.
-    fn is_wide_side(&mut self, of: u32, form: Form) -> bool
-        requires text { Belongs self.old.agent self.old.heap.now }
-        requires seen { Has (view_of self.old.agent).forms of form }
-        requires side { KnowsSide (view_of self.old.agent) form }
-        ensures text { Belongs self.new.agent self.new.heap.now }
-        ensures heap { self.new.heap ≡ self.old.heap }
-        ensures limit { self.new.limit ≡ self.old.limit }
-        ensures reads { Reads (view_of self.old.agent) (view_of self.new.agent) }
-        ensures held { HoldsForms (view_of self.old.agent) (view_of self.new.agent) }
-        ensures wide { IsWideIn (view_of self.new.agent) form result }
-    {
-        match form {
-            Form::Thin { target } => self.target_run(of, target).wide,
-            _ => has_wide_bit(form),
-        }
-    }
-
-    // A Cons of two strings.
-    fn link(&mut self, a: JsStr, b: JsStr, n: u32) -> Result<JsStr, TextFull>
-        requires text { Belongs self.old.agent self.old.heap.now }
-        requires known { AreJoinable (view_of self.old.agent) a b n }
-        requires long { (MIN_CONS ≤ n) × (n ≤ MAX) }
-        ensures text { Belongs self.new.agent self.new.heap.now }
-        ensures heap { self.new.heap ≡ self.old.heap }
-        ensures limit { self.new.limit ≡ self.old.limit }
-        ensures continues { Continues (view_of self.old.agent) (view_of self.new.agent) }
-        ensures linked { (us vs : List ℕ) → Has (view_of self.old.agent).units a.id us
-            → Has (view_of self.old.agent).units b.id vs
-            → IsLinked (view_of self.old.agent) (view_of self.new.agent) (size_of self.old.heap.now) a b
-            (us ++ vs) result }
-    {
-        let (front, back) = self.side_forms(a, b);
-        let left = self.is_wide_side(a.id, front);
-        let right = self.is_wide_side(b.id, back);
-        let wide = is_either(left, right);
-        let id = match self.agent.claim_id(self.heap) {
-            Ok(id) => id,
-            Err(full) => return Err(TextFull::Ids(full)),
-        };
-        self.agent.store_length(self.heap, id, n);
-        let form = Form::Cons {
-            wide,
-            left: a.id,
-            right: b.id,
-        };
-        self.agent.birth(self.heap, id, form);
-        Ok(JsStr { id })
-    }
-
-    // Two strings that are not empty, joined.
-    fn join(&mut self, a: JsStr, b: JsStr, n: u32) -> Result<JsStr, TextFull>
-        requires text { Belongs self.old.agent self.old.heap.now }
-        requires known { AreJoinable (view_of self.old.agent) a b n }
-        requires most { n ≤ MAX }
-        ensures text { Belongs self.new.agent self.new.heap.now }
-        ensures heap { self.new.heap ≡ self.old.heap }
-        ensures limit { self.new.limit ≡ self.old.limit }
-        ensures continues { Continues (view_of self.old.agent) (view_of self.new.agent) }
-        ensures copied { n < MIN_CONS → (us vs : List ℕ) → Has (view_of self.old.agent).units a.id us
-            → Has (view_of self.old.agent).units b.id vs
-            → IsCopied (view_of self.old.agent) (view_of self.new.agent) (size_of self.old.heap.now)
-            (us ++ vs) result }
-        ensures linked { MIN_CONS ≤ n → (us vs : List ℕ) → Has (view_of self.old.agent).units a.id us
-            → Has (view_of self.old.agent).units b.id vs
-            → IsLinked (view_of self.old.agent) (view_of self.new.agent) (size_of self.old.heap.now) a b
-            (us ++ vs) result }
-    {
-        if n < MIN_CONS {
-            return self.copy_both(a, b, n);
-        }
-        self.link(a, b, n)
+        copy(&mut self.reader, &Source::Units(units), units.len() as u32)
     }
 
     /// The units of one string followed by those of another. It is refused as too long exactly
@@ -181,24 +54,23 @@ impl<'h> Text<'h> {
     /// Fewer than 13 units make a new flat string, wide exactly where a unit is over 255; from 13
     /// on the answer is a rope, which takes one id and no content word.
     pub fn concat(&mut self, a: JsStr, b: JsStr) -> Result<JsStr, JoinFault>
-        requires text { Belongs self.old.agent self.old.heap.now }
-        requires known { HasKey (view_of self.old.agent).units a.id
-            × HasKey (view_of self.old.agent).units b.id }
-        ensures text { Belongs self.new.agent self.new.heap.now }
-        ensures heap { self.new.heap ≡ self.old.heap }
+        requires known { HasKey (view_of self.old.reader.agent).units a.id
+            × HasKey (view_of self.old.reader.agent).units b.id }
+        ensures text { Belongs self.new.reader.agent self.new.reader.heap.now }
+        ensures heap { self.new.reader.heap ≡ self.old.reader.heap }
         ensures limit { self.new.limit ≡ self.old.limit }
-        ensures continues { Continues (view_of self.old.agent) (view_of self.new.agent) }
+        ensures continues { Continues (view_of self.old.reader.agent) (view_of self.new.reader.agent) }
         ensures units { IfOk result
-            (λ s. (us vs : List ℕ) → Has (view_of self.old.agent).units a.id us
-            → Has (view_of self.old.agent).units b.id vs
-            → Has (view_of self.new.agent).units s.id (us ++ vs)) }
-        ensures joined { (us vs : List ℕ) → Has (view_of self.old.agent).units a.id us
-            → Has (view_of self.old.agent).units b.id vs
-            → IsJoined (view_of self.old.agent) (view_of self.new.agent)
-            (size_of self.old.heap.now) self.old.limit a b us vs result }
+            (λ s. (us vs : List ℕ) → Has (view_of self.old.reader.agent).units a.id us
+            → Has (view_of self.old.reader.agent).units b.id vs
+            → Has (view_of self.new.reader.agent).units s.id (us ++ vs)) }
+        ensures joined { (us vs : List ℕ) → Has (view_of self.old.reader.agent).units a.id us
+            → Has (view_of self.old.reader.agent).units b.id vs
+            → IsJoined (view_of self.old.reader.agent) (view_of self.new.reader.agent)
+            (size_of self.old.reader.heap.now) self.old.limit a b us vs result }
     {
-        let left = self.len(a);
-        let right = self.len(b);
+        let left = self.reader.len(a);
+        let right = self.reader.len(b);
         if left + right > self.limit {
             return Err(JoinFault::TooLong { left, right });
         }
@@ -208,95 +80,10 @@ impl<'h> Text<'h> {
         if right == 0 {
             return Ok(a);
         }
-        match self.join(a, b, left + right) {
+        match join(&mut self.reader, a, b, left + right) {
             Ok(s) => Ok(s),
             Err(full) => Err(JoinFault::Full(full)),
         }
-    }
-
-    // A flat string with the `n` units of a settled string from `from` on.
-    fn copy_part(&mut self, s: JsStr, from: u32, n: u32) -> Result<JsStr, TextFull>
-        requires text { Belongs self.old.agent self.old.heap.now }
-        requires settled { IsSettled (view_of self.old.agent) s.id }
-        requires within { (us : List ℕ) × Has (view_of self.old.agent).units s.id us
-            × (from + n ≤ length us) }
-        ensures text { Belongs self.new.agent self.new.heap.now }
-        ensures heap { self.new.heap ≡ self.old.heap }
-        ensures limit { self.new.limit ≡ self.old.limit }
-        ensures continues { Continues (view_of self.old.agent) (view_of self.new.agent) }
-        ensures copied { (us : List ℕ) → Has (view_of self.old.agent).units s.id us
-            → IsCopied (view_of self.old.agent) (view_of self.new.agent) (size_of self.old.heap.now)
-            (part from n us) result }
-    {
-        let window = self.window_on(s);
-        let part = Window {
-            wide: window.wide,
-            start: window.start,
-            offset: window.offset + from,
-            len: n,
-        };
-        let source = Source::Piece(Piece {
-            of: s,
-            from,
-            window: part,
-        });
-        self.copy(&source, n)
-    }
-
-    // A Sliced of the `n` units of a settled string from `from` on.
-    fn link_part(&mut self, s: JsStr, from: u32, n: u32) -> Result<JsStr, TextFull>
-        requires text { Belongs self.old.agent self.old.heap.now }
-        requires settled { IsSettled (view_of self.old.agent) s.id }
-        requires within { (us : List ℕ) × Has (view_of self.old.agent).units s.id us
-            × (from + n ≤ length us) }
-        requires long { MIN_CONS ≤ n }
-        ensures text { Belongs self.new.agent self.new.heap.now }
-        ensures heap { self.new.heap ≡ self.old.heap }
-        ensures limit { self.new.limit ≡ self.old.limit }
-        ensures continues { Continues (view_of self.old.agent) (view_of self.new.agent) }
-        ensures linked { (us : List ℕ) → Has (view_of self.old.agent).units s.id us
-            → IsPartCut (view_of self.old.agent) (view_of self.new.agent) (size_of self.old.heap.now) s from
-            (part from n us) result }
-    {
-        let whole = self.form_now(s.id);
-        let wide = self.is_wide_side(s.id, whole);
-        let parent = parent_of(s.id, whole);
-        let offset = offset_of(whole) + from;
-        let id = match self.agent.claim_id(self.heap) {
-            Ok(id) => id,
-            Err(full) => return Err(TextFull::Ids(full)),
-        };
-        self.agent.store_length(self.heap, id, n);
-        let form = Form::Sliced {
-            wide,
-            parent,
-            offset,
-        };
-        self.agent.birth(self.heap, id, form);
-        Ok(JsStr { id })
-    }
-
-    // A part that is not the whole.
-    fn cut(&mut self, s: JsStr, from: u32, n: u32) -> Result<JsStr, TextFull>
-        requires text { Belongs self.old.agent self.old.heap.now }
-        requires settled { IsSettled (view_of self.old.agent) s.id }
-        requires within { (us : List ℕ) × Has (view_of self.old.agent).units s.id us
-            × (from + n ≤ length us) }
-        ensures text { Belongs self.new.agent self.new.heap.now }
-        ensures heap { self.new.heap ≡ self.old.heap }
-        ensures limit { self.new.limit ≡ self.old.limit }
-        ensures continues { Continues (view_of self.old.agent) (view_of self.new.agent) }
-        ensures copied { n < MIN_CONS → (us : List ℕ) → Has (view_of self.old.agent).units s.id us
-            → IsCopied (view_of self.old.agent) (view_of self.new.agent) (size_of self.old.heap.now)
-            (part from n us) result }
-        ensures linked { MIN_CONS ≤ n → (us : List ℕ) → Has (view_of self.old.agent).units s.id us
-            → IsPartCut (view_of self.old.agent) (view_of self.new.agent) (size_of self.old.heap.now) s from
-            (part from n us) result }
-    {
-        if n < MIN_CONS {
-            return self.copy_part(s, from, n);
-        }
-        self.link_part(s, from, n)
     }
 
     /// The part of a settled string from unit `from` up to unit `to`. The whole part is the
@@ -304,28 +91,208 @@ impl<'h> Text<'h> {
     /// over 255; from 13 on the answer is a slice, which takes one id and no content word. It
     /// stands on the string, or, where that is a slice itself, on what that one stands on.
     pub fn slice(&mut self, s: JsStr, from: u32, to: u32) -> Result<JsStr, TextFull>
-        requires text { Belongs self.old.agent self.old.heap.now }
-        requires settled { IsSettled (view_of self.old.agent) s.id }
-        requires within { (us : List ℕ) × Has (view_of self.old.agent).units s.id us × (from ≤ to)
+        requires settled { IsSettled (view_of self.old.reader.agent) s.id }
+        requires within { (us : List ℕ) × Has (view_of self.old.reader.agent).units s.id us × (from ≤ to)
             × (to ≤ length us) }
-        ensures text { Belongs self.new.agent self.new.heap.now }
-        ensures heap { self.new.heap ≡ self.old.heap }
+        ensures text { Belongs self.new.reader.agent self.new.reader.heap.now }
+        ensures heap { self.new.reader.heap ≡ self.old.reader.heap }
         ensures limit { self.new.limit ≡ self.old.limit }
-        ensures continues { Continues (view_of self.old.agent) (view_of self.new.agent) }
+        ensures continues { Continues (view_of self.old.reader.agent) (view_of self.new.reader.agent) }
         ensures units { IfOk result
-            (λ t. (us : List ℕ) → Has (view_of self.old.agent).units s.id us
-            → Has (view_of self.new.agent).units t.id (part from (to - from) us)) }
-        ensures settled { IfOk result (λ t. IsSettled (view_of self.new.agent) t.id) }
-        ensures cut { (us : List ℕ) → Has (view_of self.old.agent).units s.id us
-            → IsCut (view_of self.old.agent) (view_of self.new.agent)
-            (size_of self.old.heap.now) s from to us result }
+            (λ t. (us : List ℕ) → Has (view_of self.old.reader.agent).units s.id us
+            → Has (view_of self.new.reader.agent).units t.id (part from (to - from) us)) }
+        ensures settled { IfOk result (λ t. IsSettled (view_of self.new.reader.agent) t.id) }
+        ensures cut { (us : List ℕ) → Has (view_of self.old.reader.agent).units s.id us
+            → IsCut (view_of self.old.reader.agent) (view_of self.new.reader.agent)
+            (size_of self.old.reader.heap.now) s from to us result }
     {
-        let n = self.len(s);
+        let n = self.reader.len(s);
         if from == 0 && to == n {
             return Ok(s);
         }
-        self.cut(s, from, to - from)
+        cut(&mut self.reader, s, from, to - from)
     }
+}
+
+// A flat string with the units of two strings that are too short for a Cons.
+fn copy_both(reader: &mut Reader, a: JsStr, b: JsStr, n: u32) -> Result<JsStr, TextFull>
+    requires known { AreJoinable (view_in reader.old) a b n }
+    requires short { n < MIN_CONS }
+    ensures continues { Moves Continues reader.old reader.new }
+    ensures copied { (us vs : List ℕ) → Has (view_in reader.old).units a.id us
+        → Has (view_in reader.old).units b.id vs
+        → IsCopied (view_in reader.old) (view_in reader.new) (size_of reader.old.heap.now)
+        (us ++ vs) result }
+{
+    let (left, right) = side_forms(reader, a, b);
+    let front = reader.solid_window(a, left);
+    let back = reader.solid_window(b, right);
+    let source = Source::Pieces(
+        Piece {
+            of: a,
+            from: 0,
+            window: front,
+        },
+        Piece {
+            of: b,
+            from: 0,
+            window: back,
+        },
+    );
+    copy(reader, &source, n)
+}
+
+// The forms of two strings, by one load where they are one string.
+fn side_forms(reader: &mut Reader, a: JsStr, b: JsStr) -> (Form, Form)
+    requires known { HasKey (view_in reader.old).units a.id
+        × HasKey (view_in reader.old).units b.id }
+    ensures reads { Moves Reads reader.old reader.new }
+    ensures seen { Has (view_in reader.new).forms a.id result.0
+        × Has (view_in reader.new).forms b.id result.1 }
+    ensures born { (result.0 ≢ Unborn) × (result.1 ≢ Unborn) }
+    ensures sides { KnowsSide (view_in reader.new) result.0
+        × KnowsSide (view_in reader.new) result.1 }
+{
+    let front = reader.form_now(a.id);
+    if a.id == b.id {
+        return (front, front);
+    }
+    (front, reader.form_now(b.id))
+}
+
+// Whether a string that was seen with this form is wide; of a Thin its target tells.
+fn is_wide_side(reader: &mut Reader, of: u32, form: Form) -> bool
+    requires seen { Has (view_in reader.old).forms of form }
+    requires side { KnowsSide (view_in reader.old) form }
+    ensures reads { Moves Reads reader.old reader.new }
+    ensures held { HoldsForms (view_in reader.old) (view_in reader.new) }
+    ensures wide { IsWideIn (view_in reader.new) form result }
+{
+    match form {
+        Form::Thin { target } => reader.target_run(of, target).wide,
+        _ => has_wide_bit(form),
+    }
+}
+
+// A Cons of two strings.
+fn link(reader: &mut Reader, a: JsStr, b: JsStr, n: u32) -> Result<JsStr, TextFull>
+    requires known { AreJoinable (view_in reader.old) a b n }
+    requires long { (MIN_CONS ≤ n) × (n ≤ MAX) }
+    ensures continues { Moves Continues reader.old reader.new }
+    ensures linked { (us vs : List ℕ) → Has (view_in reader.old).units a.id us
+        → Has (view_in reader.old).units b.id vs
+        → IsLinked (view_in reader.old) (view_in reader.new) (size_of reader.old.heap.now) a b
+        (us ++ vs) result }
+{
+    let (front, back) = side_forms(reader, a, b);
+    let left = is_wide_side(reader, a.id, front);
+    let right = is_wide_side(reader, b.id, back);
+    let wide = is_either(left, right);
+    let id = match reader.agent.claim_id(reader.heap) {
+        Ok(id) => id,
+        Err(full) => return Err(TextFull::Ids(full)),
+    };
+    reader.agent.store_length(reader.heap, id, n);
+    let form = Form::Cons {
+        wide,
+        left: a.id,
+        right: b.id,
+    };
+    reader.agent.birth(reader.heap, id, form);
+    Ok(JsStr { id })
+}
+
+// Two strings that are not empty, joined.
+fn join(reader: &mut Reader, a: JsStr, b: JsStr, n: u32) -> Result<JsStr, TextFull>
+    requires known { AreJoinable (view_in reader.old) a b n }
+    requires most { n ≤ MAX }
+    ensures continues { Moves Continues reader.old reader.new }
+    ensures copied { n < MIN_CONS → (us vs : List ℕ) → Has (view_in reader.old).units a.id us
+        → Has (view_in reader.old).units b.id vs
+        → IsCopied (view_in reader.old) (view_in reader.new) (size_of reader.old.heap.now)
+        (us ++ vs) result }
+    ensures linked { MIN_CONS ≤ n → (us vs : List ℕ) → Has (view_in reader.old).units a.id us
+        → Has (view_in reader.old).units b.id vs
+        → IsLinked (view_in reader.old) (view_in reader.new) (size_of reader.old.heap.now) a b
+        (us ++ vs) result }
+{
+    if n < MIN_CONS {
+        return copy_both(reader, a, b, n);
+    }
+    link(reader, a, b, n)
+}
+
+// A flat string with the `n` units of a settled string from `from` on.
+fn copy_part(reader: &mut Reader, s: JsStr, from: u32, n: u32) -> Result<JsStr, TextFull>
+    requires settled { IsSettled (view_in reader.old) s.id }
+    requires within { (us : List ℕ) × Has (view_in reader.old).units s.id us
+        × (from + n ≤ length us) }
+    ensures continues { Moves Continues reader.old reader.new }
+    ensures copied { (us : List ℕ) → Has (view_in reader.old).units s.id us
+        → IsCopied (view_in reader.old) (view_in reader.new) (size_of reader.old.heap.now)
+        (part from n us) result }
+{
+    let window = reader.window_on(s);
+    let part = Window {
+        wide: window.wide,
+        start: window.start,
+        offset: window.offset + from,
+        len: n,
+    };
+    let source = Source::Piece(Piece {
+        of: s,
+        from,
+        window: part,
+    });
+    copy(reader, &source, n)
+}
+
+// A Sliced of the `n` units of a settled string from `from` on.
+fn link_part(reader: &mut Reader, s: JsStr, from: u32, n: u32) -> Result<JsStr, TextFull>
+    requires settled { IsSettled (view_in reader.old) s.id }
+    requires within { (us : List ℕ) × Has (view_in reader.old).units s.id us
+        × (from + n ≤ length us) }
+    requires long { MIN_CONS ≤ n }
+    ensures continues { Moves Continues reader.old reader.new }
+    ensures linked { (us : List ℕ) → Has (view_in reader.old).units s.id us
+        → IsPartCut (view_in reader.old) (view_in reader.new) (size_of reader.old.heap.now) s from
+        (part from n us) result }
+{
+    let whole = reader.form_now(s.id);
+    let wide = is_wide_side(reader, s.id, whole);
+    let parent = parent_of(s.id, whole);
+    let offset = offset_of(whole) + from;
+    let id = match reader.agent.claim_id(reader.heap) {
+        Ok(id) => id,
+        Err(full) => return Err(TextFull::Ids(full)),
+    };
+    reader.agent.store_length(reader.heap, id, n);
+    let form = Form::Sliced {
+        wide,
+        parent,
+        offset,
+    };
+    reader.agent.birth(reader.heap, id, form);
+    Ok(JsStr { id })
+}
+
+// A part that is not the whole.
+fn cut(reader: &mut Reader, s: JsStr, from: u32, n: u32) -> Result<JsStr, TextFull>
+    requires settled { IsSettled (view_in reader.old) s.id }
+    requires within { (us : List ℕ) × Has (view_in reader.old).units s.id us
+        × (from + n ≤ length us) }
+    ensures continues { Moves Continues reader.old reader.new }
+    ensures copied { n < MIN_CONS → (us : List ℕ) → Has (view_in reader.old).units s.id us
+        → IsCopied (view_in reader.old) (view_in reader.new) (size_of reader.old.heap.now)
+        (part from n us) result }
+    ensures linked { MIN_CONS ≤ n → (us : List ℕ) → Has (view_in reader.old).units s.id us
+        → IsPartCut (view_in reader.old) (view_in reader.new) (size_of reader.old.heap.now) s from
+        (part from n us) result }
+{
+    if n < MIN_CONS {
+        return copy_part(reader, s, from, n);
+    }
+    link_part(reader, s, from, n)
 }
 
 // Whether a form has the wide bit.

@@ -1,16 +1,16 @@
-// A heap with the agent that uses it.
+// A heap with the agent that makes and reads strings there.
 ghost use Rattle.std.specs.Prelude.{◌≡◌, ◌≤◌};
 ghost use Rattle.heap_rule.specs.Layout.{MAX};
 ghost use Rattle.heap_table.specs.Agents.{Belongs};
 
+use heap_read::Reader;
 use heap_table::{Agent, Heap};
 
-/// A heap, the agent by which one thread makes and reads strings on it, and the limit of length:
+/// A heap with the agent by which one thread makes and reads strings on it, and the limit of length:
 /// no two strings are joined to one of more units.
 #[derive(Drop)]
 pub struct Text<'h> {
-    pub heap: &'h Heap,
-    pub agent: Agent,
+    pub reader: Reader<'h>,
     pub limit: u32,
     pub ghost within: { limit ≤ MAX },
 }
@@ -21,11 +21,12 @@ impl<'h> Text<'h> {
     pub fn new(heap: &'h Heap, agent: Agent, limit: u32) -> Text<'h>
         requires belongs { Belongs agent heap.now }
         requires most { limit ≤ MAX }
-        ensures heap { result.heap.now ≡ heap.now }
-        ensures agent { result.agent ≡ agent }
+        ensures heap { result.reader.heap.now ≡ heap.now }
+        ensures agent { result.reader.agent ≡ agent }
         ensures limit { result.limit ≡ limit }
-        ensures belongs { Belongs result.agent result.heap.now }
+        ensures belongs { Belongs result.reader.agent result.reader.heap.now }
     {
-        Text { heap, agent, limit }
+        let reader = Reader::new(heap, agent);
+        Text { reader, limit }
     }
 }

@@ -7,17 +7,17 @@ use Rattle.heap_table.specs.Agents.{size_of}
 use Rattle.heap_text.specs.declared.faults.JoinFault.TheVariants.{TooLong}
 use Rattle.heap_text.specs.Joins.{IsCopied, IsLinked}
 use Rattle.heap_text.proofs.Answered.{joined_units}
-use Rattle.heap_text.proofs.Going.{continues_reads, continues_trans}
+use Rattle.heap_read.proofs.Going.{continues_reads, continues_trans}
 use Rattle.heap_text.proofs.Linking.{copied_after, copied_lifted, linked_after, linked_lifted}
-use Rattle.heap_text.proofs.Loaded.{known_trans, reads_trans}
+use Rattle.heap_read.proofs.Loaded.{known_trans, reads_trans}
 use Rattle.heap_text.proofs.text.Text.concat.Goals as goal
 
 pub returns-then-left-eq0-clause-joined : goal.returns-then-left-eq0-clause-joined
 returns-then-left-eq0-clause-joined c us vs h k =
-    let left = c.len-left.ensures.length us h in let none = c.if-left-eq0.true in let right = c.len-right.ensures.length vs (c.len-left.ensures.reads.known.units c.args.b.id vs k) in
-    let room = c.if-left-right.false in let same_limit = c.len-right.ensures.limit ∙ c.len-left.ensures.limit in record {
+    let left = c.len-left.ensures.length us h in let none = c.if-left-eq0.true in let right = c.len-right.ensures.length vs (c.len-left.ensures.reads.view.known.units c.args.b.id vs k) in
+    let room = c.if-left-right.false in record {
       long = λ l. absurd (omega arith);
-      left_empty = λ _ e. (c.args.b, refl, (refl, c.len-right.ensures.reads.used ∙ c.len-left.ensures.reads.used));
+      left_empty = λ _ e. (c.args.b, refl, (refl, c.len-right.ensures.reads.view.used ∙ c.len-left.ensures.reads.view.used));
       right_empty = λ _ l e. absurd (omega arith);
       short = λ _ l m n. absurd (omega arith);
       rope = λ _ l m n. absurd (omega arith);
@@ -25,37 +25,37 @@ returns-then-left-eq0-clause-joined c us vs h k =
 
 pub returns-then-right-eq0-clause-joined : goal.returns-then-right-eq0-clause-joined
 returns-then-right-eq0-clause-joined c us vs h k =
-    let left = c.len-left.ensures.length us h in let some = c.if-left-eq0.false in let right = c.len-right.ensures.length vs (c.len-left.ensures.reads.known.units c.args.b.id vs k) in let none = c.if-right-eq0.true in
-    let room = c.if-left-right.false in let same_limit = c.len-right.ensures.limit ∙ c.len-left.ensures.limit in record {
+    let left = c.len-left.ensures.length us h in let some = c.if-left-eq0.false in let right = c.len-right.ensures.length vs (c.len-left.ensures.reads.view.known.units c.args.b.id vs k) in let none = c.if-right-eq0.true in
+    let room = c.if-left-right.false in record {
       long = λ l. absurd (omega arith);
       left_empty = λ _ e. absurd (some (left ∙ e));
-      right_empty = λ _ l e. (c.args.a, refl, (refl, c.len-right.ensures.reads.used ∙ c.len-left.ensures.reads.used));
+      right_empty = λ _ l e. (c.args.a, refl, (refl, c.len-right.ensures.reads.view.used ∙ c.len-left.ensures.reads.view.used));
       short = λ _ l m n. absurd (omega arith);
       rope = λ _ l m n. absurd (omega arith);
     }
 
 pub overflow_add-left : goal.overflow_add-left
-overflow_add-left c = let v : View = c.args.self.now.agent.seat.me.0 in let p = has_key v.units c.args.a.id c.requires.known.0 in let q = has_key v.units c.args.b.id c.requires.known.1 in
-    let left = c.len-left.ensures.length p.0 p.1 in let right = c.len-right.ensures.length q.0 (c.len-left.ensures.reads.known.units c.args.b.id q.0 q.1) in
-    let a = possible_short v c.requires.text.5 c.args.a.id p.0 p.1 in let b = possible_short v c.requires.text.5 c.args.b.id q.0 q.1 in omega arith
+overflow_add-left c = let v : View = c.args.self.now.reader.agent.seat.me.0 in let p = has_key v.units c.args.a.id c.requires.known.0 in let q = has_key v.units c.args.b.id c.requires.known.1 in
+    let left = c.len-left.ensures.length p.0 p.1 in let right = c.len-right.ensures.length q.0 (c.len-left.ensures.reads.view.known.units c.args.b.id q.0 q.1) in
+    let a = possible_short v c.args.self.now.reader.belongs.5 c.args.a.id p.0 p.1 in let b = possible_short v c.args.self.now.reader.belongs.5 c.args.b.id q.0 q.1 in omega arith
 
 pub join-requires-clause-known : goal.join-requires-clause-known
-join-requires-clause-known c = let v : View = c.args.self.now.agent.seat.me.0 in let w1 : View = c.len-left.new.self.agent.seat.me.0 in let w2 : View = c.len-right.new.self.agent.seat.me.0 in let r2 = reads_trans v w1 w2 c.len-left.ensures.reads c.len-right.ensures.reads in
+join-requires-clause-known c = let v : View = c.args.self.now.reader.agent.seat.me.0 in let w1 : View = c.len-left.new.self.agent.seat.me.0 in let w2 : View = c.len-right.new.self.agent.seat.me.0 in let r2 = reads_trans v w1 w2 c.len-left.ensures.reads.view c.len-right.ensures.reads.view in
     let p = has_key v.units c.args.a.id c.requires.known.0 in let q = has_key v.units c.args.b.id c.requires.known.1 in
-    let left = c.len-left.ensures.length p.0 p.1 in let right = c.len-right.ensures.length q.0 (c.len-left.ensures.reads.known.units c.args.b.id q.0 q.1) in
+    let left = c.len-left.ensures.length p.0 p.1 in let right = c.len-right.ensures.length q.0 (c.len-left.ensures.reads.view.known.units c.args.b.id q.0 q.1) in
     let some = c.if-left-eq0.false in let more = c.if-right-eq0.false in
     (p.0, q.0, r2.known.units c.args.a.id p.0 p.1, r2.known.units c.args.b.id q.0 q.1, omega arith, omega arith, omega arith)
 
 pub returns-in-Ok-clause-continues : goal.returns-in-Ok-clause-continues
-returns-in-Ok-clause-continues c = let v : View = c.args.self.now.agent.seat.me.0 in let w1 : View = c.len-left.new.self.agent.seat.me.0 in let w2 : View = c.len-right.new.self.agent.seat.me.0 in let w : View = c.join.new.self.agent.seat.me.0 in let r2 = reads_trans v w1 w2 c.len-left.ensures.reads c.len-right.ensures.reads in
-    continues_trans v w2 w (continues_reads v w2 r2) c.join.ensures.continues
+returns-in-Ok-clause-continues c = let v : View = c.args.self.now.reader.agent.seat.me.0 in let w1 : View = c.len-left.new.self.agent.seat.me.0 in let w2 : View = c.len-right.new.self.agent.seat.me.0 in let w : View = c.join.new.reader.agent.seat.me.0 in let r2 = reads_trans v w1 w2 c.len-left.ensures.reads.view c.len-right.ensures.reads.view in
+    continues_trans v w2 w (continues_reads v w2 r2) c.join.ensures.continues.view
 
 pub returns-in-Ok-clause-joined : goal.returns-in-Ok-clause-joined
-returns-in-Ok-clause-joined c us vs h k = let v : View = c.args.self.now.agent.seat.me.0 in let w1 : View = c.len-left.new.self.agent.seat.me.0 in let w2 : View = c.len-right.new.self.agent.seat.me.0 in let w : View = c.join.new.self.agent.seat.me.0 in let r2 = reads_trans v w1 w2 c.len-left.ensures.reads c.len-right.ensures.reads in
-    let left = c.len-left.ensures.length us h in let right = c.len-right.ensures.length vs (c.len-left.ensures.reads.known.units c.args.b.id vs k) in
-    let some = c.if-left-eq0.false in let more = c.if-right-eq0.false in let room = c.if-left-right.false in let same_limit = c.len-right.ensures.limit ∙ c.len-left.ensures.limit in
-    let z : HeapSize = size_of c.args.self.now.heap.now in
-    let same : size_of c.len-right.new.self.heap.now ≡ z = ap (λ x. size_of x.now) (c.len-right.ensures.heap ∙ c.len-left.ensures.heap) in
+returns-in-Ok-clause-joined c us vs h k = let v : View = c.args.self.now.reader.agent.seat.me.0 in let w1 : View = c.len-left.new.self.agent.seat.me.0 in let w2 : View = c.len-right.new.self.agent.seat.me.0 in let w : View = c.join.new.reader.agent.seat.me.0 in let r2 = reads_trans v w1 w2 c.len-left.ensures.reads.view c.len-right.ensures.reads.view in
+    let left = c.len-left.ensures.length us h in let right = c.len-right.ensures.length vs (c.len-left.ensures.reads.view.known.units c.args.b.id vs k) in
+    let some = c.if-left-eq0.false in let more = c.if-right-eq0.false in let room = c.if-left-right.false in
+    let z : HeapSize = size_of c.args.self.now.reader.heap.now in
+    let same : size_of c.len-right.new.self.heap.now ≡ z = ap (λ x. size_of x.now) (c.len-right.ensures.reads.heap ∙ c.len-left.ensures.reads.heap) in
     let a = c.args.a in let b = c.args.b in let hl = r2.known.units a.id us h in let hr = r2.known.units b.id vs k in record {
       long = λ l. absurd (omega arith);
       left_empty = λ _ e. absurd (some (left ∙ e));
@@ -65,15 +65,15 @@ returns-in-Ok-clause-joined c us vs h k = let v : View = c.args.self.now.agent.s
     }
 
 pub returns-in-Err-clause-continues : goal.returns-in-Err-clause-continues
-returns-in-Err-clause-continues c = let v : View = c.args.self.now.agent.seat.me.0 in let w1 : View = c.len-left.new.self.agent.seat.me.0 in let w2 : View = c.len-right.new.self.agent.seat.me.0 in let w : View = c.join.new.self.agent.seat.me.0 in let r2 = reads_trans v w1 w2 c.len-left.ensures.reads c.len-right.ensures.reads in
-    continues_trans v w2 w (continues_reads v w2 r2) c.join.ensures.continues
+returns-in-Err-clause-continues c = let v : View = c.args.self.now.reader.agent.seat.me.0 in let w1 : View = c.len-left.new.self.agent.seat.me.0 in let w2 : View = c.len-right.new.self.agent.seat.me.0 in let w : View = c.join.new.reader.agent.seat.me.0 in let r2 = reads_trans v w1 w2 c.len-left.ensures.reads.view c.len-right.ensures.reads.view in
+    continues_trans v w2 w (continues_reads v w2 r2) c.join.ensures.continues.view
 
 pub returns-in-Err-clause-joined : goal.returns-in-Err-clause-joined
-returns-in-Err-clause-joined c us vs h k = let v : View = c.args.self.now.agent.seat.me.0 in let w1 : View = c.len-left.new.self.agent.seat.me.0 in let w2 : View = c.len-right.new.self.agent.seat.me.0 in let w : View = c.join.new.self.agent.seat.me.0 in let r2 = reads_trans v w1 w2 c.len-left.ensures.reads c.len-right.ensures.reads in
-    let left = c.len-left.ensures.length us h in let right = c.len-right.ensures.length vs (c.len-left.ensures.reads.known.units c.args.b.id vs k) in
-    let some = c.if-left-eq0.false in let more = c.if-right-eq0.false in let room = c.if-left-right.false in let same_limit = c.len-right.ensures.limit ∙ c.len-left.ensures.limit in
-    let z : HeapSize = size_of c.args.self.now.heap.now in
-    let same : size_of c.len-right.new.self.heap.now ≡ z = ap (λ x. size_of x.now) (c.len-right.ensures.heap ∙ c.len-left.ensures.heap) in
+returns-in-Err-clause-joined c us vs h k = let v : View = c.args.self.now.reader.agent.seat.me.0 in let w1 : View = c.len-left.new.self.agent.seat.me.0 in let w2 : View = c.len-right.new.self.agent.seat.me.0 in let w : View = c.join.new.reader.agent.seat.me.0 in let r2 = reads_trans v w1 w2 c.len-left.ensures.reads.view c.len-right.ensures.reads.view in
+    let left = c.len-left.ensures.length us h in let right = c.len-right.ensures.length vs (c.len-left.ensures.reads.view.known.units c.args.b.id vs k) in
+    let some = c.if-left-eq0.false in let more = c.if-right-eq0.false in let room = c.if-left-right.false in
+    let z : HeapSize = size_of c.args.self.now.reader.heap.now in
+    let same : size_of c.len-right.new.self.heap.now ≡ z = ap (λ x. size_of x.now) (c.len-right.ensures.reads.heap ∙ c.len-left.ensures.reads.heap) in
     let a = c.args.a in let b = c.args.b in let hl = r2.known.units a.id us h in let hr = r2.known.units b.id vs k in record {
       long = λ l. absurd (omega arith);
       left_empty = λ _ e. absurd (some (left ∙ e));
@@ -83,27 +83,27 @@ returns-in-Err-clause-joined c us vs h k = let v : View = c.args.self.now.agent.
     }
 
 pub returns-then-left-eq0-clause-units : goal.returns-then-left-eq0-clause-units
-returns-then-left-eq0-clause-units c us vs h k = let v : View = c.args.self.now.agent.seat.me.0 in let w1 : View = c.len-left.new.self.agent.seat.me.0 in let w2 : View = c.len-right.new.self.agent.seat.me.0 in let w : View = c.len-right.new.self.agent.seat.me.0 in
-    let known = known_trans v w1 w2 c.len-left.ensures.reads.known c.len-right.ensures.reads.known in joined_units v w (size_of c.args.self.now.heap.now) c.args.self.now.limit c.args.a c.args.b c.args.b us vs (returns-then-left-eq0-clause-joined c us vs h k) (known.units c.args.a.id us h) (known.units c.args.b.id vs k)
+returns-then-left-eq0-clause-units c us vs h k = let v : View = c.args.self.now.reader.agent.seat.me.0 in let w1 : View = c.len-left.new.self.agent.seat.me.0 in let w2 : View = c.len-right.new.self.agent.seat.me.0 in let w : View = c.len-right.new.self.agent.seat.me.0 in
+    let known = known_trans v w1 w2 c.len-left.ensures.reads.view.known c.len-right.ensures.reads.view.known in joined_units v w (size_of c.args.self.now.reader.heap.now) c.args.self.now.limit c.args.a c.args.b c.args.b us vs (returns-then-left-eq0-clause-joined c us vs h k) (known.units c.args.a.id us h) (known.units c.args.b.id vs k)
 
 pub returns-then-right-eq0-clause-units : goal.returns-then-right-eq0-clause-units
-returns-then-right-eq0-clause-units c us vs h k = let v : View = c.args.self.now.agent.seat.me.0 in let w1 : View = c.len-left.new.self.agent.seat.me.0 in let w2 : View = c.len-right.new.self.agent.seat.me.0 in let w : View = c.len-right.new.self.agent.seat.me.0 in
-    let known = known_trans v w1 w2 c.len-left.ensures.reads.known c.len-right.ensures.reads.known in joined_units v w (size_of c.args.self.now.heap.now) c.args.self.now.limit c.args.a c.args.b c.args.a us vs (returns-then-right-eq0-clause-joined c us vs h k) (known.units c.args.a.id us h) (known.units c.args.b.id vs k)
+returns-then-right-eq0-clause-units c us vs h k = let v : View = c.args.self.now.reader.agent.seat.me.0 in let w1 : View = c.len-left.new.self.agent.seat.me.0 in let w2 : View = c.len-right.new.self.agent.seat.me.0 in let w : View = c.len-right.new.self.agent.seat.me.0 in
+    let known = known_trans v w1 w2 c.len-left.ensures.reads.view.known c.len-right.ensures.reads.view.known in joined_units v w (size_of c.args.self.now.reader.heap.now) c.args.self.now.limit c.args.a c.args.b c.args.a us vs (returns-then-right-eq0-clause-joined c us vs h k) (known.units c.args.a.id us h) (known.units c.args.b.id vs k)
 
 pub returns-in-Ok-clause-units : goal.returns-in-Ok-clause-units
-returns-in-Ok-clause-units c us vs h k = let v : View = c.args.self.now.agent.seat.me.0 in let w1 : View = c.len-left.new.self.agent.seat.me.0 in let w2 : View = c.len-right.new.self.agent.seat.me.0 in let w : View = c.join.new.self.agent.seat.me.0 in let r2 = reads_trans v w1 w2 c.len-left.ensures.reads c.len-right.ensures.reads in
-    let known = known_trans v w2 w r2.known c.join.ensures.continues.known in
-    joined_units v w (size_of c.args.self.now.heap.now) c.args.self.now.limit c.args.a c.args.b c.in-Ok.s us vs (returns-in-Ok-clause-joined c us vs h k) (known.units c.args.a.id us h) (known.units c.args.b.id vs k)
+returns-in-Ok-clause-units c us vs h k = let v : View = c.args.self.now.reader.agent.seat.me.0 in let w1 : View = c.len-left.new.self.agent.seat.me.0 in let w2 : View = c.len-right.new.self.agent.seat.me.0 in let w : View = c.join.new.reader.agent.seat.me.0 in let r2 = reads_trans v w1 w2 c.len-left.ensures.reads.view c.len-right.ensures.reads.view in
+    let known = known_trans v w2 w r2.known c.join.ensures.continues.view.known in
+    joined_units v w (size_of c.args.self.now.reader.heap.now) c.args.self.now.limit c.args.a c.args.b c.in-Ok.s us vs (returns-in-Ok-clause-joined c us vs h k) (known.units c.args.a.id us h) (known.units c.args.b.id vs k)
 
 pub returns-then-left-right-clause-continues : goal.returns-then-left-right-clause-continues
-returns-then-left-right-clause-continues c = let v : View = c.args.self.now.agent.seat.me.0 in let w1 : View = c.len-left.new.self.agent.seat.me.0 in let w2 : View = c.len-right.new.self.agent.seat.me.0 in
-    continues_reads v w2 (reads_trans v w1 w2 c.len-left.ensures.reads c.len-right.ensures.reads)
+returns-then-left-right-clause-continues c = let v : View = c.args.self.now.reader.agent.seat.me.0 in let w1 : View = c.len-left.new.self.agent.seat.me.0 in let w2 : View = c.len-right.new.self.agent.seat.me.0 in
+    continues_reads v w2 (reads_trans v w1 w2 c.len-left.ensures.reads.view c.len-right.ensures.reads.view)
 
 pub returns-then-left-right-clause-joined : goal.returns-then-left-right-clause-joined
 returns-then-left-right-clause-joined c us vs h k =
-    let left = c.len-left.ensures.length us h in let right = c.len-right.ensures.length vs (c.len-left.ensures.reads.known.units c.args.b.id vs k) in
-    let over = c.if-left-right.true in let same_limit = c.len-right.ensures.limit ∙ c.len-left.ensures.limit in record {
-      long = λ _. (λ i. Err (TooLong (left i) (right i)), c.len-right.ensures.reads.used ∙ c.len-left.ensures.reads.used);
+    let left = c.len-left.ensures.length us h in let right = c.len-right.ensures.length vs (c.len-left.ensures.reads.view.known.units c.args.b.id vs k) in
+    let over = c.if-left-right.true in record {
+      long = λ _. (λ i. Err (TooLong (left i) (right i)), c.len-right.ensures.reads.view.used ∙ c.len-left.ensures.reads.view.used);
       left_empty = λ l _. absurd (omega arith);
       right_empty = λ l _ _. absurd (omega arith);
       short = λ l _ _ _. absurd (omega arith);
@@ -111,4 +111,4 @@ returns-then-left-right-clause-joined c us vs h k =
     }
 
 pub join-requires-clause-most : goal.join-requires-clause-most
-join-requires-clause-most c = let room = c.if-left-right.false in let most = c.args.self.now.within in let same_limit = c.len-right.ensures.limit ∙ c.len-left.ensures.limit in omega arith
+join-requires-clause-most c = let room = c.if-left-right.false in let most = c.args.self.now.within in omega arith
