@@ -5,7 +5,7 @@ ghost use Rattle.test_heap_intern.specs.Turns.{GoesOn};
 
 use heap_intern::Session;
 use heap_rule::HeapSize;
-use heap_steps::Steps;
+use heap_read::Steps;
 use heap_table::Heap;
 use js_store::{FullReport, Limit, StoreFault, Strings};
 use std::alloc::Global;
