@@ -1,4 +1,4 @@
-use Rattle.std.proofs.Common.{◌≤◌}
+use Rattle.std.proofs.Common.{◌≡◌, ◌≤◌}
 use Rattle.heap_string_table.specs.Visits.{Counted}
 use Rattle.heap_string_table.proofs.counting.count_interned.Given as goal
 

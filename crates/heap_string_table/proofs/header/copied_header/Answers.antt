@@ -53,10 +53,10 @@ returns-in-Err-clause-err c us h = let v : View = c.args.reader.now.agent.seat.m
     (subst (λ (m : ℕ). IsFull c.in-Err.full m w.sizes.words) words (subst (λ (z : HeapSize). IsFull c.in-Err.full (words_over c.has_wide-wide.result s.window.len) z.words) (sym (c.write.ensures.continues.view.sizes ∙ c.has_wide-wide.new.self.belongs.1)) f.0),
     f.1, c.write.ensures.ids ∙ l.used, f.2 ∙ l.words)
 
-pub bear-requires-clause-over : goal.bear-requires-clause-over
-bear-requires-clause-over c = let v : View = c.args.reader.now.agent.seat.me.0 in let u : View = c.has_wide-wide.new.self.agent.seat.me.0 in let w : View = c.write.new.self.agent.seat.me.0 in let p = c.args.reader.now.belongs.5 in let s = c.args.s in let lies = c.requires.lies in let key = has_key v.units s.id c.requires.known in let e = c.has_wide-wide.ensures in let l = looks_reads v u e.reads.view in let is = source_is v p s key.0 lies key.1 in let n = sought_length v p s key.0 lies key.1 in let most = possible_short v p s.id key.0 key.1 in 
+pub bear-requires : goal.bear-requires
+bear-requires c = let v : View = c.args.reader.now.agent.seat.me.0 in let u : View = c.has_wide-wide.new.self.agent.seat.me.0 in let w : View = c.write.new.self.agent.seat.me.0 in let p = c.args.reader.now.belongs.5 in let s = c.args.s in let lies = c.requires.lies in let key = has_key v.units s.id c.requires.known in let e = c.has_wide-wide.ensures in let l = looks_reads v u e.reads.view in let is = source_is v p s key.0 lies key.1 in let n = sought_length v p s key.0 lies key.1 in let most = possible_short v p s.id key.0 key.1 in 
     let wide : c.has_wide-wide.result ≡ is_wide key.0 = e.wide ∙ ap is_wide is in let written : IsWritten w c.has_wide-wide.result c.in-Ok.start key.0 = subst (λ (xs : List ℕ). IsWritten w c.has_wide-wide.result c.in-Ok.start xs) (e.listed ∙ is) c.in-Ok.ensures.ok.0 in 
-    (key.0, copied_over w c.has_wide-wide.result c.in-Ok.start s.window.len key.0 written n (omega arith))
+    record { over = (key.0, copied_over w c.has_wide-wide.result c.in-Ok.start s.window.len key.0 written n (omega arith)) }
 
 pub returns-in-Ok-bear-clause-goes : goal.returns-in-Ok-bear-clause-goes
 returns-in-Ok-bear-clause-goes c = let v : View = c.args.reader.now.agent.seat.me.0 in let u : View = c.has_wide-wide.new.self.agent.seat.me.0 in let w : View = c.write.new.self.agent.seat.me.0 in let x : View = c.bear.new.reader.agent.seat.me.0 in let e = c.has_wide-wide.ensures in let l = looks_reads v u e.reads.view in let g = goes_continues u w c.write.ensures.continues.view c.write.ensures.own_ids c.write.ensures.stays in 

@@ -23,9 +23,9 @@ pub returns-in-Sliced-clause-err : goal.returns-in-Sliced-clause-err
 returns-in-Sliced-clause-err c = let v : View = c.args.reader.now.agent.seat.me.0 in let w : View = c.copied_header.new.reader.agent.seat.me.0 in
     subst (λ (f : Form). IfErr c.copied_header.result (λ e. (us : List ℕ) → Has v.units c.args.s.id us → IsNoHeader v w (plan_by f c.args.s us).words e)) (sym c.in-Sliced.is) c.copied_header.ensures.err
 
-pub bear-requires-clause-over : goal.bear-requires-clause-over
-bear-requires-clause-over c = let v : View = c.args.reader.now.agent.seat.me.0 in let s = c.args.s in let l = c.requires.lies in let u = has_key v.units s.id c.requires.known in let whole : IsSliced s.form → ⊥ = no_part s.form c.in_default.not-Sliced in
-    (u.0, plain_over v c.args.reader.now.belongs.5 s l whole (words_frozen v s.window (l.whole whole).1 c.requires.frozen) c.first_word.result c.first_word.ensures.empty c.first_word.ensures.some u.0 u.1)
+pub bear-requires : goal.bear-requires
+bear-requires c = let v : View = c.args.reader.now.agent.seat.me.0 in let s = c.args.s in let l = c.requires.lies in let u = has_key v.units s.id c.requires.known in let whole : IsSliced s.form → ⊥ = no_part s.form c.in_default.not-Sliced in
+    record { over = (u.0, plain_over v c.args.reader.now.belongs.5 s l whole (words_frozen v s.window (l.whole whole).1 c.requires.frozen) c.first_word.result c.first_word.ensures.empty c.first_word.ensures.some u.0 u.1) }
 
 pub returns-in-Ok-clause-goes : goal.returns-in-Ok-clause-goes
 returns-in-Ok-clause-goes c = let v : View = c.args.reader.now.agent.seat.me.0 in let s = c.args.s in let l = c.requires.lies in let p = c.args.reader.now.belongs.5 in let whole : IsSliced s.form → ⊥ = no_part s.form c.in_default.not-Sliced in let all = words_frozen v s.window (l.whole whole).1 c.requires.frozen in

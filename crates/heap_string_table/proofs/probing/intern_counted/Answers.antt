@@ -1,4 +1,5 @@
-use Rattle.std.proofs.Common.{◌≤◌, ◌+◌, ◌*◌, ◌∙◌, ℕ, Some, None, Ok, Err, subst, sym}
+use Rattle.js_units.specs.Lanes.{hash_of}
+use Rattle.std.proofs.Common.{◌≡◌, List, ◌≤◌, ◌+◌, ◌*◌, ◌∙◌, ℕ, Some, None, Ok, Err, subst, sym}
 use Rattle.heap_rule.specs.declared.size.HeapSize.{HeapSize}
 use Rattle.heap_rule.specs.declared.view.View.{View}
 use Rattle.heap_rule.specs.Maps.{Has}
@@ -11,7 +12,7 @@ use Rattle.heap_read.proofs.Loaded.{known_trans}
 use Rattle.heap_string_table.proofs.Loading.{slots_few, slots_from, slots_most, slots_then}
 use Rattle.heap_string_table.proofs.Planning.{plan_is}
 use Rattle.heap_string_table.proofs.Seeking.{sought_kept, sought_window}
-use Rattle.heap_string_table.proofs.Visiting.{first_kept, interned_then, interns_after}
+use Rattle.heap_string_table.proofs.Visiting.{first_kept, interned_then, interns_after, only_units}
 use Rattle.heap_string_table.proofs.probing.intern_counted.Goals as goal
 
 pub probe-requires-clause-lies : goal.probe-requires-clause-lies
@@ -83,3 +84,8 @@ returns-clause-most g c = subst (λ (z : HeapSize). c.probe.new.steps ≤ c.args
 pub hash_in-hash-requires : goal.hash_in-hash-requires
 hash_in-hash-requires g c = let v : View = c.args.reader.now.agent.seat.me.0 in let w : View = c.seek-s.new.reader.agent.seat.me.0 in let u = has_key v.units c.args.id c.requires.known in let here : Has w.units c.seek-s.result.id u.0 = subst (λ (i : ℕ). Has w.units i u.0) (sym c.seek-s.ensures.id) (c.seek-s.ensures.looks.goes.known.units c.args.id u.0 u.1) in
     (u.0, sought_window w c.seek-s.new.reader.belongs.5 c.seek-s.result u.0 c.seek-s.ensures.lies here)
+
+pub probe-requires-clause-hash : goal.probe-requires-clause-hash
+probe-requires-clause-hash g c us h = let v : View = c.args.reader.now.agent.seat.me.0 in let w : View = c.seek-s.new.reader.agent.seat.me.0 in let u : View = c.hash_in-hash.new.self.agent.seat.me.0 in let s = c.seek-s.result in let k = has_key v.units c.args.id c.requires.known in
+    let here : Has w.units s.id k.0 = subst (λ (i : ℕ). Has w.units i k.0) (sym c.seek-s.ensures.id) (c.seek-s.ensures.looks.goes.known.units c.args.id k.0 k.1) in let e = c.hash_in-hash.ensures in
+    only_units u.units s.id us k.0 (λ (xs : List ℕ). c.hash_in-hash.result ≡ hash_of xs) (e.reads.view.known.units s.id k.0 here) h (e.hash k.0 (sought_window w c.seek-s.new.reader.belongs.5 s k.0 c.seek-s.ensures.lies here))

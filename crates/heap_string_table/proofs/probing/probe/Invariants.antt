@@ -1,4 +1,4 @@
-use Rattle.std.proofs.Common.{ℕ, List}
+use Rattle.std.proofs.Common.{◌≡◌, ℕ, List}
 use Rattle.heap_rule.specs.Maps.{Has}
 use Rattle.heap_string_table.specs.Headers.{header_plan}
 use Rattle.heap_string_table.proofs.Loading.{Walking}
