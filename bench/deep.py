@@ -16,7 +16,7 @@ import sys
 import tempfile
 
 ROOT = os.path.dirname(os.path.dirname(os.path.abspath(__file__)))
-LINE = "heap_deep: heap_rule heap_steps heap_table heap_text\n"
+LINE = "heap_deep: heap_rule heap_read heap_table heap_text\n"
 # the word for the program, the units of the rope, and its first and its last unit
 ROPES = [("right", 1_000_012, "a", "m"), ("left", 1_000_012, "m", "l"), ("double", 13 * 2**14, "a", "m")]
 # what is changed in the counter, so that it has a number when it runs
@@ -50,7 +50,7 @@ def copied(folder):
         listed = crates.read()
     with open(os.path.join(folder, "crates.txt"), "w", encoding="utf-8") as crates:
         crates.write(listed + LINE)
-    counting(os.path.join(folder, "crates", "heap_steps", "src", "steps.rt"))
+    counting(os.path.join(folder, "crates", "heap_read", "src", "steps.rt"))
     program = os.path.join(folder, "crates", "heap_deep")
     os.makedirs(os.path.join(program, "src"))
     shutil.copy(os.path.join(ROOT, "bench", "deep.txt"), os.path.join(program, "src", "main.rt"))

@@ -111,7 +111,7 @@ pub(crate) fn make_zeros(alloc: Global, words: u32) -> Result<u64, Refusal> {
 }
 
 fn make_strings(text: &mut Text, units: u32, count: u32) -> Result<u64, Refusal>
-    requires text { Belongs text.old.agent text.old.heap.now }
+    requires text { Belongs text.old.reader.agent text.old.reader.heap.now }
     requires units { units ≤ 64 }
 {
     let all = UNITS;
@@ -126,7 +126,7 @@ fn make_strings(text: &mut Text, units: u32, count: u32) -> Result<u64, Refusal>
 }
 
 fn read_string(text: &mut Text, count: u32) -> Result<u64, Refusal>
-    requires text { Belongs text.old.agent text.old.heap.now }
+    requires text { Belongs text.old.reader.agent text.old.reader.heap.now }
 {
     let units = UNITS;
     let Ok(s) = text.make_flat(units.as_slice()) else {
@@ -140,9 +140,9 @@ fn read_string(text: &mut Text, count: u32) -> Result<u64, Refusal>
 
 // The sum of so many of the string's units, in turn.
 fn read_units(text: &mut Text, s: JsStr, count: u32) -> u64
-    requires text { Belongs text.old.agent text.old.heap.now }
-    requires settled { IsSettled (view_of text.old.agent) s.id }
-    requires known { (us : List ℕ) × Has (view_of text.old.agent).units s.id us × (length us ≡ 64) }
+    requires text { Belongs text.old.reader.agent text.old.reader.heap.now }
+    requires settled { IsSettled (view_of text.old.reader.agent) s.id }
+    requires known { (us : List ℕ) × Has (view_of text.old.reader.agent).units s.id us × (length us ≡ 64) }
 {
     let mut sum = 0u64;
     for i in 0..count {

@@ -3,7 +3,7 @@ ghost use Rattle.std.specs.Prelude.{◌≡◌, ℕ};
 ghost use Rattle.std.specs.Thread.{IsSync};
 ghost use Rattle.heap_rule.specs.Maps.{HasKey};
 ghost use Rattle.heap_table.specs.Agents.{Belongs, share_of, view_of};
-ghost use Rattle.heap_text.specs.Windows.{IsWindow};
+ghost use Rattle.heap_read.specs.Windows.{IsWindow};
 ghost use Rattle.bench_heap.specs.Readers.{MayRead};
 
 use crate::measures::Refusal;
@@ -39,8 +39,8 @@ pub(crate) fn read_rope<R: Threads + Sync>(
 
 // The units of a string, once it is settled, added up.
 fn sum_of_units(text: &mut Text, s: JsStr) -> Option<u64>
-    requires text { Belongs text.old.agent text.old.heap.now }
-    requires known { HasKey (view_of text.old.agent).units s.id }
+    requires text { Belongs text.old.reader.agent text.old.reader.heap.now }
+    requires known { HasKey (view_of text.old.reader.agent).units s.id }
 {
     let Ok(()) = text.settle(s) else {
         return None;
@@ -61,14 +61,15 @@ fn added(left: Option<u64>, right: Option<u64>) -> Option<u64> {
 // Read by so many agents at once, each in a thread of its own: this one is split until as many are there.
 #[cycle(readers)]
 fn read_by<R: Threads + Sync>(rt: &R, text: &mut Text, s: JsStr, agents: u32) -> Option<u64>
-    requires { MayRead text.old.agent text.old.heap.now s.id agents }
+    requires { MayRead text.old.reader.agent text.old.reader.heap.now s.id agents }
 {
     if agents == 1 {
         return sum_of_units(text, s);
     }
     let right = agents / 2;
-    let agent = text.agent.split(text.heap, right);
-    let mut other = Text::new(text.heap, agent, text.limit);
+    let reader = &mut text.reader;
+    let agent = reader.agent.split(reader.heap, right);
+    let mut other = Text::new(reader.heap, agent, text.limit);
     both_halves(rt, text, agents - right, &mut other, right, s)
 }
 
@@ -82,14 +83,14 @@ fn both_halves<R: Threads + Sync>(
     on_right: u32,
     s: JsStr,
 ) -> Option<u64>
-    requires left { MayRead left.old.agent left.old.heap.now s.id on_left }
-    requires right { MayRead right.old.agent right.old.heap.now s.id on_right }
+    requires left { MayRead left.old.reader.agent left.old.reader.heap.now s.id on_left }
+    requires right { MayRead right.old.reader.agent right.old.reader.heap.now s.id on_right }
 {
     let mut first = ||
-        requires { IsSync R.row × MayRead left.now.agent left.now.heap.now s.id on_left }
+        requires { IsSync R.row × MayRead left.now.reader.agent left.now.reader.heap.now s.id on_left }
     { read_by(rt, left, s, on_left) };
     let mut second = ||
-        requires { IsSync R.row × MayRead right.now.agent right.now.heap.now s.id on_right }
+        requires { IsSync R.row × MayRead right.now.reader.agent right.now.reader.heap.now s.id on_right }
     { read_by(rt, right, s, on_right) };
     let (a, b) = join_mut(rt, &mut first, &mut second);
     added(a, b)

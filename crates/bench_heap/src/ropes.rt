@@ -64,11 +64,11 @@ pub(crate) fn join_ropes(alloc: Global, joins: u32, front: bool) -> Result<u64, 
 
 // Twelve units, to which so many are joined.
 pub(crate) fn make_rope(text: &mut Text, joins: u32, front: bool) -> Result<JsStr, Refusal>
-    requires text { Belongs text.old.agent text.old.heap.now }
-    ensures text { Belongs text.new.agent text.new.heap.now }
-    ensures heap { text.new.heap ≡ text.old.heap }
-    ensures share { (view_of text.new.agent).share ≡ (view_of text.old.agent).share }
-    ensures known { IfOk result (λ s. HasKey (view_of text.new.agent).units s.id) }
+    requires text { Belongs text.old.reader.agent text.old.reader.heap.now }
+    ensures text { Belongs text.new.reader.agent text.new.reader.heap.now }
+    ensures heap { text.new.reader.heap ≡ text.old.reader.heap }
+    ensures share { (view_of text.new.reader.agent).share ≡ (view_of text.old.reader.agent).share }
+    ensures known { IfOk result (λ s. HasKey (view_of text.new.reader.agent).units s.id) }
 {
     let units = UNITS;
     let Ok(unit) = text.make_flat(&units[..1]) else {
@@ -87,13 +87,13 @@ fn join_often(
     joins: u32,
     front: bool,
 ) -> Result<JsStr, Refusal>
-    requires text { Belongs text.old.agent text.old.heap.now }
-    requires known { HasKey (view_of text.old.agent).units s.id }
-    requires side { HasKey (view_of text.old.agent).units side.id }
-    ensures text { Belongs text.new.agent text.new.heap.now }
-    ensures heap { text.new.heap ≡ text.old.heap }
-    ensures share { (view_of text.new.agent).share ≡ (view_of text.old.agent).share }
-    ensures known { IfOk result (λ s. HasKey (view_of text.new.agent).units s.id) }
+    requires text { Belongs text.old.reader.agent text.old.reader.heap.now }
+    requires known { HasKey (view_of text.old.reader.agent).units s.id }
+    requires side { HasKey (view_of text.old.reader.agent).units side.id }
+    ensures text { Belongs text.new.reader.agent text.new.reader.heap.now }
+    ensures heap { text.new.reader.heap ≡ text.old.reader.heap }
+    ensures share { (view_of text.new.reader.agent).share ≡ (view_of text.old.reader.agent).share }
+    ensures known { IfOk result (λ s. HasKey (view_of text.new.reader.agent).units s.id) }
 {
     for _join in 0..joins {
         s = join_side(text, s, side, front)?;
@@ -102,14 +102,14 @@ fn join_often(
 }
 
 fn join_side(text: &mut Text, s: JsStr, side: JsStr, front: bool) -> Result<JsStr, Refusal>
-    requires text { Belongs text.old.agent text.old.heap.now }
-    requires known { HasKey (view_of text.old.agent).units s.id }
-    requires side { HasKey (view_of text.old.agent).units side.id }
-    ensures text { Belongs text.new.agent text.new.heap.now }
-    ensures heap { text.new.heap ≡ text.old.heap }
-    ensures share { (view_of text.new.agent).share ≡ (view_of text.old.agent).share }
-    ensures side { HasKey (view_of text.new.agent).units side.id }
-    ensures known { IfOk result (λ t. HasKey (view_of text.new.agent).units t.id) }
+    requires text { Belongs text.old.reader.agent text.old.reader.heap.now }
+    requires known { HasKey (view_of text.old.reader.agent).units s.id }
+    requires side { HasKey (view_of text.old.reader.agent).units side.id }
+    ensures text { Belongs text.new.reader.agent text.new.reader.heap.now }
+    ensures heap { text.new.reader.heap ≡ text.old.reader.heap }
+    ensures share { (view_of text.new.reader.agent).share ≡ (view_of text.old.reader.agent).share }
+    ensures side { HasKey (view_of text.new.reader.agent).units side.id }
+    ensures known { IfOk result (λ t. HasKey (view_of text.new.reader.agent).units t.id) }
 {
     if front {
         let Ok(t) = text.concat(side, s) else {
@@ -158,9 +158,9 @@ pub(crate) fn cut_parts(alloc: Global, count: u32) -> Result<u64, Refusal> {
 }
 
 fn cut_often(text: &mut Text, s: JsStr, count: u32) -> Result<u64, Refusal>
-    requires text { Belongs text.old.agent text.old.heap.now }
-    requires settled { IsSettled (view_of text.old.agent) s.id }
-    requires known { (us : List ℕ) × Has (view_of text.old.agent).units s.id us × (length us ≡ 1000001) }
+    requires text { Belongs text.old.reader.agent text.old.reader.heap.now }
+    requires settled { IsSettled (view_of text.old.reader.agent) s.id }
+    requires known { (us : List ℕ) × Has (view_of text.old.reader.agent).units s.id us × (length us ≡ 1000001) }
 {
     let mut sum = 0u64;
     for i in 0..count {

@@ -2,12 +2,13 @@
 ghost use Rattle.std.specs.Prelude.{◌≡◌, ℕ, List, ◌++◌, ◌≤◌, IfOk, length};
 ghost use Rattle.heap_rule.specs.Layout.{MAX};
 ghost use Rattle.heap_rule.specs.Maps.{Has, HasKey};
-ghost use Rattle.heap_table.specs.Agents.{Belongs, view_of};
+ghost use Rattle.heap_table.specs.Agents.{view_of};
 ghost use Rattle.heap_table.specs.Known.{KeepsKnown};
 ghost use Rattle.heap_text.specs.Turns.{GoesOn};
 ghost use Rattle.heap_example.specs.Greeting.{Greets};
 
 use crate::refusal::Refusal;
+use heap_read::Reader;
 use heap_rule::{HeapSize, MAX};
 use heap_table::Heap;
 use heap_text::{JsStr, Text};
@@ -34,10 +35,13 @@ pub fn greetings(
     let (heap, agent) = Heap::make(alloc, size, 2)?;
     let mut left = Text::new(&heap, agent, MAX);
     let hello = left.make_flat(hello)?;
-    let agent = left.agent.split(&heap, 1);
+    let reader = &mut left.reader;
+    let agent = reader.agent.split(&heap, 1);
     let mut right = Text::new(&heap, agent, MAX);
     let (one, other) = greet_both(rt, &mut left, &mut right, hello, first, second);
-    left.agent.join(&heap, right.agent);
+    let Reader { agent, .. } = right.reader;
+    let reader = &mut left.reader;
+    reader.agent.join(&heap, agent);
     let first = read(alloc, &mut left, one?)?;
     let second = read(alloc, &mut left, other?)?;
     Ok((first, second))
@@ -52,18 +56,17 @@ fn greet_both(
     first: &[u16],
     second: &[u16],
 ) -> (Result<JsStr, Refusal>, Result<JsStr, Refusal>)
-    requires left { Belongs left.old.agent left.old.heap.now }
-    requires right { Belongs right.old.agent right.old.heap.now }
-    requires known_left { HasKey (view_of left.old.agent).units hello.id }
-    requires known_right { HasKey (view_of right.old.agent).units hello.id }
+    requires known_left { HasKey (view_of left.old.reader.agent).units hello.id }
+    requires known_right { HasKey (view_of right.old.reader.agent).units hello.id }
     requires short { (length first.now ≤ MAX) × (length second.now ≤ MAX) }
-    ensures heaps { (left.new.heap ≡ left.old.heap) × (right.new.heap ≡ right.old.heap) }
-    ensures left { GoesOn (view_of left.old.agent) left.new.agent left.new.heap.now }
-    ensures right { GoesOn (view_of right.old.agent) right.new.agent right.new.heap.now }
+    ensures heaps { (left.new.reader.heap ≡ left.old.reader.heap)
+        × (right.new.reader.heap ≡ right.old.reader.heap) }
+    ensures left { GoesOn (view_of left.old.reader.agent) left.new.reader.agent left.new.reader.heap.now }
+    ensures right { GoesOn (view_of right.old.reader.agent) right.new.reader.agent right.new.reader.heap.now }
     ensures first { IfOk result.0
-        (λ s. Greets (view_of left.old.agent) (view_of left.new.agent) hello first.now s) }
+        (λ s. Greets (view_of left.old.reader.agent) (view_of left.new.reader.agent) hello first.now s) }
     ensures second { IfOk result.1
-        (λ s. Greets (view_of right.old.agent) (view_of right.new.agent) hello second.now s) }
+        (λ s. Greets (view_of right.old.reader.agent) (view_of right.new.reader.agent) hello second.now s) }
 {
     join_mut(
         rt,
@@ -74,13 +77,13 @@ fn greet_both(
 
 // A new string: the units of `hello`, and then the name.
 fn greet(text: &mut Text, hello: JsStr, name: &[u16]) -> Result<JsStr, Refusal>
-    requires text { Belongs text.old.agent text.old.heap.now }
-    requires known { HasKey (view_of text.old.agent).units hello.id }
+    requires known { HasKey (view_of text.old.reader.agent).units hello.id }
     requires short { length name.now ≤ MAX }
-    ensures heap { text.new.heap ≡ text.old.heap }
-    ensures goes_on { GoesOn (view_of text.old.agent) text.new.agent text.new.heap.now }
+    ensures heap { text.new.reader.heap ≡ text.old.reader.heap }
+    ensures goes_on { GoesOn (view_of text.old.reader.agent) text.new.reader.agent
+        text.new.reader.heap.now }
     ensures greets { IfOk result
-        (λ s. Greets (view_of text.old.agent) (view_of text.new.agent) hello name.now s) }
+        (λ s. Greets (view_of text.old.reader.agent) (view_of text.new.reader.agent) hello name.now s) }
 {
     let name = text.make_flat(name)?;
     Ok(text.concat(hello, name)?)
@@ -88,12 +91,10 @@ fn greet(text: &mut Text, hello: JsStr, name: &[u16]) -> Result<JsStr, Refusal>
 
 // The units of a string.
 fn read(alloc: Global, text: &mut Text, s: JsStr) -> Result<Vec<u16>, Refusal>
-    requires text { Belongs text.old.agent text.old.heap.now }
-    requires known { HasKey (view_of text.old.agent).units s.id }
-    ensures text { Belongs text.new.agent text.new.heap.now }
-    ensures heap { text.new.heap ≡ text.old.heap }
-    ensures known { KeepsKnown (view_of text.old.agent) (view_of text.new.agent) }
-    ensures units { IfOk result (λ r. Has (view_of text.old.agent).units s.id r.items) }
+    requires known { HasKey (view_of text.old.reader.agent).units s.id }
+    ensures heap { text.new.reader.heap ≡ text.old.reader.heap }
+    ensures known { KeepsKnown (view_of text.old.reader.agent) (view_of text.new.reader.agent) }
+    ensures units { IfOk result (λ r. Has (view_of text.old.reader.agent).units s.id r.items) }
 {
     text.settle(s)?;
     let window = text.window(s);

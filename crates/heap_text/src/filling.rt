@@ -37,7 +37,12 @@ pub(crate) fn left_length(reader: &mut Reader, id: u32, left: u32, right: u32) -
 
 // A window on all units of a leaf, a string that was seen with another form than Cons. Each
 // load of a form is one step.
-fn leaf_window<L: Ledger>(reader: &mut Reader, of: JsStr, form: Form, steps: &mut Steps<L>) -> Window
+fn leaf_window<L: Ledger>(
+    reader: &mut Reader,
+    of: JsStr,
+    form: Form,
+    steps: &mut Steps<L>,
+) -> Window
     requires known { HasKey (view_in reader.old).units of.id }
     requires seen { Has (view_in reader.old).forms of.id form }
     requires born { form ≢ Unborn }

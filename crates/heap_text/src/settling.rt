@@ -57,7 +57,14 @@ impl<'h> Text<'h> {
         let form = self.reader.form_now(s.id);
         steps.tick();
         match form {
-            Form::Cons { wide, left, right } => flatten(&mut self.reader, s, wide, left, right, steps),
+            Form::Cons { wide, left, right } => flatten(
+                &mut self.reader,
+                s,
+                wide,
+                left,
+                right,
+                steps,
+            ),
             _ => Ok(()),
         }
     }

@@ -13,7 +13,7 @@ use Rattle.eval_values.specs.Outcome.{Val}
 use Rattle.js_eval.specs.Script.{Flow, meaning}
 use Rattle.js_eval.specs.Seen.{BoundsFine, bounds_seen}
 use Rattle.heap_rule.specs.Paths.{StartsWith}
-use Rattle.heap_text.specs.declared.string.JsStr.{JsStr}
+use Rattle.heap_read.specs.declared.string.JsStr.{JsStr}
 use Rattle.heap_intern.specs.Sessions.{SessionFrame}
 use Rattle.heap_intern.specs.Shares.{IsJoined, MayJoin, left_by, right_by}
 use Rattle.run_jobs.specs.declared.job.Job.{Job}

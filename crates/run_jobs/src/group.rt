@@ -6,7 +6,7 @@ ghost use Rattle.run_jobs.specs.Jobs.{number, HasNoLines, Runs};
 
 use crate::job::{Job, Outcome};
 use crate::shared::Shared;
-use heap_text::JsStr;
+use heap_read::JsStr;
 use js_eval::{End, Env};
 use js_io::Gate;
 use std::alloc::Global;

@@ -6,7 +6,7 @@ ghost use Rattle.run_jobs.specs.Jobs.{HasNoLines, MayRun, Runs};
 use crate::group::run_in_order;
 use crate::job::{Job, Outcome};
 use crate::shared::Shared;
-use heap_text::JsStr;
+use heap_read::JsStr;
 use js_eval::Env;
 use js_io::Gate;
 use std::alloc::Global;

@@ -9,7 +9,7 @@ use crate::group::run_in_order;
 use crate::halves::run_groups;
 use crate::job::{Job, Outcome};
 use heap_intern::Session;
-use heap_text::JsStr;
+use heap_read::JsStr;
 use js_eval::Env;
 use js_io::Gate;
 use std::alloc::Global;

@@ -2,7 +2,7 @@
 use crate::shared::Shared;
 use eval_tree::Script;
 use heap_intern::Session;
-use heap_text::JsStr;
+use heap_read::JsStr;
 use js_eval::{End, Env, Lines, eval};
 use std::alloc::Global;
 

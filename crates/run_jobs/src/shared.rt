@@ -11,7 +11,7 @@ ghost use Rattle.heap_intern.specs.Shares.{IsJoined, MayJoin, left_by, right_by}
 ghost use Rattle.run_jobs.specs.Jobs.{number};
 
 use eval_tree::Script;
-use heap_text::JsStr;
+use heap_read::JsStr;
 use js_eval::{End, Env, Lines};
 use std::alloc::Global;
 

@@ -13,7 +13,7 @@ use Rattle.js_eval.specs.declared.ending.End.TheVariants.{Done, Threw, Unsupport
 use Rattle.js_eval.specs.Evaluates.{Evaluates, Finished}
 use Rattle.js_eval.specs.Script.{Flow, meaning}
 use Rattle.js_eval.specs.Seen.{bounds_seen}
-use Rattle.heap_text.specs.declared.string.JsStr.{JsStr}
+use Rattle.heap_read.specs.declared.string.JsStr.{JsStr}
 use Rattle.heap_intern.specs.Sessions.{SessionFrame}
 use Rattle.run_jobs.specs.declared.job.Job.{Job}
 use Rattle.run_jobs.specs.declared.job.Outcome.{Outcome}

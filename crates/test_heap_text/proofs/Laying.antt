@@ -16,7 +16,7 @@ use Rattle.heap_table.specs.Known.{KeepsKnown}
 use Rattle.test_heap_table.specs.Ropes.{bytes_of}
 use Rattle.test_heap_table.proofs.Making.{first_there, laid, own, second_there}
 use Rattle.test_heap_table.proofs.Words.{two_words}
-use Rattle.heap_text.specs.Texts.{Continues}
+use Rattle.heap_read.specs.Reads.{Continues}
 
 -- two words and an id were claimed, and all was stored to
 abbrev pub ready : View → ℕ → ℕ → ℕ → ℕ → View

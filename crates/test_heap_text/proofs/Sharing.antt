@@ -7,8 +7,8 @@ use Rattle.heap_rule.specs.Maps.{HasKey}
 use Rattle.heap_rule.specs.Paths.{Calls}
 use Rattle.heap_rule.proofs.MapLemmas.{has_key, key_of}
 use Rattle.heap_table.specs.Known.{KeepsKnown}
-use Rattle.heap_text.specs.declared.string.JsStr.{JsStr}
-use Rattle.heap_text.specs.Texts.{Continues}
+use Rattle.heap_read.specs.declared.string.JsStr.{JsStr}
+use Rattle.heap_read.specs.Reads.{Continues}
 
 -- v was split into l and r, and each went on
 module _ (v l r a b : View) (give : ℕ) (left : l ≡ left_after_split v give) (right : r ≡ right_after_split v give) (ca : Continues l a) (cb : Continues r b) where

@@ -4,7 +4,7 @@ ghost use Rattle.js_header.specs.declared.form.Form.TheVariants.{Flat};
 ghost use Rattle.heap_rule.specs.Maps.{Has, HasKey};
 ghost use Rattle.heap_table.specs.Agents.{Belongs, size_of, view_of};
 ghost use Rattle.test_heap_table.specs.Ropes.{bytes_of};
-ghost use Rattle.heap_text.specs.Texts.{Continues};
+ghost use Rattle.heap_read.specs.Reads.{Continues};
 
 use crate::ropes::header;
 use crate::slices::cut;
@@ -28,45 +28,47 @@ const BACK: u64 = 0x706f_6e6d_6c6b_6a69;
 // A string of sixteen units, those of the bytes of two words, with the first of the content words
 // in which it lies.
 fn sixteen(text: &mut Text, front: u64, back: u64, fixed: bool) -> Option<(JsStr, u32)>
-    requires text { Belongs text.old.agent text.old.heap.now }
-    ensures text { Belongs text.new.agent text.new.heap.now }
-    ensures heap { text.new.heap ≡ text.old.heap }
-    ensures continues { Continues (view_of text.old.agent) (view_of text.new.agent) }
+    requires text { Belongs text.old.reader.agent text.old.reader.heap.now }
+    ensures text { Belongs text.new.reader.agent text.new.reader.heap.now }
+    ensures heap { text.new.reader.heap ≡ text.old.reader.heap }
+    ensures continues { Continues (view_of text.old.reader.agent) (view_of text.new.reader.agent) }
     ensures units { IfSome result
-        (λ r. Has (view_of text.new.agent).units r.0.id (bytes_of front ++ bytes_of back)) }
-    ensures form { IfSome result (λ r. Has (view_of text.new.agent).forms r.0.id (Flat false r.1 fixed)) }
+        (λ r. Has (view_of text.new.reader.agent).units r.0.id (bytes_of front ++ bytes_of back)) }
+    ensures form { IfSome result (λ r. Has (view_of text.new.reader.agent).forms r.0.id (Flat false r.1 fixed)) }
     ensures small { IfSome result (λ r. r.1 < 2 ^ 29) }
 {
-    let Ok(start) = text.agent.claim_words(text.heap, 2) else {
+    let reader = &mut text.reader;
+    let Ok(start) = reader.agent.claim_words(reader.heap, 2) else {
         return None;
     };
-    text.agent.store_word(text.heap, start, front);
-    text.agent.store_word(text.heap, start + 1, back);
-    let Ok(id) = text.agent.claim_id(text.heap) else {
+    reader.agent.store_word(reader.heap, start, front);
+    reader.agent.store_word(reader.heap, start + 1, back);
+    let Ok(id) = reader.agent.claim_id(reader.heap) else {
         return None;
     };
-    text.agent.store_length(text.heap, id, 16);
+    reader.agent.store_length(reader.heap, id, 16);
     let form = Form::Flat {
         wide: false,
         start,
         fixed,
     };
-    text.agent.birth(text.heap, id, form);
+    reader.agent.birth(reader.heap, id, form);
     Some((JsStr { id }, start))
 }
 
 // A fixed string in the one slot of a heap.
 fn interned(text: &mut Text, front: u64, back: u64) -> Option<JsStr>
-    requires text { Belongs text.old.agent text.old.heap.now }
-    requires one { (size_of text.old.heap.now).slots ≡ 1 }
-    ensures text { Belongs text.new.agent text.new.heap.now }
-    ensures heap { text.new.heap ≡ text.old.heap }
+    requires text { Belongs text.old.reader.agent text.old.reader.heap.now }
+    requires one { (size_of text.old.reader.heap.now).slots ≡ 1 }
+    ensures text { Belongs text.new.reader.agent text.new.reader.heap.now }
+    ensures heap { text.new.reader.heap ≡ text.old.reader.heap }
     ensures units { IfSome result
-        (λ t. Has (view_of text.new.agent).units t.id (bytes_of front ++ bytes_of back)) }
-    ensures slot { IfSome result (λ t. (k : ℕ) × Has (view_of text.new.agent).slots k t.id) }
+        (λ t. Has (view_of text.new.reader.agent).units t.id (bytes_of front ++ bytes_of back)) }
+    ensures slot { IfSome result (λ t. (k : ℕ) × Has (view_of text.new.reader.agent).slots k t.id) }
 {
     let (t, _start) = sixteen(text, front, back, true)?;
-    match text.agent.claim_slot(text.heap, 0, t.id) {
+    let reader = &mut text.reader;
+    match reader.agent.claim_slot(reader.heap, 0, t.id) {
         Step::Won => Some(t),
         Step::Lost { .. } => None,
     }
@@ -74,16 +76,17 @@ fn interned(text: &mut Text, front: u64, back: u64) -> Option<JsStr>
 
 // Whether a string is forwarded to the interned one with its units.
 fn forward(text: &mut Text, s: JsStr, target: JsStr) -> bool
-    requires text { Belongs text.old.agent text.old.heap.now }
-    requires units { (us : List ℕ) × Has (view_of text.old.agent).units s.id us
-        × Has (view_of text.old.agent).units target.id us }
-    requires slot { (k : ℕ) × Has (view_of text.old.agent).slots k target.id }
-    ensures text { Belongs text.new.agent text.new.heap.now }
-    ensures heap { text.new.heap ≡ text.old.heap }
-    ensures units { (i : ℕ) (us : List ℕ) → Has (view_of text.old.agent).units i us
-        → Has (view_of text.new.agent).units i us }
+    requires text { Belongs text.old.reader.agent text.old.reader.heap.now }
+    requires units { (us : List ℕ) × Has (view_of text.old.reader.agent).units s.id us
+        × Has (view_of text.old.reader.agent).units target.id us }
+    requires slot { (k : ℕ) × Has (view_of text.old.reader.agent).slots k target.id }
+    ensures text { Belongs text.new.reader.agent text.new.reader.heap.now }
+    ensures heap { text.new.reader.heap ≡ text.old.reader.heap }
+    ensures units { (i : ℕ) (us : List ℕ) → Has (view_of text.old.reader.agent).units i us
+        → Has (view_of text.new.reader.agent).units i us }
 {
-    let Form::Flat { wide, start, fixed } = text.agent.load_form(text.heap, s.id) else {
+    let reader = &mut text.reader;
+    let Form::Flat { wide, start, fixed } = reader.agent.load_form(reader.heap, s.id) else {
         return false;
     };
     if fixed {
@@ -94,7 +97,7 @@ fn forward(text: &mut Text, s: JsStr, target: JsStr) -> bool
         start,
         fixed: false,
     };
-    is_won(text.agent.thin_step(text.heap, s.id, old, target.id))
+    is_won(reader.agent.thin_step(reader.heap, s.id, old, target.id))
 }
 
 fn is_won(step: Step) -> bool {
@@ -115,12 +118,12 @@ fn size() -> HeapSize
 // The letters, forwarded to the interned string with their units, and the part of them that was
 // cut before.
 fn forwarded(text: &mut Text) -> Option<(JsStr, JsStr)>
-    requires text { Belongs text.old.agent text.old.heap.now }
-    requires one { (size_of text.old.heap.now).slots ≡ 1 }
-    ensures text { Belongs text.new.agent text.new.heap.now }
-    ensures heap { text.new.heap ≡ text.old.heap }
+    requires text { Belongs text.old.reader.agent text.old.reader.heap.now }
+    requires one { (size_of text.old.reader.heap.now).slots ≡ 1 }
+    ensures text { Belongs text.new.reader.agent text.new.reader.heap.now }
+    ensures heap { text.new.reader.heap ≡ text.old.reader.heap }
     ensures known { IfSome result
-        (λ r. HasKey (view_of text.new.agent).units r.0.id × HasKey (view_of text.new.agent).units r.1.id) }
+        (λ r. HasKey (view_of text.new.reader.agent).units r.0.id × HasKey (view_of text.new.reader.agent).units r.1.id) }
 {
     let target = interned(text, FRONT, BACK)?;
     let (s, _start) = sixteen(text, FRONT, BACK, false)?;
@@ -156,12 +159,12 @@ fn a_forwarded_string_is_read(rt: HostRuntime) {
 
 // A part of the part, or of the string.
 fn cut_one(text: &mut Text, s: JsStr, part: JsStr, of_part: bool) -> Option<JsStr>
-    requires text { Belongs text.old.agent text.old.heap.now }
-    requires known { HasKey (view_of text.old.agent).units s.id
-        × HasKey (view_of text.old.agent).units part.id }
-    ensures text { Belongs text.new.agent text.new.heap.now }
-    ensures heap { text.new.heap ≡ text.old.heap }
-    ensures known { IfSome result (λ t. HasKey (view_of text.new.agent).units t.id) }
+    requires text { Belongs text.old.reader.agent text.old.reader.heap.now }
+    requires known { HasKey (view_of text.old.reader.agent).units s.id
+        × HasKey (view_of text.old.reader.agent).units part.id }
+    ensures text { Belongs text.new.reader.agent text.new.reader.heap.now }
+    ensures heap { text.new.reader.heap ≡ text.old.reader.heap }
+    ensures known { IfSome result (λ t. HasKey (view_of text.new.reader.agent).units t.id) }
 {
     if of_part {
         return cut(text, part, 1, 14);

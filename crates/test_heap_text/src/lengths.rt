@@ -12,13 +12,13 @@ use std::alloc::Global;
 
 // The string, with a rope behind it where the bit is set.
 fn with_bit(text: &mut Text, s: JsStr, rope: JsStr, bit: bool) -> Option<JsStr>
-    requires text { Belongs text.old.agent text.old.heap.now }
-    requires known { HasKey (view_of text.old.agent).units s.id }
-    requires rope { HasKey (view_of text.old.agent).units rope.id }
-    ensures text { Belongs text.new.agent text.new.heap.now }
-    ensures heap { text.new.heap ≡ text.old.heap }
-    ensures keeps { KeepsKnown (view_of text.old.agent) (view_of text.new.agent) }
-    ensures known { IfSome result (λ t. HasKey (view_of text.new.agent).units t.id) }
+    requires text { Belongs text.old.reader.agent text.old.reader.heap.now }
+    requires known { HasKey (view_of text.old.reader.agent).units s.id }
+    requires rope { HasKey (view_of text.old.reader.agent).units rope.id }
+    ensures text { Belongs text.new.reader.agent text.new.reader.heap.now }
+    ensures heap { text.new.reader.heap ≡ text.old.reader.heap }
+    ensures keeps { KeepsKnown (view_of text.old.reader.agent) (view_of text.new.reader.agent) }
+    ensures known { IfSome result (λ t. HasKey (view_of text.new.reader.agent).units t.id) }
 {
     if !bit {
         return Some(s);
@@ -32,11 +32,11 @@ fn with_bit(text: &mut Text, s: JsStr, rope: JsStr, bit: bool) -> Option<JsStr>
 // A rope of so many units, at most 2^28 - 1: for each bit of their number that is set, as many as
 // it stands for.
 fn of_length(text: &mut Text, n: u32) -> Option<JsStr>
-    requires text { Belongs text.old.agent text.old.heap.now }
-    ensures text { Belongs text.new.agent text.new.heap.now }
-    ensures heap { text.new.heap ≡ text.old.heap }
-    ensures keeps { KeepsKnown (view_of text.old.agent) (view_of text.new.agent) }
-    ensures known { IfSome result (λ t. HasKey (view_of text.new.agent).units t.id) }
+    requires text { Belongs text.old.reader.agent text.old.reader.heap.now }
+    ensures text { Belongs text.new.reader.agent text.new.reader.heap.now }
+    ensures heap { text.new.reader.heap ≡ text.old.reader.heap }
+    ensures keeps { KeepsKnown (view_of text.old.reader.agent) (view_of text.new.reader.agent) }
+    ensures known { IfSome result (λ t. HasKey (view_of text.new.reader.agent).units t.id) }
 {
     let Ok(mut rope) = text.make_flat(&[97]) else {
         return None;
@@ -62,7 +62,7 @@ fn of_length(text: &mut Text, n: u32) -> Option<JsStr>
 
 // The length of a rope of two halves, and what joining answers where one half has a unit more.
 fn at_the_limit(text: &mut Text, half: u32, more: u32) -> Option<(u32, Result<JsStr, JoinFault>)>
-    requires text { Belongs text.old.agent text.old.heap.now }
+    requires text { Belongs text.old.reader.agent text.old.reader.heap.now }
 {
     let Some(half) = of_length(text, half) else {
         return None;

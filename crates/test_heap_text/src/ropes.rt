@@ -4,12 +4,12 @@ ghost use Rattle.js_header.specs.Form.{IsInRange};
 ghost use Rattle.heap_rule.specs.Maps.{Has, HasKey};
 ghost use Rattle.heap_table.specs.Agents.{Belongs, share_of, view_of};
 ghost use Rattle.heap_table.specs.Known.{KeepsKnown};
-ghost use Rattle.heap_text.specs.Texts.{Continues};
+ghost use Rattle.heap_read.specs.Reads.{Continues};
 ghost use Rattle.heap_text.specs.Turns.{GoesOn};
 
 use crate::strings::reads;
+use heap_read::{Reader, Steps};
 use heap_rule::{HeapSize, MAX};
-use heap_steps::Steps;
 use heap_table::{CounterFull, Heap};
 use heap_text::{JoinFault, JsStr, Text, TextFull};
 use js_header::{Form, encode};
@@ -23,12 +23,12 @@ const LETTERS: [u16; 13] = [97, 98, 99, 100, 101, 102, 103, 104, 105, 106, 107, 
 
 // Two strings made and joined.
 pub(crate) fn joined(text: &mut Text, left: &[u16], right: &[u16]) -> Option<JsStr>
-    requires text { Belongs text.old.agent text.old.heap.now }
+    requires text { Belongs text.old.reader.agent text.old.reader.heap.now }
     requires short { (length left.now ≤ 1000) × (length right.now ≤ 1000) }
-    ensures text { Belongs text.new.agent text.new.heap.now }
-    ensures heap { text.new.heap ≡ text.old.heap }
-    ensures continues { Continues (view_of text.old.agent) (view_of text.new.agent) }
-    ensures known { IfSome result (λ s. HasKey (view_of text.new.agent).units s.id) }
+    ensures text { Belongs text.new.reader.agent text.new.reader.heap.now }
+    ensures heap { text.new.reader.heap ≡ text.old.reader.heap }
+    ensures continues { Continues (view_of text.old.reader.agent) (view_of text.new.reader.agent) }
+    ensures known { IfSome result (λ s. HasKey (view_of text.new.reader.agent).units s.id) }
 {
     let Ok(a) = text.make_flat(left) else {
         return None;
@@ -44,14 +44,14 @@ pub(crate) fn joined(text: &mut Text, left: &[u16], right: &[u16]) -> Option<JsS
 
 // The header of a string as it is at this moment.
 pub(crate) fn header(text: &mut Text, s: JsStr) -> Form
-    requires text { Belongs text.old.agent text.old.heap.now }
-    requires known { HasKey (view_of text.old.agent).units s.id }
-    ensures text { Belongs text.new.agent text.new.heap.now }
-    ensures heap { text.new.heap ≡ text.old.heap }
-    ensures continues { Continues (view_of text.old.agent) (view_of text.new.agent) }
+    requires text { Belongs text.old.reader.agent text.old.reader.heap.now }
+    requires known { HasKey (view_of text.old.reader.agent).units s.id }
+    ensures text { Belongs text.new.reader.agent text.new.reader.heap.now }
+    ensures heap { text.new.reader.heap ≡ text.old.reader.heap }
+    ensures continues { Continues (view_of text.old.reader.agent) (view_of text.new.reader.agent) }
     ensures range { IsInRange result }
 {
-    text.agent.load_form(text.heap, s.id)
+    text.reader.form_now(s.id)
 }
 
 // The header of two strings, the first of a heap, joined.
@@ -128,10 +128,10 @@ fn no_room_to_settle(rt: HostRuntime) {
 
 // Whether a string reads as wanted once it is settled, as what a thread does.
 fn turn(text: &mut Text, s: JsStr, want: &[u16]) -> bool
-    requires text { Belongs text.old.agent text.old.heap.now }
-    requires known { HasKey (view_of text.old.agent).units s.id }
-    ensures heap { text.new.heap ≡ text.old.heap }
-    ensures goes_on { GoesOn (view_of text.old.agent) text.new.agent text.new.heap.now }
+    requires text { Belongs text.old.reader.agent text.old.reader.heap.now }
+    requires known { HasKey (view_of text.old.reader.agent).units s.id }
+    ensures heap { text.new.reader.heap ≡ text.old.reader.heap }
+    ensures goes_on { GoesOn (view_of text.old.reader.agent) text.new.reader.agent text.new.reader.heap.now }
 {
     reads(text, s, want)
 }
@@ -151,13 +151,13 @@ fn both_at_once(
     first: Wanted,
     second: Wanted,
 ) -> (bool, bool)
-    requires left { Belongs left.old.agent left.old.heap.now }
-    requires right { Belongs right.old.agent right.old.heap.now }
-    requires known_left { HasKey (view_of left.old.agent).units first.s.id }
-    requires known_right { HasKey (view_of right.old.agent).units second.s.id }
-    ensures heaps { (left.new.heap ≡ left.old.heap) × (right.new.heap ≡ right.old.heap) }
-    ensures left { GoesOn (view_of left.old.agent) left.new.agent left.new.heap.now }
-    ensures right { GoesOn (view_of right.old.agent) right.new.agent right.new.heap.now }
+    requires left { Belongs left.old.reader.agent left.old.reader.heap.now }
+    requires right { Belongs right.old.reader.agent right.old.reader.heap.now }
+    requires known_left { HasKey (view_of left.old.reader.agent).units first.s.id }
+    requires known_right { HasKey (view_of right.old.reader.agent).units second.s.id }
+    ensures heaps { (left.new.reader.heap ≡ left.old.reader.heap) × (right.new.reader.heap ≡ right.old.reader.heap) }
+    ensures left { GoesOn (view_of left.old.reader.agent) left.new.reader.agent left.new.reader.heap.now }
+    ensures right { GoesOn (view_of right.old.reader.agent) right.new.reader.agent right.new.reader.heap.now }
 {
     join_mut(
         rt,
@@ -173,21 +173,23 @@ fn split_and_joined(
     first: Wanted,
     second: Wanted,
 ) -> (bool, bool)
-    requires text { Belongs left.old.agent left.old.heap.now }
-    requires first { HasKey (view_of left.old.agent).units first.s.id }
-    requires second { HasKey (view_of left.old.agent).units second.s.id }
-    requires two { share_of left.old.agent ≡ 2 }
-    ensures text { Belongs left.new.agent left.new.heap.now }
-    ensures heap { left.new.heap ≡ left.old.heap }
-    ensures share { (view_of left.new.agent).share ≡ (view_of left.old.agent).share }
-    ensures agents { (view_of left.new.agent).agents ≡ (view_of left.old.agent).agents }
-    ensures known { KeepsKnown (view_of left.old.agent) (view_of left.new.agent) }
+    requires text { Belongs left.old.reader.agent left.old.reader.heap.now }
+    requires first { HasKey (view_of left.old.reader.agent).units first.s.id }
+    requires second { HasKey (view_of left.old.reader.agent).units second.s.id }
+    requires two { share_of left.old.reader.agent ≡ 2 }
+    ensures text { Belongs left.new.reader.agent left.new.reader.heap.now }
+    ensures heap { left.new.reader.heap ≡ left.old.reader.heap }
+    ensures share { (view_of left.new.reader.agent).share ≡ (view_of left.old.reader.agent).share }
+    ensures agents { (view_of left.new.reader.agent).agents ≡ (view_of left.old.reader.agent).agents }
+    ensures known { KeepsKnown (view_of left.old.reader.agent) (view_of left.new.reader.agent) }
 {
-    let agent = left.agent.split(left.heap, 1);
-    let mut right = Text::new(left.heap, agent, left.limit);
+    let reader = &mut left.reader;
+    let agent = reader.agent.split(reader.heap, 1);
+    let mut right = Text::new(reader.heap, agent, left.limit);
     let both = both_at_once(rt, left, &mut right, first, second);
-    let Text { agent, .. } = right;
-    left.agent.join(left.heap, agent);
+    let Reader { agent, .. } = right.reader;
+    let reader = &mut left.reader;
+    reader.agent.join(reader.heap, agent);
     both
 }
 
@@ -220,7 +222,7 @@ fn shares_a_rope(rt: &impl Threads, alloc: Global) -> bool {
     if encode(cons) != 17179869186 {
         return false;
     }
-    if text.agent.totals(&heap) != (3, 3) {
+    if text.reader.agent.totals(&heap) != (3, 3) {
         return false;
     }
     let units = &LETTERS[..];
@@ -231,7 +233,7 @@ fn shares_a_rope(rt: &impl Threads, alloc: Global) -> bool {
     if !is_narrow_flat(header(&mut text, s)) {
         return false;
     }
-    let (ids, words) = text.agent.totals(&heap);
+    let (ids, words) = text.reader.agent.totals(&heap);
     ids == 3 && (words == 5 || words == 7)
 }
 
@@ -248,21 +250,21 @@ fn two_agents_settle_a_rope(rt: HostRuntime) {
 
 // The string joined with itself.
 pub(crate) fn doubled(text: &mut Text, s: JsStr) -> Result<JsStr, JoinFault>
-    requires text { Belongs text.old.agent text.old.heap.now }
-    requires known { HasKey (view_of text.old.agent).units s.id }
-    ensures text { Belongs text.new.agent text.new.heap.now }
-    ensures heap { text.new.heap ≡ text.old.heap }
-    ensures continues { Continues (view_of text.old.agent) (view_of text.new.agent) }
-    ensures known { HasKey (view_of text.new.agent).units s.id }
-    ensures doubled { IfOk result (λ t. HasKey (view_of text.new.agent).units t.id) }
+    requires text { Belongs text.old.reader.agent text.old.reader.heap.now }
+    requires known { HasKey (view_of text.old.reader.agent).units s.id }
+    ensures text { Belongs text.new.reader.agent text.new.reader.heap.now }
+    ensures heap { text.new.reader.heap ≡ text.old.reader.heap }
+    ensures continues { Continues (view_of text.old.reader.agent) (view_of text.new.reader.agent) }
+    ensures known { HasKey (view_of text.new.reader.agent).units s.id }
+    ensures doubled { IfOk result (λ t. HasKey (view_of text.new.reader.agent).units t.id) }
 {
     text.concat(s, s)
 }
 
 // How often a string can be joined with itself, at most 40 times, before it is too long.
 fn doublings(text: &mut Text, mut s: JsStr) -> Option<u32>
-    requires text { Belongs text.old.agent text.old.heap.now }
-    requires known { HasKey (view_of text.old.agent).units s.id }
+    requires text { Belongs text.old.reader.agent text.old.reader.heap.now }
+    requires known { HasKey (view_of text.old.reader.agent).units s.id }
 {
     for turn in 0..40 {
         match doubled(text, s) {
@@ -294,13 +296,13 @@ fn doubled_past_the_greatest_length(rt: HostRuntime) {
 
 // Another unit in front of a string, or behind it.
 fn grown(text: &mut Text, s: JsStr, unit: JsStr, front: bool) -> Option<JsStr>
-    requires text { Belongs text.old.agent text.old.heap.now }
-    requires known { HasKey (view_of text.old.agent).units s.id }
-    requires unit { HasKey (view_of text.old.agent).units unit.id }
-    ensures text { Belongs text.new.agent text.new.heap.now }
-    ensures heap { text.new.heap ≡ text.old.heap }
-    ensures unit { HasKey (view_of text.new.agent).units unit.id }
-    ensures known { IfSome result (λ t. HasKey (view_of text.new.agent).units t.id) }
+    requires text { Belongs text.old.reader.agent text.old.reader.heap.now }
+    requires known { HasKey (view_of text.old.reader.agent).units s.id }
+    requires unit { HasKey (view_of text.old.reader.agent).units unit.id }
+    ensures text { Belongs text.new.reader.agent text.new.reader.heap.now }
+    ensures heap { text.new.reader.heap ≡ text.old.reader.heap }
+    ensures unit { HasKey (view_of text.new.reader.agent).units unit.id }
+    ensures known { IfSome result (λ t. HasKey (view_of text.new.reader.agent).units t.id) }
 {
     if front {
         let Ok(t) = text.concat(unit, s) else {
@@ -316,10 +318,10 @@ fn grown(text: &mut Text, s: JsStr, unit: JsStr, front: bool) -> Option<JsStr>
 
 // Twelve units, to which one more is joined so often.
 fn deep(text: &mut Text, joins: u32, front: bool) -> Option<JsStr>
-    requires text { Belongs text.old.agent text.old.heap.now }
-    ensures text { Belongs text.new.agent text.new.heap.now }
-    ensures heap { text.new.heap ≡ text.old.heap }
-    ensures known { IfSome result (λ t. HasKey (view_of text.new.agent).units t.id) }
+    requires text { Belongs text.old.reader.agent text.old.reader.heap.now }
+    ensures text { Belongs text.new.reader.agent text.new.reader.heap.now }
+    ensures heap { text.new.reader.heap ≡ text.old.reader.heap }
+    ensures known { IfSome result (λ t. HasKey (view_of text.new.reader.agent).units t.id) }
 {
     let Ok(unit) = text.make_flat(&LETTERS[12..]) else {
         return None;
@@ -339,8 +341,8 @@ fn ends<L: Ledger>(text: &mut Text, s: JsStr, blank: Blank) -> Option<(u32, u16,
     requires name { blank.name ≡ L.name }
     requires parts { blank.parts ≡ L.parts }
     requires some { 0 < blank.parts }
-    requires text { Belongs text.old.agent text.old.heap.now }
-    requires known { HasKey (view_of text.old.agent).units s.id }
+    requires text { Belongs text.old.reader.agent text.old.reader.heap.now }
+    requires known { HasKey (view_of text.old.reader.agent).units s.id }
 {
     let mut steps = Steps::<L>::start(blank);
     let Ok(()) = text.settle_counted(s, &mut steps) else {
@@ -378,10 +380,10 @@ fn deep_ropes(rt: HostRuntime) {
 
 // Thirteen units, joined with themselves so often.
 fn doubled_often(text: &mut Text, turns: u32) -> Option<JsStr>
-    requires text { Belongs text.old.agent text.old.heap.now }
-    ensures text { Belongs text.new.agent text.new.heap.now }
-    ensures heap { text.new.heap ≡ text.old.heap }
-    ensures known { IfSome result (λ t. HasKey (view_of text.new.agent).units t.id) }
+    requires text { Belongs text.old.reader.agent text.old.reader.heap.now }
+    ensures text { Belongs text.new.reader.agent text.new.reader.heap.now }
+    ensures heap { text.new.reader.heap ≡ text.old.reader.heap }
+    ensures known { IfSome result (λ t. HasKey (view_of text.new.reader.agent).units t.id) }
 {
     let Ok(mut s) = text.make_flat(&LETTERS[..]) else {
         return None;

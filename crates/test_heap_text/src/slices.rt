@@ -2,7 +2,7 @@
 ghost use Rattle.std.specs.Prelude.{◌≡◌, IfSome};
 ghost use Rattle.heap_rule.specs.Maps.{HasKey};
 ghost use Rattle.heap_table.specs.Agents.{Belongs, view_of};
-ghost use Rattle.heap_text.specs.Texts.{Continues};
+ghost use Rattle.heap_read.specs.Reads.{Continues};
 
 use crate::ropes::{header, joined};
 use crate::strings::reads;
@@ -19,12 +19,12 @@ const LETTERS: [u16; 18] = [
 
 // The part of a string, once that is settled; none where it has no such part.
 pub(crate) fn cut(text: &mut Text, s: JsStr, from: u32, to: u32) -> Option<JsStr>
-    requires text { Belongs text.old.agent text.old.heap.now }
-    requires known { HasKey (view_of text.old.agent).units s.id }
-    ensures text { Belongs text.new.agent text.new.heap.now }
-    ensures heap { text.new.heap ≡ text.old.heap }
-    ensures continues { Continues (view_of text.old.agent) (view_of text.new.agent) }
-    ensures known { IfSome result (λ t. HasKey (view_of text.new.agent).units t.id) }
+    requires text { Belongs text.old.reader.agent text.old.reader.heap.now }
+    requires known { HasKey (view_of text.old.reader.agent).units s.id }
+    ensures text { Belongs text.new.reader.agent text.new.reader.heap.now }
+    ensures heap { text.new.reader.heap ≡ text.old.reader.heap }
+    ensures continues { Continues (view_of text.old.reader.agent) (view_of text.new.reader.agent) }
+    ensures known { IfSome result (λ t. HasKey (view_of text.new.reader.agent).units t.id) }
 {
     let Ok(()) = text.settle(s) else {
         return None;

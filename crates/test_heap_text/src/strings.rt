@@ -2,9 +2,10 @@
 ghost use Rattle.std.specs.Prelude.{◌≡◌, ℕ, List, ◌≤◌, ◌<◌, IfSome, length};
 ghost use Rattle.heap_rule.specs.Maps.{Has, HasKey};
 ghost use Rattle.heap_table.specs.Agents.{Belongs, share_of, view_of};
-ghost use Rattle.heap_text.specs.Texts.{Continues};
+ghost use Rattle.heap_read.specs.Reads.{Continues};
 ghost use Rattle.heap_text.specs.Turns.{GoesOn};
 
+use heap_read::Reader;
 use heap_rule::{HeapSize, MAX};
 use heap_table::{CounterFull, Heap, MakeFault};
 use heap_text::{JoinFault, JsStr, Text, TextFull};
@@ -13,11 +14,11 @@ use std::thread::{Threads, join_mut};
 
 // Whether the string has these units, read one by one, by a window and without.
 pub(crate) fn reads(text: &mut Text, s: JsStr, want: &[u16]) -> bool
-    requires text { Belongs text.old.agent text.old.heap.now }
-    requires known { HasKey (view_of text.old.agent).units s.id }
-    ensures text { Belongs text.new.agent text.new.heap.now }
-    ensures heap { text.new.heap ≡ text.old.heap }
-    ensures continues { Continues (view_of text.old.agent) (view_of text.new.agent) }
+    requires text { Belongs text.old.reader.agent text.old.reader.heap.now }
+    requires known { HasKey (view_of text.old.reader.agent).units s.id }
+    ensures text { Belongs text.new.reader.agent text.new.reader.heap.now }
+    ensures heap { text.new.reader.heap ≡ text.old.reader.heap }
+    ensures continues { Continues (view_of text.old.reader.agent) (view_of text.new.reader.agent) }
 {
     let Ok(()) = text.settle(s) else {
         return false;
@@ -41,10 +42,10 @@ pub(crate) fn reads(text: &mut Text, s: JsStr, want: &[u16]) -> bool
 
 // Whether a string of these units can be made, joined with itself and cut again.
 fn round_trip(text: &mut Text, units: &[u16]) -> bool
-    requires text { Belongs text.old.agent text.old.heap.now }
+    requires text { Belongs text.old.reader.agent text.old.reader.heap.now }
     requires short { length units.now ≤ 1000 }
-    ensures text { Belongs text.new.agent text.new.heap.now }
-    ensures heap { text.new.heap ≡ text.old.heap }
+    ensures text { Belongs text.new.reader.agent text.new.reader.heap.now }
+    ensures heap { text.new.reader.heap ≡ text.old.reader.heap }
 {
     let n = units.len() as u32;
     let Ok(s) = text.make_flat(units) else {
@@ -94,12 +95,12 @@ fn strings_of_each_length(rt: HostRuntime) {
 
 // The string joined with itself, where it reads as wanted.
 fn twice(text: &mut Text, s: JsStr, want: &[u16]) -> Option<JsStr>
-    requires text { Belongs text.old.agent text.old.heap.now }
-    requires known { HasKey (view_of text.old.agent).units s.id }
-    ensures text { Belongs text.new.agent text.new.heap.now }
-    ensures heap { text.new.heap ≡ text.old.heap }
-    ensures continues { Continues (view_of text.old.agent) (view_of text.new.agent) }
-    ensures known { IfSome result (λ t. HasKey (view_of text.new.agent).units t.id) }
+    requires text { Belongs text.old.reader.agent text.old.reader.heap.now }
+    requires known { HasKey (view_of text.old.reader.agent).units s.id }
+    ensures text { Belongs text.new.reader.agent text.new.reader.heap.now }
+    ensures heap { text.new.reader.heap ≡ text.old.reader.heap }
+    ensures continues { Continues (view_of text.old.reader.agent) (view_of text.new.reader.agent) }
+    ensures known { IfSome result (λ t. HasKey (view_of text.new.reader.agent).units t.id) }
 {
     let Ok(joined) = text.concat(s, s) else {
         return None;
@@ -112,11 +113,11 @@ fn twice(text: &mut Text, s: JsStr, want: &[u16]) -> Option<JsStr>
 
 // The same, as what a thread does.
 fn turn(text: &mut Text, s: JsStr, want: &[u16]) -> Option<JsStr>
-    requires text { Belongs text.old.agent text.old.heap.now }
-    requires known { HasKey (view_of text.old.agent).units s.id }
-    ensures heap { text.new.heap ≡ text.old.heap }
-    ensures goes_on { GoesOn (view_of text.old.agent) text.new.agent text.new.heap.now }
-    ensures known { IfSome result (λ t. HasKey (view_of text.new.agent).units t.id) }
+    requires text { Belongs text.old.reader.agent text.old.reader.heap.now }
+    requires known { HasKey (view_of text.old.reader.agent).units s.id }
+    ensures heap { text.new.reader.heap ≡ text.old.reader.heap }
+    ensures goes_on { GoesOn (view_of text.old.reader.agent) text.new.reader.agent text.new.reader.heap.now }
+    ensures known { IfSome result (λ t. HasKey (view_of text.new.reader.agent).units t.id) }
 {
     twice(text, s, want)
 }
@@ -133,15 +134,15 @@ fn twice_at_once(
     s: JsStr,
     want: &[u16],
 ) -> (Option<JsStr>, Option<JsStr>)
-    requires left { Belongs left.old.agent left.old.heap.now }
-    requires right { Belongs right.old.agent right.old.heap.now }
-    requires known_left { HasKey (view_of left.old.agent).units s.id }
-    requires known_right { HasKey (view_of right.old.agent).units s.id }
-    ensures heaps { (left.new.heap ≡ left.old.heap) × (right.new.heap ≡ right.old.heap) }
-    ensures left { GoesOn (view_of left.old.agent) left.new.agent left.new.heap.now }
-    ensures right { GoesOn (view_of right.old.agent) right.new.agent right.new.heap.now }
-    ensures known_left { IfSome result.0 (λ t. HasKey (view_of left.new.agent).units t.id) }
-    ensures known_right { IfSome result.1 (λ t. HasKey (view_of right.new.agent).units t.id) }
+    requires left { Belongs left.old.reader.agent left.old.reader.heap.now }
+    requires right { Belongs right.old.reader.agent right.old.reader.heap.now }
+    requires known_left { HasKey (view_of left.old.reader.agent).units s.id }
+    requires known_right { HasKey (view_of right.old.reader.agent).units s.id }
+    ensures heaps { (left.new.reader.heap ≡ left.old.reader.heap) × (right.new.reader.heap ≡ right.old.reader.heap) }
+    ensures left { GoesOn (view_of left.old.reader.agent) left.new.reader.agent left.new.reader.heap.now }
+    ensures right { GoesOn (view_of right.old.reader.agent) right.new.reader.agent right.new.reader.heap.now }
+    ensures known_left { IfSome result.0 (λ t. HasKey (view_of left.new.reader.agent).units t.id) }
+    ensures known_right { IfSome result.1 (λ t. HasKey (view_of right.new.reader.agent).units t.id) }
 {
     join_mut(
         rt,
@@ -152,12 +153,12 @@ fn twice_at_once(
 
 // Whether both strings are there and read as wanted: ids 1 and 2 in one order or the other.
 fn reads_both(text: &mut Text, both: (Option<JsStr>, Option<JsStr>), want: &[u16]) -> bool
-    requires text { Belongs text.old.agent text.old.heap.now }
-    requires first { IfSome both.0 (λ t. HasKey (view_of text.old.agent).units t.id) }
-    requires second { IfSome both.1 (λ t. HasKey (view_of text.old.agent).units t.id) }
-    ensures text { Belongs text.new.agent text.new.heap.now }
-    ensures heap { text.new.heap ≡ text.old.heap }
-    ensures continues { Continues (view_of text.old.agent) (view_of text.new.agent) }
+    requires text { Belongs text.old.reader.agent text.old.reader.heap.now }
+    requires first { IfSome both.0 (λ t. HasKey (view_of text.old.reader.agent).units t.id) }
+    requires second { IfSome both.1 (λ t. HasKey (view_of text.old.reader.agent).units t.id) }
+    ensures text { Belongs text.new.reader.agent text.new.reader.heap.now }
+    ensures heap { text.new.reader.heap ≡ text.old.reader.heap }
+    ensures continues { Continues (view_of text.old.reader.agent) (view_of text.new.reader.agent) }
 {
     let (Some(a), Some(b)) = both else {
         return false;
@@ -174,19 +175,21 @@ fn reads_both(text: &mut Text, both: (Option<JsStr>, Option<JsStr>), want: &[u16
 // The agent is split, the two join the string with itself at once, and they become one agent
 // again, which reads what both made.
 fn split_and_joined(rt: &impl Threads, left: &mut Text, s: JsStr, want: &[u16]) -> bool
-    requires text { Belongs left.old.agent left.old.heap.now }
-    requires known { HasKey (view_of left.old.agent).units s.id }
-    requires two { share_of left.old.agent ≡ 2 }
-    ensures text { Belongs left.new.agent left.new.heap.now }
-    ensures heap { left.new.heap ≡ left.old.heap }
-    ensures share { (view_of left.new.agent).share ≡ (view_of left.old.agent).share }
-    ensures agents { (view_of left.new.agent).agents ≡ (view_of left.old.agent).agents }
+    requires text { Belongs left.old.reader.agent left.old.reader.heap.now }
+    requires known { HasKey (view_of left.old.reader.agent).units s.id }
+    requires two { share_of left.old.reader.agent ≡ 2 }
+    ensures text { Belongs left.new.reader.agent left.new.reader.heap.now }
+    ensures heap { left.new.reader.heap ≡ left.old.reader.heap }
+    ensures share { (view_of left.new.reader.agent).share ≡ (view_of left.old.reader.agent).share }
+    ensures agents { (view_of left.new.reader.agent).agents ≡ (view_of left.old.reader.agent).agents }
 {
-    let agent = left.agent.split(left.heap, 1);
-    let mut right = Text::new(left.heap, agent, left.limit);
+    let reader = &mut left.reader;
+    let agent = reader.agent.split(reader.heap, 1);
+    let mut right = Text::new(reader.heap, agent, left.limit);
     let both = twice_at_once(rt, left, &mut right, s, want);
-    let Text { agent, .. } = right;
-    left.agent.join(left.heap, agent);
+    let Reader { agent, .. } = right.reader;
+    let reader = &mut left.reader;
+    reader.agent.join(reader.heap, agent);
     reads_both(left, both, want)
 }
 
@@ -209,7 +212,7 @@ fn shares_a_heap(rt: &impl Threads, alloc: Global) -> bool {
     if !split_and_joined(rt, &mut text, abc, want.as_slice()) {
         return false;
     }
-    if text.agent.totals(&heap) != (3, 3) {
+    if text.reader.agent.totals(&heap) != (3, 3) {
         return false;
     }
     let full = CounterFull {
@@ -254,7 +257,7 @@ enum Call {
 
 // What is left for another call, once a string of these units is made, is too little: why.
 fn refusal(text: &mut Text, units: &[u16], call: Call) -> Option<TextFull>
-    requires text { Belongs text.old.agent text.old.heap.now }
+    requires text { Belongs text.old.reader.agent text.old.reader.heap.now }
     requires short { length units.now ≤ 1000 }
 {
     let n = units.len() as u32;

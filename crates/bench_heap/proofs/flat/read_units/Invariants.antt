@@ -6,7 +6,7 @@ use Rattle.bench_heap.proofs.flat.read_units.Given as goal
 
 abbrev pub invariant-loop-i : goal.invariant-loop-i
 invariant-loop-i l = record {
-  text : Belongs l.text.agent l.text.heap.now;
-  settled : IsSettled (view_of l.text.agent) l.s.id;
-  known : (us : List ℕ) × Has (view_of l.text.agent).units l.s.id us × (length us ≡ 64);
+  text : Belongs l.text.reader.agent l.text.reader.heap.now;
+  settled : IsSettled (view_of l.text.reader.agent) l.s.id;
+  known : (us : List ℕ) × Has (view_of l.text.reader.agent).units l.s.id us × (length us ≡ 64);
 }

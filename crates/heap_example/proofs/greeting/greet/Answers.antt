@@ -1,4 +1,4 @@
-use Rattle.heap_text.proofs.Going.{continues_trans}
+use Rattle.heap_read.proofs.Going.{continues_trans}
 use Rattle.heap_example.proofs.greeting.greet.Goals as goal
 
 pub returns-in_err-concat-clause-goes_on : goal.returns-in_err-concat-clause-goes_on

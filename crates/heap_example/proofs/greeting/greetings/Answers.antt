@@ -2,15 +2,9 @@ use Rattle.std.proofs.Common.{◌++◌, ap, subst, sym, ◌∙◌}
 use Rattle.heap_rule.specs.declared.view.View.{View}
 use Rattle.heap_rule.specs.Maps.{Has}
 use Rattle.heap_rule.proofs.MapLemmas.{key_of}
-use Rattle.heap_table.specs.declared.agent.Agent.{Agent}
-use Rattle.heap_table.specs.declared.heap.Heap.{Heap}
-use Rattle.heap_table.specs.Agents.{Belongs, view_of}
+use Rattle.heap_table.specs.Agents.{view_of}
 use Rattle.heap_example.proofs.Made.{one_list}
 use Rattle.heap_example.proofs.greeting.greetings.Goals as goal
-
-pub greet_both-one-requires-clause-right : goal.greet_both-one-requires-clause-right
-greet_both-one-requires-clause-right g c = subst (λ (a : Agent). Belongs a c.new-right.result.heap.now) (sym c.new-right.ensures.agent)
-    (subst (λ (h : Heap). Belongs c.split-agent.result h) (sym c.new-right.ensures.heap) c.split-agent.ensures.belongs.1)
 
 pub read-requires-clause-known : goal.read-requires-clause-known
 read-requires-clause-known g c = let made = rw c.in_ok-one.was at c.greet_both-one.ensures.first in
@@ -20,7 +14,7 @@ read-requires-clause-known g c = let made = rw c.in_ok-one.was at c.greet_both-o
 pub read-requires-2-clause-known : goal.read-requires-2-clause-known
 read-requires-2-clause-known g c = let made = rw c.in_ok-other.was at c.greet_both-one.ensures.second in let id = c.in_ok-other.field-0.id in let all = c.args.hello.now ++ c.args.second.now in
     let hello = subst (λ (v : View). Has v.units c.in_ok-hello.hello.id c.args.hello.now) (sym (ap view_of c.new-right.ensures.agent ∙ c.split-agent.ensures.right)) c.in_ok-hello.ensures.units in
-    key_of c.read.new.text.agent.seat.me.0.units id all (c.read.ensures.known.units id all (c.join.ensures.known_of_other.units id all (made c.args.hello.now hello)))
+    key_of c.read.new.text.reader.agent.seat.me.0.units id all (c.read.ensures.known.units id all (c.join.ensures.known_of_other.units id all (made c.args.hello.now hello)))
 
 pub returns-clause-first : goal.returns-clause-first
 returns-clause-first g c = let made = rw c.in_ok-one.was at c.greet_both-one.ensures.first in let id = c.in_ok-one.field-0.id in let all = c.args.hello.now ++ c.args.first.now in
@@ -30,4 +24,4 @@ returns-clause-first g c = let made = rw c.in_ok-one.was at c.greet_both-one.ens
 pub returns-clause-second : goal.returns-clause-second
 returns-clause-second g c = let made = rw c.in_ok-other.was at c.greet_both-one.ensures.second in let id = c.in_ok-other.field-0.id in let all = c.args.hello.now ++ c.args.second.now in
     let hello = subst (λ (v : View). Has v.units c.in_ok-hello.hello.id c.args.hello.now) (sym (ap view_of c.new-right.ensures.agent ∙ c.split-agent.ensures.right)) c.in_ok-hello.ensures.units in
-    one_list c.read.new.text.agent.seat.me.0.units id c.in_ok-second.second.items all c.in_ok-second.ensures.units (c.read.ensures.known.units id all (c.join.ensures.known_of_other.units id all (made c.args.hello.now hello)))
+    one_list c.read.new.text.reader.agent.seat.me.0.units id c.in_ok-second.second.items all c.in_ok-second.ensures.units (c.read.ensures.known.units id all (c.join.ensures.known_of_other.units id all (made c.args.hello.now hello)))

@@ -3,13 +3,12 @@ use Rattle.std.proofs.lemmas.List.{take_all, take_more}
 use Rattle.heap_rule.specs.declared.view.View.{View}
 use Rattle.heap_rule.specs.Maps.{Has}
 use Rattle.heap_rule.proofs.MapLemmas.{has_key}
-use Rattle.heap_text.proofs.Loaded.{known_trans}
-use Rattle.heap_text.proofs.Showing.{forms_held, window_frozen, window_kept, window_length}
+use Rattle.heap_read.proofs.Loaded.{known_trans}
+use Rattle.heap_read.proofs.Showing.{forms_held, window_frozen, window_kept, window_length}
 use Rattle.heap_example.proofs.greeting.read.Goals as goal
 
 pub loop-i-init : goal.loop-i-init
 loop-i-init c = record {
-  text = c.window-window.ensures.text;
   heap = c.window-window.ensures.heap ∙ c.settle.ensures.heap;
   known = known_trans _ _ _ c.settle.ensures.continues.known c.window-window.ensures.reads.known;
   shows = λ us h. (c.window-window.ensures.shows us (c.settle.ensures.continues.known.units c.args.s.id us h)).0;
@@ -17,12 +16,11 @@ loop-i-init c = record {
 }
 
 pub unit_in-requires-clause-frozen : goal.unit_in-requires-clause-frozen
-unit_in-requires-clause-frozen c = let v : View = c.args.text.now.agent.seat.me.0 in let p = has_key v.units c.args.s.id c.requires.known in
-    window_frozen c.loop-i.text.agent.seat.me.0 c.window-window.result p.0 (c.loop-i.invariant.shows p.0 p.1)
+unit_in-requires-clause-frozen c = let v : View = c.args.text.now.reader.agent.seat.me.0 in let p = has_key v.units c.args.s.id c.requires.known in
+    window_frozen c.loop-i.text.reader.agent.seat.me.0 c.window-window.result p.0 (c.loop-i.invariant.shows p.0 p.1)
 
 pub loop-i-preserved : goal.loop-i-preserved
-loop-i-preserved c = let u : View = c.loop-i.text.agent.seat.me.0 in let w : View = c.unit_in.new.self.agent.seat.me.0 in let i = c.loop-i.invariant in record {
-  text = c.unit_in.ensures.text;
+loop-i-preserved c = let u : View = c.loop-i.text.reader.agent.seat.me.0 in let w : View = c.unit_in.new.self.reader.agent.seat.me.0 in let i = c.loop-i.invariant in record {
   heap = c.unit_in.ensures.heap ∙ i.heap;
   known = known_trans _ _ _ i.known c.unit_in.ensures.reads.known;
   shows = λ us h. window_kept u w (forms_held u w c.unit_in.ensures.forms.0) c.window-window.result us c.unit_in.ensures.reads.known (i.shows us h);
@@ -31,8 +29,8 @@ loop-i-preserved c = let u : View = c.loop-i.text.agent.seat.me.0 in let w : Vie
 }
 
 pub returns-clause-units : goal.returns-clause-units
-returns-clause-units c = let v : View = c.args.text.now.agent.seat.me.0 in let p = has_key v.units c.args.s.id c.requires.known in let i = c.loop-i.invariant in
-    let n = window_length c.loop-i.text.agent.seat.me.0 c.window-window.result p.0 (i.shows p.0 p.1) in let end = c.loop-i-test.false in let all : length p.0 ≤ c.loop-i.i = omega arith in
+returns-clause-units c = let v : View = c.args.text.now.reader.agent.seat.me.0 in let p = has_key v.units c.args.s.id c.requires.known in let i = c.loop-i.invariant in
+    let n = window_length c.loop-i.text.reader.agent.seat.me.0 c.window-window.result p.0 (i.shows p.0 p.1) in let end = c.loop-i-test.false in let all : length p.0 ≤ c.loop-i.i = omega arith in
     subst (λ (us : List ℕ). Has v.units c.args.s.id us) (sym (i.copied p.0 p.1 ∙ take_all c.loop-i.i p.0 all)) p.1
 
 pub returns-in_err-push-clause-known : goal.returns-in_err-push-clause-known

@@ -39,10 +39,13 @@ birth-requires-clause-fits c = let v : View = c.args.reader.now.agent.seat.me.0 
 pub returns-clause-continues : goal.returns-clause-continues
 returns-clause-continues c = let v : View = c.args.reader.now.agent.seat.me.0 in let u : View = c.has_wide-wide.new.self.agent.seat.me.0 in let w : View = c.write.new.self.agent.seat.me.0 in let x : View = c.claim_id.new.self.seat.me.0 in
     let y : View = c.store_length.new.self.seat.me.0 in let z : View = c.birth.new.self.seat.me.0 in let id = c.in-Ok-claim_id.id in let n = c.args.n in let f = Flat c.has_wide-wide.result c.in-Ok.start false in
-    record { heap = cc; view = continues_trans v u z (continues_reads v u c.has_wide-wide.ensures.reads.view) (continues_trans u w z c.write.ensures.continues.view
-    (continues_trans w x z (continues_ids w x id 1 c.in-Ok-claim_id.ensures.view c.claim_id.ensures.low)
-    (continues_trans x y z (subst (Continues x) (sym c.store_length.ensures.view) (continues_length x id n))
-    (subst (Continues y) (sym c.birth.ensures.view) (continues_born y id c.has_wide-wide.result c.in-Ok.start (subst (KeepsKnown y) c.birth.ensures.view c.birth.ensures.known)))))) }
+    record {
+      heap = cc;
+      view = continues_trans v u z (continues_reads v u c.has_wide-wide.ensures.reads.view) (continues_trans u w z c.write.ensures.continues.view
+          (continues_trans w x z (continues_ids w x id 1 c.in-Ok-claim_id.ensures.view c.claim_id.ensures.low)
+          (continues_trans x y z (subst (Continues x) (sym c.store_length.ensures.view) (continues_length x id n))
+          (subst (Continues y) (sym c.birth.ensures.view) (continues_born y id c.has_wide-wide.result c.in-Ok.start (subst (KeepsKnown y) c.birth.ensures.view c.birth.ensures.known))))));
+    }
 
 pub returns-clause-units : goal.returns-clause-units
 returns-clause-units c = let v : View = c.args.reader.now.agent.seat.me.0 in let w : View = c.write.new.self.agent.seat.me.0 in let x : View = c.claim_id.new.self.seat.me.0 in let y : View = c.store_length.new.self.seat.me.0 in

@@ -87,10 +87,13 @@ pub returns-clause-continues : goal.returns-clause-continues
 returns-clause-continues c = let v : View = c.args.reader.now.agent.seat.me.0 in let u0 : View = c.side_forms-front.new.reader.agent.seat.me.0 in let u1 : View = c.is_wide_side-left.new.reader.agent.seat.me.0 in let u : View = c.is_wide_side-right.new.reader.agent.seat.me.0 in
     let reads = reads_trans v u1 u (reads_trans v u0 u1 c.side_forms-front.ensures.reads.view c.is_wide_side-left.ensures.reads.view) c.is_wide_side-right.ensures.reads.view in let x : View = c.claim_id.new.self.seat.me.0 in let y : View = c.store_length.new.self.seat.me.0 in let z : View = c.birth.new.self.seat.me.0 in
     let id = c.in-Ok.id in let n = c.args.n in let wide = c.is_either-wide.result in let a = c.args.a.id in let b = c.args.b.id in
-    record { heap = cc; view = continues_trans v u z (continues_reads v u reads)
-    (continues_trans u x z (continues_ids u x id 1 c.in-Ok.ensures.view c.claim_id.ensures.low)
-    (continues_trans x y z (subst (Continues x) (sym c.store_length.ensures.view) (continues_length x id n))
-    (subst (Continues y) (sym c.birth.ensures.view) (continues_rope y id wide a b (subst (KeepsKnown y) c.birth.ensures.view c.birth.ensures.known))))) }
+    record {
+      heap = cc;
+      view = continues_trans v u z (continues_reads v u reads)
+          (continues_trans u x z (continues_ids u x id 1 c.in-Ok.ensures.view c.claim_id.ensures.low)
+          (continues_trans x y z (subst (Continues x) (sym c.store_length.ensures.view) (continues_length x id n))
+          (subst (Continues y) (sym c.birth.ensures.view) (continues_rope y id wide a b (subst (KeepsKnown y) c.birth.ensures.view c.birth.ensures.known)))));
+    }
 
 pub returns-clause-linked : goal.returns-clause-linked
 returns-clause-linked c us vs h k = let v : View = c.args.reader.now.agent.seat.me.0 in let u0 : View = c.side_forms-front.new.reader.agent.seat.me.0 in let u1 : View = c.is_wide_side-left.new.reader.agent.seat.me.0 in let u : View = c.is_wide_side-right.new.reader.agent.seat.me.0 in

@@ -71,10 +71,13 @@ pub returns-clause-continues : goal.returns-clause-continues
 returns-clause-continues c = let v : View = c.args.reader.now.agent.seat.me.0 in let u0 : View = c.form_now-whole.new.self.agent.seat.me.0 in let u : View = c.is_wide_side-wide.new.reader.agent.seat.me.0 in
     let reads = reads_trans v u0 u c.form_now-whole.ensures.reads.view c.is_wide_side-wide.ensures.reads.view in let s = c.args.s.id in let from = c.args.from in let n = c.args.n in let whole = c.form_now-whole.result in
     let x : View = c.claim_id.new.self.seat.me.0 in let y : View = c.store_length.new.self.seat.me.0 in let z : View = c.birth.new.self.seat.me.0 in let id = c.in-Ok.id in
-    record { heap = cc; view = continues_trans v u z (continues_reads v u reads)
-    (continues_trans u x z (continues_ids u x id 1 c.in-Ok.ensures.view c.claim_id.ensures.low)
-    (continues_trans x y z (subst (Continues x) (sym c.store_length.ensures.view) (continues_length x id n))
-    (subst (Continues y) (sym c.birth.ensures.view) (continues_part y id c.is_wide_side-wide.result c.parent_of-parent.result (c.offset_of.result + from) (subst (KeepsKnown y) c.birth.ensures.view c.birth.ensures.known))))) }
+    record {
+      heap = cc;
+      view = continues_trans v u z (continues_reads v u reads)
+          (continues_trans u x z (continues_ids u x id 1 c.in-Ok.ensures.view c.claim_id.ensures.low)
+          (continues_trans x y z (subst (Continues x) (sym c.store_length.ensures.view) (continues_length x id n))
+          (subst (Continues y) (sym c.birth.ensures.view) (continues_part y id c.is_wide_side-wide.result c.parent_of-parent.result (c.offset_of.result + from) (subst (KeepsKnown y) c.birth.ensures.view c.birth.ensures.known)))));
+    }
 
 pub returns-clause-linked : goal.returns-clause-linked
 returns-clause-linked c us h = let v : View = c.args.reader.now.agent.seat.me.0 in let u0 : View = c.form_now-whole.new.self.agent.seat.me.0 in let u : View = c.is_wide_side-wide.new.reader.agent.seat.me.0 in

@@ -341,8 +341,11 @@ returns-clause-continues g c = let v : View = c.args.reader.now.agent.seat.me.0 
     let own : (q : ℕ) → q < words_over wide (length us) → HasKey f2.own_words (start + q) = λ q l. r2.writes.view.own_words (start + q) (r1.writes.view.own_words (start + q) (run q l)) in
     let x : View = c.flatten_step.new.self.seat.me.0 in let st = c.flatten_step.ensures in
     let moving = is_moving f2 x i (Cons wide left right) wide start (header_found (Cons wide left right) c.flatten_step.result) st.view st.known in
-    record { heap = cc; view = continues_trans v b x (continues_reads v b (reads_trans v a b ra d.reads.view)) (continues_trans b w x (continues_words b w start want ok.view c.claim_words.ensures.low)
-    (continues_trans w f1 x (continues_writes w f1 r1.writes.view) (continues_trans f1 f2 x (continues_writes f1 f2 r2.writes.view) moving.continues))) }
+    record {
+      heap = cc;
+      view = continues_trans v b x (continues_reads v b (reads_trans v a b ra d.reads.view)) (continues_trans b w x (continues_words b w start want ok.view c.claim_words.ensures.low)
+          (continues_trans w f1 x (continues_writes w f1 r1.writes.view) (continues_trans f1 f2 x (continues_writes f1 f2 r2.writes.view) moving.continues)));
+    }
 
 pub returns-clause-flat : goal.returns-clause-flat
 returns-clause-flat g c xs h = let v : View = c.args.reader.now.agent.seat.me.0 in let a : View = c.load_length-n.new.self.seat.me.0 in let b : View = c.left_length-m.new.reader.agent.seat.me.0 in

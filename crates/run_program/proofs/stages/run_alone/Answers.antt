@@ -1,7 +1,7 @@
 use Rattle.std.proofs.Common.{subst, List}
 use Rattle.eval_scopes.specs.declared.env.Binding.{Binding}
 use Rattle.eval_values.specs.declared.value.Value.{Value}
-use Rattle.heap_text.specs.declared.string.JsStr.{JsStr}
+use Rattle.heap_read.specs.declared.string.JsStr.{JsStr}
 use Rattle.heap_intern.specs.Sessions.{state_in}
 use Rattle.run_jobs.specs.Jobs.{Runs}
 use Rattle.run_program.proofs.Having.{have_alone}

@@ -9,7 +9,7 @@ use Rattle.eval_values.specs.Outcome.{Val}
 use Rattle.js_eval.specs.Evaluates.{Evaluates}
 use Rattle.js_eval.specs.Script.{meaning}
 use Rattle.js_eval.specs.Seen.{bounds_seen}
-use Rattle.heap_text.specs.declared.string.JsStr.{JsStr}
+use Rattle.heap_read.specs.declared.string.JsStr.{JsStr}
 use Rattle.heap_intern.specs.Sessions.{state_in}
 use Rattle.run_jobs.specs.declared.job.Outcome.{Outcome}
 use Rattle.run_jobs.specs.Jobs.{means, number}

@@ -5,7 +5,7 @@ use Rattle.test_heap_text.proofs.ropes.doubled_often.Given as goal
 
 abbrev pub invariant-loop-turn : goal.invariant-loop-turn
 invariant-loop-turn l = record {
-  text : Belongs l.text.agent l.text.heap.now;
-  heap : l.text.heap ≡ l.fn.text.heap;
-  known : HasKey (view_of l.text.agent).units l.s.id;
+  text : Belongs l.text.reader.agent l.text.reader.heap.now;
+  heap : l.text.reader.heap ≡ l.fn.text.reader.heap;
+  known : HasKey (view_of l.text.reader.agent).units l.s.id;
 }

@@ -4,6 +4,6 @@ use Rattle.test_heap_text.proofs.ropes.doublings.Given as goal
 
 abbrev pub invariant-loop-turn : goal.invariant-loop-turn
 invariant-loop-turn l = record {
-  text : Belongs l.text.agent l.text.heap.now;
-  known : HasKey (view_of l.text.agent).units l.s.id;
+  text : Belongs l.text.reader.agent l.text.reader.heap.now;
+  known : HasKey (view_of l.text.reader.agent).units l.s.id;
 }

@@ -1,13 +1,13 @@
 use Rattle.heap_rule.specs.declared.view.View.{View}
 use Rattle.heap_rule.proofs.MapLemmas.{has_key, key_of}
-use Rattle.heap_text.proofs.Showing.{forms_held, window_frozen, window_kept}
+use Rattle.heap_read.proofs.Showing.{forms_held, window_frozen, window_kept}
 use Rattle.test_heap_text.proofs.ropes.ends.Goals as goal
 
 pub window-window-requires-clause-known : goal.window-window-requires-clause-known
-window-window-requires-clause-known g c = let v : View = c.args.text.now.agent.seat.me.0 in let p = has_key v.units c.args.s.id c.requires.known in
-    key_of c.settle_counted.new.self.agent.seat.me.0.units c.args.s.id p.0 (c.settle_counted.ensures.continues.known.units c.args.s.id p.0 p.1)
+window-window-requires-clause-known g c = let v : View = c.args.text.now.reader.agent.seat.me.0 in let p = has_key v.units c.args.s.id c.requires.known in
+    key_of c.settle_counted.new.self.reader.agent.seat.me.0.units c.args.s.id p.0 (c.settle_counted.ensures.continues.known.units c.args.s.id p.0 p.1)
 
 pub unit_in-requires-clause-frozen : goal.unit_in-requires-clause-frozen
-unit_in-requires-clause-frozen g c = let v : View = c.args.text.now.agent.seat.me.0 in let p = has_key v.units c.args.s.id c.requires.known in let w : View = c.window-window.new.self.agent.seat.me.0 in let x : View = c.unit_in-first.new.self.agent.seat.me.0 in
+unit_in-requires-clause-frozen g c = let v : View = c.args.text.now.reader.agent.seat.me.0 in let p = has_key v.units c.args.s.id c.requires.known in let w : View = c.window-window.new.self.reader.agent.seat.me.0 in let x : View = c.unit_in-first.new.self.reader.agent.seat.me.0 in
     let shows = (c.window-window.ensures.shows p.0 (c.settle_counted.ensures.continues.known.units c.args.s.id p.0 p.1)).0 in
     window_frozen x c.window-window.result p.0 (window_kept w x (forms_held w x c.unit_in-first.ensures.forms.0) c.window-window.result p.0 c.unit_in-first.ensures.reads.known shows)

@@ -1,28 +1,28 @@
 use Rattle.std.proofs.Common.{arith}
 use Rattle.heap_rule.specs.declared.view.View.{View}
 use Rattle.heap_rule.proofs.MapLemmas.{has_key, key_of}
-use Rattle.heap_text.proofs.Going.{continues_reads, continues_trans}
-use Rattle.heap_text.proofs.Turning.{key_kept}
+use Rattle.heap_read.proofs.Going.{continues_reads, continues_trans}
+use Rattle.heap_read.proofs.Loaded.{key_kept}
 use Rattle.test_heap_text.proofs.slices.cut.Goals as goal
 
 pub len-n-requires-clause-known : goal.len-n-requires-clause-known
-len-n-requires-clause-known c = key_kept c.args.text.now.agent.seat.me.0 c.settle.new.self.agent.seat.me.0 c.args.s.id c.settle.ensures.continues.known c.requires.known
+len-n-requires-clause-known c = key_kept c.args.text.now.reader.agent.seat.me.0 c.settle.new.self.reader.agent.seat.me.0 c.args.s.id c.settle.ensures.continues.known c.requires.known
 
 pub slice-requires-clause-settled : goal.slice-requires-clause-settled
 slice-requires-clause-settled c = c.len-n.ensures.reads.known.settled c.args.s.id c.in-Ok.ensures.settled
 
 pub slice-requires-clause-within : goal.slice-requires-clause-within
-slice-requires-clause-within c = let v : View = c.args.text.now.agent.seat.me.0 in let p = has_key v.units c.args.s.id c.requires.known in let there = c.settle.ensures.continues.known.units c.args.s.id p.0 p.1 in
+slice-requires-clause-within c = let v : View = c.args.text.now.reader.agent.seat.me.0 in let p = has_key v.units c.args.s.id c.requires.known in let there = c.settle.ensures.continues.known.units c.args.s.id p.0 p.1 in
     let n = c.len-n.ensures.length p.0 there in (p.0, c.len-n.ensures.reads.known.units c.args.s.id p.0 there, omega arith, omega arith)
 
 pub returns-in_default-slice-clause-continues : goal.returns-in_default-slice-clause-continues
-returns-in_default-slice-clause-continues c = let w : View = c.settle.new.self.agent.seat.me.0 in let x : View = c.len-n.new.self.agent.seat.me.0 in let y : View = c.slice.new.self.agent.seat.me.0 in
-    continues_trans c.args.text.now.agent.seat.me.0 w y c.settle.ensures.continues (continues_trans w x y (continues_reads w x c.len-n.ensures.reads) c.slice.ensures.continues)
+returns-in_default-slice-clause-continues c = let w : View = c.settle.new.self.reader.agent.seat.me.0 in let x : View = c.len-n.new.self.reader.agent.seat.me.0 in let y : View = c.slice.new.self.reader.agent.seat.me.0 in
+    continues_trans c.args.text.now.reader.agent.seat.me.0 w y c.settle.ensures.continues (continues_trans w x y (continues_reads w x c.len-n.ensures.reads) c.slice.ensures.continues)
 
 pub returns-clause-continues : goal.returns-clause-continues
-returns-clause-continues c = let w : View = c.settle.new.self.agent.seat.me.0 in let x : View = c.len-n.new.self.agent.seat.me.0 in let y : View = c.slice.new.self.agent.seat.me.0 in
-    continues_trans c.args.text.now.agent.seat.me.0 w y c.settle.ensures.continues (continues_trans w x y (continues_reads w x c.len-n.ensures.reads) c.slice.ensures.continues)
+returns-clause-continues c = let w : View = c.settle.new.self.reader.agent.seat.me.0 in let x : View = c.len-n.new.self.reader.agent.seat.me.0 in let y : View = c.slice.new.self.reader.agent.seat.me.0 in
+    continues_trans c.args.text.now.reader.agent.seat.me.0 w y c.settle.ensures.continues (continues_trans w x y (continues_reads w x c.len-n.ensures.reads) c.slice.ensures.continues)
 
 pub returns-clause-known : goal.returns-clause-known
-returns-clause-known c = let v : View = c.args.text.now.agent.seat.me.0 in let p = has_key v.units c.args.s.id c.requires.known in let there = c.settle.ensures.continues.known.units c.args.s.id p.0 p.1 in
-    key_of c.slice.new.self.agent.seat.me.0.units c.in-Ok-slice.t.id _ (c.in-Ok-slice.ensures.units p.0 (c.len-n.ensures.reads.known.units c.args.s.id p.0 there))
+returns-clause-known c = let v : View = c.args.text.now.reader.agent.seat.me.0 in let p = has_key v.units c.args.s.id c.requires.known in let there = c.settle.ensures.continues.known.units c.args.s.id p.0 p.1 in
+    key_of c.slice.new.self.reader.agent.seat.me.0.units c.in-Ok-slice.t.id _ (c.in-Ok-slice.ensures.units p.0 (c.len-n.ensures.reads.known.units c.args.s.id p.0 there))

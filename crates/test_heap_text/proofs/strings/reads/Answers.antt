@@ -1,13 +1,13 @@
 use Rattle.std.proofs.Common.{◌∙◌, sym, arith}
 use Rattle.heap_rule.specs.declared.view.View.{View}
 use Rattle.heap_rule.proofs.MapLemmas.{has_key}
-use Rattle.heap_text.proofs.Going.{continues_reads, continues_trans}
-use Rattle.heap_text.proofs.Loaded.{known_trans, reads_trans}
-use Rattle.heap_text.proofs.Showing.{forms_held, window_frozen, window_kept, window_length}
+use Rattle.heap_read.proofs.Going.{continues_reads, continues_trans}
+use Rattle.heap_read.proofs.Loaded.{known_trans, reads_trans}
+use Rattle.heap_read.proofs.Showing.{forms_held, window_frozen, window_kept, window_length}
 use Rattle.test_heap_text.proofs.strings.reads.Goals as goal
 
 pub loop-i-init : goal.loop-i-init
-loop-i-init c = let v : View = c.args.text.now.agent.seat.me.0 in let w1 : View = c.settle.new.self.agent.seat.me.0 in let w2 : View = c.len.new.self.agent.seat.me.0 in let w3 : View = c.window-window.new.self.agent.seat.me.0 in
+loop-i-init c = let v : View = c.args.text.now.reader.agent.seat.me.0 in let w1 : View = c.settle.new.self.reader.agent.seat.me.0 in let w2 : View = c.len.new.self.reader.agent.seat.me.0 in let w3 : View = c.window-window.new.self.reader.agent.seat.me.0 in
     let s = c.settle.ensures.continues in let r = reads_trans w1 w2 w3 c.len.ensures.reads c.window-window.ensures.reads in
     let k2 = known_trans v w1 w2 s.known c.len.ensures.reads.known in let p = has_key v.units c.args.s.id c.requires.known in
     let n = c.len.ensures.length p.0 (s.known.units c.args.s.id p.0 p.1) in let m = (c.window-window.ensures.shows p.0 (k2.units c.args.s.id p.0 p.1)).1 in let test = c.if-len-want.false in record {
@@ -20,11 +20,11 @@ loop-i-init c = let v : View = c.args.text.now.agent.seat.me.0 in let w1 : View 
     }
 
 pub unit_in-requires-clause-frozen : goal.unit_in-requires-clause-frozen
-unit_in-requires-clause-frozen c = let v : View = c.args.text.now.agent.seat.me.0 in let p = has_key v.units c.args.s.id c.requires.known in
-    window_frozen c.loop-i.text.agent.seat.me.0 c.window-window.result p.0 (c.loop-i.invariant.shows p.0 p.1)
+unit_in-requires-clause-frozen c = let v : View = c.args.text.now.reader.agent.seat.me.0 in let p = has_key v.units c.args.s.id c.requires.known in
+    window_frozen c.loop-i.text.reader.agent.seat.me.0 c.window-window.result p.0 (c.loop-i.invariant.shows p.0 p.1)
 
 pub loop-i-preserved : goal.loop-i-preserved
-loop-i-preserved c = let v : View = c.args.text.now.agent.seat.me.0 in let u : View = c.loop-i.text.agent.seat.me.0 in let x : View = c.unit_in.new.self.agent.seat.me.0 in
+loop-i-preserved c = let v : View = c.args.text.now.reader.agent.seat.me.0 in let u : View = c.loop-i.text.reader.agent.seat.me.0 in let x : View = c.unit_in.new.self.reader.agent.seat.me.0 in
     let i = c.loop-i.invariant in let e = c.unit_in.ensures in record {
       text = e.text;
       heap = e.heap ∙ i.heap;
@@ -35,7 +35,7 @@ loop-i-preserved c = let v : View = c.args.text.now.agent.seat.me.0 in let u : V
     }
 
 pub returns-then-unit_in-want-clause-continues : goal.returns-then-unit_in-want-clause-continues
-returns-then-unit_in-want-clause-continues c = let u : View = c.loop-i.text.agent.seat.me.0 in let x : View = c.unit_in.new.self.agent.seat.me.0 in continues_trans c.args.text.now.agent.seat.me.0 u x c.loop-i.invariant.continues (continues_reads u x c.unit_in.ensures.reads)
+returns-then-unit_in-want-clause-continues c = let u : View = c.loop-i.text.reader.agent.seat.me.0 in let x : View = c.unit_in.new.self.reader.agent.seat.me.0 in continues_trans c.args.text.now.reader.agent.seat.me.0 u x c.loop-i.invariant.continues (continues_reads u x c.unit_in.ensures.reads)
 
 pub loop-k-init : goal.loop-k-init
 loop-k-init c = let i = c.loop-i.invariant in record {
@@ -43,16 +43,16 @@ loop-k-init c = let i = c.loop-i.invariant in record {
   heap = i.heap;
   continues = i.continues;
   settled = i.settled;
-  long = λ us h. sym (window_length c.loop-i.text.agent.seat.me.0 c.window-window.result us (i.shows us h));
+  long = λ us h. sym (window_length c.loop-i.text.reader.agent.seat.me.0 c.window-window.result us (i.shows us h));
   count = i.count;
 }
 
 pub unit_at-requires-clause-within : goal.unit_at-requires-clause-within
-unit_at-requires-clause-within c = let v : View = c.args.text.now.agent.seat.me.0 in let p = has_key v.units c.args.s.id c.requires.known in
+unit_at-requires-clause-within c = let v : View = c.args.text.now.reader.agent.seat.me.0 in let p = has_key v.units c.args.s.id c.requires.known in
     let n = c.loop-k.invariant.long p.0 p.1 in let l = c.loop-k-test.true in (p.0, c.loop-k.invariant.continues.known.units c.args.s.id p.0 p.1, omega arith)
 
 pub loop-k-preserved : goal.loop-k-preserved
-loop-k-preserved c = let v : View = c.args.text.now.agent.seat.me.0 in let u : View = c.loop-k.text.agent.seat.me.0 in let x : View = c.unit_at.new.self.agent.seat.me.0 in
+loop-k-preserved c = let v : View = c.args.text.now.reader.agent.seat.me.0 in let u : View = c.loop-k.text.reader.agent.seat.me.0 in let x : View = c.unit_at.new.self.reader.agent.seat.me.0 in
     let i = c.loop-k.invariant in let e = c.unit_at.ensures in record {
       text = e.text;
       heap = e.heap ∙ i.heap;
@@ -63,7 +63,7 @@ loop-k-preserved c = let v : View = c.args.text.now.agent.seat.me.0 in let u : V
     }
 
 pub returns-then-unit_at-want-clause-continues : goal.returns-then-unit_at-want-clause-continues
-returns-then-unit_at-want-clause-continues c = let u : View = c.loop-k.text.agent.seat.me.0 in let x : View = c.unit_at.new.self.agent.seat.me.0 in continues_trans c.args.text.now.agent.seat.me.0 u x c.loop-k.invariant.continues (continues_reads u x c.unit_at.ensures.reads)
+returns-then-unit_at-want-clause-continues c = let u : View = c.loop-k.text.reader.agent.seat.me.0 in let x : View = c.unit_at.new.self.reader.agent.seat.me.0 in continues_trans c.args.text.now.reader.agent.seat.me.0 u x c.loop-k.invariant.continues (continues_reads u x c.unit_at.ensures.reads)
 
 pub returns-then-len-want-clause-continues : goal.returns-then-len-want-clause-continues
-returns-then-len-want-clause-continues c = let w1 : View = c.settle.new.self.agent.seat.me.0 in let w2 : View = c.len.new.self.agent.seat.me.0 in continues_trans c.args.text.now.agent.seat.me.0 w1 w2 c.settle.ensures.continues (continues_reads w1 w2 c.len.ensures.reads)
+returns-then-len-want-clause-continues c = let w1 : View = c.settle.new.self.reader.agent.seat.me.0 in let w2 : View = c.len.new.self.reader.agent.seat.me.0 in continues_trans c.args.text.now.reader.agent.seat.me.0 w1 w2 c.settle.ensures.continues (continues_reads w1 w2 c.len.ensures.reads)
