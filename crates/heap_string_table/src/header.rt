@@ -20,12 +20,7 @@ use heap_table::CounterFull;
 use js_header::Form;
 
 // A new fixed Flat of `len` units over the words from `start` on. It takes one id.
-fn bear(
-    reader: &mut Reader,
-    wide: bool,
-    start: u32,
-    len: u32,
-) -> Result<u32, CounterFull>
+fn bear(reader: &mut Reader, wide: bool, start: u32, len: u32) -> Result<u32, CounterFull>
     requires over { (us : List ℕ) × MayBeOver (view_in reader.old) wide start len us }
     ensures heap { reader.new.heap ≡ reader.old.heap }
     ensures goes { (a : View) → Goes a (view_in reader.old) []

@@ -61,13 +61,7 @@ fn visit_used<L: Ledger>(
 }
 
 // A slot that was found free, with a header.
-fn put<L: Ledger>(
-    reader: &mut Reader,
-    s: Sought,
-    k: u32,
-    id: u32,
-    steps: &mut Steps<L>,
-) -> Visit
+fn put<L: Ledger>(reader: &mut Reader, s: Sought, k: u32, id: u32, steps: &mut Steps<L>) -> Visit
     requires lies { IsSought (view_in reader.old) s }
     requires known { HasKey (view_in reader.old).units s.id }
     requires inside { k < (size_of reader.old.heap.now).slots }
@@ -221,11 +215,7 @@ pub fn intern_counted<L: Ledger>(
 }
 
 // The ledger of a caller that counts nothing.
-fn intern_by<L: Ledger>(
-    reader: &mut Reader,
-    id: u32,
-    blank: Blank,
-) -> Result<u32, TableFull>
+fn intern_by<L: Ledger>(reader: &mut Reader, id: u32, blank: Blank) -> Result<u32, TableFull>
     requires name { blank.name ≡ L.name }
     requires parts { blank.parts ≡ L.parts }
     requires some { 0 < blank.parts }
