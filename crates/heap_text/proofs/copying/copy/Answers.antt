@@ -21,7 +21,7 @@ use Rattle.heap_text.proofs.copying.copy.Goals as goal
 pub returns-in-Err-claim_id-clause-continues : goal.returns-in-Err-claim_id-clause-continues
 returns-in-Err-claim_id-clause-continues c = let v : View = c.args.reader.now.agent.seat.me.0 in let u : View = c.has_wide-wide.new.self.agent.seat.me.0 in let w : View = c.write.new.self.agent.seat.me.0 in
     let x : View = c.claim_id.new.self.seat.me.0 in
-    record { heap = cc; view = continues_trans v u x (continues_reads v u c.has_wide-wide.ensures.reads.view) (continues_trans u w x c.write.ensures.continues.view (continues_full_ids w x c.in-Err-claim_id.full.at c.in-Err-claim_id.ensures.refused.0 c.claim_id.ensures.low)) }
+    record { heap = c.write.ensures.continues.heap ∙ c.has_wide-wide.ensures.reads.heap; view = continues_trans v u x (continues_reads v u c.has_wide-wide.ensures.reads.view) (continues_trans u w x c.write.ensures.continues.view (continues_full_ids w x c.in-Err-claim_id.full.at c.in-Err-claim_id.ensures.refused.0 c.claim_id.ensures.low)) }
 
 pub store_length-requires-clause-may : goal.store_length-requires-clause-may
 store_length-requires-clause-may c = let w : View = c.write.new.self.agent.seat.me.0 in let id = c.in-Ok-claim_id.id in
@@ -40,7 +40,7 @@ pub returns-clause-continues : goal.returns-clause-continues
 returns-clause-continues c = let v : View = c.args.reader.now.agent.seat.me.0 in let u : View = c.has_wide-wide.new.self.agent.seat.me.0 in let w : View = c.write.new.self.agent.seat.me.0 in let x : View = c.claim_id.new.self.seat.me.0 in
     let y : View = c.store_length.new.self.seat.me.0 in let z : View = c.birth.new.self.seat.me.0 in let id = c.in-Ok-claim_id.id in let n = c.args.n in let f = Flat c.has_wide-wide.result c.in-Ok.start false in
     record {
-      heap = cc;
+      heap = c.write.ensures.continues.heap ∙ c.has_wide-wide.ensures.reads.heap;
       view = continues_trans v u z (continues_reads v u c.has_wide-wide.ensures.reads.view) (continues_trans u w z c.write.ensures.continues.view
           (continues_trans w x z (continues_ids w x id 1 c.in-Ok-claim_id.ensures.view c.claim_id.ensures.low)
           (continues_trans x y z (subst (Continues x) (sym c.store_length.ensures.view) (continues_length x id n))
@@ -76,4 +76,4 @@ returns-in-Err-claim_id-clause-spared c = let v : View = c.args.reader.now.agent
     (spared_ids v u w x c.in-Ok.start (words_over wide n) c.in-Err-claim_id.full.at c.in-Err-claim_id.full c.has_wide-wide.ensures.reads.view f.0 e.ids ok.1 e.own_ids e.own_words own c.in-Ok.ensures.fresh)
 
 pub returns-in-Err-clause-continues : goal.returns-in-Err-clause-continues
-returns-in-Err-clause-continues c = let v : View = c.args.reader.now.agent.seat.me.0 in let u : View = c.has_wide-wide.new.self.agent.seat.me.0 in record { heap = cc; view = continues_trans v u c.write.new.self.agent.seat.me.0 (continues_reads v u c.has_wide-wide.ensures.reads.view) c.write.ensures.continues.view }
+returns-in-Err-clause-continues c = let v : View = c.args.reader.now.agent.seat.me.0 in let u : View = c.has_wide-wide.new.self.agent.seat.me.0 in record { heap = c.write.ensures.continues.heap ∙ c.has_wide-wide.ensures.reads.heap; view = continues_trans v u c.write.new.self.agent.seat.me.0 (continues_reads v u c.has_wide-wide.ensures.reads.view) c.write.ensures.continues.view }

@@ -10,8 +10,8 @@ use Rattle.heap_read.proofs.Solids.{one_target}
 use Rattle.heap_text.proofs.filling.leaf_window.Goals as goal
 
 -- a Sliced
-pub form_now-under-requires-clause-known : goal.form_now-under-requires-clause-known
-form_now-under-requires-clause-known g c = subst (KnowsSide c.args.reader.now.agent.seat.me.0) c.in-Sliced.is c.requires.side
+pub form_now-under-requires : goal.form_now-under-requires
+form_now-under-requires g c = record { known = subst (KnowsSide c.args.reader.now.agent.seat.me.0) c.in-Sliced.is c.requires.side }
 
 pub part_window-requires-clause-known : goal.part_window-requires-clause-known
 part_window-requires-clause-known g c = key_kept c.args.reader.now.agent.seat.me.0 c.form_now-under.new.self.agent.seat.me.0 c.args.of.id c.form_now-under.ensures.reads.view.known c.requires.known

@@ -16,8 +16,8 @@ use Rattle.heap_text.proofs.Pieces.{copy_answer, whole_is, whole_shows}
 use Rattle.heap_read.proofs.Showing.{window_kept}
 use Rattle.heap_text.proofs.making.copy_both.Goals as goal
 
-pub side_forms-left-requires-clause-known : goal.side_forms-left-requires-clause-known
-side_forms-left-requires-clause-known c = let v : View = c.args.reader.now.agent.seat.me.0 in let k = c.requires.known in (key_of v.units c.args.a.id k.0 k.2, key_of v.units c.args.b.id k.1 k.3)
+pub side_forms-left-requires : goal.side_forms-left-requires
+side_forms-left-requires c = let v : View = c.args.reader.now.agent.seat.me.0 in let k = c.requires.known in record { known = (key_of v.units c.args.a.id k.0 k.2, key_of v.units c.args.b.id k.1 k.3) }
 
 -- the left side
 pub solid_window-front-requires-clause-known : goal.solid_window-front-requires-clause-known

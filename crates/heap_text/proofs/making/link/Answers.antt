@@ -20,8 +20,8 @@ use Rattle.heap_read.proofs.Loaded.{known_trans, reads_trans}
 use Rattle.heap_text.proofs.Pieces.{spared_ids}
 use Rattle.heap_text.proofs.making.link.Goals as goal
 
-pub side_forms-front-requires-clause-known : goal.side_forms-front-requires-clause-known
-side_forms-front-requires-clause-known c = let v : View = c.args.reader.now.agent.seat.me.0 in let k = c.requires.known in (key_of v.units c.args.a.id k.0 k.2, key_of v.units c.args.b.id k.1 k.3)
+pub side_forms-front-requires : goal.side_forms-front-requires
+side_forms-front-requires c = let v : View = c.args.reader.now.agent.seat.me.0 in let k = c.requires.known in record { known = (key_of v.units c.args.a.id k.0 k.2, key_of v.units c.args.b.id k.1 k.3) }
 
 pub is_wide_side-right-requires-clause-seen : goal.is_wide_side-right-requires-clause-seen
 is_wide_side-right-requires-clause-seen c = c.is_wide_side-left.ensures.held c.args.b.id c.side_forms-front.result.1 c.side_forms-front.ensures.seen.1
@@ -32,7 +32,7 @@ is_wide_side-right-requires-clause-side c = side_kept c.side_forms-front.new.rea
 pub returns-in-Err-clause-continues : goal.returns-in-Err-clause-continues
 returns-in-Err-clause-continues c = let v : View = c.args.reader.now.agent.seat.me.0 in let u0 : View = c.side_forms-front.new.reader.agent.seat.me.0 in let u1 : View = c.is_wide_side-left.new.reader.agent.seat.me.0 in let u : View = c.is_wide_side-right.new.reader.agent.seat.me.0 in
     let reads = reads_trans v u1 u (reads_trans v u0 u1 c.side_forms-front.ensures.reads.view c.is_wide_side-left.ensures.reads.view) c.is_wide_side-right.ensures.reads.view in let x : View = c.claim_id.new.self.seat.me.0 in
-    record { heap = cc; view = continues_trans v u x (continues_reads v u reads) (continues_full_ids u x c.in-Err.full.at c.in-Err.ensures.refused.0 c.claim_id.ensures.low) }
+    record { heap = c.is_wide_side-right.ensures.reads.heap ∙ (c.is_wide_side-left.ensures.reads.heap ∙ c.side_forms-front.ensures.reads.heap); view = continues_trans v u x (continues_reads v u reads) (continues_full_ids u x c.in-Err.full.at c.in-Err.ensures.refused.0 c.claim_id.ensures.low) }
 
 pub returns-in-Err-clause-linked : goal.returns-in-Err-clause-linked
 returns-in-Err-clause-linked c us vs h k = let v : View = c.args.reader.now.agent.seat.me.0 in let u0 : View = c.side_forms-front.new.reader.agent.seat.me.0 in let u1 : View = c.is_wide_side-left.new.reader.agent.seat.me.0 in let u : View = c.is_wide_side-right.new.reader.agent.seat.me.0 in
@@ -88,7 +88,7 @@ returns-clause-continues c = let v : View = c.args.reader.now.agent.seat.me.0 in
     let reads = reads_trans v u1 u (reads_trans v u0 u1 c.side_forms-front.ensures.reads.view c.is_wide_side-left.ensures.reads.view) c.is_wide_side-right.ensures.reads.view in let x : View = c.claim_id.new.self.seat.me.0 in let y : View = c.store_length.new.self.seat.me.0 in let z : View = c.birth.new.self.seat.me.0 in
     let id = c.in-Ok.id in let n = c.args.n in let wide = c.is_either-wide.result in let a = c.args.a.id in let b = c.args.b.id in
     record {
-      heap = cc;
+      heap = c.is_wide_side-right.ensures.reads.heap ∙ (c.is_wide_side-left.ensures.reads.heap ∙ c.side_forms-front.ensures.reads.heap);
       view = continues_trans v u z (continues_reads v u reads)
           (continues_trans u x z (continues_ids u x id 1 c.in-Ok.ensures.view c.claim_id.ensures.low)
           (continues_trans x y z (subst (Continues x) (sym c.store_length.ensures.view) (continues_length x id n))

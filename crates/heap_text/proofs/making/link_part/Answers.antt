@@ -23,8 +23,8 @@ use Rattle.heap_read.proofs.Loaded.{known_trans, reads_trans}
 use Rattle.heap_text.proofs.Pieces.{spared_ids}
 use Rattle.heap_text.proofs.making.link_part.Goals as goal
 
-pub form_now-whole-requires-clause-known : goal.form_now-whole-requires-clause-known
-form_now-whole-requires-clause-known c = let t = c.requires.within in inl (key_of c.args.reader.now.agent.seat.me.0.units c.args.s.id t.0 t.1)
+pub form_now-whole-requires : goal.form_now-whole-requires
+form_now-whole-requires c = let t = c.requires.within in record { known = inl (key_of c.args.reader.now.agent.seat.me.0.units c.args.s.id t.0 t.1) }
 
 pub overflow_add-offset : goal.overflow_add-offset
 overflow_add-offset c = let t = c.requires.within in let b = possible_short c.args.reader.now.agent.seat.me.0 c.args.reader.now.belongs.5 c.args.s.id t.0 t.1 in let o = offset_small c.form_now-whole.result c.form_now-whole.ensures.range in
@@ -33,7 +33,7 @@ overflow_add-offset c = let t = c.requires.within in let b = possible_short c.ar
 pub returns-in-Err-clause-continues : goal.returns-in-Err-clause-continues
 returns-in-Err-clause-continues c = let v : View = c.args.reader.now.agent.seat.me.0 in let u0 : View = c.form_now-whole.new.self.agent.seat.me.0 in let u : View = c.is_wide_side-wide.new.reader.agent.seat.me.0 in
     let reads = reads_trans v u0 u c.form_now-whole.ensures.reads.view c.is_wide_side-wide.ensures.reads.view in let s = c.args.s.id in let from = c.args.from in let n = c.args.n in let whole = c.form_now-whole.result in
-    let x : View = c.claim_id.new.self.seat.me.0 in record { heap = cc; view = continues_trans v u x (continues_reads v u reads) (continues_full_ids u x c.in-Err.full.at c.in-Err.ensures.refused.0 c.claim_id.ensures.low) }
+    let x : View = c.claim_id.new.self.seat.me.0 in record { heap = c.is_wide_side-wide.ensures.reads.heap ∙ c.form_now-whole.ensures.reads.heap; view = continues_trans v u x (continues_reads v u reads) (continues_full_ids u x c.in-Err.full.at c.in-Err.ensures.refused.0 c.claim_id.ensures.low) }
 
 pub returns-in-Err-clause-linked : goal.returns-in-Err-clause-linked
 returns-in-Err-clause-linked c us h = let v : View = c.args.reader.now.agent.seat.me.0 in let u0 : View = c.form_now-whole.new.self.agent.seat.me.0 in let u : View = c.is_wide_side-wide.new.reader.agent.seat.me.0 in
@@ -72,7 +72,7 @@ returns-clause-continues c = let v : View = c.args.reader.now.agent.seat.me.0 in
     let reads = reads_trans v u0 u c.form_now-whole.ensures.reads.view c.is_wide_side-wide.ensures.reads.view in let s = c.args.s.id in let from = c.args.from in let n = c.args.n in let whole = c.form_now-whole.result in
     let x : View = c.claim_id.new.self.seat.me.0 in let y : View = c.store_length.new.self.seat.me.0 in let z : View = c.birth.new.self.seat.me.0 in let id = c.in-Ok.id in
     record {
-      heap = cc;
+      heap = c.is_wide_side-wide.ensures.reads.heap ∙ c.form_now-whole.ensures.reads.heap;
       view = continues_trans v u z (continues_reads v u reads)
           (continues_trans u x z (continues_ids u x id 1 c.in-Ok.ensures.view c.claim_id.ensures.low)
           (continues_trans x y z (subst (Continues x) (sym c.store_length.ensures.view) (continues_length x id n))

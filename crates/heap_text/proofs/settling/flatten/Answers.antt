@@ -405,7 +405,7 @@ returns-in-Err-clause-refused g c xs h = let v : View = c.args.reader.now.agent.
     let w : View = c.claim_words.new.self.seat.me.0 in let full = c.in-Err.full in let f = c.in-Err.ensures.refused in
     let words : c.words_for.result ≡ words_over wide (length us) = c.words_for.ensures ∙ ap (words_over wide) count in
     let is : xs ≡ us = sym (units_are v i xs h) in let rb = reads_trans v a b ra d.reads.view in
-    let same : size_of c.left_length-m.new.reader.heap.now ≡ size_of c.args.reader.now.heap.now = ap (λ y. size_of y.now) d.heap in
+    let same : size_of c.left_length-m.new.reader.heap.now ≡ size_of c.args.reader.now.heap.now = ap (λ y. size_of y.now) d.reads.heap in
     let no_room : IsFull full (words_over wide (length us)) (size_of c.left_length-m.new.reader.heap.now).words = subst (λ (k : ℕ). IsFull full k (size_of c.left_length-m.new.reader.heap.now).words) words f.1 in
     subst (λ (ys : List ℕ). IsNoRoom v w (size_of c.args.reader.now.heap.now) ys (Words full) wide) (sym is) record {
       narrow = narrow;

@@ -5,8 +5,8 @@ use Rattle.heap_read.proofs.Going.{continues_reads, continues_trans}
 use Rattle.heap_read.proofs.Loaded.{key_kept}
 use Rattle.test_heap_text.proofs.slices.cut.Goals as goal
 
-pub len-n-requires-clause-known : goal.len-n-requires-clause-known
-len-n-requires-clause-known c = key_kept c.args.text.now.reader.agent.seat.me.0 c.settle.new.self.reader.agent.seat.me.0 c.args.s.id c.settle.ensures.continues.known c.requires.known
+pub len-n-requires : goal.len-n-requires
+len-n-requires c = record { known = key_kept c.args.text.now.reader.agent.seat.me.0 c.settle.new.self.reader.agent.seat.me.0 c.args.s.id c.settle.ensures.continues.known c.requires.known }
 
 pub slice-requires-clause-settled : goal.slice-requires-clause-settled
 slice-requires-clause-settled c = c.len-n.ensures.reads.known.settled c.args.s.id c.in-Ok.ensures.settled

@@ -3,8 +3,8 @@ use Rattle.std.proofs.lemmas.List.{length-append}
 use Rattle.heap_rule.proofs.MapLemmas.{key_of}
 use Rattle.test_heap_text.proofs.strings.round_trip.Goals as goal
 
-pub settle-requires-clause-known : goal.settle-requires-clause-known
-settle-requires-clause-known c = let us : List ℕ = c.args.units.now in key_of c.concat.new.self.reader.agent.seat.me.0.units c.in-Ok-concat.twice.id (us ++ us) (c.in-Ok-concat.ensures.units us us c.in-Ok.ensures.units c.in-Ok.ensures.units)
+pub settle-requires : goal.settle-requires
+settle-requires c = let us : List ℕ = c.args.units.now in record { known = key_of c.concat.new.self.reader.agent.seat.me.0.units c.in-Ok-concat.twice.id (us ++ us) (c.in-Ok-concat.ensures.units us us c.in-Ok.ensures.units c.in-Ok.ensures.units) }
 
 pub slice-requires-clause-within : goal.slice-requires-clause-within
 slice-requires-clause-within c = let us : List ℕ = c.args.units.now in let n = length-append us us in

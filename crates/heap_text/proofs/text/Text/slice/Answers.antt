@@ -13,8 +13,8 @@ use Rattle.heap_read.proofs.Loaded.{known_trans}
 use Rattle.heap_text.proofs.text.Text.slice.Goals.{else-from-eq0-via-then-from-eq0+else-to-n, else-from-eq0-via-else-from-eq0}
 use Rattle.heap_text.proofs.text.Text.slice.Goals as goal
 
-pub len-n-requires-clause-known : goal.len-n-requires-clause-known
-len-n-requires-clause-known c = let t = c.requires.within in key_of c.args.self.now.reader.agent.seat.me.0.units c.args.s.id t.0 t.1
+pub len-n-requires : goal.len-n-requires
+len-n-requires c = let t = c.requires.within in record { known = key_of c.args.self.now.reader.agent.seat.me.0.units c.args.s.id t.0 t.1 }
 
 pub cut-requires-clause-settled : goal.cut-requires-clause-settled
 cut-requires-clause-settled c = c.len-n.ensures.reads.view.known.settled c.args.s.id c.requires.settled
