@@ -202,11 +202,7 @@ fn at_once(
     ensures left { KnowsOn (view_in left.old) left.new.agent left.new.heap.now }
     ensures right { KnowsOn (view_in right.old) right.new.agent right.new.heap.now }
 {
-    join_mut(
-        rt,
-        &mut || turn(left, id),
-        &mut || { turn(right, id) },
-    )
+    join_mut(rt, &mut || turn(left, id), &mut || { turn(right, id) })
 }
 
 // What they answer, and the form word of the string, as both find it once they have answered.

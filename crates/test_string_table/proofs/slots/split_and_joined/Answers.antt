@@ -6,10 +6,6 @@ use Rattle.heap_table.specs.Agents.{Belongs, view_of}
 use Rattle.test_string_table.proofs.Sharing.{belongs_of, may_join, joined_agents, joined_share, turns_of}
 use Rattle.test_string_table.proofs.slots.split_and_joined.Goals as goal
 
-pub interned_at_once-both-requires-clause-right : goal.interned_at_once-both-requires-clause-right
-interned_at_once-both-requires-clause-right g c = subst (λ (a : Agent). Belongs a c.new-right.result.reader.heap.now) (sym c.new-right.ensures.agent)
-    (subst (λ (h : Heap). Belongs c.split-agent.result h) (sym c.new-right.ensures.heap) c.split-agent.ensures.belongs.1)
-
 pub join-requires-clause-belongs : goal.join-requires-clause-belongs
 join-requires-clause-belongs g c = let t = c.interned_at_once-both.ensures in (
   belongs_of _ _ _ t.left,

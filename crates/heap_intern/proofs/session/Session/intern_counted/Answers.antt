@@ -1,4 +1,4 @@
-use Rattle.std.proofs.Common.{◌≡◌, ◌∙◌, ℕ, Bool, List, true, [], ◌∷◌, None, Some, length, ap, subst, sym, arith}
+use Rattle.std.proofs.Common.{◌≡◌, ◌∙◌, ℕ, Bool, List, true, [], ◌∷◌, ◌++◌, None, Some, length, ap, subst, sym, arith}
 use Rattle.std.specs.Prelude.{unwrap_or}
 use Rattle.std.specs.FinMap.{get}
 use Rattle.js_header.specs.declared.form.Form.TheVariants.{Flat}
@@ -10,6 +10,8 @@ use Rattle.heap_rule.specs.declared.size.Counters.{Counters}
 use Rattle.heap_rule.specs.declared.size.HeapSize.{HeapSize}
 use Rattle.heap_rule.specs.declared.view.View.{View}
 use Rattle.heap_rule.specs.Maps.{Has}
+use Rattle.heap_rule.specs.Paths.{Calls}
+use Rattle.heap_rule.specs.Views.{history}
 use Rattle.heap_rule.proofs.MapLemmas.{has_key}
 use Rattle.heap_table.specs.Agents.{size_of}
 use Rattle.heap_text.specs.Settling.{IsBitOf, IsNoRoom}
@@ -24,7 +26,7 @@ use Rattle.heap_intern.proofs.Calls.{header_most, interned_err, interned_free, i
 use Rattle.heap_intern.proofs.Rows.{settle_part}
 use Rattle.heap_read.proofs.Loaded.{known_trans}
 use Rattle.heap_intern.proofs.Lately.{interns_known, kept_by}
-use Rattle.heap_intern.proofs.States.{history_continues, settled_test, step_at, text_is}
+use Rattle.heap_intern.proofs.States.{history_continues, history_goes, settled_test, step_at, text_is}
 use Rattle.heap_intern.proofs.session.Session.intern_counted.Goals as goal
 
 pub returns-in-Ok-intern_counted-clause-ok : goal.returns-in-Ok-intern_counted-clause-ok
@@ -41,7 +43,7 @@ returns-in-Ok-intern_counted-clause-step g c = let s = c.args.self.now in let v 
     let found = c.in-Ok-intern_counted.ensures.interns u.0 (e.continues.known.units c.args.s.id u.0 u.1) in let i = found.2 in let most = header_most x w c.args.s.id u.0 found.0 found.1 in
     let settling = subst (λ (us : List ℕ). Step (state_by v l t) (state_by x l t) None 0 (settle_words (is_settled (get v.forms c.args.s.id)) (length us))) (sym (text_is v.units c.args.s.id u.0 u.1)) (settled_step v x l t c.args.s.id u.0 s.text.reader.belongs.5 e.continues (λ h. (e.again h).1) (c.in-Ok.ensures.used u.0 u.1)) in
     let interning = subst (λ (us : List ℕ). Step (state_by x l t) (state_by w l t) None 1 (wide_words (length us))) (sym (text_is v.units c.args.s.id u.0 u.1)) (interned_ok x w l t ((u.0, c.in-Ok-intern_counted.id) ∷ []) found.0.words (wide_words (length u.0)) most e.text.5 i.0 i.1 i.2) in
-    step_at v w l t (table_of c.settle.new.self.reader.heap.now) None 1 (intern_words (is_settled (get v.forms c.args.s.id)) (length (unwrap_or (get v.units c.args.s.id) []))) (ap (λ y. table_of y.now) e.heap)
+    step_at v w l t (table_of c.intern_counted.new.reader.heap.now) None 1 (intern_words (is_settled (get v.forms c.args.s.id)) (length (unwrap_or (get v.units c.args.s.id) []))) (ap (λ y. table_of y.now) (c.intern_counted.ensures.heap ∙ e.heap))
     (step_after settling interning (omega arith) (settle_part (is_settled (get v.forms c.args.s.id)) (length (unwrap_or (get v.units c.args.s.id) []))))
 
 pub returns-in-Err-intern_counted-clause-step : goal.returns-in-Err-intern_counted-clause-step
@@ -50,7 +52,7 @@ returns-in-Err-intern_counted-clause-step g c = let s = c.args.self.now in let v
     let found = c.in-Err-intern_counted.ensures.interns u.0 (e.continues.known.units c.args.s.id u.0 u.1) in let i = found.2 in let most = header_most x w c.args.s.id u.0 found.0 found.1 in
     let settling = subst (λ (us : List ℕ). Step (state_by v l t) (state_by x l t) None 0 (settle_words (is_settled (get v.forms c.args.s.id)) (length us))) (sym (text_is v.units c.args.s.id u.0 u.1)) (settled_step v x l t c.args.s.id u.0 s.text.reader.belongs.5 e.continues (λ h. (e.again h).1) (c.in-Ok.ensures.used u.0 u.1)) in
     let interning = subst (λ (us : List ℕ). Step (state_by x l t) (state_by w l t) (Some (fault_in_table f)) 1 (wide_words (length us))) (sym (text_is v.units c.args.s.id u.0 u.1)) (interned_err x w u.0 found.0 l t f (wide_words (length u.0)) most e.text.5 i.0 i.1) in
-    rw c.table_fault.ensures (step_at v w l t (table_of c.settle.new.self.reader.heap.now) (Some (fault_in_table f)) 1 (intern_words (is_settled (get v.forms c.args.s.id)) (length (unwrap_or (get v.units c.args.s.id) []))) (ap (λ y. table_of y.now) e.heap)
+    rw c.table_fault.ensures (step_at v w l t (table_of c.intern_counted.new.reader.heap.now) (Some (fault_in_table f)) 1 (intern_words (is_settled (get v.forms c.args.s.id)) (length (unwrap_or (get v.units c.args.s.id) []))) (ap (λ y. table_of y.now) (c.intern_counted.ensures.heap ∙ e.heap))
     (step_after settling interning (omega arith) (settle_part (is_settled (get v.forms c.args.s.id)) (length (unwrap_or (get v.units c.args.s.id) [])))))
 
 -- the string wasn't settled, and there is no room to settle it
@@ -134,3 +136,14 @@ pub invariant_of-self-2-clause-older_kept : goal.invariant_of-self-2-clause-olde
 invariant_of-self-2-clause-older_kept g c = let s = c.args.self.now in let v : View = s.text.reader.agent.seat.me.0 in let x : View = c.settle.new.self.reader.agent.seat.me.0 in let w : View = c.intern_counted.new.reader.agent.seat.me.0 in
     let e = c.settle.ensures in let u = has_key v.units c.args.s.id c.requires in
     (let found = c.intern_counted.ensures.interns u.0 (e.continues.known.units c.args.s.id u.0 u.1) in kept_by v w (known_trans v x w e.continues.known (interns_known x w u.0 found.0 c.intern_counted.result found.2)) s.older s.older_kept)
+
+pub invariant_of-self-clause-last_kept : goal.invariant_of-self-clause-last_kept
+invariant_of-self-clause-last_kept g c = let s = c.args.self.now in kept_by s.text.reader.agent.seat.me.0 c.settle.new.self.reader.agent.seat.me.0 c.settle.ensures.continues.known s.last s.last_kept
+
+pub invariant_of-self-clause-older_kept : goal.invariant_of-self-clause-older_kept
+invariant_of-self-clause-older_kept g c = let s = c.args.self.now in kept_by s.text.reader.agent.seat.me.0 c.settle.new.self.reader.agent.seat.me.0 c.settle.ensures.continues.known s.older s.older_kept
+
+pub returns-in-Ok-intern_counted-clause-grown : goal.returns-in-Ok-intern_counted-clause-grown
+returns-in-Ok-intern_counted-clause-grown g c = let v : View = c.args.self.now.text.reader.agent.seat.me.0 in let x : View = c.settle.new.self.reader.agent.seat.me.0 in let w : View = c.intern_counted.new.reader.agent.seat.me.0 in
+    let u = has_key v.units c.args.s.id c.requires in let e = c.settle.ensures in let i = (c.in-Ok-intern_counted.ensures.interns u.0 (e.continues.known.units c.args.s.id u.0 u.1)).2 in let id = c.in-Ok-intern_counted.id in
+    history_goes x w ((u.0, id) ∷ []) i.0 ∙ (ap (λ (h : Calls). h ++ (u.0, id) ∷ []) (history_continues v x e.continues) ∙ ap (λ (us : List ℕ). history v ++ (us, id) ∷ []) (sym (text_is v.units c.args.s.id u.0 u.1)))

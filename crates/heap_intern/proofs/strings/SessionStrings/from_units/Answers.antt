@@ -14,8 +14,8 @@ use Rattle.heap_intern.proofs.States.{history_continues, settled_test, step_at}
 use Rattle.heap_intern.proofs.Lately.{kept_by}
 use Rattle.heap_intern.proofs.strings.SessionStrings.from_units.Goals as goal
 
-pub make_flat-requires-clause-short : goal.make_flat-requires-clause-short
-make_flat-requires-clause-short c = let a = limit_high c.args.self.now.limit in let b = c.requires in omega arith
+pub make_flat-requires : goal.make_flat-requires
+make_flat-requires c = let a = limit_high c.args.self.now.limit in let b = c.requires in record { short = omega arith }
 
 pub returns-in-Ok-clause-ok : goal.returns-in-Ok-clause-ok
 returns-in-Ok-clause-ok c = let w : View = c.make_flat.new.self.reader.agent.seat.me.0 in let f = c.in-Ok.ensures.form in

@@ -12,7 +12,7 @@ pub returns-clause-value : goal.returns-clause-value
 returns-clause-value c = let v : View = c.args.self.now.text.reader.agent.seat.me.0 in let u = has_key v.units c.args.s.id c.requires in c.len.ensures.length u.0 u.1 ∙ ap (length {A = ℕ}) (sym (text_is v.units c.args.s.id u.0 u.1))
 
 pub returns-clause-most : goal.returns-clause-most
-returns-clause-most c = let v : View = c.args.self.now.text.reader.agent.seat.me.0 in let u = has_key v.units c.args.s.id c.requires in let n = c.len.ensures.length u.0 u.1 in let m = possible_short v c.args.self.now.belongs.5 c.args.s.id u.0 u.1 in omega arith
+returns-clause-most c = let v : View = c.args.self.now.text.reader.agent.seat.me.0 in let u = has_key v.units c.args.s.id c.requires in let n = c.len.ensures.length u.0 u.1 in let m = possible_short v c.args.self.now.text.reader.belongs.5 c.args.s.id u.0 u.1 in omega arith
 
 pub returns-clause-step : goal.returns-clause-step
 returns-clause-step c = let s = c.args.self.now in let v : View = s.text.reader.agent.seat.me.0 in let w : View = c.len.new.self.reader.agent.seat.me.0 in
