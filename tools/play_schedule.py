@@ -604,6 +604,11 @@ def outcome(words):
         return 3, "", f"{words[0]}: cannot be read\n"
     if len(text) > MOST_BYTES:
         return 3, "", f"{words[0]}: larger than {MOST_BYTES} bytes\n"
+    return outcome_of(text)
+
+
+def outcome_of(text):
+    """The same for a file of these bytes, which isn't too large."""
     try:
         shown, stopped = play(text)
     except Malformed as fault:
