@@ -10,7 +10,8 @@ Of each run these are demanded:
   - the status is 6, or the one that the row has with ample memory;
   - `out` has whole lines, those of each script a beginning of its own, all of them where `err` doesn't name the script, and
     nothing at all where memory ran out before any script was run;
-  - `err` has one line, `FILE: out of memory` for the script that it is, or `jsstr: out of memory` (with --on one for each file);
+  - `err` has one line, `FILE: out of memory` for the script that it is, or `jsstr: out of memory` (with --on one for each file); none where
+    the program was refused its words;
   - as many growths were refused as were to be, and no block of memory is held when the program has ended.
 It belongs to no gate, and ends with 1 where a run differs.
 """
@@ -100,14 +101,14 @@ def has_beginnings(out, lines, is_early):
     return len(out) in places
 
 
-def fault_of(row, lines, whole, ran, is_on):
-    """What is wrong with a run in which growths were refused, or nothing."""
+def fault_of(row, lines, whole, ran, is_on, has_words):
+    """What is wrong with a run in which growths were refused, or nothing. It may have got as far as its words or not."""
     status, out, err, (_, refused, _, held) = ran
     if held != 0:
         return f"{held} blocks are held"
     if refused == 0 or not is_on and refused != 1:
         return f"{refused} growths were refused"
-    if (status, out, err) == whole[:3]:
+    if (status, out, err) == whole[:3] or not has_words and (status, out, err) == (6, b"", ""):
         return None
     told = err.splitlines()
     names = [NAMES.fullmatch(it) for it in told]
@@ -154,8 +155,9 @@ def look_at(name, row, runner, is_on, step):
         if ran[3][1] == 0 and ran[3][0] < number and row.words:
             told["not reached"] += 1
             continue
-        told["as with ample memory" if ran[:3] == whole[:3] else "before any script" if ran[2].startswith("jsstr:") else "in a file"] += 1
-        fault = fault_of(row, lines, whole, ran, is_on)
+        told["as with ample memory" if ran[:3] == whole[:3] else "at the words" if not ran[2] else "before any script" if ran[2].startswith("jsstr:") else "in a file"] += 1
+        # A growth or two for each word, and for the list of them.
+        fault = fault_of(row, lines, whole, ran, is_on, number > 2 * len(words) + 4)
         if fault:
             wrong += 1
             print(f"{name}, growth {number}: {fault}: {ran}")
