@@ -18,23 +18,23 @@ SLOTS = [83_333, 50_505]
 LINE = "heap_stress: heap_rule heap_table heap_intern js_store\n"
 
 
-def copied(folder):
-    """The crates in a folder, with the program as one more."""
+def copied(folder, name, text, line):
+    """The crates in a folder, with a program as one more: its name, its file in bench/, and its line of crates.txt."""
     shutil.copytree(os.path.join(ROOT, "crates"), os.path.join(folder, "crates"), ignore=shutil.ignore_patterns("out", "must-fail"))
     with open(os.path.join(ROOT, "crates.txt"), encoding="utf-8") as crates:
         listed = crates.read()
     with open(os.path.join(folder, "crates.txt"), "w", encoding="utf-8") as crates:
-        crates.write(listed + LINE)
-    program = os.path.join(folder, "crates", "heap_stress")
+        crates.write(listed + line)
+    program = os.path.join(folder, "crates", name)
     os.makedirs(os.path.join(program, "src"))
-    shutil.copy(os.path.join(ROOT, "bench", "stress.txt"), os.path.join(program, "src", "main.rt"))
+    shutil.copy(os.path.join(ROOT, "bench", text), os.path.join(program, "src", "main.rt"))
     return program
 
 
 def main():
     rounds = int(sys.argv[1]) if len(sys.argv) > 1 else 1
     with tempfile.TemporaryDirectory() as folder:
-        program = copied(folder)
+        program = copied(folder, "heap_stress", "stress.txt", LINE)
         for _ in range(rounds):
             for slots in SLOTS:
                 ran = subprocess.run(["rt", "try", "--seconds", "900", "--", str(slots)], cwd=program, capture_output=True, text=True)

@@ -204,8 +204,20 @@ def damage(data, seed):
     return data
 
 
+# Bytes that tell most where they stand in the place of another one: blanks and line ends, each quote and mark, the ends of the digits, letters of
+# escapes and names, and bytes that begin or go on a character of several.
+TELLING = b"\0\t\n\r !\"$&'()*+,-./09:;<=>?[\\]`aux{|}\x80\xc3\xf0\xff"
+
+
 def damaged(script, kinds):
     """Each damage of a script of the kinds, with the number of the token that it is of."""
+    if "replaced" in kinds:
+        for at in range(len(script)):
+            yield script[:at] + script[at + 1:], at
+            yield script[:at + 1] + script[at:], at
+            for byte in TELLING:
+                yield script[:at] + bytes([byte]) + script[at + 1:], at
+        return
     text = script.decode("utf-8")
     found = reading.tokens(text)
     starts = [len(text[:it.at].encode("utf-8")) for it in found]

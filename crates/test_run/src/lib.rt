@@ -8,6 +8,8 @@
 #[cfg(test)]
 mod bindings;
 #[cfg(test)]
+mod cut;
+#[cfg(test)]
 mod gate;
 #[cfg(test)]
 mod groups;

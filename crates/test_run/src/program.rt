@@ -20,7 +20,7 @@ pub(crate) struct Ran {
 }
 
 impl Ran {
-    fn is(&self, code: u8, out: &[u8], err: &[u8]) -> bool {
+    pub(crate) fn is(&self, code: u8, out: &[u8], err: &[u8]) -> bool {
         self.code == code && self.out.taken() == out && self.err.taken() == err
     }
 }
@@ -57,7 +57,7 @@ fn file_of(alloc: Global, text: &str) -> Result<MemFiles, Fail> {
 }
 
 // The first bytes of a text, so many as there is room for.
-fn first(text: &[u8], room: u32) -> &[u8] {
+pub(crate) fn first(text: &[u8], room: u32) -> &[u8] {
     text.get(..room as usize).unwrap_or(text)
 }
 
