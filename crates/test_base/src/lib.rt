@@ -15,3 +15,5 @@ mod rows;
 mod store;
 #[cfg(test)]
 mod units;
+#[cfg(test)]
+mod uri;
