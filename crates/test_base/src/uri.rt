@@ -1,8 +1,9 @@
 // The URI functions over a plain store, with values from the standard and from node.
-ghost use Rattle.std.specs.Prelude.{◌≤◌, length};
+ghost use Rattle.std.specs.Prelude.{◌≤◌, length, IfOk};
+ghost use Rattle.js_store.specs.State.{IsKnown};
 
 use crate::rows::{parted, units_of};
-use js_store::{Limit, Strings};
+use js_store::{Limit, StoreFault, Strings};
 use js_texts::read;
 use js_uri::{UriFault, decode_uri, decode_uri_component, encode_uri, encode_uri_component};
 use plain_store::PlainStore;
@@ -62,23 +63,30 @@ fn spelled(alloc: Global, text: &str) -> Result<Vec<u16>, Fail> {
     Ok(units)
 }
 
+// A string of these units.
+fn made<S: Strings>(store: &mut S, units: &[u16]) -> Result<S::Ref, StoreFault>
+    requires { length units.now ≤ 1000 }
+    ensures { IfOk result (λ r. IsKnown (S.state store.new) (S.number r)) }
+{
+    store.from_units(units)
+}
+
 // What the function of this name answers.
-fn answered<S: Strings>(
+fn called<S: Strings>(
     alloc: Global,
     store: &mut S,
     name: &str,
-    units: &[u16],
-) -> Result<(S::Ref, Result<S::Ref, UriFault>), Fail>
-    requires { length units.now ≤ 1000 }
+    s: S::Ref,
+) -> Result<S::Ref, UriFault>
+    requires { IsKnown (S.state store.old) (S.number s) }
+    ensures { IfOk result (λ r. IsKnown (S.state store.new) (S.number r)) }
 {
-    let s = store.from_units(units)?;
-    let answer = match name {
+    match name {
         "encodeURI" => encode_uri(alloc, store, s),
         "encodeURIComponent" => encode_uri_component(alloc, store, s),
         "decodeURI" => decode_uri(alloc, store, s),
         _ => decode_uri_component(alloc, store, s),
-    };
-    Ok((s, answer))
+    }
 }
 
 fn told(alloc: Global, name: &str, text: &str) -> Result<String, Fail> {
@@ -87,8 +95,8 @@ fn told(alloc: Global, name: &str, text: &str) -> Result<String, Fail> {
         return Ok(String::from_str(alloc, "too long")?);
     }
     let mut store = PlainStore::new(alloc, Limit::Bits64);
-    let (s, answer) = answered(alloc, &mut store, name, units.as_slice())?;
-    match answer {
+    let s = made(&mut store, units.as_slice())?;
+    match called(alloc, &mut store, name, s) {
         Ok(r) if r == s => Ok(String::from_str(alloc, "same")?),
         Ok(r) => {
             let units = read(alloc, &mut store, r)?;
