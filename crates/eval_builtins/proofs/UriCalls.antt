@@ -1,5 +1,5 @@
 -- What the URI handling functions give, and how they stop.
-use Rattle.std.proofs.Common.{arith, ◌≡◌, ℕ, ◌+◌, ◌<◌, ◌≤◌, List, length, refl, ap, sym, ◌∙◌, subst, Bool, true, false, Some, None, Result, Ok, Err}
+use Rattle.std.proofs.Common.{arith, ◌≡◌, ℕ, ◌+◌, ◌<◌, ◌≤◌, List, length, refl, subst, Bool, true, false, None, Result, Ok, Err}
 use Rattle.std.specs.Prelude.{nat_le, nat_lt, if◌then◌else◌}
 use Rattle.js_store.specs.State.{State, text}
 use Rattle.js_store.specs.Faults.{Step, NeverSlots}
@@ -16,7 +16,6 @@ use Rattle.js_uri.specs.declared.faults.UriFault.TheVariants as fault
 use Rattle.eval_values.specs.declared.value.Value.{Value}
 use Rattle.eval_values.specs.declared.value.Value.TheVariants.{Text}
 use Rattle.eval_values.specs.declared.value.Stop.{Stop}
-use Rattle.eval_values.specs.declared.value.Stop.TheVariants.{Store}
 use Rattle.eval_values.specs.Outcome.{gives, throws, ledger_of}
 use Rattle.eval_values.specs.Outcome.{text as text_value}
 use Rattle.eval_values.specs.declared.value.Kind.TheVariants.{RangeError}

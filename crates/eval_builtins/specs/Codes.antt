@@ -1,5 +1,5 @@
 -- Strings of numbers: `String.fromCharCode` and `String.fromCodePoint` (ECMA-262, "Properties of the String Constructor").
-use Rattle.std.specs.Prelude.{ℕ, ◌+◌, List, [], length, nat_le, if◌then◌else◌, map}
+use Rattle.std.specs.Prelude.{ℕ, ◌+◌, List, length, nat_le, if◌then◌else◌, map}
 use Rattle.js_number.specs.declared.Num.{Num}
 use Rattle.js_number.specs.Arith.{modulo}
 use Rattle.js_methods.specs.Building.{is_code_point, code_units_of}

@@ -1,4 +1,4 @@
-use Rattle.std.proofs.Common.{arith, List, [], Ok, Err, refl, sym, subst}
+use Rattle.std.proofs.Common.{arith, List, Ok, Err, refl, sym, subst}
 use Rattle.std.proofs.Math.ListN.{drop_of_length-le}
 use Rattle.std.proofs.lemmas.Result.{err_from_is_err_and}
 use Rattle.js_number.specs.declared.Num.{Num}

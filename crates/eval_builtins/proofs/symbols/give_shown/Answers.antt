@@ -1,4 +1,4 @@
-use Rattle.std.proofs.Common.{arith, ◌+◌, ◌≤◌, length}
+use Rattle.std.proofs.Common.{arith, ◌+◌, length}
 use Rattle.std.proofs.lemmas.Result.{err_from_is_err_and}
 use Rattle.js_store.specs.State.{text}
 use Rattle.js_store.specs.Rows.{wide_words, flat_words}

@@ -1,4 +1,4 @@
-use Rattle.std.proofs.Common.{arith, ◌+◌, length}
+use Rattle.std.proofs.Common.{arith, ◌+◌}
 use Rattle.js_store.specs.State.{text}
 use Rattle.js_texts.specs.Use.{settling}
 use Rattle.js_uri.specs.Answers.{outcome_words}
