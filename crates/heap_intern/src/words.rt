@@ -24,9 +24,11 @@ impl<'h> Session<'h> {
         ensures unit { (us : List ℕ) → Has (view_in self.old).units s.id us → result ≡ slice_index us i }
     {
         let (next, unit) = word_with(&mut self.text, s, i);
-        if self.last.id != s.id {
-            self.older = self.last;
+        if self.last.id == s.id {
+            self.last = next;
+            return unit;
         }
+        self.older = self.last;
         self.last = next;
         unit
     }

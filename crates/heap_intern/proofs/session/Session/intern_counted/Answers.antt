@@ -137,11 +137,12 @@ invariant_of-self-2-clause-older_kept g c = let s = c.args.self.now in let v : V
     let e = c.settle.ensures in let u = has_key v.units c.args.s.id c.requires in
     (let found = c.intern_counted.ensures.interns u.0 (e.continues.known.units c.args.s.id u.0 u.1) in kept_by v w (known_trans v x w e.continues.known (interns_known x w u.0 found.0 c.intern_counted.result found.2)) s.older s.older_kept)
 
-pub invariant_of-self-clause-last_kept : goal.invariant_of-self-clause-last_kept
-invariant_of-self-clause-last_kept g c = let s = c.args.self.now in kept_by s.text.reader.agent.seat.me.0 c.settle.new.self.reader.agent.seat.me.0 c.settle.ensures.continues.known s.last s.last_kept
-
-pub invariant_of-self-clause-older_kept : goal.invariant_of-self-clause-older_kept
-invariant_of-self-clause-older_kept g c = let s = c.args.self.now in kept_by s.text.reader.agent.seat.me.0 c.settle.new.self.reader.agent.seat.me.0 c.settle.ensures.continues.known s.older s.older_kept
+pub invariant_of-self : goal.invariant_of-self
+invariant_of-self g c = let s = c.args.self.now in let v : View = s.text.reader.agent.seat.me.0 in let w : View = c.settle.new.self.reader.agent.seat.me.0 in let k = c.settle.ensures.continues.known in record {
+  one_limit = c.settle.ensures.limit ∙ s.one_limit;
+  last_kept = kept_by v w k s.last s.last_kept;
+  older_kept = kept_by v w k s.older s.older_kept;
+}
 
 pub returns-in-Ok-intern_counted-clause-grown : goal.returns-in-Ok-intern_counted-clause-grown
 returns-in-Ok-intern_counted-clause-grown g c = let v : View = c.args.self.now.text.reader.agent.seat.me.0 in let x : View = c.settle.new.self.reader.agent.seat.me.0 in let w : View = c.intern_counted.new.reader.agent.seat.me.0 in
