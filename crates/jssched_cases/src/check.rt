@@ -12,7 +12,7 @@ use std::rt::Files;
 // So many bytes a sink takes where it is to take all.
 const ROOM: u32 = 65_536;
 
-// So many bytes, at most, are cut at each place.
+// So many bytes, at most, has a schedule that is played with cut sinks as well, or a text that is cut.
 const CUT_MOST: usize = 512;
 
 // The status of a write that failed.
@@ -69,7 +69,11 @@ fn cut_out(alloc: Global, wanted: &Ending, room: u32) -> Result<Ending, Fault> {
 // The same of err. Where nothing was played the status stays.
 fn cut_err(alloc: Global, wanted: &Ending, room: u32) -> Result<Ending, Fault> {
     Ok(Ending {
-        status: if wanted.status == 1 { CUT } else { wanted.status },
+        status: if wanted.status == 1 {
+            CUT
+        } else {
+            wanted.status
+        },
         out: wanted.out.to_vec(alloc)?,
         err: prefix(alloc, &wanted.err, room)?,
     })
@@ -100,16 +104,16 @@ fn tell<R: AllocGlobal + Print>(
     Ok(())
 }
 
-// Before how many of these bytes a sink is cut.
-fn cuts(bytes: &[u8]) -> u32 {
-    if bytes.len() > CUT_MOST {
+// Before how many of these bytes a sink is cut, where this schedule is played.
+fn cuts(schedule: &[u8], bytes: &[u8]) -> u32 {
+    if schedule.len() > CUT_MOST || bytes.len() > CUT_MOST {
         return 0;
     }
     bytes.len() as u32
 }
 
-// Runs the case with room for all, and then, where a sink takes few bytes, with room for each smaller
-// number of them.
+// Runs the case with room for all, and then, where it is short, with room for each smaller number of
+// bytes.
 fn check_case<R>(rt: &R, place: Place<'_>, case: &Case, tally: &mut Tally) -> Result<()>
 where
     R: AllocGlobal + Print,
@@ -117,11 +121,11 @@ where
     let alloc = rt.alloc();
     let wanted = &case.wanted;
     tell(rt, place, wanted, &run(alloc, case, ROOM, ROOM)?, tally)?;
-    for room in 0..cuts(&wanted.out) {
+    for room in 0..cuts(&case.schedule, &wanted.out) {
         let cut = cut_out(alloc, wanted, room)?;
         tell(rt, place, &cut, &run(alloc, case, room, ROOM)?, tally)?;
     }
-    for room in 0..cuts(&wanted.err) {
+    for room in 0..cuts(&case.schedule, &wanted.err) {
         let cut = cut_err(alloc, wanted, room)?;
         tell(rt, place, &cut, &run(alloc, case, ROOM, room)?, tally)?;
     }

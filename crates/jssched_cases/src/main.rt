@@ -1,8 +1,9 @@
 //! The program `jssched_cases FILE..`: plays the schedule of each case of the case files that its
 //! words name, over files and sinks in memory, and compares the status and what both sinks took
-//! with what the case wants. Then it does the same with each sink that is to take at most 512 bytes,
-//! once for each of them, with room for fewer. It prints each difference, and at last
-//! `N cases, M runs, K differ`; it ends with 0 where no run differs, and else with 1.
+//! with what the case wants. A schedule of at most 512 bytes is then played again with each sink that
+//! is to take at most 512, once for each of these bytes, with room for fewer. It prints each
+//! difference, and at last `N cases, M runs, K differ`; it ends with 0 where no run differs, and else
+//! with 1.
 //!
 //! A case goes from `== NAME` to `-- status N`; between cases stand empty lines, and comments,
 //! which begin with `#`.
