@@ -44,7 +44,6 @@ ROWS = {
     "methods": Row(["--jobs", "1"], "", ["m.js"], {"m.js": METHODS}),
     "uri": Row([], "", ["u.js"], {"u.js": URI}),
     "objects": Row([], "", ["o.js"], {"o.js": OBJECTS}),
-    "generated": Row(["--generate", "7"], "", [], {}),
 }
 NAMES = re.compile(r"(.*): (out of memory|uncaught \w+|unsupported at \d+|heap full: \w+)")
 
@@ -123,14 +122,12 @@ def fault_of(row, lines, whole, ran, is_on, has_words):
         return "the other lines of err aren't those of ample memory"
     if status != (6 if told[0].endswith(": out of memory") else whole[0]):
         return "the status isn't that of the first line"
-    summary = re.search(rb"(?:\A|(?<=\n))interned (\d+)\n\Z", out) if "--summary" in row.words or "--generate" in row.words else None
-    if ("--summary" in row.words) != bool(summary) and "--generate" not in row.words:
+    summary = re.search(rb"(?:\A|(?<=\n))interned (\d+)\n\Z", out) if "--summary" in row.words else None
+    if ("--summary" in row.words) != bool(summary):
         return "no line of the summary"
     out = out[:summary.start()] if summary else out
     if early == [row.prelude]:
         return None if not out else "lines behind a prelude that didn't end"
-    if "--generate" in row.words:
-        return None if set(out.splitlines(True)) <= set(whole[1].splitlines(True)) else "lines that the run doesn't have"
     return None if has_beginnings(out, lines, [name in early for name in row.scripts]) else "out isn't made of beginnings of the scripts' lines"
 
 

@@ -8,8 +8,6 @@
 #[cfg(test)]
 mod bindings;
 #[cfg(test)]
-mod cut;
-#[cfg(test)]
 mod gate;
 #[cfg(test)]
 mod groups;

@@ -20,7 +20,7 @@ pub(crate) struct Ran {
 }
 
 impl Ran {
-    pub(crate) fn is(&self, code: u8, out: &[u8], err: &[u8]) -> bool {
+    fn is(&self, code: u8, out: &[u8], err: &[u8]) -> bool {
         self.code == code && self.out.taken() == out && self.err.taken() == err
     }
 }
@@ -57,7 +57,7 @@ fn file_of(alloc: Global, text: &str) -> Result<MemFiles, Fail> {
 }
 
 // The first bytes of a text, so many as there is room for.
-pub(crate) fn first(text: &[u8], room: u32) -> &[u8] {
+fn first(text: &[u8], room: u32) -> &[u8] {
     text.get(..room as usize).unwrap_or(text)
 }
 

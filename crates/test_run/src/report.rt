@@ -58,7 +58,7 @@ fn a_report_breaks_off_at_any_place(rt: HostRuntime) -> Result<(), Fail> {
     let lines = whole.out.taken();
     assert_eq!(rt; (whole.code, lines.len()), (0, PRINTED as usize));
     for most in [1, 7] {
-        for bytes in 0..PRINTED + 1 {
+        for bytes in 0..PRINTED {
             let room = Room {
                 most,
                 out: bytes,
@@ -66,8 +66,7 @@ fn a_report_breaks_off_at_any_place(rt: HostRuntime) -> Result<(), Fail> {
             };
             let found = run_on(&rt, alloc, WORDS, &mut files, room)?;
             let as_wanted = lines.get(..bytes as usize) == Some(found.out.taken());
-            let code = if bytes < PRINTED { 7 } else { 0 };
-            assert!(rt; as_wanted && found.code == code, "room for {bytes}");
+            assert!(rt; as_wanted && found.code == 7, "room for {bytes}");
         }
     }
     Ok(())
