@@ -29,11 +29,12 @@ use Rattle.heap_text.specs.declared.faults.JoinFault.{JoinFault}
 use Rattle.heap_text.specs.declared.faults.JoinFault.TheVariants as join
 use Rattle.heap_text.specs.declared.faults.TextFull.{TextFull}
 use Rattle.heap_text.specs.declared.faults.TextFull.TheVariants as text
-use Rattle.heap_text.specs.declared.string.JsStr.{JsStr}
+use Rattle.heap_read.specs.declared.string.JsStr.{JsStr}
 use Rattle.heap_text.specs.Joins.{IsCut, IsJoined}
 use Rattle.heap_text.specs.Settling.{IsBitOf, IsFlattened, IsNoRoom, IsSeenLater, IsSettling}
-use Rattle.heap_text.specs.Texts.{Continues, IsSpared, Reads, Told, Uses}
-use Rattle.heap_text.specs.Texts as texts
+use Rattle.heap_read.specs.Reads.{Continues, Reads}
+use Rattle.heap_text.specs.Texts.{IsSpared, Told, Uses}
+use Rattle.js_units.specs.Lanes as texts
 use Rattle.heap_intern.specs.Counted.{FoundFree}
 use Rattle.heap_intern.specs.Faults.{fault_in_join, fault_in_table, fault_in_text}
 use Rattle.heap_intern.specs.Sessions.{is_settled, state_by}
@@ -249,7 +250,7 @@ left_most v w us plan h = ⊎_elim (λ t. let e = t.0 in let d = t.1 in (omega a
 
 -- the words of a header are at most those of a copy
 pub header_most : (v w : View) (id : ℕ) (us : List ℕ) (plan : Plan) → IsPlan v w id us plan → plan.words ≤ wide_words (length us)
-header_most v w id us plan h = ⊎_elim (λ e. omega arith) (λ t. let e = t.0 in let m = words_most (slots.is_wide us) (length us) in omega arith) (plan_words v w id us plan h)
+header_most v w id us plan h = ⊎_elim (λ e. omega arith) (λ t. let e = t.0 in let m = words_most (texts.is_wide us) (length us) in omega arith) (plan_words v w id us plan h)
 
 pub interned_err : (v w : View) (us : List ℕ) (plan : Plan) (l : ℕ) (t : TableId) (f : TableFull) (most : ℕ) → plan.words ≤ most → IsPossible v → Goes v w [] → IsRefused v w us plan f → Step (state_by v l t) (state_by w l t) (Some (fault_in_table f)) 1 most
 interned_err v w us plan l t (table.Ids f) most le p g h = let a = h.0 in let b = h.2.0 in let c = h.1 in record { grows = grows_goes v w [] l t p g; honest = honest_table v w us plan l t (table.Ids f) h; within_ids = omega arith; within_words = omega arith }

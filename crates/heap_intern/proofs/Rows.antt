@@ -3,7 +3,7 @@ use Rattle.std.proofs.Common.{◌≡◌, ℕ, ◌+◌, ◌-◌, ◌<◌, ◌≤�
 use Rattle.js_units.specs.Lanes.{words_over}
 use Rattle.js_store.specs.Rows.{cut_ids, cut_words, flat_words, intern_words, is_part_empty, is_whole, join_ids, join_words, settle_words, wide_words}
 use Rattle.js_store.specs.Rows as rows
-use Rattle.heap_text.specs.Texts as texts
+use Rattle.js_units.specs.Lanes as texts
 
 or_is : (b c : Bool) → (b || c) ≡ (if b then true else c)
 or_is true c = refl

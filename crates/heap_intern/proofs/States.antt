@@ -23,7 +23,7 @@ use Rattle.heap_rule.specs.Views.{IsSettled, history}
 use Rattle.heap_rule.proofs.MapLemmas.{has_key}
 use Rattle.heap_rule.proofs.SlotTests.{shut_exactly}
 use Rattle.heap_table.specs.Known.{KeepsKnown}
-use Rattle.heap_text.specs.Texts.{Continues, Reads}
+use Rattle.heap_read.specs.Reads.{Continues, Reads}
 use Rattle.heap_string_table.specs.Goes.{Goes, Looks}
 use Rattle.heap_string_table.proofs.Visiting.{shut_kept}
 use Rattle.heap_intern.specs.Sessions.{is_settled, state_by}

@@ -8,7 +8,7 @@ use Rattle.heap_rule.specs.Views.{IsSettled}
 use Rattle.heap_string_table.specs.declared.faults.TableFull.{TableFull}
 use Rattle.heap_string_table.specs.Answers.{HasLeft, IsOpen, IsPlan, IsRefused, Plan}
 use Rattle.heap_intern.specs.Faults.{fault_in_table}
-use Rattle.heap_text.specs.declared.string.JsStr.{JsStr}
+use Rattle.heap_read.specs.declared.string.JsStr.{JsStr}
 
 -- the number of the answer, if there is one
 abbrev pub answered : Result JsStr StoreFault → Option ℕ

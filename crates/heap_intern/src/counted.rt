@@ -10,7 +10,7 @@ ghost use Rattle.heap_intern.specs.Sessions.{state_in, view_in};
 
 use crate::faults::{table_fault, text_fault};
 use crate::session::Session;
-use heap_steps::Steps;
+use heap_read::Steps;
 use heap_string_table::intern_counted;
 use heap_text::JsStr;
 use js_store::StoreFault;
@@ -53,8 +53,7 @@ impl<'h> Session<'h> {
             Err(full) => return Err(text_fault(full)),
         }
         let text = &mut self.text;
-        let heap = text.heap;
-        match intern_counted(&mut text.agent, heap, s.id, steps) {
+        match intern_counted(&mut text.reader, s.id, steps) {
             Ok(id) => Ok(JsStr { id }),
             Err(full) => Err(table_fault(full)),
         }

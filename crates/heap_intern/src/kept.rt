@@ -1,53 +1,39 @@
-// Some units that a session read of a string, so that they are read again with no load.
-ghost use Rattle.std.specs.Prelude.{◌≡◌, ℕ, ◌+◌, ◌*◌, ◌≤◌, ◌<◌, IfSome, slice_index};
+// A word that a session read of a string, so that its units are read again with no load.
+ghost use Rattle.std.specs.Prelude.{◌≡◌, ◌+◌, ◌≤◌, ◌<◌, IfSome};
+ghost use Rattle.js_units.specs.Lanes.{lane_count};
+ghost use Rattle.heap_read.specs.Written.{held_unit};
 
-use heap_text::JsStr;
+use heap_read::{Held, JsStr};
 
-// Up to `count` units of the string with number `id`, one after the other. They are so for good,
-// since no string changes. The first one's place is the number of its string, times 2^32, and its
-// number there: so one test tells whether a unit is one of these.
+// A word with units of the string with number `id`. They are so for good, since no string changes.
 #[derive(Clone, Copy)]
 pub(crate) struct Kept {
     pub(crate) id: u32,
-    pub(crate) place: u64,
-    pub(crate) count: u64,
-    pub(crate) units: [u16; 8],
-    ghost fits: { count ≤ 8 },
-    ghost low: { id * 4294967296 ≤ place },
-    ghost high: { place + count ≤ id * 4294967296 + 4294967296 },
+    pub(crate) held: Held,
+    ghost lanes: { held.lane + held.count ≤ lane_count held.wide },
 }
 
 impl Kept {
     // No unit of any string.
     pub(crate) fn none() -> Kept
-        ensures { result.count ≡ 0 }
+        ensures { result.held.count ≡ 0 }
     {
         Kept {
             id: 0,
-            place: 0,
-            count: 0,
-            units: [0, 0, 0, 0, 0, 0, 0, 0],
+            held: Held::none(),
         }
     }
 
-    // Unit `i` of a string, where it is one of these.
+    // Unit `i` of a string, where the word has it.
     pub(crate) fn get(&self, s: JsStr, i: u32) -> Option<u16>
         ensures { IfSome result
-            (λ unit. (self.now.id ≡ s.id) × (k : ℕ) × (k < self.now.count)
-            × (s.id * 4294967296 + i ≡ self.now.place + k) × (unit ≡ slice_index self.now.units k)) }
+            (λ unit. (self.now.id ≡ s.id) × (self.now.held.from ≤ i)
+            × (i < self.now.held.from + self.now.held.count) × (unit ≡ held_unit self.now.held i)) }
     {
-        let k = place_of(s.id, i).wrapping_sub(self.place);
-        if k < self.count {
-            Some(self.units[k as usize])
+        if self.id == s.id && self.held.has(i) {
+            Some(self.held.unit(i))
         } else {
             None
         }
     }
-}
-
-// The place of unit `i` of the string with this number.
-pub(crate) fn place_of(id: u32, i: u32) -> u64
-    ensures { result ≡ id * 4294967296 + i }
-{
-    u64::from(id) * 4294967296 + u64::from(i)
 }

@@ -1,7 +1,7 @@
 // A heap with the agent by which one thread uses it as a store.
 ghost use Rattle.std.specs.Prelude.{◌≡◌};
 ghost use Rattle.js_store.specs.Limits.{limit_units};
-ghost use Rattle.heap_table.specs.Agents.{Belongs, view_of};
+ghost use Rattle.heap_table.specs.Agents.{view_of};
 ghost use Rattle.heap_intern.specs.Lately.{IsKept};
 
 use crate::kept::Kept;
@@ -11,7 +11,7 @@ use js_store::Limit;
 /// A heap, and an agent by which one thread makes, reads and interns strings there. It belongs to
 /// one thread at a time and can be moved to another.
 ///
-/// It keeps the units of a word of each of the two strings that it read last, so that a run of reads
+/// It keeps a word of each of the two strings that it read last, so that a run of reads
 /// costs few loads.
 #[derive(Drop)]
 pub struct Session<'h> {
@@ -20,7 +20,6 @@ pub struct Session<'h> {
     pub(crate) last: Kept,
     pub(crate) older: Kept,
     ghost one_limit: { text.limit ≡ limit_units limit },
-    ghost belongs: { Belongs text.agent text.heap.now },
-    ghost last_kept: { IsKept (view_of text.agent) last },
-    ghost older_kept: { IsKept (view_of text.agent) older },
+    ghost last_kept: { IsKept (view_of text.reader.agent) last },
+    ghost older_kept: { IsKept (view_of text.reader.agent) older },
 }

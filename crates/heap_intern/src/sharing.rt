@@ -11,6 +11,7 @@ ghost use Rattle.heap_intern.specs.Shares.{BelongsAs, IsJoined, IsWhole, MayJoin
 
 use crate::kept::Kept;
 use crate::session::Session;
+use heap_read::Reader;
 use heap_string_table::count_interned;
 use heap_table::{Agent, Heap};
 use heap_text::Text;
@@ -42,8 +43,9 @@ impl<'h> Session<'h> {
         ensures right { state_in result ≡ right_by (state_in self.old) give }
     {
         let text = &mut self.text;
-        let heap = text.heap;
-        let agent = text.agent.split(heap, give);
+        let reader = &mut text.reader;
+        let heap = reader.heap;
+        let agent = reader.agent.split(heap, give);
         Session {
             text: Text::new(heap, agent, self.limit.units()),
             limit: self.limit,
@@ -60,10 +62,11 @@ impl<'h> Session<'h> {
         ensures joined { IsJoined (state_in self.old) (state_in other.entry) (state_in self.new) }
     {
         let Session { text, .. } = other;
-        let Text { agent, .. } = text;
+        let Text { reader, .. } = text;
+        let Reader { agent, .. } = reader;
         let text = &mut self.text;
-        let heap = text.heap;
-        text.agent.join(heap, agent);
+        let reader = &mut text.reader;
+        reader.agent.join(reader.heap, agent);
     }
 
     /// The number of different lists of units in its history, by a session that has the whole
@@ -77,8 +80,7 @@ impl<'h> Session<'h> {
         ensures history { (state_in self.new).history ≡ (state_in self.old).history }
     {
         let text = &mut self.text;
-        let heap = text.heap;
-        count_interned(&mut text.agent, heap)
+        count_interned(&mut text.reader)
     }
 
     /// The ids and the content words that were ever claimed, by a session that has the whole
@@ -90,8 +92,8 @@ impl<'h> Session<'h> {
         ensures state { state_in self.new ≡ total_by (state_in self.old) }
     {
         let text = &mut self.text;
-        let heap = text.heap;
-        text.agent.totals(heap)
+        let reader = &mut text.reader;
+        reader.agent.totals(reader.heap)
     }
 
     /// Its agent.
@@ -100,7 +102,8 @@ impl<'h> Session<'h> {
         ensures belongs { BelongsAs (state_in self.entry) result }
     {
         let Session { text, .. } = self;
-        let Text { agent, .. } = text;
+        let Text { reader, .. } = text;
+        let Reader { agent, .. } = reader;
         agent
     }
 }

@@ -25,12 +25,13 @@ use Rattle.heap_rule.proofs.Possible.{possible_frozen, possible_lawful, possible
 use Rattle.heap_rule.proofs.UnitLemmas.{lane_word}
 use Rattle.heap_table.specs.Known.{KeepsKnown}
 use Rattle.heap_string_table.specs.declared.sought.Sought.{Sought}
-use Rattle.heap_string_table.specs.Goes.{Goes, KeepsForms}
+use Rattle.heap_string_table.specs.Goes.{Goes}
 use Rattle.heap_string_table.specs.Headers.{IsFlat, MayBeOver}
-use Rattle.heap_string_table.specs.Stretches.{AreFrozen, IsSought}
-use Rattle.heap_string_table.proofs.Going.{known_trans}
+use Rattle.heap_read.proofs.Loaded.{known_trans}
 use Rattle.heap_string_table.proofs.Possibly.{possible_unborn, possible_zeros}
-use Rattle.heap_string_table.proofs.Stretching.{sought_length}
+use Rattle.heap_string_table.proofs.Seeking.{sought_length}
+use Rattle.heap_read.specs.Reads.{HoldsForms}
+use Rattle.heap_string_table.specs.Seeking.{IsSought}
 
 -- a run that is taken away leaves the other keys
 without_keeps : (m : FinMap nat_cmp ℕ) (k n q x : ℕ) → ((p : ℕ) → p < n → q ≡ k + p → ⊥) → Has m q x → Has (without_run m k n) q x
@@ -116,7 +117,7 @@ module _ (v : View) (wide : Bool) (start n : ℕ) (us : List ℕ) (h : MayBeOver
       }
 
 -- no form that the view has changes, since an own id has none
-pub forms_born : (v x w : View) (id n : ℕ) (wide : Bool) (start : ℕ) → IsPossible x → x ≡ won_claim v Ids id 1 → w ≡ born (stored_length (won_claim v Ids id 1) id n) id (Flat wide start true) → KeepsForms v w
+pub forms_born : (v x w : View) (id n : ℕ) (wide : Bool) (start : ℕ) → IsPossible x → x ≡ won_claim v Ids id 1 → w ≡ born (stored_length (won_claim v Ids id 1) id n) id (Flat wide start true) → HoldsForms v w
 forms_born v x w id n wide start p e b i g h = let own : HasKey x.own_ids id = subst (λ (u : View). HasKey u.own_ids id) (sym e) (key_of _ id 0 (insert_same v.own_ids id 0)) in
     let ne : i ≢ id = (λ d. possible_unborn x p i g (subst (HasKey x.own_ids) (sym d) own) (subst (λ (u : View). Has u.forms i g) (sym e) h)) in
     ap (λ (u : View). get u.forms i) b ∙ (insert_other v.forms id i (Flat wide start true) ne ∙ h)
@@ -130,34 +131,34 @@ some_lane true n o l = omega arith
 some_lane false n o l = omega arith
 
 -- the words of a string that has them for itself
-module _ (v : View) (p : IsPossible v) (s : Sought) (h : IsSought v s) (whole : IsSliced s.form → ⊥) (all : AreFrozen v s.wide s.start s.len) (first : ℕ) (none : s.len ≡ 0 → first ≡ 0) (some : 0 < s.len → first ≡ s.start) where
-  small_by : (n : ℕ) → s.len ≡ n → first < 2 ^ 29
+module _ (v : View) (p : IsPossible v) (s : Sought) (h : IsSought v s) (whole : IsSliced s.form → ⊥) (all : (q : ℕ) → q < words_over s.window.wide s.window.len → HasKey v.frozen (s.window.start + q)) (first : ℕ) (none : s.window.len ≡ 0 → first ≡ 0) (some : 0 < s.window.len → first ≡ s.window.start) where
+  small_by : (n : ℕ) → s.window.len ≡ n → first < 2 ^ 29
   small_by zero e = let z = none e in omega arith
-  small_by (suc n) e = let l : 0 < s.len = omega arith in let is = some l in let m : 0 / lane_count s.wide < words_over s.wide s.len = lane_word s.wide 0 s.len l in
-      let a = possible_frozen v p (s.start + 0 / lane_count s.wide) (inl (all.each (0 / lane_count s.wide) m)) in let b = (possible_lawful v p).3 in omega arith
+  small_by (suc n) e = let l : 0 < s.window.len = omega arith in let is = some l in let m : 0 / lane_count s.window.wide < words_over s.window.wide s.window.len = lane_word s.window.wide 0 s.window.len l in
+      let a = possible_frozen v p (s.window.start + 0 / lane_count s.window.wide) (inl (all (0 / lane_count s.window.wide) m)) in let b = (possible_lawful v p).3 in omega arith
 
-  pub frozen_word : (c : ℕ) → first ≤ c → c < first + words_over s.wide s.len → HasKey v.frozen c
-  frozen_word c lo hi = let l : c - first < words_over s.wide s.len = omega arith in let is = some (some_word s.wide s.len (c - first) l) in let e : s.start + (c - first) ≡ c = omega arith in
-      subst (HasKey v.frozen) e (all.each (c - first) l)
+  pub frozen_word : (c : ℕ) → first ≤ c → c < first + words_over s.window.wide s.window.len → HasKey v.frozen c
+  frozen_word c lo hi = let l : c - first < words_over s.window.wide s.window.len = omega arith in let is = some (some_word s.window.wide s.window.len (c - first) l) in let e : s.window.start + (c - first) ≡ c = omega arith in
+      subst (HasKey v.frozen) e (all (c - first) l)
 
   module _ (us : List ℕ) (u : Has v.units s.id us) where
-    unit_shown : (o : ℕ) → o < length us → o < s.len → lane_in (shown v) s.wide s.start o ≡ get_or us o 0
-    unit_shown o l l' = let w = (h.whole whole).1 in let plain : s.offset + o ≡ o = omega arith in
-        subst (λ (x : ℕ). lane_in (shown v) s.wide s.start x ≡ get_or us o 0) plain
-        (possible_unit v p s.id h.flat s.offset s.wide s.start h.fixed us o h.leads h.form u l (inr (subst (λ (x : ℕ). HasKey v.frozen (s.start + x / lane_count s.wide)) (sym plain) (all.each (o / lane_count s.wide) (lane_word s.wide o s.len l')))))
+    unit_shown : (o : ℕ) → o < length us → o < s.window.len → lane_in (shown v) s.window.wide s.window.start o ≡ get_or us o 0
+    unit_shown o l l' = let w = (h.whole whole).1 in let plain : s.window.offset + o ≡ o = omega arith in
+        subst (λ (x : ℕ). lane_in (shown v) s.window.wide s.window.start x ≡ get_or us o 0) plain
+        (possible_unit v p s.id h.flat s.window.offset s.window.wide s.window.start h.fixed us o h.leads h.form u l (inr (subst (λ (x : ℕ). HasKey v.frozen (s.window.start + x / lane_count s.window.wide)) (sym plain) (all (o / lane_count s.window.wide) (lane_word s.window.wide o s.window.len l')))))
 
-    lane_shown : (o : ℕ) → o < words_over s.wide s.len * lane_count s.wide → lane_in (shown v) s.wide s.start o ≡ get_or us o 0
-    lane_shown o l = let long = sought_length v p s us h u in dite (dec_le s.len o)
-        (λ past. possible_zeros v p h.flat s.wide s.start h.fixed s.len h.form (subst (λ (i : ℕ). Has v.lengths i s.len) (h.whole whole).0 h.long) all o past l ∙ sym (get_or_past us o 0 (omega arith)))
+    lane_shown : (o : ℕ) → o < words_over s.window.wide s.window.len * lane_count s.window.wide → lane_in (shown v) s.window.wide s.window.start o ≡ get_or us o 0
+    lane_shown o l = let long = sought_length v p s us h u in dite (dec_le s.window.len o)
+        (λ past. possible_zeros v p h.flat s.window.wide s.window.start h.fixed s.window.len h.form (subst (λ (i : ℕ). Has v.lengths i s.window.len) (h.whole whole).0 h.long) all o past l ∙ sym (get_or_past us o 0 (omega arith)))
         (λ inside. unit_shown o (omega arith) (omega arith))
 
-    pub plain_over : MayBeOver v s.wide first s.len us
+    pub plain_over : MayBeOver v s.window.wide first s.window.len us
     plain_over = let long = sought_length v p s us h u in let most = possible_short v p s.id us u in record {
-      small = small_by s.len refl;
+      small = small_by s.window.len refl;
       long = long;
       short = omega arith;
       words = λ c lo hi. inr (frozen_word c lo hi);
-      lanes = λ o l. subst (λ (c : ℕ). lane_in (shown v) s.wide c o ≡ get_or us o 0) (sym (some (some_lane s.wide s.len o l))) (lane_shown o l);
+      lanes = λ o l. subst (λ (c : ℕ). lane_in (shown v) s.window.wide c o ≡ get_or us o 0) (sym (some (some_lane s.window.wide s.window.len o l))) (lane_shown o l);
       empty = none;
     }
 

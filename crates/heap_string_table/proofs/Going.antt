@@ -20,26 +20,13 @@ use Rattle.heap_rule.specs.Slots.{entered, loaded_slot, took_slot}
 use Rattle.heap_rule.specs.HeaderMoves.{seen_form}
 use Rattle.heap_rule.proofs.MapLemmas.{insert_other, insert_same, key_of}
 use Rattle.heap_table.specs.Known.{KeepsKnown}
-use Rattle.heap_string_table.specs.Goes.{Goes, KeepsForms, Looks}
-
-pub known_trans : (u v w : View) → KeepsKnown u v → KeepsKnown v w → KeepsKnown u w
-known_trans u v w a b = record {
-  units = λ i us h. b.units i us (a.units i us h);
-  lengths = λ i n h. b.lengths i n (a.lengths i n h);
-  flats = λ i wide start h. b.flats i wide start (a.flats i wide start h);
-  thins = λ i t h. b.thins i t (a.thins i t h);
-  settled = λ i h. b.settled i (a.settled i h);
-  frozen = λ c x h. b.frozen c x (a.frozen c x h);
-  known = λ i h. b.known i (a.known i h);
-  slots = λ k i h. b.slots k i (a.slots k i h);
-}
-
-pub known_self : (v : View) → KeepsKnown v v
-known_self v = record { units = λ i us h. h; lengths = λ i n h. h; flats = λ i wide start h. h; thins = λ i t h. h; settled = λ i h. h; frozen = λ c x h. h; known = λ i h. h; slots = λ k i h. h }
+use Rattle.heap_read.proofs.Loaded.{known_refl, known_trans}
+use Rattle.heap_string_table.specs.Goes.{Goes, Looks}
+use Rattle.heap_read.specs.Reads.{Continues, HoldsForms, Reads}
 
 pub goes_self : (v : View) → Goes v v []
 goes_self v = record {
-  known = known_self v;
+  known = known_refl v;
   own_ids = λ i n h. h;
   own_words = λ c x h. h;
   sizes = refl;
@@ -77,22 +64,6 @@ looks_self v = record { goes = goes_self v; used = refl; words = refl }
 pub looks_trans : (u v w : View) → Looks u v → Looks v w → Looks u w
 looks_trans u v w a b = record { goes = goes_trans u v w [] [] a.goes b.goes; used = b.used ∙ a.used; words = b.words ∙ a.words }
 
--- the string that a form names is known once the form was loaded
-abbrev pub KnowsNamed : View → Form → Type 0
-KnowsNamed v (Sliced wide parent offset) = IsKnown v parent
-KnowsNamed v (Thin target) = IsKnown v target
-KnowsNamed v _ = Unit {0}
-
-named_of : (v : View) (i n : ℕ) (f : Form) → KnowsNamed (learned_all (record (with_form v i (Some f)) { form_loads = n })) f
-named_of v i n Unborn = tt
-named_of v i n (Flat wide start fixed) = tt
-named_of v i n (Cons wide left right) = tt
-named_of v i n (Sliced wide parent offset) = inr (key_of (insert v.met parent tt) parent tt (insert_same v.met parent tt))
-named_of v i n (Thin target) = inr (key_of (insert v.met target tt) target tt (insert_same v.met target tt))
-
-pub named_met : (v w : View) (i x : ℕ) (f : Form) → form_of x ≡ Some f → w ≡ learned_all (loaded_form v i x) → KnowsNamed w f
-named_met v w i x f spelt e = subst (λ (u : View). KnowsNamed u f) (sym e) (subst (λ (o : Option Form). KnowsNamed (learned_all (record (with_form v i o) { form_loads = added_loads v.form_loads 1 })) f) (sym spelt) (named_of v i (added_loads v.form_loads 1) f))
-
 -- a string that was seen as a Flat is found to be no part of another
 pub no_slice : (wide : Bool) (start : ℕ) (fixed : Bool) (f : Form) → (Flat wide start fixed ≡ f) ⊎ IsLater (Flat wide start fixed) f → IsSliced f → ⊥
 no_slice wide start fixed f way h = ⊎_elim (λ (e : Flat wide start fixed ≡ f). subst IsSliced (sym e) h) (λ (l : IsLater (Flat wide start fixed) f). later f fixed l h) way
@@ -106,27 +77,11 @@ no_slice wide start fixed f way h = ⊎_elim (λ (e : Flat wide start fixed ≡ 
     later (Sliced x y z) false l h = absurd (cc)
 
 -- forms that stay
-pub forms_self : (v : View) → KeepsForms v v
+pub forms_self : (v : View) → HoldsForms v v
 forms_self v i f h = h
 
-pub forms_trans : (u v w : View) → KeepsForms u v → KeepsForms v w → KeepsForms u w
+pub forms_trans : (u v w : View) → HoldsForms u v → HoldsForms v w → HoldsForms u w
 forms_trans u v w a b i f h = b i f (a i f h)
-
-pub forms_same : (v w : View) → w.forms ≡ v.forms → KeepsForms v w
-forms_same v w e i f h = subst (λ (m : FinMap nat_cmp Form). Has m i f) (sym e) h
-
-others_by : (v : View) (i n q : ℕ) (o : Option Form) → q ≢ i → get (learned_all (record (with_form v i o) { form_loads = n })).forms q ≡ get v.forms q
-others_by v i n q None ne = refl
-others_by v i n q (Some f) ne = insert_other v.forms i q f ne
-
--- a load of a form leaves those of other strings, and that of a fixed Flat
-pub others_stay : (v w : View) (i x q : ℕ) → w ≡ learned_all (loaded_form v i x) → q ≢ i → get w.forms q ≡ get v.forms q
-others_stay v w i x q e ne = ap (λ (u : View). get u.forms q) e ∙ others_by v i (added_loads v.form_loads 1) q (form_of x) ne
-
-pub forms_fixed : (v w : View) (i x : ℕ) → ((f : Form) → Has v.forms i f → (wide : Bool) × (start : ℕ) × (f ≡ Flat wide start true)) → KeepsKnown v w → w ≡ learned_all (loaded_form v i x) → KeepsForms v w
-forms_fixed v w i x fixed k e q f h = dite (ℕ_discrete q i)
-    (λ (is : q ≡ i). let t = fixed f (subst (λ (n : ℕ). Has v.forms n f) is h) in subst (λ (g : Form). Has w.forms q g) (sym t.2) (k.flats q t.0 t.1 (subst (λ (g : Form). Has v.forms q g) t.2 h)))
-    (λ ne. others_stay v w i x q e ne ∙ h)
 
 -- a step that changes what is known, and the history
 goes_by : (v w : View) (calls : Calls) → KeepsKnown v w → w.own_ids ≡ v.own_ids → w.own_words ≡ v.own_words → w.sizes ≡ v.sizes → w.agents ≡ v.agents → w.live ≡ v.live → w.share ≡ v.share
@@ -147,16 +102,34 @@ goes_by v w calls k oi ow z a l s u lo se m = record {
   mine = m;
 }
 
+-- loads alone, as a reader makes them; and any call of a reader that leaves what is its own
+pub looks_reads : (v w : View) → Reads v w → Looks v w
+looks_reads v w r = record {
+  goes = goes_by v w [] r.known r.own_ids r.own_words r.sizes r.agents r.live r.share r.used r.low r.seen (r.mine ∙ sym (append-nil v.mine));
+  used = ap (λ (n : Counters). n.ids) r.used;
+  words = ap (λ (n : Counters). n.words) r.used;
+}
+
+pub goes_continues : (v w : View) → Continues v w → w.own_ids ≡ v.own_ids → ((c x : ℕ) → Has v.own_words c x → Has w.own_words c x) → Goes v w []
+goes_continues v w r ids words = record {
+  known = r.known;
+  own_ids = λ i n h. subst (λ (x : FinMap nat_cmp ℕ). Has x i n) (sym ids) h;
+  own_words = words;
+  sizes = r.sizes;
+  agents = r.agents;
+  live = r.live;
+  share = r.share;
+  ids_used = r.ids_used;
+  words_used = r.words_used;
+  ids_low = r.ids_low;
+  words_low = r.words_low;
+  seen = r.seen;
+  mine = r.mine ∙ sym (append-nil v.mine);
+}
+
 module _ (v : View) where
   nothing : v.mine ≡ v.mine ++ []
   nothing = sym (append-nil v.mine)
-
-  form_by : (i n : ℕ) (o : Option Form) → KeepsKnown v (learned_all (record (with_form v i o) { form_loads = n })) → Looks v (learned_all (record (with_form v i o) { form_loads = n }))
-  form_by i n None k = record { goes = goes_by v (learned_all (record v { form_loads = n })) [] k refl refl refl refl refl refl refl refl refl nothing; used = refl; words = refl }
-  form_by i n (Some f) k = record { goes = goes_by v (learned_all (record (with_form v i (Some f)) { form_loads = n })) [] k refl refl refl refl refl refl refl refl refl nothing; used = refl; words = refl }
-
-  pub looks_form : (w : View) (i x : ℕ) → KeepsKnown v w → w ≡ learned_all (loaded_form v i x) → Looks v w
-  looks_form w i x k e = subst (Looks v) (sym e) (form_by i (added_loads v.form_loads 1) (form_of x) (subst (KeepsKnown v) e k))
 
   -- a header that moves
   seen_by : (i : ℕ) (o : Option Form) → KeepsKnown v (learned_all (seen_form v i o)) → Looks v (learned_all (seen_form v i o)) × ((learned_all (seen_form v i o)).slot_loads ≡ v.slot_loads)
@@ -165,23 +138,6 @@ module _ (v : View) where
 
   pub looks_seen : (w : View) (i : ℕ) (o : Option Form) → KeepsKnown v w → w ≡ learned_all (seen_form v i o) → Looks v w × (w.slot_loads ≡ v.slot_loads)
   looks_seen w i o k e = subst (λ (u : View). Looks v u × (u.slot_loads ≡ v.slot_loads)) (sym e) (seen_by i o (subst (KeepsKnown v) e k))
-
-  pub looks_length : (w : View) (i n : ℕ) → KeepsKnown v w → w ≡ learned_all (loaded_length v i n) → Looks v w
-  looks_length w i n k e = subst (Looks v) (sym e) record { goes = goes_by v (learned_all (loaded_length v i n)) [] (subst (KeepsKnown v) e k) refl refl refl refl refl refl refl refl refl nothing; used = refl; words = refl }
-
-  word_by : (c x : ℕ) (b : Bool) → KeepsKnown v (learned_all (cond b v (record v { frozen = insert v.frozen c x }))) → Looks v (learned_all (cond b v (record v { frozen = insert v.frozen c x })))
-  word_by c x true k = record { goes = goes_by v (learned_all v) [] k refl refl refl refl refl refl refl refl refl nothing; used = refl; words = refl }
-  word_by c x false k = record { goes = goes_by v (learned_all (record v { frozen = insert v.frozen c x })) [] k refl refl refl refl refl refl refl refl refl nothing; used = refl; words = refl }
-
-  pub looks_word : (w : View) (c x : ℕ) → KeepsKnown v w → w ≡ learned_all (loaded_word v c x) → Looks v w
-  looks_word w c x k e = subst (Looks v) (sym e) (word_by c x (contains_key v.own_words c) (subst (KeepsKnown v) e k))
-
-  word_slots_by : (c x : ℕ) (b : Bool) → (learned_all (cond b v (record v { frozen = insert v.frozen c x }))).slots ≡ v.slots
-  word_slots_by c x true = refl
-  word_slots_by c x false = refl
-
-  pub slots_word : (w : View) (c x : ℕ) → w ≡ learned_all (loaded_word v c x) → w.slots ≡ v.slots
-  slots_word w c x e = ap (λ (u : View). u.slots) e ∙ word_slots_by c x (contains_key v.own_words c)
 
   -- a load of a slot, with the call that it enters, if any
   slot_by : (k x : ℕ) (entry : Option (List ℕ)) (calls : Calls) → entered v k entry ≡ v.mine ++ calls → KeepsKnown v (learned_all (loaded_slot v k entry x)) → Goes v (learned_all (loaded_slot v k entry x)) calls

@@ -1,10 +1,7 @@
 pub mod Going
 pub mod Loading
-pub mod Learned
 pub mod Possibly
-pub mod Stretching
-pub mod Packing
-pub mod Reading
+pub mod Seeking
 pub mod Planning
 pub mod Bearing
 pub mod Copies
@@ -12,4 +9,3 @@ pub mod Moving
 pub mod Distinct
 pub mod Counted
 pub mod Visiting
-pub mod Blocks

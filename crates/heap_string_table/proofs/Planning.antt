@@ -10,10 +10,11 @@ use Rattle.heap_table.specs.Known.{KeepsKnown}
 use Rattle.heap_string_table.specs.declared.sought.Sought.{Sought}
 use Rattle.heap_string_table.specs.Answers.{BeginsAt, IsFixed, IsFound, IsHeader, IsPlan, IsPlanBy, Plan, copy_words}
 use Rattle.heap_string_table.specs.Headers.{IsFlat, begins, header_plan, plain_plan, plan_by}
-use Rattle.heap_string_table.specs.Stretches.{IsSought}
 use Rattle.heap_string_table.proofs.Going.{no_slice}
-use Rattle.heap_string_table.proofs.Possibly.{possible_born, possible_fixed}
-use Rattle.heap_string_table.proofs.Stretching.{sought_length}
+use Rattle.heap_read.proofs.Freezing.{possible_fixed}
+use Rattle.heap_string_table.proofs.Possibly.{possible_born}
+use Rattle.heap_string_table.proofs.Seeking.{one_form, sought_length}
+use Rattle.heap_string_table.specs.Seeking.{IsSought}
 
 -- a header is a fixed Flat
 pub fixed_of : (v : View) (plan : Plan) (us : List ℕ) (i : ℕ) → IsHeader v plan us i → IsFixed v us i
@@ -38,49 +39,45 @@ begins_some : (n start : ℕ) → 0 < n → begins n start ≡ Some start
 begins_some zero start some = absurd (omega arith)
 begins_some (suc n) start some = refl
 
--- an id has one form
-one_form : (v : View) (i : ℕ) (f g : Form) → Has v.forms i f → Has v.forms i g → f ≡ g
-one_form v i f g a b = let e : Some f ≡ Some g = sym a ∙ b in cc
-
 module _ (v : View) (p : IsPossible v) (s : Sought) (us : List ℕ) (h : IsSought v s) (u : Has v.units s.id us) where
-  starts : 0 < length us → begins s.len s.start ≡ Some s.start
-  starts some = let n = sought_length v p s us h u in begins_some s.len s.start (omega arith)
+  starts : 0 < length us → begins s.window.len s.window.start ≡ Some s.window.start
+  starts some = let n = sought_length v p s us h u in begins_some s.window.len s.window.start (omega arith)
 
   -- a Flat has its words for itself
-  flat_is : (wide : Bool) (start : ℕ) (fixed : Bool) → Has v.forms s.id (Flat wide start fixed) → (s.wide ≡ wide) × (s.start ≡ start)
+  flat_is : (wide : Bool) (start : ℕ) (fixed : Bool) → Has v.forms s.id (Flat wide start fixed) → (s.window.wide ≡ wide) × (s.window.start ≡ start)
   flat_is wide start fixed own = ⊎_elim
-      (λ (t : ((s.id ≡ h.flat) ⊎ Has v.forms s.id (Thin h.flat)) × (s.offset ≡ 0)). ⊎_elim
-      (λ (e : s.id ≡ h.flat). same (subst (λ (i : ℕ). Has v.forms i (Flat s.wide s.start h.fixed)) (sym e) h.form))
+      (λ (t : ((s.id ≡ h.flat) ⊎ Has v.forms s.id (Thin h.flat)) × (s.window.offset ≡ 0)). ⊎_elim
+      (λ (e : s.id ≡ h.flat). same (subst (λ (i : ℕ). Has v.forms i (Flat s.window.wide s.window.start h.fixed)) (sym e) h.form))
       (λ (m : Has v.forms s.id (Thin h.flat)). let bad : Thin h.flat ≡ Flat wide start fixed = one_form v s.id _ _ m own in absurd (cc))
       t.0)
-      (λ (t : (w : Bool) × (parent : ℕ) × Has v.forms s.id (Sliced w parent s.offset) × ((parent ≡ h.flat) ⊎ Has v.forms parent (Thin h.flat))).
-      let bad : Sliced t.0 t.1 s.offset ≡ Flat wide start fixed = one_form v s.id _ _ t.2 own in absurd (cc))
+      (λ (t : (w : Bool) × (parent : ℕ) × Has v.forms s.id (Sliced w parent s.window.offset) × ((parent ≡ h.flat) ⊎ Has v.forms parent (Thin h.flat))).
+      let bad : Sliced t.0 t.1 s.window.offset ≡ Flat wide start fixed = one_form v s.id _ _ t.2 own in absurd (cc))
       h.leads
     where
-      same : Has v.forms s.id (Flat s.wide s.start h.fixed) → (s.wide ≡ wide) × (s.start ≡ start)
-      same m = let e : Flat s.wide s.start h.fixed ≡ Flat wide start fixed = one_form v s.id _ _ m own in let a : s.wide ≡ wide = cc in let b : s.start ≡ start = cc in (a, b)
+      same : Has v.forms s.id (Flat s.window.wide s.window.start h.fixed) → (s.window.wide ≡ wide) × (s.window.start ≡ start)
+      same m = let e : Flat s.window.wide s.window.start h.fixed ≡ Flat wide start fixed = one_form v s.id _ _ m own in let a : s.window.wide ≡ wide = cc in let b : s.window.start ≡ start = cc in (a, b)
 
   -- what forwards has those of a fixed Flat
-  thin_is : (target : ℕ) → Has v.forms s.id (Thin target) → Has v.forms target (Flat s.wide s.start true)
+  thin_is : (target : ℕ) → Has v.forms s.id (Thin target) → Has v.forms target (Flat s.window.wide s.window.start true)
   thin_is target own = ⊎_elim
-      (λ (t : ((s.id ≡ h.flat) ⊎ Has v.forms s.id (Thin h.flat)) × (s.offset ≡ 0)). ⊎_elim
-      (λ (e : s.id ≡ h.flat). let m : Has v.forms s.id (Flat s.wide s.start h.fixed) = subst (λ (i : ℕ). Has v.forms i (Flat s.wide s.start h.fixed)) (sym e) h.form in
-      let bad : Flat s.wide s.start h.fixed ≡ Thin target = one_form v s.id _ _ m own in absurd (cc))
+      (λ (t : ((s.id ≡ h.flat) ⊎ Has v.forms s.id (Thin h.flat)) × (s.window.offset ≡ 0)). ⊎_elim
+      (λ (e : s.id ≡ h.flat). let m : Has v.forms s.id (Flat s.window.wide s.window.start h.fixed) = subst (λ (i : ℕ). Has v.forms i (Flat s.window.wide s.window.start h.fixed)) (sym e) h.form in
+      let bad : Flat s.window.wide s.window.start h.fixed ≡ Thin target = one_form v s.id _ _ m own in absurd (cc))
       (λ (m : Has v.forms s.id (Thin h.flat)). there m)
       t.0)
-      (λ (t : (w : Bool) × (parent : ℕ) × Has v.forms s.id (Sliced w parent s.offset) × ((parent ≡ h.flat) ⊎ Has v.forms parent (Thin h.flat))).
-      let bad : Sliced t.0 t.1 s.offset ≡ Thin target = one_form v s.id _ _ t.2 own in absurd (cc))
+      (λ (t : (w : Bool) × (parent : ℕ) × Has v.forms s.id (Sliced w parent s.window.offset) × ((parent ≡ h.flat) ⊎ Has v.forms parent (Thin h.flat))).
+      let bad : Sliced t.0 t.1 s.window.offset ≡ Thin target = one_form v s.id _ _ t.2 own in absurd (cc))
       h.leads
     where
-      there : Has v.forms s.id (Thin h.flat) → Has v.forms target (Flat s.wide s.start true)
+      there : Has v.forms s.id (Thin h.flat) → Has v.forms target (Flat s.window.wide s.window.start true)
       there m = let e : Thin h.flat ≡ Thin target = one_form v s.id _ _ m own in let is : h.flat ≡ target = cc in
-          let q = possible_fixed v p h.flat (inr (s.id, m)) (Flat s.wide s.start h.fixed) h.form in let d : Flat s.wide s.start h.fixed ≡ Flat q.0 q.1 true = q.2 in let fixed : h.fixed ≡ true = cc in
-          subst (λ (i : ℕ). Has v.forms i (Flat s.wide s.start true)) is (subst (λ (b : Bool). Has v.forms h.flat (Flat s.wide s.start b)) fixed h.form)
+          let q = possible_fixed v p h.flat (inr (s.id, m)) (Flat s.window.wide s.window.start h.fixed) h.form in let d : Flat s.window.wide s.window.start h.fixed ≡ Flat q.0 q.1 true = q.2 in let fixed : h.fixed ≡ true = cc in
+          subst (λ (i : ℕ). Has v.forms i (Flat s.window.wide s.window.start true)) is (subst (λ (b : Bool). Has v.forms h.flat (Flat s.window.wide s.window.start b)) fixed h.form)
 
   plan_at : (w : View) → KeepsKnown v w → (f : Form) → Has v.forms s.id f → (IsCons f → ⊥) → IsPlanBy w f us (plan_by f s us)
   plan_at w k (Sliced wide parent offset) own never = (refl, refl)
   plan_at w k (Flat wide start fixed) own never = let t = flat_is wide start fixed own in (refl, t.0, λ some. starts some ∙ ap Some t.1)
-  plan_at w k (Thin target) own never = (refl, (s.start, k.flats target s.wide s.start (thin_is target own), starts))
+  plan_at w k (Thin target) own never = (refl, (s.window.start, k.flats target s.window.wide s.window.start (thin_is target own), starts))
   plan_at w k Unborn own never = absurd (possible_born v p s.id own)
   plan_at w k (Cons wide left right) own never = absurd (never tt)
 

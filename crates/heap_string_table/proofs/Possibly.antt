@@ -23,13 +23,7 @@ use Rattle.heap_rule.proofs.MapLemmas.{has_key, key_of}
 use Rattle.heap_rule.proofs.Slots.{differs_right}
 use Rattle.heap_rule.proofs.UnitLemmas.{lane_same}
 use Rattle.heap_rule.proofs.Possible.{possible_slot}
-use Rattle.heap_string_table.specs.Stretches.{AreFrozen, IsFixedBy}
-
-free_in : (v : View) → StandsIn v → (c : ℕ) → IsFrozen v c → HasKey v.own_words c → ⊥
-free_in v (z, agents, W, vs, j, s, at, live) c h own = (frozen_right z W vs s.standing v (s.knows j v at live) c h).free j v at live own
-
-pub possible_free : (v : View) → IsPossible v → (c : ℕ) → IsFrozen v c → HasKey v.own_words c → ⊥
-possible_free v p c h own = ∥∥₁_elim p (Prim.hlevel props) (λ t. free_in v t c h own)
+use Rattle.heap_read.proofs.Freezing.{possible_free}
 
 not_own : (o f : Option ℕ) (x : ℕ) → f ≡ Some x → ((y : ℕ) → o ≡ Some y → ⊥) → unwrap_or o (unwrap_or f 0) ≡ x
 not_own None f x e never = ap (λ (g : Option ℕ). unwrap_or g 0) e
@@ -43,15 +37,15 @@ pub word_of_lane : (wide : Bool) (n o : ℕ) → o < words_over wide n * lane_co
 word_of_lane true n o l = omega arith
 word_of_lane false n o l = omega arith
 
-zeros_in : (v : View) → StandsIn v → (i : ℕ) (wide : Bool) (start : ℕ) (fixed : Bool) (n : ℕ) → Has v.forms i (Flat wide start fixed) → Has v.lengths i n → AreFrozen v wide start n
+zeros_in : (v : View) → StandsIn v → (i : ℕ) (wide : Bool) (start : ℕ) (fixed : Bool) (n : ℕ) → Has v.forms i (Flat wide start fixed) → Has v.lengths i n → ((q : ℕ) → q < words_over wide n → HasKey v.frozen (start + q))
     → (o : ℕ) → n ≤ o → o < words_over wide n * lane_count wide → lane_in (shown v) wide start o ≡ 0
 zeros_in v (z, agents, W, vs, j, s, at, live) i wide start fixed n f l h o lo hi = let k = s.knows j v at live in let c : ℕ = start + o / lane_count wide in
     let word : shown v c ≡ content z W c = shown_by (get v.own_words c) (get v.frozen c) (content z W c) (λ x e. ((s.own_words j v at live).each c x e).1) (λ x e. (k.of_frozen c x e).1)
-    (inr (h.each (o / lane_count wide) (word_of_lane wide n o hi))) in
+    (inr (h (o / lane_count wide) (word_of_lane wide n o hi))) in
     lane_same (shown v) (content z W) wide start o word
     ∙ subst (λ (m : ℕ). m ≤ o → o < words_over wide m * lane_count wide → lane_in (content z W) wide start o ≡ 0) (k.of_lengths i n l).1 ((k.of_forms i (Flat wide start fixed) f).shows.2 o) lo hi
 
-pub possible_zeros : (v : View) → IsPossible v → (i : ℕ) (wide : Bool) (start : ℕ) (fixed : Bool) (n : ℕ) → Has v.forms i (Flat wide start fixed) → Has v.lengths i n → AreFrozen v wide start n
+pub possible_zeros : (v : View) → IsPossible v → (i : ℕ) (wide : Bool) (start : ℕ) (fixed : Bool) (n : ℕ) → Has v.forms i (Flat wide start fixed) → Has v.lengths i n → ((q : ℕ) → q < words_over wide n → HasKey v.frozen (start + q))
     → (o : ℕ) → n ≤ o → o < words_over wide n * lane_count wide → lane_in (shown v) wide start o ≡ 0
 possible_zeros v p i wide start fixed n f l h o lo hi = ∥∥₁_elim p (Prim.hlevel props) (λ t. zeros_in v t i wide start fixed n f l h o lo hi)
 
@@ -63,61 +57,12 @@ open_in v (z, agents, W, vs, j, s, at, live) us k i h u t = let know = s.knows j
 pub possible_open : (v : View) → IsPossible v → (us : List ℕ) (k i : ℕ) → Has v.slots k i → Has v.units i us → IsShutAt v us k → ⊥
 possible_open v p us k i h u t = ∥∥₁_elim p (Prim.hlevel props) (λ st. open_in v st us k i h u t)
 
--- no form becomes a fixed Flat
-not_before : (f : Form) (wide : Bool) (start : ℕ) → IsLater f (Flat wide start true) → ⊥
-not_before Unborn wide start l = absurd (cc)
-not_before (Flat w s true) wide start l = absurd (cc)
-not_before (Flat w s false) wide start l = absurd (cc)
-not_before (Cons w a b) wide start l = absurd (cc)
-not_before (Sliced w a b) wide start l = absurd (cc)
-not_before (Thin t) wide start l = absurd (cc)
-
-abbrev is_fixed : Form → Bool
-is_fixed (Flat wide start fixed) = fixed
-is_fixed Unborn = false
-is_fixed (Cons wide left right) = false
-is_fixed (Sliced wide parent offset) = false
-is_fixed (Thin target) = false
-
-fixed_is : (f : Form) → is_fixed f ≡ true → (wide : Bool) × (start : ℕ) × (f ≡ Flat wide start true)
-fixed_is (Flat wide start fixed) e = (wide, start, ap (Flat wide start) e)
-fixed_is Unborn e = absurd (cc)
-fixed_is (Cons wide left right) e = absurd (cc)
-fixed_is (Sliced wide parent offset) e = absurd (cc)
-fixed_is (Thin target) e = absurd (cc)
-
-target_in : (v : View) → StandsIn v → (j t : ℕ) (f : Form) → Has v.forms j (Thin t) → Has v.forms t f → is_fixed f ≡ true
-target_in v (z, agents, W, vs, l, s, at, live) j t f h g = let know = s.knows l v at live in let u = (know.of_forms j (Thin t) h).shows.2 in let o = know.of_forms t f g in
-    let e : Some o.now ≡ Some (Flat u.0 u.1 true) = sym o.decodes ∙ u.2 in let is : o.now ≡ Flat u.0 u.1 true = cc in
-    ap is_fixed (⊎_elim (λ same. same ∙ is) (λ later. absurd (not_before f u.0 u.1 (subst (λ (y : Form). IsLater f y) is later))) o.later)
-
--- what stands in a slot, or is forwarded to, is a fixed Flat
-pub possible_fixed : (v : View) → IsPossible v → (i : ℕ) → IsFixedBy v i → (f : Form) → Has v.forms i f → (wide : Bool) × (start : ℕ) × (f ≡ Flat wide start true)
-possible_fixed v p i way f h = ⊎_elim
-    (λ (t : (k : ℕ) × Has v.slots k i). possible_slot v p t.0 i f t.1 h)
-    (λ (t : (j : ℕ) × Has v.forms j (Thin i)). fixed_is f (∥∥₁_elim p (Prim.hlevel props) (λ q. target_in v q t.0 i f t.1 h))) way
-
-below_in : (v : View) → StandsIn v → (j : ℕ) (wide : Bool) (parent offset : ℕ) → Has v.forms j (Sliced wide parent offset) → parent < j
-below_in v (z, agents, W, vs, l, s, at, live) j wide parent offset h = ((s.knows l v at live).of_forms j (Sliced wide parent offset) h).shows.4
-
--- a Sliced is cut from a string with a smaller id
-pub possible_below : (v : View) → IsPossible v → (j : ℕ) (wide : Bool) (parent offset : ℕ) → Has v.forms j (Sliced wide parent offset) → parent < j
-possible_below v p j wide parent offset h = ∥∥₁_elim p (Prim.hlevel props) (λ t. below_in v t j wide parent offset h)
-
 unborn_in : (v : View) → StandsIn v → (i : ℕ) (f : Form) → HasKey v.own_ids i → Has v.forms i f → ⊥
 unborn_in v (z, agents, W, vs, l, s, at, live) i f own h = let o = has_key v.own_ids i own in ((s.knows l v at live).of_forms i f h).born.1 ((s.own_ids l v at live).each i o.0 o.1).1
 
 -- an own id has no form
 pub possible_unborn : (v : View) → IsPossible v → (i : ℕ) (f : Form) → HasKey v.own_ids i → Has v.forms i f → ⊥
 possible_unborn v p i f own h = ∥∥₁_elim p (Prim.hlevel props) (λ t. unborn_in v t i f own h)
-
-thin_length_in : (v : View) → StandsIn v → (s t n : ℕ) (us : List ℕ) → Has v.forms s (Thin t) → Has v.lengths t n → Has v.units s us → n ≡ length us
-thin_length_in v (z, agents, W, vs, l, st, at, live) s t n us f h u = let k = st.knows l v at live in let m = k.of_lengths t n h in
-    sym m.1 ∙ ((st.standing t m.0).length_is ∙ ap length ((k.of_forms s (Thin t) f).shows.1 ∙ (k.of_units s us u).1))
-
--- what a string forwards to is as long
-pub possible_thin_length : (v : View) → IsPossible v → (s t n : ℕ) (us : List ℕ) → Has v.forms s (Thin t) → Has v.lengths t n → Has v.units s us → n ≡ length us
-possible_thin_length v p s t n us f h u = ∥∥₁_elim p (Prim.hlevel props) (λ q. thin_length_in v q s t n us f h u)
 
 thin_answer_in : (v : View) → StandsIn v → (s t k i : ℕ) (us : List ℕ) → Has v.forms s (Thin t) → Has v.units s us → Has v.slots k i → Has v.units i us → t ≡ i
 thin_answer_in v (z, agents, W, vs, l, st, at, live) s t k i us f u h w = let know = st.knows l v at live in let n = know.of_forms s (Thin t) f in let here = know.of_slots k i h in
@@ -145,11 +90,3 @@ form_in v (z, agents, W, vs, l, st, at, live) i h = ((st.knows l v at live).of_f
 -- no string is seen unborn
 pub possible_born : (v : View) → IsPossible v → (i : ℕ) → Has v.forms i Unborn → ⊥
 possible_born v p i h = ∥∥₁_elim p (Prim.hlevel props) (λ q. form_in v q i h)
-
-sliced_in : (v : View) → StandsIn v → (i : ℕ) (wide : Bool) (parent offset : ℕ) (us : List ℕ) → Has v.forms i (Sliced wide parent offset) → Has v.units i us → 13 ≤ length us
-sliced_in v (z, agents, W, vs, l, st, at, live) i wide parent offset us h u = let know = st.knows l v at live in let f = know.of_forms i (Sliced wide parent offset) h in
-    subst (λ (n : ℕ). 13 ≤ n) ((st.standing i f.born).length_is ∙ ap length (know.of_units i us u).1) f.shows.5
-
--- a part of a string is no short one
-pub possible_sliced : (v : View) → IsPossible v → (i : ℕ) (wide : Bool) (parent offset : ℕ) (us : List ℕ) → Has v.forms i (Sliced wide parent offset) → Has v.units i us → 13 ≤ length us
-possible_sliced v p i wide parent offset us h u = ∥∥₁_elim p (Prim.hlevel props) (λ q. sliced_in v q i wide parent offset us h u)

@@ -25,14 +25,16 @@ use Rattle.heap_string_table.specs.declared.probing.Visit.{Visit}
 use Rattle.heap_string_table.specs.declared.probing.Visit.TheVariants.{Answer, Next}
 use Rattle.heap_string_table.specs.declared.sought.Sought.{Sought}
 use Rattle.heap_string_table.specs.Answers.{HasLeft, Interns, IsBehind, IsFixed, IsHeader, IsOpen, IsRefused, Plan}
-use Rattle.heap_string_table.specs.Goes.{Goes, KeepsForms, Looks}
+use Rattle.heap_string_table.specs.Goes.{Goes, Looks}
 use Rattle.heap_string_table.specs.Headers.{IsNoHeader, ids_of, words_of}
 use Rattle.heap_string_table.specs.SlotLoads.{IsFirst}
-use Rattle.heap_string_table.specs.Stretches.{AreFrozen, IsSought}
 use Rattle.heap_string_table.specs.Visits.{IsAnswer, IsMade, IsNext, IsUnmade, Visited, Visits}
 use Rattle.heap_string_table.proofs.Going.{forms_self, forms_trans, goes_self, goes_trans}
 use Rattle.heap_string_table.proofs.Possibly.{possible_open}
-use Rattle.heap_string_table.proofs.Stretching.{frozen_kept, sought_kept}
+use Rattle.heap_string_table.proofs.Seeking.{frozen_kept, sought_kept}
+use Rattle.heap_read.specs.Reads.{HoldsForms}
+use Rattle.heap_read.specs.Frozen.{AreFrozen}
+use Rattle.heap_string_table.specs.Seeking.{IsSought}
 
 -- what a view knows of the string in a slot stays known
 module _ (v w : View) (p : IsPossible v) (k : KeepsKnown v w) (us : List ℕ) where
@@ -76,7 +78,7 @@ pub entered_is : (v : View) (k i : ℕ) (us : List ℕ) → Has v.slots k i → 
 entered_is v k i us h u = ap (λ (o : Option ℕ). entered v k (units_by v o)) h ∙ (ap (λ (o : Option (List ℕ)). entered v k o) u ∙ ap (λ (o : Option ℕ). v.mine ++ (us, unwrap_or o 0) ∷ []) h)
 
 -- a step before a visit, which used the ids and the words of a header that wasn't there before
-module _ (a v w : View) (us : List ℕ) (plan : Plan) (k : ℕ) (g : Goes a v []) (forms : KeepsForms a v) where
+module _ (a v w : View) (us : List ℕ) (plan : Plan) (k : ℕ) (g : Goes a v []) (forms : HoldsForms a v) where
   pub answer_after : (header made : Option ℕ) (i : ℕ) → v.used.ids + ids_of header ≡ a.used.ids + ids_of made → v.used.words + words_of plan.words header ≡ a.used.words + words_of plan.words made → IsAnswer v w us plan k made i → IsAnswer a w us plan k header i
   answer_after header made i e d h = let u = h.used in let x = h.used_words in record {
     goes = goes_trans a v w [] ((us, i) ∷ []) g h.goes;
@@ -102,7 +104,7 @@ told_after a v w words (Ids f) e d h = (h.0, h.1, h.2 ∙ e, h.3 ∙ ap (λ (n :
 told_after a v w words (Words f) e d h = (h.0, h.1, h.2 ∙ e, h.3 ∙ d)
 told_after a v w words (Slots n) e d h = h
 
-pub visits_after : (a v w : View) (us : List ℕ) (plan : Plan) (k : ℕ) (header : Option ℕ) (r : Result Visit TableFull) → Looks a v → KeepsForms a v → Visits v w us plan k header r → Visits a w us plan k header r
+pub visits_after : (a v w : View) (us : List ℕ) (plan : Plan) (k : ℕ) (header : Option ℕ) (r : Result Visit TableFull) → Looks a v → HoldsForms a v → Visits v w us plan k header r → Visits a w us plan k header r
 visits_after a v w us plan k header (Ok r) l forms h = visited_after a v w us plan k l.goes forms header header r (ap (λ (n : ℕ). n + ids_of header) l.used) (ap (λ (n : ℕ). n + words_of plan.words header) l.words) h
 visits_after a v w us plan k header (Err f) l forms h =
     record { goes = goes_trans a v w [] [] l.goes h.goes; forms = forms_trans a v w forms h.forms; none = h.none; told = told_after a v w plan.words f l.used l.words h.told; free = h.free }
@@ -124,16 +126,16 @@ left_by a w us plan (Some i) u x m = inr (i, u, x, m)
 -- the walk: behind r slots that differ, with what was made so far
 pub record Probing (a v : View) (s : Sought) (us : List ℕ) (plan : Plan) (r : ℕ) (header : Option ℕ) : Type 0 where
   pub goes : Goes a v []
-  pub forms : KeepsForms a v
+  pub forms : HoldsForms a v
   pub used : v.used.ids ≡ a.used.ids + ids_of header
   pub used_words : v.used.words ≡ a.used.words + words_of plan.words header
   pub lies : IsSought v s
-  pub frozen : s.offset ≡ 0 → AreFrozen v s.wide s.start s.len
+  pub frozen : AreFrozen v s.window
   pub units : Has v.units s.id us
   pub passed : (j : ℕ) → j < a.sizes.slots → rank us a.sizes.slots j < r → IsShutAt v us j
   pub made : IsMade v plan us header
 
-pub probing_none : (a : View) (s : Sought) (us : List ℕ) (plan : Plan) → IsSought a s → (s.offset ≡ 0 → AreFrozen a s.wide s.start s.len) → Has a.units s.id us → Probing a a s us plan 0 None
+pub probing_none : (a : View) (s : Sought) (us : List ℕ) (plan : Plan) → IsSought a s → AreFrozen a s.window → Has a.units s.id us → Probing a a s us plan 0 None
 probing_none a s us plan l f u = record { goes = goes_self a; forms = forms_self a; used = omega arith; used_words = omega arith; lies = l; frozen = f; units = u; passed = ranks_none (IsShutAt a us) us a.sizes.slots; made = tt }
 
 module _ (a v : View) (s : Sought) (us : List ℕ) (plan : Plan) (r : ℕ) (header : Option ℕ) (p : Probing a v s us plan r header) (n h : ℕ) (slots : n ≡ a.sizes.slots) (hash : h ≡ hash_of us) where
@@ -171,7 +173,7 @@ module _ (a v : View) (s : Sought) (us : List ℕ) (plan : Plan) (r : ℕ) (head
     used = omega arith;
     used_words = omega arith;
     lies = sought_kept v w k g.forms s p.lies;
-    frozen = λ none. frozen_kept v w k s.wide s.start s.len (p.frozen none);
+    frozen = frozen_kept v w k s.window p.frozen;
     units = k.units s.id us p.units;
     passed = ranks_next (IsShutAt w us) us a.sizes.slots r (λ j l m. shut_kept v w possible k us j (p.passed j l m)) (to_place (IsShutAt w us) g.shut);
     made = g.made_is;

@@ -1,8 +1,7 @@
 -- What interning answers.
-use Rattle.std.specs.Prelude.{◌≡◌, ℕ, ◌+◌, ◌<◌, ◌≤◌, ◌⊎◌, true, Bool, List, [], ◌∷◌, Option, Some, None, Result, Ok, Err, IsTrue, length, nat_lt}
+use Rattle.std.specs.Prelude.{◌≡◌, ℕ, ◌+◌, ◌<◌, ◌≤◌, ◌⊎◌, true, Bool, List, [], ◌∷◌, Option, Some, None, Result, Ok, Err, IsTrue, length}
 use Rattle.std.specs.FinMap.{get}
-use Rattle.std.specs.List.{list_any}
-use Rattle.js_units.specs.Lanes.{words_over}
+use Rattle.js_units.specs.Lanes.{is_wide, words_over}
 use Rattle.js_header.specs.declared.form.Form.{Form}
 use Rattle.js_header.specs.declared.form.Form.TheVariants.{Flat, Sliced, Thin}
 use Rattle.heap_rule.specs.declared.view.View.{View}
@@ -19,10 +18,6 @@ use Rattle.heap_string_table.specs.Goes.{Goes}
 -- a fixed Flat with these units
 abbrev pub IsFixed : View → List ℕ → ℕ → Type 0
 IsFixed v us i = ((wide : Bool) × (start : ℕ) × Has v.forms i (Flat wide start true)) × Has v.units i us
-
--- two-byte lanes are taken exactly where a unit is over 255
-abbrev pub is_wide : List ℕ → Bool
-is_wide us = list_any (λ u. nat_lt 255 u) us
 
 -- the content words of a copy of the units
 abbrev pub copy_words : List ℕ → ℕ

@@ -27,7 +27,3 @@ pub record Looks (v w : View) : Type 0 where
   pub goes : Goes v w []
   pub used : w.used.ids ≡ v.used.ids
   pub words : w.used.words ≡ v.used.words
-
--- each form that the view has stays as it is
-abbrev pub KeepsForms : View → View → Type 0
-KeepsForms v w = (i : ℕ) (f : Form) → Has v.forms i f → Has w.forms i f

@@ -1,6 +1,6 @@
 -- A header for the units of a string, as the crate's own functions see it. No public contract cites these.
 use Rattle.std.specs.Prelude.{◌≡◌, ℕ, zero, suc, ◌+◌, ◌*◌, ◌<◌, ◌≤◌, ◌^◌, ◌⊎◌, Bool, true, List, length, slice_index, Option, Some, None}
-use Rattle.js_units.specs.Lanes.{lane_count, lane_of, words_over}
+use Rattle.js_units.specs.Lanes.{is_wide, lane_count, words_over}
 use Rattle.js_header.specs.declared.form.Form.{Form}
 use Rattle.js_header.specs.declared.form.Form.TheVariants.{Flat, Sliced}
 use Rattle.heap_rule.specs.declared.view.View.{View}
@@ -12,7 +12,7 @@ use Rattle.heap_table.specs.Full.{IsFull}
 use Rattle.heap_string_table.specs.declared.faults.TableFull.{TableFull}
 use Rattle.heap_string_table.specs.declared.faults.TableFull.TheVariants.{Ids, Words, Slots}
 use Rattle.heap_string_table.specs.declared.sought.Sought.{Sought}
-use Rattle.heap_string_table.specs.Answers.{HasSpared, Plan, copy_words, is_wide}
+use Rattle.heap_string_table.specs.Answers.{HasSpared, Plan, copy_words}
 
 -- a header over a copy of the units
 abbrev pub copy_plan : List ℕ → Plan
@@ -25,7 +25,7 @@ begins (suc n) start = Some start
 
 -- a header over the words of the string
 abbrev pub plain_plan : Sought → Plan
-plain_plan s = record { words = 0; wide = s.wide; start = begins s.len s.start }
+plain_plan s = record { words = 0; wide = s.window.wide; start = begins s.window.len s.window.start }
 
 -- the plan of the header for a string: a copy for a part of another, by the form that was loaded
 abbrev pub plan_by : Form → Sought → List ℕ → Plan
@@ -47,14 +47,6 @@ pub record MayBeOver (v : View) (wide : Bool) (start n : ℕ) (us : List ℕ) : 
   pub words : (c : ℕ) → start ≤ c → c < start + words_over wide n → HasKey v.own_words c ⊎ HasKey v.frozen c
   pub lanes : (o : ℕ) → o < words_over wide n * lane_count wide → lane_in (shown v) wide start o ≡ slice_index us o
   pub empty : n ≡ 0 → start ≡ 0
-
--- word number q of the units, whose lanes past the last unit are 0
-abbrev pub IsWordOf : Bool → List ℕ → ℕ → ℕ → Type 0
-IsWordOf wide us q word = (k : ℕ) → k < lane_count wide → lane_of wide word k ≡ slice_index us (q * lane_count wide + k)
-
--- the first `done` of the words from `start` on are own and hold the units
-pub record AreWords (v : View) (wide : Bool) (start : ℕ) (us : List ℕ) (done : ℕ) : Type 0 where
-  pub each : (q : ℕ) → q < done → (x : ℕ) × Has v.own_words (start + q) x × IsWordOf wide us q x
 
 -- why no header was made: no id is left, after the words were claimed, which stay the agent's own; or there are no words
 abbrev pub IsNoHeader : View → View → ℕ → TableFull → Type 0

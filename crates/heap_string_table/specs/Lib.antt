@@ -3,5 +3,5 @@ pub mod Goes
 pub mod Answers
 pub mod Headers
 pub mod SlotLoads
-pub mod Stretches
+pub mod Seeking
 pub mod Visits

@@ -9,9 +9,10 @@ use Rattle.heap_string_table.specs.declared.probing.Visit.{Visit}
 use Rattle.heap_string_table.specs.declared.probing.Visit.TheVariants.{Answer, Next}
 use Rattle.heap_string_table.specs.Answers.{IsFixed, IsHeader, Plan}
 use Rattle.heap_string_table.specs.Counting.{count_below}
-use Rattle.heap_string_table.specs.Goes.{Goes, KeepsForms, Looks}
+use Rattle.heap_string_table.specs.Goes.{Goes, Looks}
 use Rattle.heap_string_table.specs.Headers.{IsNoHeader, ids_of, words_of}
 use Rattle.heap_string_table.specs.SlotLoads.{counted_on, loads_at}
+use Rattle.heap_read.specs.Reads.{HoldsForms}
 
 abbrev pub IsMade : View → Plan → List ℕ → Option ℕ → Type 0
 IsMade v plan us header = IfSome header (IsHeader v plan us)
@@ -19,7 +20,7 @@ IsMade v plan us header = IfSome header (IsHeader v plan us)
 -- An answer to a call that had a header, or none, when it came to slot k; and the header that it had or made, if any.
 pub record IsAnswer (v w : View) (us : List ℕ) (plan : Plan) (k : ℕ) (header : Option ℕ) (i : ℕ) : Type 0 where
   pub goes : Goes v w ((us, i) ∷ [])
-  pub forms : KeepsForms v w
+  pub forms : HoldsForms v w
   pub made : Option ℕ
   pub used : w.used.ids + ids_of header ≡ v.used.ids + ids_of made
   pub used_words : w.used.words + words_of plan.words header ≡ v.used.words + words_of plan.words made
@@ -30,7 +31,7 @@ pub record IsAnswer (v w : View) (us : List ℕ) (plan : Plan) (k : ℕ) (header
 -- the slot was found used by a string that differs, and the header is the one for the next slot
 pub record IsNext (v w : View) (us : List ℕ) (plan : Plan) (k : ℕ) (header made : Option ℕ) : Type 0 where
   pub goes : Goes v w []
-  pub forms : KeepsForms v w
+  pub forms : HoldsForms v w
   pub used : w.used.ids + ids_of header ≡ v.used.ids + ids_of made
   pub used_words : w.used.words + words_of plan.words header ≡ v.used.words + words_of plan.words made
   pub shut : IsShutAt w us k
@@ -39,7 +40,7 @@ pub record IsNext (v w : View) (us : List ℕ) (plan : Plan) (k : ℕ) (header m
 -- the slot was found free, and no header could be made
 pub record IsUnmade (v w : View) (words k : ℕ) (header : Option ℕ) (f : TableFull) : Type 0 where
   pub goes : Goes v w []
-  pub forms : KeepsForms v w
+  pub forms : HoldsForms v w
   pub none : header ≡ None
   pub told : IsNoHeader v w words f
   pub free : get w.slots k ≡ None

@@ -3,13 +3,13 @@ ghost use Rattle.std.specs.Prelude.{◌≡◌, ℕ, List, [], Bool};
 ghost use Rattle.std.specs.Bool.{MatchBool};
 ghost use Rattle.heap_rule.specs.HeaderMoves.{CanThin};
 ghost use Rattle.heap_rule.specs.Maps.{Has};
-ghost use Rattle.heap_table.specs.Agents.{Belongs, view_of};
 ghost use Rattle.heap_string_table.specs.Answers.{IsForwarded};
 ghost use Rattle.heap_string_table.specs.Goes.{Looks};
-ghost use Rattle.heap_string_table.specs.Stretches.{IsSought};
+ghost use Rattle.heap_read.specs.Readers.{view_in};
+ghost use Rattle.heap_string_table.specs.Seeking.{IsSought};
 
 use crate::sought::Sought;
-use heap_table::{Agent, Heap};
+use heap_read::Reader;
 use js_header::Form;
 
 // Whether a header of this form may come to forward.
@@ -27,19 +27,18 @@ fn can_thin(form: Form) -> bool
 
 // The header of a string that was interned forwards to the answer, unless it is a fixed Flat. Where
 // it forwards already it does so to the answer.
-pub(crate) fn forward(agent: &mut Agent, heap: &Heap, s: Sought, answer: u32)
-    requires belongs { Belongs agent.old heap.now }
-    requires lies { IsSought (view_of agent.old) s }
-    requires stands { (k : ℕ) × Has (view_of agent.old).slots k answer }
-    requires units { (us : List ℕ) × Has (view_of agent.old).units s.id us
-        × Has (view_of agent.old).units answer us }
-    ensures belongs { Belongs agent.new heap.now }
-    ensures looks { Looks (view_of agent.old) (view_of agent.new) }
-    ensures loads { (view_of agent.new).slot_loads ≡ (view_of agent.old).slot_loads }
-    ensures forwards { IsForwarded (view_of agent.new) s.id answer }
+pub(crate) fn forward(reader: &mut Reader, s: Sought, answer: u32)
+    requires lies { IsSought (view_in reader.old) s }
+    requires stands { (k : ℕ) × Has (view_in reader.old).slots k answer }
+    requires units { (us : List ℕ) × Has (view_in reader.old).units s.id us
+        × Has (view_in reader.old).units answer us }
+    ensures heap { reader.new.heap ≡ reader.old.heap }
+    ensures looks { Looks (view_in reader.old) (view_in reader.new) }
+    ensures loads { (view_in reader.new).slot_loads ≡ (view_in reader.old).slot_loads }
+    ensures forwards { IsForwarded (view_in reader.new) s.id answer }
 {
     if can_thin(s.form) {
-        agent.thin_step(heap, s.id, s.form, answer);
+        reader.agent.thin_step(reader.heap, s.id, s.form, answer);
         return;
     }
 }

@@ -4,115 +4,113 @@ ghost use Rattle.std.specs.Prelude.{◌≡◌, ℕ, List, ◌+◌, ◌≤◌, �
 ghost use Rattle.js_units.specs.Lanes.{words_over};
 ghost use Rattle.heap_rule.specs.declared.view.View.{View};
 ghost use Rattle.heap_rule.specs.Maps.{Has, HasKey};
-ghost use Rattle.heap_table.specs.Agents.{Belongs, view_of};
 ghost use Rattle.heap_table.specs.Full.{IsFull};
 ghost use Rattle.heap_string_table.specs.Answers.{IsHeader, copy_words};
-ghost use Rattle.heap_string_table.specs.Goes.{Goes, KeepsForms};
+ghost use Rattle.heap_string_table.specs.Goes.{Goes};
 ghost use Rattle.heap_string_table.specs.Headers.{IsFlat, IsNoHeader, MayBeOver, copy_plan, header_plan};
-ghost use Rattle.heap_string_table.specs.Stretches.{AreFrozen, IsSought};
+ghost use Rattle.heap_read.specs.Readers.{view_in};
+ghost use Rattle.heap_read.specs.Reads.{HoldsForms};
+ghost use Rattle.heap_read.specs.Frozen.{AreFrozen};
+ghost use Rattle.heap_string_table.specs.Seeking.{IsSought};
 
-use crate::copying::copy_units;
 use crate::faults::TableFull;
-use crate::sought::{Sought, has_wide};
-use heap_table::{Agent, CounterFull, Heap};
+use crate::sought::Sought;
+use heap_read::{JsStr, Piece, Reader, Source};
+use heap_table::CounterFull;
 use js_header::Form;
 
 // A new fixed Flat of `len` units over the words from `start` on. It takes one id.
-fn bear(
-    agent: &mut Agent,
-    heap: &Heap,
-    wide: bool,
-    start: u32,
-    len: u32,
-) -> Result<u32, CounterFull>
-    requires belongs { Belongs agent.old heap.now }
-    requires over { (us : List ℕ) × MayBeOver (view_of agent.old) wide start len us }
-    ensures belongs { Belongs agent.new heap.now }
-    ensures goes { (a : View) → Goes a (view_of agent.old) []
+fn bear(reader: &mut Reader, wide: bool, start: u32, len: u32) -> Result<u32, CounterFull>
+    requires over { (us : List ℕ) × MayBeOver (view_in reader.old) wide start len us }
+    ensures heap { reader.new.heap ≡ reader.old.heap }
+    ensures goes { (a : View) → Goes a (view_in reader.old) []
         → ((c : ℕ) → start ≤ c → c < start + words_over wide len → HasKey a.own_words c → ⊥)
-        → Goes a (view_of agent.new) [] }
-    ensures forms { KeepsForms (view_of agent.old) (view_of agent.new) }
-    ensures slots { (view_of agent.new).slots ≡ (view_of agent.old).slots }
-    ensures loads { (view_of agent.new).slot_loads ≡ (view_of agent.old).slot_loads }
-    ensures words { (view_of agent.new).used.words ≡ (view_of agent.old).used.words }
+        → Goes a (view_in reader.new) [] }
+    ensures forms { HoldsForms (view_in reader.old) (view_in reader.new) }
+    ensures slots { (view_in reader.new).slots ≡ (view_in reader.old).slots }
+    ensures loads { (view_in reader.new).slot_loads ≡ (view_in reader.old).slot_loads }
+    ensures words { (view_in reader.new).used.words ≡ (view_in reader.old).used.words }
     ensures ok { IfOk result
-        (λ i. (us : List ℕ) → MayBeOver (view_of agent.old) wide start len us
-        → IsFlat (view_of agent.new) wide start us i) }
-    ensures used { IfOk result (λ i. (view_of agent.new).used.ids ≡ (view_of agent.old).used.ids + 1) }
+        (λ i. (us : List ℕ) → MayBeOver (view_in reader.old) wide start len us
+        → IsFlat (view_in reader.new) wide start us i) }
+    ensures used { IfOk result (λ i. (view_in reader.new).used.ids ≡ (view_in reader.old).used.ids + 1) }
     ensures err { IfErr result
-        (λ f. IsFull f 1 (view_of agent.new).sizes.ids × ((view_of agent.new).low.ids ≡ f.at)
-        × ((view_of agent.new).used.ids ≡ (view_of agent.old).used.ids)
-        × ((view_of agent.new).own_words ≡ (view_of agent.old).own_words)) }
+        (λ f. IsFull f 1 (view_in reader.new).sizes.ids × ((view_in reader.new).low.ids ≡ f.at)
+        × ((view_in reader.new).used.ids ≡ (view_in reader.old).used.ids)
+        × ((view_in reader.new).own_words ≡ (view_in reader.old).own_words)) }
 {
-    let id = match agent.claim_id(heap) {
+    let id = match reader.agent.claim_id(reader.heap) {
         Ok(id) => id,
         Err(full) => return Err(full),
     };
-    agent.store_length(heap, id, len);
+    reader.agent.store_length(reader.heap, id, len);
     let form = Form::Flat {
         wide,
         start,
         fixed: true,
     };
-    agent.birth(heap, id, form);
+    reader.agent.birth(reader.heap, id, form);
     Ok(id)
 }
 
 // A header over a copy of the units. The content words come first, then the id.
-fn copied_header(agent: &mut Agent, heap: &Heap, s: Sought) -> Result<u32, TableFull>
-    requires belongs { Belongs agent.old heap.now }
-    requires lies { IsSought (view_of agent.old) s }
-    requires known { HasKey (view_of agent.old).units s.id }
-    requires some { 0 < s.len }
-    ensures belongs { Belongs agent.new heap.now }
-    ensures goes { Goes (view_of agent.old) (view_of agent.new) [] }
-    ensures forms { KeepsForms (view_of agent.old) (view_of agent.new) }
-    ensures slots { (view_of agent.new).slots ≡ (view_of agent.old).slots }
-    ensures loads { (view_of agent.new).slot_loads ≡ (view_of agent.old).slot_loads }
+fn copied_header(reader: &mut Reader, s: Sought) -> Result<u32, TableFull>
+    requires lies { IsSought (view_in reader.old) s }
+    requires known { HasKey (view_in reader.old).units s.id }
+    ensures heap { reader.new.heap ≡ reader.old.heap }
+    ensures goes { Goes (view_in reader.old) (view_in reader.new) [] }
+    ensures forms { HoldsForms (view_in reader.old) (view_in reader.new) }
+    ensures slots { (view_in reader.new).slots ≡ (view_in reader.old).slots }
+    ensures loads { (view_in reader.new).slot_loads ≡ (view_in reader.old).slot_loads }
     ensures ok { IfOk result
-        (λ i. (us : List ℕ) → Has (view_of agent.old).units s.id us
-        → IsHeader (view_of agent.new) (copy_plan us) us i
-        × ((view_of agent.new).used.words ≡ (view_of agent.old).used.words + copy_words us)) }
-    ensures used { IfOk result (λ i. (view_of agent.new).used.ids ≡ (view_of agent.old).used.ids + 1) }
+        (λ i. (us : List ℕ) → Has (view_in reader.old).units s.id us
+        → IsHeader (view_in reader.new) (copy_plan us) us i
+        × ((view_in reader.new).used.words ≡ (view_in reader.old).used.words + copy_words us)) }
+    ensures used { IfOk result (λ i. (view_in reader.new).used.ids ≡ (view_in reader.old).used.ids + 1) }
     ensures err { IfErr result
-        (λ f. (us : List ℕ) → Has (view_of agent.old).units s.id us
-        → IsNoHeader (view_of agent.old) (view_of agent.new) (copy_words us) f) }
+        (λ f. (us : List ℕ) → Has (view_in reader.old).units s.id us
+        → IsNoHeader (view_in reader.old) (view_in reader.new) (copy_words us) f) }
 {
-    let wide = has_wide(agent, heap, s);
-    let start = match copy_units(agent, heap, s, wide) {
+    let source = Source::Piece(Piece {
+        of: JsStr { id: s.id },
+        from: 0,
+        window: s.window,
+    });
+    let n = s.window.len;
+    let wide = reader.has_wide(&source, n);
+    let start = match reader.write(&source, n, wide) {
         Ok(start) => start,
         Err(full) => return Err(TableFull::Words(full)),
     };
-    match bear(agent, heap, wide, start, s.len) {
+    match bear(reader, wide, start, n) {
         Ok(id) => Ok(id),
         Err(full) => Err(TableFull::Ids(full)),
     }
 }
 
 // A new string with the same units: over the same words, or over a copy where it is a part.
-pub(crate) fn make_header(agent: &mut Agent, heap: &Heap, s: Sought) -> Result<u32, TableFull>
-    requires belongs { Belongs agent.old heap.now }
-    requires lies { IsSought (view_of agent.old) s }
-    requires known { HasKey (view_of agent.old).units s.id }
-    requires frozen { s.offset ≡ 0 → AreFrozen (view_of agent.old) s.wide s.start s.len }
-    ensures belongs { Belongs agent.new heap.now }
-    ensures goes { Goes (view_of agent.old) (view_of agent.new) [] }
-    ensures forms { KeepsForms (view_of agent.old) (view_of agent.new) }
-    ensures slots { (view_of agent.new).slots ≡ (view_of agent.old).slots }
-    ensures loads { (view_of agent.new).slot_loads ≡ (view_of agent.old).slot_loads }
+pub(crate) fn make_header(reader: &mut Reader, s: Sought) -> Result<u32, TableFull>
+    requires lies { IsSought (view_in reader.old) s }
+    requires known { HasKey (view_in reader.old).units s.id }
+    requires frozen { AreFrozen (view_in reader.old) s.window }
+    ensures heap { reader.new.heap ≡ reader.old.heap }
+    ensures goes { Goes (view_in reader.old) (view_in reader.new) [] }
+    ensures forms { HoldsForms (view_in reader.old) (view_in reader.new) }
+    ensures slots { (view_in reader.new).slots ≡ (view_in reader.old).slots }
+    ensures loads { (view_in reader.new).slot_loads ≡ (view_in reader.old).slot_loads }
     ensures ok { IfOk result
-        (λ i. (us : List ℕ) → Has (view_of agent.old).units s.id us
-        → IsHeader (view_of agent.new) (header_plan s us) us i
-        × ((view_of agent.new).used.words ≡ (view_of agent.old).used.words + (header_plan s us).words)) }
-    ensures used { IfOk result (λ i. (view_of agent.new).used.ids ≡ (view_of agent.old).used.ids + 1) }
+        (λ i. (us : List ℕ) → Has (view_in reader.old).units s.id us
+        → IsHeader (view_in reader.new) (header_plan s us) us i
+        × ((view_in reader.new).used.words ≡ (view_in reader.old).used.words + (header_plan s us).words)) }
+    ensures used { IfOk result (λ i. (view_in reader.new).used.ids ≡ (view_in reader.old).used.ids + 1) }
     ensures err { IfErr result
-        (λ f. (us : List ℕ) → Has (view_of agent.old).units s.id us
-        → IsNoHeader (view_of agent.old) (view_of agent.new) (header_plan s us).words f) }
+        (λ f. (us : List ℕ) → Has (view_in reader.old).units s.id us
+        → IsNoHeader (view_in reader.old) (view_in reader.new) (header_plan s us).words f) }
 {
     if let Form::Sliced { .. } = s.form {
-        return copied_header(agent, heap, s);
+        return copied_header(reader, s);
     }
-    match bear(agent, heap, s.wide, first_word(s), s.len) {
+    match bear(reader, s.window.wide, first_word(s), s.window.len) {
         Ok(id) => Ok(id),
         Err(full) => Err(TableFull::Ids(full)),
     }
@@ -120,8 +118,8 @@ pub(crate) fn make_header(agent: &mut Agent, heap: &Heap, s: Sought) -> Result<u
 
 // An empty string has no words, and its form names the first of all.
 fn first_word(s: Sought) -> u32
-    ensures empty { s.len ≡ 0 → result ≡ 0 }
-    ensures some { 0 < s.len → result ≡ s.start }
+    ensures empty { s.window.len ≡ 0 → result ≡ 0 }
+    ensures some { 0 < s.window.len → result ≡ s.window.start }
 {
-    if s.len == 0 { 0 } else { s.start }
+    if s.window.len == 0 { 0 } else { s.window.start }
 }

@@ -7,14 +7,12 @@
 //! or takes memory.
 #![tactic(auto)]
 
-mod copying;
 mod counting;
 mod faults;
 mod forwarding;
 mod header;
 mod probing;
 mod sought;
-mod stretch;
 
 pub use counting::count_interned;
 pub use faults::TableFull;

@@ -4,20 +4,22 @@ ghost use Rattle.std.specs.FinMap.{get};
 ghost use Rattle.js_units.specs.Lanes.{hash_of};
 ghost use Rattle.heap_rule.specs.Maps.{Has, HasKey};
 ghost use Rattle.heap_rule.specs.Views.{IsKnown, IsSettled};
-ghost use Rattle.heap_table.specs.Agents.{Belongs, view_of, size_of};
+ghost use Rattle.heap_table.specs.Agents.{size_of};
 ghost use Rattle.heap_string_table.specs.Answers.{Interns, IsBehind, IsForwarded, IsPlan, Plan};
-ghost use Rattle.heap_string_table.specs.Goes.{KeepsForms};
 ghost use Rattle.heap_string_table.specs.SlotLoads.{IsFirst, LoadsSlots, answered, loads_at};
-ghost use Rattle.heap_string_table.specs.Stretches.{AreFrozen, IsSought};
 ghost use Rattle.heap_string_table.specs.Headers.{header_plan};
 ghost use Rattle.heap_string_table.specs.Visits.{IsMade, LoadsOne, Visited, Visits, entries, entries_in};
+ghost use Rattle.heap_read.specs.Readers.{view_in};
+ghost use Rattle.heap_read.specs.Reads.{HoldsForms};
+ghost use Rattle.heap_read.specs.Frozen.{AreFrozen};
+ghost use Rattle.heap_string_table.specs.Seeking.{IsSought};
 
 use crate::faults::TableFull;
 use crate::forwarding::forward;
 use crate::header::make_header;
-use crate::sought::{Sought, hash_units, is_same, seek};
-use heap_steps::Steps;
-use heap_table::{Agent, Heap, Step};
+use crate::sought::{Sought, is_same, seek};
+use heap_read::{Reader, Steps};
+use heap_table::Step;
 use std::marker::Brand;
 use std::sync::ledger::{Blank, Ledger};
 
@@ -31,29 +33,27 @@ pub(crate) enum Visit {
 // A slot that was found used. Where its string has the units, the call enters the history by one
 // more load of the slot.
 fn visit_used<L: Ledger>(
-    agent: &mut Agent,
-    heap: &Heap,
+    reader: &mut Reader,
     s: Sought,
     k: u32,
     t: u32,
     header: Option<u32>,
     steps: &mut Steps<L>,
 ) -> Visit
-    requires belongs { Belongs agent.old heap.now }
-    requires lies { IsSought (view_of agent.old) s }
-    requires known { HasKey (view_of agent.old).units s.id }
-    requires inside { k < (size_of heap.now).slots }
-    requires used { Has (view_of agent.old).slots k t × IsKnown (view_of agent.old) t }
-    requires header { (us : List ℕ) → Has (view_of agent.old).units s.id us
-        → IsMade (view_of agent.old) (header_plan s us) us header }
-    ensures belongs { Belongs agent.new heap.now }
-    ensures visited { (us : List ℕ) → Has (view_of agent.old).units s.id us
-        → Visited (view_of agent.old) (view_of agent.new) us (header_plan s us) k header result }
-    ensures loads { LoadsOne (view_of agent.old) (view_of agent.new) k (entries result) steps.old steps.new }
+    requires lies { IsSought (view_in reader.old) s }
+    requires known { HasKey (view_in reader.old).units s.id }
+    requires inside { k < (size_of reader.old.heap.now).slots }
+    requires used { Has (view_in reader.old).slots k t × IsKnown (view_in reader.old) t }
+    requires header { (us : List ℕ) → Has (view_in reader.old).units s.id us
+        → IsMade (view_in reader.old) (header_plan s us) us header }
+    ensures heap { reader.new.heap ≡ reader.old.heap }
+    ensures visited { (us : List ℕ) → Has (view_in reader.old).units s.id us
+        → Visited (view_in reader.old) (view_in reader.new) us (header_plan s us) k header result }
+    ensures loads { LoadsOne (view_in reader.old) (view_in reader.new) k (entries result) steps.old steps.new }
     ensures count { steps.new ≡ steps.old + entries result }
 {
-    if is_same(agent, heap, s, t) {
-        agent.load_slot(heap, k, true);
+    if is_same(reader, s, t) {
+        reader.agent.load_slot(reader.heap, k, true);
         steps.tick();
         return Visit::Answer { id: t };
     }
@@ -61,129 +61,115 @@ fn visit_used<L: Ledger>(
 }
 
 // A slot that was found free, with a header.
-fn put<L: Ledger>(
-    agent: &mut Agent,
-    heap: &Heap,
-    s: Sought,
-    k: u32,
-    id: u32,
-    steps: &mut Steps<L>,
-) -> Visit
-    requires belongs { Belongs agent.old heap.now }
-    requires lies { IsSought (view_of agent.old) s }
-    requires known { HasKey (view_of agent.old).units s.id }
-    requires inside { k < (size_of heap.now).slots }
-    requires behind { (us : List ℕ) → Has (view_of agent.old).units s.id us
-        → IsBehind (view_of agent.old) us k }
-    requires header { (us : List ℕ) → Has (view_of agent.old).units s.id us
-        → IsMade (view_of agent.old) (header_plan s us) us (Some id) }
-    ensures belongs { Belongs agent.new heap.now }
-    ensures visited { (us : List ℕ) → Has (view_of agent.old).units s.id us
-        → Visited (view_of agent.old) (view_of agent.new) us (header_plan s us) k (Some id) result }
-    ensures loads { LoadsOne (view_of agent.old) (view_of agent.new) k (entries result) steps.old steps.new }
+fn put<L: Ledger>(reader: &mut Reader, s: Sought, k: u32, id: u32, steps: &mut Steps<L>) -> Visit
+    requires lies { IsSought (view_in reader.old) s }
+    requires known { HasKey (view_in reader.old).units s.id }
+    requires inside { k < (size_of reader.old.heap.now).slots }
+    requires behind { (us : List ℕ) → Has (view_in reader.old).units s.id us
+        → IsBehind (view_in reader.old) us k }
+    requires header { (us : List ℕ) → Has (view_in reader.old).units s.id us
+        → IsMade (view_in reader.old) (header_plan s us) us (Some id) }
+    ensures heap { reader.new.heap ≡ reader.old.heap }
+    ensures visited { (us : List ℕ) → Has (view_in reader.old).units s.id us
+        → Visited (view_in reader.old) (view_in reader.new) us (header_plan s us) k (Some id) result }
+    ensures loads { LoadsOne (view_in reader.old) (view_in reader.new) k (entries result) steps.old steps.new }
 {
-    match agent.claim_slot(heap, k, id) {
+    match reader.agent.claim_slot(reader.heap, k, id) {
         Step::Won => Visit::Answer { id },
         Step::Lost { word } => {
             let winner = (word - 1) as u32;
-            visit_used(agent, heap, s, k, winner, Some(id), steps)
+            visit_used(reader, s, k, winner, Some(id), steps)
         }
     }
 }
 
 // A slot that was found free.
 fn take<L: Ledger>(
-    agent: &mut Agent,
-    heap: &Heap,
+    reader: &mut Reader,
     s: Sought,
     k: u32,
     header: Option<u32>,
     steps: &mut Steps<L>,
 ) -> Result<Visit, TableFull>
-    requires belongs { Belongs agent.old heap.now }
-    requires lies { IsSought (view_of agent.old) s }
-    requires known { HasKey (view_of agent.old).units s.id }
-    requires frozen { s.offset ≡ 0 → AreFrozen (view_of agent.old) s.wide s.start s.len }
-    requires inside { k < (size_of heap.now).slots }
-    requires free { get (view_of agent.old).slots k ≡ None }
-    requires behind { (us : List ℕ) → Has (view_of agent.old).units s.id us
-        → IsBehind (view_of agent.old) us k }
-    requires header { (us : List ℕ) → Has (view_of agent.old).units s.id us
-        → IsMade (view_of agent.old) (header_plan s us) us header }
-    ensures belongs { Belongs agent.new heap.now }
-    ensures visits { (us : List ℕ) → Has (view_of agent.old).units s.id us
-        → Visits (view_of agent.old) (view_of agent.new) us (header_plan s us) k header result }
-    ensures loads { LoadsOne (view_of agent.old) (view_of agent.new) k
+    requires lies { IsSought (view_in reader.old) s }
+    requires known { HasKey (view_in reader.old).units s.id }
+    requires frozen { AreFrozen (view_in reader.old) s.window }
+    requires inside { k < (size_of reader.old.heap.now).slots }
+    requires free { get (view_in reader.old).slots k ≡ None }
+    requires behind { (us : List ℕ) → Has (view_in reader.old).units s.id us
+        → IsBehind (view_in reader.old) us k }
+    requires header { (us : List ℕ) → Has (view_in reader.old).units s.id us
+        → IsMade (view_in reader.old) (header_plan s us) us header }
+    ensures heap { reader.new.heap ≡ reader.old.heap }
+    ensures visits { (us : List ℕ) → Has (view_in reader.old).units s.id us
+        → Visits (view_in reader.old) (view_in reader.new) us (header_plan s us) k header result }
+    ensures loads { LoadsOne (view_in reader.old) (view_in reader.new) k
         (entries_in result) steps.old steps.new }
 {
     if let Some(id) = header {
-        return Ok(put(agent, heap, s, k, id, steps));
+        return Ok(put(reader, s, k, id, steps));
     }
-    let made = match make_header(agent, heap, s) {
+    let made = match make_header(reader, s) {
         Ok(made) => made,
         Err(full) => return Err(full),
     };
-    Ok(put(agent, heap, s, k, made, steps))
+    Ok(put(reader, s, k, made, steps))
 }
 
 // One slot of the path, behind slots with strings that differ.
 fn visit_slot<L: Ledger>(
-    agent: &mut Agent,
-    heap: &Heap,
+    reader: &mut Reader,
     s: Sought,
     k: u32,
     header: Option<u32>,
     steps: &mut Steps<L>,
 ) -> Result<Visit, TableFull>
-    requires belongs { Belongs agent.old heap.now }
-    requires lies { IsSought (view_of agent.old) s }
-    requires known { HasKey (view_of agent.old).units s.id }
-    requires frozen { s.offset ≡ 0 → AreFrozen (view_of agent.old) s.wide s.start s.len }
-    requires inside { k < (size_of heap.now).slots }
-    requires behind { (us : List ℕ) → Has (view_of agent.old).units s.id us
-        → IsBehind (view_of agent.old) us k }
-    requires header { (us : List ℕ) → Has (view_of agent.old).units s.id us
-        → IsMade (view_of agent.old) (header_plan s us) us header }
-    ensures belongs { Belongs agent.new heap.now }
-    ensures visits { (us : List ℕ) → Has (view_of agent.old).units s.id us
-        → Visits (view_of agent.old) (view_of agent.new) us (header_plan s us) k header result }
-    ensures loads { LoadsOne (view_of agent.old) (view_of agent.new) k
+    requires lies { IsSought (view_in reader.old) s }
+    requires known { HasKey (view_in reader.old).units s.id }
+    requires frozen { AreFrozen (view_in reader.old) s.window }
+    requires inside { k < (size_of reader.old.heap.now).slots }
+    requires behind { (us : List ℕ) → Has (view_in reader.old).units s.id us
+        → IsBehind (view_in reader.old) us k }
+    requires header { (us : List ℕ) → Has (view_in reader.old).units s.id us
+        → IsMade (view_in reader.old) (header_plan s us) us header }
+    ensures heap { reader.new.heap ≡ reader.old.heap }
+    ensures visits { (us : List ℕ) → Has (view_in reader.old).units s.id us
+        → Visits (view_in reader.old) (view_in reader.new) us (header_plan s us) k header result }
+    ensures loads { LoadsOne (view_in reader.old) (view_in reader.new) k
         (entries_in result + 1) steps.old steps.new }
-    ensures again { HasKey (view_of agent.old).slots k → steps.new ≡ steps.old + (entries_in result + 1) }
+    ensures again { HasKey (view_in reader.old).slots k → steps.new ≡ steps.old + (entries_in result + 1) }
 {
     steps.tick();
-    match agent.load_slot(heap, k, false) {
-        Some(t) => Ok(visit_used(agent, heap, s, k, t, header, steps)),
-        None => take(agent, heap, s, k, header, steps),
+    match reader.agent.load_slot(reader.heap, k, false) {
+        Some(t) => Ok(visit_used(reader, s, k, t, header, steps)),
+        None => take(reader, s, k, header, steps),
     }
 }
 
 // The slots of the path, from the first on.
 fn probe<L: Ledger>(
-    agent: &mut Agent,
-    heap: &Heap,
+    reader: &mut Reader,
     s: Sought,
     hash: u32,
     steps: &mut Steps<L>,
 ) -> Result<u32, TableFull>
-    requires belongs { Belongs agent.old heap.now }
-    requires lies { IsSought (view_of agent.old) s }
-    requires known { HasKey (view_of agent.old).units s.id }
-    requires frozen { s.offset ≡ 0 → AreFrozen (view_of agent.old) s.wide s.start s.len }
-    requires hash { (us : List ℕ) → Has (view_of agent.old).units s.id us → hash ≡ hash_of us }
-    ensures belongs { Belongs agent.new heap.now }
-    ensures forms { KeepsForms (view_of agent.old) (view_of agent.new) }
-    ensures interns { (us : List ℕ) → Has (view_of agent.old).units s.id us
-        → Interns (view_of agent.old) (view_of agent.new) us (header_plan s us) result }
-    ensures loads { LoadsSlots (view_of agent.old) (view_of agent.new) (answered result) steps.old steps.new }
-    ensures first { (us : List ℕ) → Has (view_of agent.old).units s.id us → IsFirst (view_of agent.old) us
+    requires lies { IsSought (view_in reader.old) s }
+    requires known { HasKey (view_in reader.old).units s.id }
+    requires frozen { AreFrozen (view_in reader.old) s.window }
+    requires hash { (us : List ℕ) → Has (view_in reader.old).units s.id us → hash ≡ hash_of us }
+    ensures heap { reader.new.heap ≡ reader.old.heap }
+    ensures forms { HoldsForms (view_in reader.old) (view_in reader.new) }
+    ensures interns { (us : List ℕ) → Has (view_in reader.old).units s.id us
+        → Interns (view_in reader.old) (view_in reader.new) us (header_plan s us) result }
+    ensures loads { LoadsSlots (view_in reader.old) (view_in reader.new) (answered result) steps.old steps.new }
+    ensures first { (us : List ℕ) → Has (view_in reader.old).units s.id us → IsFirst (view_in reader.old) us
         → steps.new ≡ steps.old + 2 }
 {
-    let n = heap.size().slots;
+    let n = reader.heap.size().slots;
     let start = hash % n;
     let mut header = None;
     for r in 0..n {
-        let visit = match visit_slot(agent, heap, s, (start + r) % n, header, steps) {
+        let visit = match visit_slot(reader, s, (start + r) % n, header, steps) {
             Ok(visit) => visit,
             Err(full) => return Err(full),
         };
@@ -201,57 +187,49 @@ fn probe<L: Ledger>(
 ///
 /// The header of `id` then forwards to the answer, unless it is a fixed Flat, which stays for good.
 pub fn intern_counted<L: Ledger>(
-    agent: &mut Agent,
-    heap: &Heap,
+    reader: &mut Reader,
     id: u32,
     steps: &mut Steps<L>,
 ) -> Result<u32, TableFull>
-    requires belongs { Belongs agent.old heap.now }
-    requires known { HasKey (view_of agent.old).units id }
-    requires settled { IsSettled (view_of agent.old) id }
-    ensures belongs { Belongs agent.new heap.now }
-    ensures interns { (us : List ℕ) → Has (view_of agent.old).units id us
-        → (plan : Plan) × IsPlan (view_of agent.old) (view_of agent.new) id us plan
-        × Interns (view_of agent.old) (view_of agent.new) us plan result }
-    ensures forwards { IfOk result (λ i. IsForwarded (view_of agent.new) id i) }
-    ensures loads { LoadsSlots (view_of agent.old) (view_of agent.new) (answered result) steps.old steps.new }
-    ensures first { (us : List ℕ) → Has (view_of agent.old).units id us → IsFirst (view_of agent.old) us
+    requires known { HasKey (view_in reader.old).units id }
+    requires settled { IsSettled (view_in reader.old) id }
+    ensures heap { reader.new.heap ≡ reader.old.heap }
+    ensures interns { (us : List ℕ) → Has (view_in reader.old).units id us
+        → (plan : Plan) × IsPlan (view_in reader.old) (view_in reader.new) id us plan
+        × Interns (view_in reader.old) (view_in reader.new) us plan result }
+    ensures forwards { IfOk result (λ i. IsForwarded (view_in reader.new) id i) }
+    ensures loads { LoadsSlots (view_in reader.old) (view_in reader.new) (answered result) steps.old steps.new }
+    ensures first { (us : List ℕ) → Has (view_in reader.old).units id us → IsFirst (view_in reader.old) us
         → steps.new ≡ steps.old + 2 }
-    ensures few { (k : ℕ) → loads_at (view_of agent.new) k ≤ loads_at (view_of agent.old) k + 2 }
-    ensures most { steps.new ≤ steps.old + 2 * (size_of heap.now).slots }
+    ensures few { (k : ℕ) → loads_at (view_in reader.new) k ≤ loads_at (view_in reader.old) k + 2 }
+    ensures most { steps.new ≤ steps.old + 2 * (size_of reader.old.heap.now).slots }
 {
-    let s = seek(agent, heap, id);
-    let hash = hash_units(agent, heap, s);
-    let answer = match probe(agent, heap, s, hash, steps) {
+    let s = seek(reader, id);
+    let hash = reader.hash_in(s.window);
+    let answer = match probe(reader, s, hash, steps) {
         Ok(answer) => answer,
         Err(full) => return Err(full),
     };
-    forward(agent, heap, s, answer);
+    forward(reader, s, answer);
     Ok(answer)
 }
 
 // The ledger of a caller that counts nothing.
-fn intern_by<L: Ledger>(
-    agent: &mut Agent,
-    heap: &Heap,
-    id: u32,
-    blank: Blank,
-) -> Result<u32, TableFull>
+fn intern_by<L: Ledger>(reader: &mut Reader, id: u32, blank: Blank) -> Result<u32, TableFull>
     requires name { blank.name ≡ L.name }
     requires parts { blank.parts ≡ L.parts }
     requires some { 0 < blank.parts }
-    requires belongs { Belongs agent.old heap.now }
-    requires known { HasKey (view_of agent.old).units id }
-    requires settled { IsSettled (view_of agent.old) id }
-    ensures belongs { Belongs agent.new heap.now }
-    ensures interns { (us : List ℕ) → Has (view_of agent.old).units id us
-        → (plan : Plan) × IsPlan (view_of agent.old) (view_of agent.new) id us plan
-        × Interns (view_of agent.old) (view_of agent.new) us plan result }
-    ensures forwards { IfOk result (λ i. IsForwarded (view_of agent.new) id i) }
-    ensures few { (k : ℕ) → loads_at (view_of agent.new) k ≤ loads_at (view_of agent.old) k + 2 }
+    requires known { HasKey (view_in reader.old).units id }
+    requires settled { IsSettled (view_in reader.old) id }
+    ensures heap { reader.new.heap ≡ reader.old.heap }
+    ensures interns { (us : List ℕ) → Has (view_in reader.old).units id us
+        → (plan : Plan) × IsPlan (view_in reader.old) (view_in reader.new) id us plan
+        × Interns (view_in reader.old) (view_in reader.new) us plan result }
+    ensures forwards { IfOk result (λ i. IsForwarded (view_in reader.new) id i) }
+    ensures few { (k : ℕ) → loads_at (view_in reader.new) k ≤ loads_at (view_in reader.old) k + 2 }
 {
     let mut steps = Steps::<L>::start(blank);
-    intern_counted(agent, heap, id, &mut steps)
+    intern_counted(reader, id, &mut steps)
 }
 
 /// The interned string of the units of `id`, by its number: of all strings with these units the
@@ -260,16 +238,15 @@ fn intern_by<L: Ledger>(
 /// over a copy of its units, which is wide exactly where one is over 255. No slot is loaded more
 /// than twice. The header of `id` then forwards to the answer, unless it is a fixed Flat, which
 /// stays for good.
-pub fn intern(agent: &mut Agent, heap: &Heap, id: u32) -> Result<u32, TableFull>
-    requires belongs { Belongs agent.old heap.now }
-    requires known { HasKey (view_of agent.old).units id }
-    requires settled { IsSettled (view_of agent.old) id }
-    ensures belongs { Belongs agent.new heap.now }
-    ensures interns { (us : List ℕ) → Has (view_of agent.old).units id us
-        → (plan : Plan) × IsPlan (view_of agent.old) (view_of agent.new) id us plan
-        × Interns (view_of agent.old) (view_of agent.new) us plan result }
-    ensures forwards { IfOk result (λ i. IsForwarded (view_of agent.new) id i) }
-    ensures few { (k : ℕ) → loads_at (view_of agent.new) k ≤ loads_at (view_of agent.old) k + 2 }
+pub fn intern(reader: &mut Reader, id: u32) -> Result<u32, TableFull>
+    requires known { HasKey (view_in reader.old).units id }
+    requires settled { IsSettled (view_in reader.old) id }
+    ensures heap { reader.new.heap ≡ reader.old.heap }
+    ensures interns { (us : List ℕ) → Has (view_in reader.old).units id us
+        → (plan : Plan) × IsPlan (view_in reader.old) (view_in reader.new) id us plan
+        × Interns (view_in reader.old) (view_in reader.new) us plan result }
+    ensures forwards { IfOk result (λ i. IsForwarded (view_in reader.new) id i) }
+    ensures few { (k : ℕ) → loads_at (view_in reader.new) k ≤ loads_at (view_in reader.old) k + 2 }
 {
-    intern_by::<Brand>(agent, heap, id, Blank::new(1))
+    intern_by::<Brand>(reader, id, Blank::new(1))
 }

@@ -4,8 +4,8 @@ ghost use Rattle.heap_intern.specs.Sessions.{state_in};
 ghost use Rattle.test_heap_intern.specs.Turns.{GoesOn};
 
 use heap_intern::Session;
+use heap_read::Steps;
 use heap_rule::HeapSize;
-use heap_steps::Steps;
 use heap_table::Heap;
 use js_store::{FullReport, Limit, StoreFault, Strings};
 use std::alloc::Global;

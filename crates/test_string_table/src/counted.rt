@@ -2,8 +2,8 @@
 ghost use Rattle.std.specs.Prelude.{◌≡◌, ℕ, ◌+◌, ◌*◌, ◌≤◌, ◌<◌, IfSome, length};
 ghost use Rattle.heap_table.specs.Agents.{Belongs, size_of, view_of};
 
+use heap_read::Steps;
 use heap_rule::{HeapSize, MAX};
-use heap_steps::Steps;
 use heap_string_table::{TableFull, intern, intern_counted};
 use heap_table::Heap;
 use heap_text::Text;
@@ -18,16 +18,15 @@ fn counted<L: Ledger>(
     units: &[u16],
     steps: &mut Steps<L>,
 ) -> Option<Result<u32, TableFull>>
-    requires text { Belongs text.old.agent text.old.heap.now }
     requires short { length units.now ≤ 65536 }
-    ensures text { Belongs text.new.agent text.new.heap.now }
-    ensures heap { text.new.heap ≡ text.old.heap }
-    ensures most { steps.new ≤ steps.old + 2 * (size_of text.old.heap.now).slots }
+    ensures text { Belongs text.new.reader.agent text.new.reader.heap.now }
+    ensures heap { text.new.reader.heap ≡ text.old.reader.heap }
+    ensures most { steps.new ≤ steps.old + 2 * (size_of text.old.reader.heap.now).slots }
 {
     let Ok(s) = text.make_flat(units) else {
         return None;
     };
-    Some(intern_counted(&mut text.agent, text.heap, s.id, steps))
+    Some(intern_counted(&mut text.reader, s.id, steps))
 }
 
 // The answers for two strings in turn, each made and interned twice.
@@ -37,9 +36,8 @@ fn answers<L: Ledger>(
     second: &[u16],
     steps: &mut Steps<L>,
 ) -> [Option<Result<u32, TableFull>>; 4]
-    requires text { Belongs text.old.agent text.old.heap.now }
     requires short { (length first.now ≤ 65536) × (length second.now ≤ 65536) }
-    ensures most { steps.new ≤ steps.old + 8 * (size_of text.old.heap.now).slots }
+    ensures most { steps.new ≤ steps.old + 8 * (size_of text.old.reader.heap.now).slots }
 {
     let a = counted(text, first, steps);
     let b = counted(text, second, steps);
@@ -108,21 +106,20 @@ fn found_again<L: Ledger>(
     units: &[u16],
     steps: &mut Steps<L>,
 ) -> Option<(u32, u32)>
-    requires text { Belongs text.old.agent text.old.heap.now }
-    requires one { (size_of text.old.heap.now).slots ≡ 1 }
+    requires one { (size_of text.old.reader.heap.now).slots ≡ 1 }
     requires short { length units.now ≤ 65536 }
     ensures two { IfSome result (λ r. steps.new ≡ steps.old + 2) }
 {
     let Ok(s) = text.make_flat(units) else {
         return None;
     };
-    let Ok(a) = intern(&mut text.agent, text.heap, s.id) else {
+    let Ok(a) = intern(&mut text.reader, s.id) else {
         return None;
     };
     let Ok(t) = text.make_flat(units) else {
         return None;
     };
-    let Ok(b) = intern_counted(&mut text.agent, text.heap, t.id, steps) else {
+    let Ok(b) = intern_counted(&mut text.reader, t.id, steps) else {
         return None;
     };
     Some((a, b))

@@ -2,59 +2,55 @@
 ghost use Rattle.std.specs.Prelude.{◌≡◌, ℕ, ◌+◌, ◌≤◌, ◌<◌, ◌^◌, IfSome, length};
 ghost use Rattle.heap_rule.specs.Maps.{HasKey};
 ghost use Rattle.heap_rule.specs.Views.{IsKnown, IsSettled};
-ghost use Rattle.heap_table.specs.Agents.{Belongs, share_of, view_of};
+ghost use Rattle.heap_table.specs.Agents.{share_of};
 ghost use Rattle.heap_table.specs.Known.{KeepsKnown};
+ghost use Rattle.heap_read.specs.Readers.{view_in};
 ghost use Rattle.test_string_table.specs.Turns.{KnowsOn};
 
 use crate::slots::wide;
+use heap_read::Reader;
 use heap_rule::{HeapSize, MAX};
 use heap_string_table::{TableFull, intern};
-use heap_table::{Agent, Heap};
-use heap_text::{JsStr, Text};
+use heap_table::Heap;
+use heap_text::Text;
 use js_header::{Form, encode};
 use std::alloc::Global;
 use std::thread::{Threads, join_mut};
 
 // The form word of a string.
-fn header(agent: &mut Agent, heap: &Heap, id: u32) -> u64
-    requires belongs { Belongs agent.old heap.now }
-    requires known { IsKnown (view_of agent.old) id }
-    ensures belongs { Belongs agent.new heap.now }
-    ensures known { KeepsKnown (view_of agent.old) (view_of agent.new) }
+fn header(reader: &mut Reader, id: u32) -> u64
+    requires known { IsKnown (view_in reader.old) id }
+    ensures known { KeepsKnown (view_in reader.old) (view_in reader.new) }
 {
-    encode(agent.load_form(heap, id))
+    encode(reader.form_now(id))
 }
 
 // The first content word of a string that is flat; None where it is empty or has another form.
-fn first_word(agent: &mut Agent, heap: &Heap, id: u32) -> Option<u64>
-    requires belongs { Belongs agent.old heap.now }
-    requires known { IsKnown (view_of agent.old) id }
-    ensures belongs { Belongs agent.new heap.now }
-    ensures known { KeepsKnown (view_of agent.old) (view_of agent.new) }
+fn first_word(reader: &mut Reader, id: u32) -> Option<u64>
+    requires known { IsKnown (view_in reader.old) id }
+    ensures known { KeepsKnown (view_in reader.old) (view_in reader.new) }
 {
-    let Form::Flat { start, .. } = agent.load_form(heap, id) else {
+    let Form::Flat { start, .. } = reader.form_now(id) else {
         return None;
     };
-    if agent.load_length(heap, id) == 0 {
+    if reader.agent.load_length(reader.heap, id) == 0 {
         return None;
     }
-    Some(agent.load_word(heap, start))
+    Some(reader.agent.load_word(reader.heap, start))
 }
 
 // The answer for a string, its form word afterwards, that of the answer, and the answer's first
 // content word.
-fn after(text: &mut Text, s: JsStr) -> Option<(u32, u64, u64, Option<u64>)>
-    requires text { Belongs text.old.agent text.old.heap.now }
-    requires known { HasKey (view_of text.old.agent).units s.id }
-    requires settled { IsSettled (view_of text.old.agent) s.id }
+fn after(reader: &mut Reader, id: u32) -> Option<(u32, u64, u64, Option<u64>)>
+    requires known { HasKey (view_in reader.old).units id }
+    requires settled { IsSettled (view_in reader.old) id }
 {
-    let heap = text.heap;
-    let Ok(answer) = intern(&mut text.agent, heap, s.id) else {
+    let Ok(answer) = intern(reader, id) else {
         return None;
     };
-    let own = header(&mut text.agent, heap, s.id);
-    let interned = header(&mut text.agent, heap, answer);
-    let word = first_word(&mut text.agent, heap, answer);
+    let own = header(reader, id);
+    let interned = header(reader, answer);
+    let word = first_word(reader, answer);
     Some((answer, own, interned, word))
 }
 
@@ -74,7 +70,7 @@ fn of_new(alloc: Global, units: &[u16]) -> Option<(u32, u64, u64, Option<u64>)>
     let Ok(s) = text.make_flat(units) else {
         return None;
     };
-    after(&mut text, s)
+    after(&mut text.reader, s.id)
 }
 
 // The header over the same word: 36 forwards to id 1, and 17 is a fixed Flat from word 0 on.
@@ -99,8 +95,8 @@ fn of_wide(alloc: Global) -> Option<(u32, u64, u64, Option<u64>)> {
         return None;
     };
     let mut text = Text::new(&heap, agent, MAX);
-    let id = wide(&mut text.agent, &heap, 0x0064_0063_0062_0061)?;
-    after(&mut text, JsStr { id })
+    let id = wide(&mut text.reader, 0x0064_0063_0062_0061)?;
+    after(&mut text.reader, id)
 }
 
 // The header has the words of the string, so it is wide as the string is: 25 and not 17.
@@ -129,7 +125,7 @@ fn of_part(alloc: Global, first: u16, third: u16) -> Option<(u32, u64, u64, Opti
     let Ok(part) = text.slice(whole, 2, 17) else {
         return None;
     };
-    after(&mut text, part)
+    after(&mut text.reader, part.id)
 }
 
 // The header over a copy: 68 forwards to id 2, and 113 is a fixed Flat from word 3 on, since the
@@ -154,15 +150,13 @@ fn a_copy_is_as_wide_as_its_units(rt: HostRuntime) {
 }
 
 // A string that is interned twice, and its form word then.
-fn twice(text: &mut Text, s: JsStr) -> (Result<u32, TableFull>, Result<u32, TableFull>, u64)
-    requires text { Belongs text.old.agent text.old.heap.now }
-    requires known { HasKey (view_of text.old.agent).units s.id }
-    requires settled { IsSettled (view_of text.old.agent) s.id }
+fn twice(reader: &mut Reader, id: u32) -> (Result<u32, TableFull>, Result<u32, TableFull>, u64)
+    requires known { HasKey (view_in reader.old).units id }
+    requires settled { IsSettled (view_in reader.old) id }
 {
-    let heap = text.heap;
-    let a = intern(&mut text.agent, heap, s.id);
-    let b = intern(&mut text.agent, heap, s.id);
-    (a, b, header(&mut text.agent, heap, s.id))
+    let a = intern(reader, id);
+    let b = intern(reader, id);
+    (a, b, header(reader, id))
 }
 
 // The same of a new string of one unit, on a new heap.
@@ -179,7 +173,7 @@ fn twice_on(alloc: Global) -> Option<(Result<u32, TableFull>, Result<u32, TableF
     let Ok(s) = text.make_flat(&[97]) else {
         return None;
     };
-    Some(twice(&mut text, s))
+    Some(twice(&mut text.reader, s.id))
 }
 
 #[test]
@@ -188,53 +182,44 @@ fn a_string_forwards_once(rt: HostRuntime) {
 }
 
 // What a thread does with a string that two agents know.
-fn turn(agent: &mut Agent, heap: &Heap, id: u32) -> Result<u32, TableFull>
-    requires belongs { Belongs agent.old heap.now }
-    requires known { HasKey (view_of agent.old).units id }
-    requires settled { IsSettled (view_of agent.old) id }
-    ensures goes_on { KnowsOn (view_of agent.old) agent.new heap.now }
+fn turn(reader: &mut Reader, id: u32) -> Result<u32, TableFull>
+    requires known { HasKey (view_in reader.old).units id }
+    requires settled { IsSettled (view_in reader.old) id }
+    ensures goes_on { KnowsOn (view_in reader.old) reader.new.agent reader.new.heap.now }
 {
-    intern(agent, heap, id)
+    intern(reader, id)
 }
 
 // Two agents intern one string at once, each in a thread.
 fn at_once(
     rt: &impl Threads,
-    heap: &Heap,
-    left: &mut Agent,
-    right: &mut Agent,
+    left: &mut Reader,
+    right: &mut Reader,
     id: u32,
 ) -> (Result<u32, TableFull>, Result<u32, TableFull>)
-    requires left { Belongs left.old heap.now }
-    requires right { Belongs right.old heap.now }
-    requires known { HasKey (view_of left.old).units id × HasKey (view_of right.old).units id }
-    requires settled { IsSettled (view_of left.old) id × IsSettled (view_of right.old) id }
-    ensures left { KnowsOn (view_of left.old) left.new heap.now }
-    ensures right { KnowsOn (view_of right.old) right.new heap.now }
+    requires known { HasKey (view_in left.old).units id × HasKey (view_in right.old).units id }
+    requires settled { IsSettled (view_in left.old) id × IsSettled (view_in right.old) id }
+    ensures left { KnowsOn (view_in left.old) left.new.agent left.new.heap.now }
+    ensures right { KnowsOn (view_in right.old) right.new.agent right.new.heap.now }
 {
-    join_mut(
-        rt,
-        &mut || turn(left, heap, id),
-        &mut || { turn(right, heap, id) },
-    )
+    join_mut(rt, &mut || turn(left, id), &mut || { turn(right, id) })
 }
 
 // What they answer, and the form word of the string, as both find it once they have answered.
 fn forwarded(
     rt: &impl Threads,
-    heap: &Heap,
-    left: &mut Agent,
+    left: &mut Reader,
     id: u32,
 ) -> (Result<u32, TableFull>, Result<u32, TableFull>, u64, u64)
-    requires belongs { Belongs left.old heap.now }
-    requires two { share_of left.old ≡ 2 }
-    requires known { HasKey (view_of left.old).units id }
-    requires settled { IsSettled (view_of left.old) id }
+    requires two { share_of left.old.agent ≡ 2 }
+    requires known { HasKey (view_in left.old).units id }
+    requires settled { IsSettled (view_in left.old) id }
 {
-    let mut right = left.split(heap, 1);
-    let (a, b) = at_once(rt, heap, left, &mut right, id);
-    let first = header(left, heap, id);
-    let second = header(&mut right, heap, id);
+    let agent = left.agent.split(left.heap, 1);
+    let mut right = Reader::new(left.heap, agent);
+    let (a, b) = at_once(rt, left, &mut right, id);
+    let first = header(left, id);
+    let second = header(&mut right, id);
     (a, b, first, second)
 }
 
@@ -253,7 +238,7 @@ fn agree(rt: &impl Threads, alloc: Global) -> bool {
     let Ok(s) = text.make_flat(&[107, 101, 121]) else {
         return false;
     };
-    let (a, b, first, second) = forwarded(rt, &heap, &mut text.agent, s.id);
+    let (a, b, first, second) = forwarded(rt, &mut text.reader, s.id);
     match a {
         Ok(id) => a == b && first == 4 + 32 * u64::from(id) && second == first,
         Err(_) => false,

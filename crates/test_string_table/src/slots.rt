@@ -3,11 +3,13 @@ ghost use Rattle.std.specs.Prelude.{◌≡◌, ℕ, ◌≤◌, IfSome, length};
 ghost use Rattle.heap_rule.specs.Maps.{HasKey};
 ghost use Rattle.heap_rule.specs.Views.{IsSettled};
 ghost use Rattle.heap_table.specs.Agents.{Belongs, share_of, view_of};
+ghost use Rattle.heap_read.specs.Readers.{view_in};
 ghost use Rattle.test_string_table.specs.Turns.{GoesOn, Turns};
 
+use heap_read::Reader;
 use heap_rule::{HeapSize, MAX};
 use heap_string_table::{TableFull, count_interned, intern};
-use heap_table::{Agent, CounterFull, Heap};
+use heap_table::{CounterFull, Heap};
 use heap_text::Text;
 use js_header::Form;
 use std::alloc::Global;
@@ -16,16 +18,15 @@ use std::thread::{Threads, join_mut};
 
 // The answer for a new string of these units; None where there is no room for the string.
 fn interned(text: &mut Text, units: &[u16]) -> Option<Result<u32, TableFull>>
-    requires text { Belongs text.old.agent text.old.heap.now }
     requires short { length units.now ≤ 65536 }
-    ensures text { Belongs text.new.agent text.new.heap.now }
-    ensures heap { text.new.heap ≡ text.old.heap }
-    ensures turns { Turns (view_of text.old.agent) (view_of text.new.agent) }
+    ensures text { Belongs text.new.reader.agent text.new.reader.heap.now }
+    ensures heap { text.new.reader.heap ≡ text.old.reader.heap }
+    ensures turns { Turns (view_of text.old.reader.agent) (view_of text.new.reader.agent) }
 {
     let Ok(s) = text.make_flat(units) else {
         return None;
     };
-    Some(intern(&mut text.agent, text.heap, s.id))
+    Some(intern(&mut text.reader, s.id))
 }
 
 // The answers for two strings in turn, each made and interned twice, and how many are interned
@@ -35,15 +36,14 @@ fn answers(
     first: &[u16],
     second: &[u16],
 ) -> ([Option<Result<u32, TableFull>>; 4], u32)
-    requires text { Belongs text.old.agent text.old.heap.now }
-    requires whole { (view_of text.old.agent).share ≡ (view_of text.old.agent).agents }
+    requires whole { (view_of text.old.reader.agent).share ≡ (view_of text.old.reader.agent).agents }
     requires short { (length first.now ≤ 65536) × (length second.now ≤ 65536) }
 {
     let a = interned(text, first);
     let b = interned(text, second);
     let c = interned(text, first);
     let d = interned(text, second);
-    let count = count_interned(&mut text.agent, text.heap);
+    let count = count_interned(&mut text.reader);
     ([a, b, c, d], count)
 }
 
@@ -152,26 +152,24 @@ fn long_strings(rt: HostRuntime) -> Result<(), Fail> {
 }
 
 // A string of four units in two-byte lanes, whatever its units are: they fill one word.
-pub(crate) fn wide(agent: &mut Agent, heap: &Heap, word: u64) -> Option<u32>
-    requires belongs { Belongs agent.old heap.now }
-    ensures belongs { Belongs agent.new heap.now }
-    ensures known { IfSome result (λ i. HasKey (view_of agent.new).units i) }
-    ensures settled { IfSome result (λ i. IsSettled (view_of agent.new) i) }
+pub(crate) fn wide(reader: &mut Reader, word: u64) -> Option<u32>
+    ensures known { IfSome result (λ i. HasKey (view_in reader.new).units i) }
+    ensures settled { IfSome result (λ i. IsSettled (view_in reader.new) i) }
 {
-    let Ok(start) = agent.claim_words(heap, 1) else {
+    let Ok(start) = reader.agent.claim_words(reader.heap, 1) else {
         return None;
     };
-    agent.store_word(heap, start, word);
-    let Ok(id) = agent.claim_id(heap) else {
+    reader.agent.store_word(reader.heap, start, word);
+    let Ok(id) = reader.agent.claim_id(reader.heap) else {
         return None;
     };
-    agent.store_length(heap, id, 4);
+    reader.agent.store_length(reader.heap, id, 4);
     let form = Form::Flat {
         wide: true,
         start,
         fixed: false,
     };
-    agent.birth(heap, id, form);
+    reader.agent.birth(reader.heap, id, form);
     Some(id)
 }
 
@@ -184,8 +182,8 @@ fn in_both_widths(
     };
     let mut text = Text::new(&heap, agent, MAX);
     let narrow = interned(&mut text, &[97, 98, 99, 100]);
-    let id = wide(&mut text.agent, &heap, 0x0064_0063_0062_0061)?;
-    Some((narrow, intern(&mut text.agent, &heap, id)))
+    let id = wide(&mut text.reader, 0x0064_0063_0062_0061)?;
+    Some((narrow, intern(&mut text.reader, id)))
 }
 
 #[test]
@@ -195,10 +193,9 @@ fn widths_make_no_difference(rt: HostRuntime) {
 
 // The same answer, as what a thread does.
 fn turn(text: &mut Text, units: &[u16]) -> Option<Result<u32, TableFull>>
-    requires text { Belongs text.old.agent text.old.heap.now }
     requires short { length units.now ≤ 65536 }
-    ensures heap { text.new.heap ≡ text.old.heap }
-    ensures goes_on { GoesOn (view_of text.old.agent) text.new.agent text.new.heap.now }
+    ensures heap { text.new.reader.heap ≡ text.old.reader.heap }
+    ensures goes_on { GoesOn (view_of text.old.reader.agent) text.new.reader.agent text.new.reader.heap.now }
 {
     interned(text, units)
 }
@@ -213,12 +210,10 @@ fn interned_at_once(
     Option<Result<u32, TableFull>>,
     Option<Result<u32, TableFull>>,
 )
-    requires left { Belongs left.old.agent left.old.heap.now }
-    requires right { Belongs right.old.agent right.old.heap.now }
     requires short { length units.now ≤ 65536 }
-    ensures heaps { (left.new.heap ≡ left.old.heap) × (right.new.heap ≡ right.old.heap) }
-    ensures left { GoesOn (view_of left.old.agent) left.new.agent left.new.heap.now }
-    ensures right { GoesOn (view_of right.old.agent) right.new.agent right.new.heap.now }
+    ensures heaps { (left.new.reader.heap ≡ left.old.reader.heap) × (right.new.reader.heap ≡ right.old.reader.heap) }
+    ensures left { GoesOn (view_of left.old.reader.agent) left.new.reader.agent left.new.reader.heap.now }
+    ensures right { GoesOn (view_of right.old.reader.agent) right.new.reader.agent right.new.reader.heap.now }
 {
     join_mut(
         rt,
@@ -236,19 +231,22 @@ fn split_and_joined(
     Option<Result<u32, TableFull>>,
     Option<Result<u32, TableFull>>,
 )
-    requires text { Belongs left.old.agent left.old.heap.now }
-    requires two { share_of left.old.agent ≡ 2 }
+    requires two { share_of left.old.reader.agent ≡ 2 }
     requires short { length units.now ≤ 65536 }
-    ensures text { Belongs left.new.agent left.new.heap.now }
-    ensures heap { left.new.heap ≡ left.old.heap }
-    ensures share { (view_of left.new.agent).share ≡ (view_of left.old.agent).share }
-    ensures agents { (view_of left.new.agent).agents ≡ (view_of left.old.agent).agents }
+    ensures text { Belongs left.new.reader.agent left.new.reader.heap.now }
+    ensures heap { left.new.reader.heap ≡ left.old.reader.heap }
+    ensures share { (view_of left.new.reader.agent).share ≡ (view_of left.old.reader.agent).share }
+    ensures agents { (view_of left.new.reader.agent).agents ≡ (view_of left.old.reader.agent).agents }
 {
-    let agent = left.agent.split(left.heap, 1);
-    let mut right = Text::new(left.heap, agent, left.limit);
+    let reader = &mut left.reader;
+    let heap = reader.heap;
+    let agent = reader.agent.split(heap, 1);
+    let mut right = Text::new(heap, agent, left.limit);
     let both = interned_at_once(rt, left, &mut right, units);
-    let Text { agent, .. } = right;
-    left.agent.join(left.heap, agent);
+    let Text { reader, .. } = right;
+    let Reader { agent, .. } = reader;
+    let reader = &mut left.reader;
+    reader.agent.join(reader.heap, agent);
     both
 }
 
@@ -267,7 +265,7 @@ fn agree(rt: &impl Threads, alloc: Global) -> bool {
     let (Some(Ok(a)), Some(Ok(b))) = split_and_joined(rt, &mut text, key.as_slice()) else {
         return false;
     };
-    a == b && count_interned(&mut text.agent, &heap) == 1
+    a == b && count_interned(&mut text.reader) == 1
 }
 
 #[test]

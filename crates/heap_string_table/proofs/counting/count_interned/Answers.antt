@@ -7,9 +7,9 @@ use Rattle.heap_string_table.proofs.Counted.{counted_all}
 use Rattle.heap_string_table.proofs.counting.count_interned.Goals as goal
 
 pub returns-clause-count : goal.returns-clause-count
-returns-clause-count c = let a : View = c.args.agent.now.seat.me.0 in let v : View = c.loop-k.agent.seat.me.0 in let i = c.loop-k.invariant in let e : c.loop-k.k ≡ c.size-n.result.slots = omega arith in
-    counted_all a v c.loop-k.k c.loop-k.count i.0.5 (e ∙ ap (λ (z : HeapSize). z.slots) (c.size-n.ensures ∙ sym c.requires.belongs.1)) i.1
+returns-clause-count c = let a : View = c.args.reader.now.agent.seat.me.0 in let v : View = c.loop-k.reader.agent.seat.me.0 in let i = c.loop-k.invariant in let e : c.loop-k.k ≡ c.size-n.result.slots = omega arith in
+    counted_all a v c.loop-k.k c.loop-k.count c.loop-k.reader.belongs.5 (e ∙ ap (λ (z : HeapSize). z.slots) (c.size-n.ensures ∙ sym c.args.reader.now.belongs.1)) i.1
 
 pub returns-clause-used : goal.returns-clause-used
-returns-clause-used c = let v : View = c.loop-k.agent.seat.me.0 in let i = c.loop-k.invariant in let e : c.loop-k.k ≡ c.size-n.result.slots = omega arith in
+returns-clause-used c = let v : View = c.loop-k.reader.agent.seat.me.0 in let i = c.loop-k.invariant in let e : c.loop-k.k ≡ c.size-n.result.slots = omega arith in
     i.1.number ∙ ap (count_below (λ k. contains_key v.slots k)) (e ∙ ap (λ (z : HeapSize). z.slots) c.size-n.ensures)

@@ -1,11 +1,10 @@
-use Rattle.std.proofs.Common.{ℕ, List}
+use Rattle.std.proofs.Common.{◌≡◌, ℕ, List}
 use Rattle.heap_rule.specs.Maps.{Has}
-use Rattle.heap_table.specs.Agents.{Belongs}
 use Rattle.heap_string_table.specs.Headers.{header_plan}
 use Rattle.heap_string_table.proofs.Loading.{Walking}
 use Rattle.heap_string_table.proofs.Visiting.{Probing}
 use Rattle.heap_string_table.proofs.probing.probe.Given as goal
 
 abbrev pub invariant-loop-r : goal.invariant-loop-r
-invariant-loop-r g l = Belongs l.agent l.heap × ((us : List ℕ) → Has l.fn.agent.seat.me.0.units l.s.id us → Probing l.fn.agent.seat.me.0 l.agent.seat.me.0 l.s us (header_plan l.s us) l.r l.header)
-    × ((us : List ℕ) → Has l.fn.agent.seat.me.0.units l.s.id us → Walking l.fn.agent.seat.me.0 l.agent.seat.me.0 us l.r l.fn.steps l.steps)
+invariant-loop-r g l = (l.reader.heap ≡ l.fn.reader.heap) × ((us : List ℕ) → Has l.fn.reader.agent.seat.me.0.units l.s.id us → Probing l.fn.reader.agent.seat.me.0 l.reader.agent.seat.me.0 l.s us (header_plan l.s us) l.r l.header)
+    × ((us : List ℕ) → Has l.fn.reader.agent.seat.me.0.units l.s.id us → Walking l.fn.reader.agent.seat.me.0 l.reader.agent.seat.me.0 us l.r l.fn.steps l.steps)

@@ -6,24 +6,20 @@ use Rattle.heap_table.specs.Agents.{Belongs, view_of}
 use Rattle.test_string_table.proofs.Sharing.{belongs_of, may_join, joined_agents, joined_share, turns_of}
 use Rattle.test_string_table.proofs.slots.split_and_joined.Goals as goal
 
-pub interned_at_once-both-requires-clause-right : goal.interned_at_once-both-requires-clause-right
-interned_at_once-both-requires-clause-right g c = subst (λ (a : Agent). Belongs a c.new-right.result.heap.now) (sym c.new-right.ensures.agent)
-    (subst (λ (h : Heap). Belongs c.split-agent.result h) (sym c.new-right.ensures.heap) c.split-agent.ensures.belongs.1)
-
 pub join-requires-clause-belongs : goal.join-requires-clause-belongs
 join-requires-clause-belongs g c = let t = c.interned_at_once-both.ensures in (
   belongs_of _ _ _ t.left,
-  subst (λ (h : Heap). Belongs c.interned_at_once-both.new.right.agent h) (ap (λ (r : Bor Heap). r.now) t.heaps.1 ∙ (c.new-right.ensures.heap ∙ sym (ap (λ (r : Bor Heap). r.now) t.heaps.0))) (belongs_of _ _ _ t.right),
+  subst (λ (h : Heap). Belongs c.interned_at_once-both.new.right.reader.agent h) (ap (λ (r : Bor Heap). r.now) t.heaps.1 ∙ (c.new-right.ensures.heap ∙ sym (ap (λ (r : Bor Heap). r.now) t.heaps.0))) (belongs_of _ _ _ t.right),
 )
 
 pub join-requires-clause-may : goal.join-requires-clause-may
 join-requires-clause-may g c = let t = c.interned_at_once-both.ensures in
-    may_join c.args.left.now.agent.seat.me.0 _ _ _ _ 1 c.split-agent.ensures.left (ap view_of c.new-right.ensures.agent ∙ c.split-agent.ensures.right) (turns_of _ _ _ t.left) (turns_of _ _ _ t.right) c.requires.text.2
+    may_join c.args.left.now.reader.agent.seat.me.0 _ _ _ _ 1 c.split-agent.ensures.left (ap view_of c.new-right.ensures.agent ∙ c.split-agent.ensures.right) (turns_of _ _ _ t.left) (turns_of _ _ _ t.right) c.args.left.now.reader.belongs.2
 
 pub returns-clause-share : goal.returns-clause-share
-returns-clause-share g c = let t = c.interned_at_once-both.ensures in let share = c.requires.text.4 in let two = c.requires.two in
-    ap (λ (x : View). x.share) c.join.ensures.view ∙ joined_share c.args.left.now.agent.seat.me.0 _ _ _ _ 1 c.split-agent.ensures.left (ap view_of c.new-right.ensures.agent ∙ c.split-agent.ensures.right) (turns_of _ _ _ t.left) (turns_of _ _ _ t.right) (omega arith)
+returns-clause-share g c = let t = c.interned_at_once-both.ensures in let share = c.args.left.now.reader.belongs.4 in let two = c.requires.two in
+    ap (λ (x : View). x.share) c.join.ensures.view ∙ joined_share c.args.left.now.reader.agent.seat.me.0 _ _ _ _ 1 c.split-agent.ensures.left (ap view_of c.new-right.ensures.agent ∙ c.split-agent.ensures.right) (turns_of _ _ _ t.left) (turns_of _ _ _ t.right) (omega arith)
 
 pub returns-clause-agents : goal.returns-clause-agents
 returns-clause-agents g c = let t = c.interned_at_once-both.ensures in
-    ap (λ (x : View). x.agents) c.join.ensures.view ∙ joined_agents c.args.left.now.agent.seat.me.0 _ _ _ _ 1 c.split-agent.ensures.left (ap view_of c.new-right.ensures.agent ∙ c.split-agent.ensures.right) (turns_of _ _ _ t.left) (turns_of _ _ _ t.right)
+    ap (λ (x : View). x.agents) c.join.ensures.view ∙ joined_agents c.args.left.now.reader.agent.seat.me.0 _ _ _ _ 1 c.split-agent.ensures.left (ap view_of c.new-right.ensures.agent ∙ c.split-agent.ensures.right) (turns_of _ _ _ t.left) (turns_of _ _ _ t.right)

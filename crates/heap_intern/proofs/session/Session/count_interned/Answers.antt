@@ -1,24 +1,26 @@
-use Rattle.std.proofs.Common.{◌∙◌, ap, sym}
+use Rattle.std.proofs.Common.{◌∙◌, ap, sym, None}
 use Rattle.std.specs.FinMap.{contains_key}
 use Rattle.js_store.specs.Limits.{limit_units}
 use Rattle.heap_rule.specs.declared.size.HeapSize.{HeapSize}
 use Rattle.heap_string_table.specs.Counting.{count_below}
 use Rattle.heap_intern.specs.Sessions.{table_of}
-use Rattle.heap_intern.proofs.States.{step_looks}
+use Rattle.heap_intern.proofs.States.{step_at, step_looks}
 use Rattle.heap_rule.specs.declared.view.View.{View}
 use Rattle.heap_intern.proofs.Lately.{kept_by}
 use Rattle.heap_intern.proofs.session.Session.count_interned.Goals as goal
 
 pub returns-clause-step : goal.returns-clause-step
 returns-clause-step c = let s = c.args.self.now in
-    step_looks s.text.agent.seat.me.0 c.count_interned.new.agent.seat.me.0 (limit_units s.limit) (table_of s.text.heap.now) s.belongs.5 c.count_interned.ensures.looks
+    let v : View = s.text.reader.agent.seat.me.0 in let w : View = c.count_interned.new.reader.agent.seat.me.0 in
+    step_at v w (limit_units s.limit) (table_of s.text.reader.heap.now) (table_of c.count_interned.new.reader.heap.now) None 0 0 (ap (λ y. table_of y.now) c.count_interned.ensures.heap)
+    (step_looks v w (limit_units s.limit) (table_of s.text.reader.heap.now) s.text.reader.belongs.5 c.count_interned.ensures.looks)
 
 pub invariant_of-self-clause-last_kept : goal.invariant_of-self-clause-last_kept
-invariant_of-self-clause-last_kept c = let s = c.args.self.now in let v : View = s.text.agent.seat.me.0 in let w : View = c.count_interned.new.agent.seat.me.0 in kept_by v w (c.count_interned.ensures.looks.goes.known) s.last s.last_kept
+invariant_of-self-clause-last_kept c = let s = c.args.self.now in let v : View = s.text.reader.agent.seat.me.0 in let w : View = c.count_interned.new.reader.agent.seat.me.0 in kept_by v w (c.count_interned.ensures.looks.goes.known) s.last s.last_kept
 
 pub invariant_of-self-clause-older_kept : goal.invariant_of-self-clause-older_kept
-invariant_of-self-clause-older_kept c = let s = c.args.self.now in let v : View = s.text.agent.seat.me.0 in let w : View = c.count_interned.new.agent.seat.me.0 in kept_by v w (c.count_interned.ensures.looks.goes.known) s.older s.older_kept
+invariant_of-self-clause-older_kept c = let s = c.args.self.now in let v : View = s.text.reader.agent.seat.me.0 in let w : View = c.count_interned.new.reader.agent.seat.me.0 in kept_by v w (c.count_interned.ensures.looks.goes.known) s.older s.older_kept
 
 pub returns-clause-used : goal.returns-clause-used
-returns-clause-used c = let w : View = c.count_interned.new.agent.seat.me.0 in
-    c.count_interned.ensures.used ∙ ap (λ (z : HeapSize). count_below (λ k. contains_key w.slots k) z.slots) (sym c.count_interned.ensures.belongs.1)
+returns-clause-used c = let w : View = c.count_interned.new.reader.agent.seat.me.0 in
+    c.count_interned.ensures.used ∙ ap (λ (z : HeapSize). count_below (λ k. contains_key w.slots k) z.slots) (sym (c.count_interned.ensures.looks.goes.sizes ∙ c.args.self.now.text.reader.belongs.1))

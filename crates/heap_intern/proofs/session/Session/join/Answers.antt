@@ -9,20 +9,20 @@ use Rattle.heap_intern.proofs.Lately.{kept_by}
 use Rattle.heap_intern.proofs.session.Session.join.Goals as goal
 
 pub join-requires-clause-belongs : goal.join-requires-clause-belongs
-join-requires-clause-belongs c = let s = c.args.self.now in let o = c.args.other in let m = c.requires.may in let v : View = s.text.agent.seat.me.0 in let b : View = o.text.agent.seat.me.0 in
-    (s.belongs, belongs_here s.text.agent o.text.agent s.text.heap.now o.text.heap.now s.belongs o.belongs m.table (sizes_are b.sizes v.sizes m.sizes))
+join-requires-clause-belongs c = let s = c.args.self.now in let o = c.args.other in let m = c.requires.may in let v : View = s.text.reader.agent.seat.me.0 in let b : View = o.text.reader.agent.seat.me.0 in
+    (s.text.reader.belongs, belongs_here s.text.reader.agent o.text.reader.agent s.text.reader.heap.now o.text.reader.heap.now s.text.reader.belongs o.text.reader.belongs m.table (sizes_are b.sizes v.sizes m.sizes))
 
 pub join-requires-clause-may : goal.join-requires-clause-may
-join-requires-clause-may c = let m = c.requires.may in (c.args.other.belongs.2, m.first, m.second)
+join-requires-clause-may c = let m = c.requires.may in (c.args.other.text.reader.belongs.2, m.first, m.second)
 
 pub returns-clause-joined : goal.returns-clause-joined
-returns-clause-joined c = let s = c.args.self.now in let o = c.args.other in let m = c.requires.may in let v : View = s.text.agent.seat.me.0 in let b : View = o.text.agent.seat.me.0 in let e = c.join.ensures in
-    let l = limit_units s.limit in let t = table_of s.text.heap.now in
-    subst (λ (w : View). IsJoined (state_by v l t) (state_by b (limit_units o.limit) (table_of o.text.heap.now)) (state_by w l t)) (sym e.view)
-    (state_joined v b l (limit_units o.limit) t (table_of o.text.heap.now) s.belongs.5 o.belongs.5 (subst (KeepsKnown v) e.view e.known) (subst (KeepsKnown b) e.view e.known_of_other) (sizes_are b.sizes v.sizes m.sizes))
+returns-clause-joined c = let s = c.args.self.now in let o = c.args.other in let m = c.requires.may in let v : View = s.text.reader.agent.seat.me.0 in let b : View = o.text.reader.agent.seat.me.0 in let e = c.join.ensures in
+    let l = limit_units s.limit in let t = table_of s.text.reader.heap.now in
+    subst (λ (w : View). IsJoined (state_by v l t) (state_by b (limit_units o.limit) (table_of o.text.reader.heap.now)) (state_by w l t)) (sym e.view)
+    (state_joined v b l (limit_units o.limit) t (table_of o.text.reader.heap.now) s.text.reader.belongs.5 o.text.reader.belongs.5 (subst (KeepsKnown v) e.view e.known) (subst (KeepsKnown b) e.view e.known_of_other) (sizes_are b.sizes v.sizes m.sizes))
 
 pub invariant_of-self-clause-last_kept : goal.invariant_of-self-clause-last_kept
-invariant_of-self-clause-last_kept c = let s = c.args.self.now in let v : View = s.text.agent.seat.me.0 in let w : View = c.join.new.self.seat.me.0 in kept_by v w (c.join.ensures.known) s.last s.last_kept
+invariant_of-self-clause-last_kept c = let s = c.args.self.now in let v : View = s.text.reader.agent.seat.me.0 in let w : View = c.join.new.self.seat.me.0 in kept_by v w (c.join.ensures.known) s.last s.last_kept
 
 pub invariant_of-self-clause-older_kept : goal.invariant_of-self-clause-older_kept
-invariant_of-self-clause-older_kept c = let s = c.args.self.now in let v : View = s.text.agent.seat.me.0 in let w : View = c.join.new.self.seat.me.0 in kept_by v w (c.join.ensures.known) s.older s.older_kept
+invariant_of-self-clause-older_kept c = let s = c.args.self.now in let v : View = s.text.reader.agent.seat.me.0 in let w : View = c.join.new.self.seat.me.0 in kept_by v w (c.join.ensures.known) s.older s.older_kept

@@ -9,9 +9,8 @@ use Rattle.heap_intern.proofs.session.Session.new.Goals as goal
 pub invariant_of-result : goal.invariant_of-result
 invariant_of-result c = record {
   one_limit = c.new.ensures.limit ∙ c.units.ensures;
-  belongs = subst (λ (a : Agent). Belongs a c.new.result.heap.now) (sym c.new.ensures.agent) (subst (λ (h : Heap). Belongs c.args.agent h) (sym c.new.ensures.heap) c.requires.belongs);
-  last_kept = kept_none c.new.result.agent.seat.me.0 c.none.result c.none.ensures;
-  older_kept = kept_none c.new.result.agent.seat.me.0 c.none-2.result c.none-2.ensures;
+  last_kept = kept_none c.new.result.reader.agent.seat.me.0 c.none.result c.none.ensures;
+  older_kept = kept_none c.new.result.reader.agent.seat.me.0 c.none-2.result c.none-2.ensures;
 }
 
 pub new-requires-clause-most : goal.new-requires-clause-most

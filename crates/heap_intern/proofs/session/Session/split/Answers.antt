@@ -14,19 +14,18 @@ use Rattle.heap_intern.proofs.session.Session.split.Goals as goal
 pub invariant_of-result : goal.invariant_of-result
 invariant_of-result c = record {
   one_limit = c.new.ensures.limit ∙ c.units.ensures;
-  belongs = subst (λ (a : Agent). Belongs a c.new.result.heap.now) (sym c.new.ensures.agent) (subst (λ (h : Heap). Belongs c.split-agent.result h) (sym c.new.ensures.heap) c.split-agent.ensures.belongs.1);
-  last_kept = kept_none c.new.result.agent.seat.me.0 c.none.result c.none.ensures;
-  older_kept = kept_none c.new.result.agent.seat.me.0 c.none-2.result c.none-2.ensures;
+  last_kept = kept_none c.new.result.reader.agent.seat.me.0 c.none.result c.none.ensures;
+  older_kept = kept_none c.new.result.reader.agent.seat.me.0 c.none-2.result c.none-2.ensures;
 }
 
 pub returns-clause-left : goal.returns-clause-left
-returns-clause-left c = let s = c.args.self.now in let v : View = s.text.agent.seat.me.0 in
-    ap (λ (w : View). state_by w (limit_units s.limit) (table_of s.text.heap.now)) c.split-agent.ensures.left ∙ state_left v c.args.give (limit_units s.limit) (table_of s.text.heap.now)
+returns-clause-left c = let s = c.args.self.now in let v : View = s.text.reader.agent.seat.me.0 in
+    ap (λ (w : View). state_by w (limit_units s.limit) (table_of s.text.reader.heap.now)) c.split-agent.ensures.left ∙ state_left v c.args.give (limit_units s.limit) (table_of s.text.reader.heap.now)
 
 pub returns-clause-right : goal.returns-clause-right
-returns-clause-right c = let s = c.args.self.now in let v : View = s.text.agent.seat.me.0 in let l = limit_units s.limit in
+returns-clause-right c = let s = c.args.self.now in let v : View = s.text.reader.agent.seat.me.0 in let l = limit_units s.limit in
     (λ i. state_by (view_of (c.new.ensures.agent i)) l (table_of (c.new.ensures.heap i)))
-    ∙ (ap (λ (w : View). state_by w l (table_of s.text.heap.now)) c.split-agent.ensures.right ∙ state_right v c.args.give l (table_of s.text.heap.now))
+    ∙ (ap (λ (w : View). state_by w l (table_of s.text.reader.heap.now)) c.split-agent.ensures.right ∙ state_right v c.args.give l (table_of s.text.reader.heap.now))
 
 pub invariant_of-self-clause-last_kept : goal.invariant_of-self-clause-last_kept
 invariant_of-self-clause-last_kept c = let s = c.args.self.now in subst (λ (w : View). IsKept w s.last) (sym c.split-agent.ensures.left) s.last_kept

@@ -8,9 +8,9 @@ use Rattle.std.proofs.Common.{subst, sym}
 use Rattle.heap_intern.proofs.session.Session.totals.Goals as goal
 
 pub returns-clause-state : goal.returns-clause-state
-returns-clause-state c = let s = c.args.self.now in let v : View = s.text.agent.seat.me.0 in let e = c.totals.ensures in
-    ap (λ (w : View). state_by w (limit_units s.limit) (table_of s.text.heap.now)) e.view
-    ∙ state_total v (limit_units s.limit) (table_of s.text.heap.now) c.totals.result.0 c.totals.result.1 e.used.0 e.used.1
+returns-clause-state c = let s = c.args.self.now in let v : View = s.text.reader.agent.seat.me.0 in let e = c.totals.ensures in
+    ap (λ (w : View). state_by w (limit_units s.limit) (table_of s.text.reader.heap.now)) e.view
+    ∙ state_total v (limit_units s.limit) (table_of s.text.reader.heap.now) c.totals.result.0 c.totals.result.1 e.used.0 e.used.1
 
 pub invariant_of-self-clause-last_kept : goal.invariant_of-self-clause-last_kept
 invariant_of-self-clause-last_kept c = let s = c.args.self.now in subst (λ (w : View). IsKept w s.last) (sym c.totals.ensures.view) s.last_kept

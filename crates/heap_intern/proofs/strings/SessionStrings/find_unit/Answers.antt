@@ -2,7 +2,7 @@ use Rattle.std.proofs.Common.{◌∙◌, ◌+◌, ◌≡◌, ℕ, List, None, le
 use Rattle.std.specs.Prelude.{slice_range}
 use Rattle.heap_rule.specs.declared.view.View.{View}
 use Rattle.heap_rule.proofs.MapLemmas.{has_key}
-use Rattle.heap_text.proofs.Loaded.{reads_trans}
+use Rattle.heap_read.proofs.Loaded.{reads_trans}
 use Rattle.js_store.specs.Limits.{limit_units}
 use Rattle.js_store.specs.Units.{IsFirstUnit}
 use Rattle.heap_intern.specs.Sessions.{table_of}
@@ -11,30 +11,30 @@ use Rattle.heap_intern.proofs.States.{history_reads, step_at, step_reads, text_i
 use Rattle.heap_intern.proofs.strings.SessionStrings.find_unit.Goals as goal
 
 pub find_in-requires-clause-window : goal.find_in-requires-clause-window
-find_in-requires-clause-window c = let v : View = c.args.self.now.text.agent.seat.me.0 in let u = has_key v.units c.args.s.id c.requires.known in
+find_in-requires-clause-window c = let v : View = c.args.self.now.text.reader.agent.seat.me.0 in let u = has_key v.units c.args.s.id c.requires.known in
     (u.0, (c.window-window.ensures.shows u.0 u.1).0)
 
 pub find_in-requires-clause-within : goal.find_in-requires-clause-within
-find_in-requires-clause-within c = let v : View = c.args.self.now.text.agent.seat.me.0 in let u = has_key v.units c.args.s.id c.requires.known in
+find_in-requires-clause-within c = let v : View = c.args.self.now.text.reader.agent.seat.me.0 in let u = has_key v.units c.args.s.id c.requires.known in
     let n = (c.window-window.ensures.shows u.0 u.1).1 in let e = ap (length {A = ℕ}) (text_is v.units c.args.s.id u.0 u.1) in let w = c.requires.within in omega arith
 
 pub returns-clause-least : goal.returns-clause-least
-returns-clause-least c = let v : View = c.args.self.now.text.agent.seat.me.0 in let u = has_key v.units c.args.s.id c.requires.known in
+returns-clause-least c = let v : View = c.args.self.now.text.reader.agent.seat.me.0 in let u = has_key v.units c.args.s.id c.requires.known in
     subst (λ (us : List ℕ). IsFirstUnit us c.args.unit c.args.from c.find_in.result) (sym (text_is v.units c.args.s.id u.0 u.1)) (c.find_in.ensures.least u.0 (c.window-window.ensures.shows u.0 u.1).0)
 
 pub returns-clause-step : goal.returns-clause-step
-returns-clause-step c = let s = c.args.self.now in let v : View = s.text.agent.seat.me.0 in let x : View = c.window-window.new.self.agent.seat.me.0 in let w : View = c.find_in.new.self.agent.seat.me.0 in
-    step_at v w (limit_units s.limit) (table_of s.text.heap.now) (table_of c.find_in.new.self.heap.now) None 0 0 (ap (λ y. table_of y.now) (c.find_in.ensures.heap ∙ c.window-window.ensures.heap))
-    (step_reads v w (limit_units s.limit) (table_of s.text.heap.now) s.belongs.5 (reads_trans v x w c.window-window.ensures.reads c.find_in.ensures.reads))
+returns-clause-step c = let s = c.args.self.now in let v : View = s.text.reader.agent.seat.me.0 in let x : View = c.window-window.new.self.reader.agent.seat.me.0 in let w : View = c.find_in.new.self.reader.agent.seat.me.0 in
+    step_at v w (limit_units s.limit) (table_of s.text.reader.heap.now) (table_of c.find_in.new.self.reader.heap.now) None 0 0 (ap (λ y. table_of y.now) (c.find_in.ensures.heap ∙ c.window-window.ensures.heap))
+    (step_reads v w (limit_units s.limit) (table_of s.text.reader.heap.now) s.text.reader.belongs.5 (reads_trans v x w c.window-window.ensures.reads c.find_in.ensures.reads))
 
 pub returns-clause-history : goal.returns-clause-history
-returns-clause-history c = let v : View = c.args.self.now.text.agent.seat.me.0 in let x : View = c.window-window.new.self.agent.seat.me.0 in let w : View = c.find_in.new.self.agent.seat.me.0 in
+returns-clause-history c = let v : View = c.args.self.now.text.reader.agent.seat.me.0 in let x : View = c.window-window.new.self.reader.agent.seat.me.0 in let w : View = c.find_in.new.self.reader.agent.seat.me.0 in
     history_reads v w (reads_trans v x w c.window-window.ensures.reads c.find_in.ensures.reads)
 
 pub invariant_of-self-clause-last_kept : goal.invariant_of-self-clause-last_kept
-invariant_of-self-clause-last_kept c = let s = c.args.self.now in let v : View = s.text.agent.seat.me.0 in let x : View = c.window-window.new.self.agent.seat.me.0 in let w : View = c.find_in.new.self.agent.seat.me.0 in
+invariant_of-self-clause-last_kept c = let s = c.args.self.now in let v : View = s.text.reader.agent.seat.me.0 in let x : View = c.window-window.new.self.reader.agent.seat.me.0 in let w : View = c.find_in.new.self.reader.agent.seat.me.0 in
     kept_by v w ((reads_trans v x w c.window-window.ensures.reads c.find_in.ensures.reads).known) s.last s.last_kept
 
 pub invariant_of-self-clause-older_kept : goal.invariant_of-self-clause-older_kept
-invariant_of-self-clause-older_kept c = let s = c.args.self.now in let v : View = s.text.agent.seat.me.0 in let x : View = c.window-window.new.self.agent.seat.me.0 in let w : View = c.find_in.new.self.agent.seat.me.0 in
+invariant_of-self-clause-older_kept c = let s = c.args.self.now in let v : View = s.text.reader.agent.seat.me.0 in let x : View = c.window-window.new.self.reader.agent.seat.me.0 in let w : View = c.find_in.new.self.reader.agent.seat.me.0 in
     kept_by v w ((reads_trans v x w c.window-window.ensures.reads c.find_in.ensures.reads).known) s.older s.older_kept
