@@ -223,7 +223,8 @@ fn shares_a_rope(rt: &impl Threads, alloc: Global) -> bool {
     if encode(cons) != 17179869186 {
         return false;
     }
-    if text.reader.agent.totals(&heap) != (3, 3) {
+    let reader = &mut text.reader;
+    if reader.agent.totals(&heap) != (3, 3) {
         return false;
     }
     let units = &LETTERS[..];
@@ -234,7 +235,8 @@ fn shares_a_rope(rt: &impl Threads, alloc: Global) -> bool {
     if !is_narrow_flat(header(&mut text, s)) {
         return false;
     }
-    let (ids, words) = text.reader.agent.totals(&heap);
+    let reader = &mut text.reader;
+    let (ids, words) = reader.agent.totals(&heap);
     ids == 3 && (words == 5 || words == 7)
 }
 

@@ -213,7 +213,8 @@ fn shares_a_heap(rt: &impl Threads, alloc: Global) -> bool {
     if !split_and_joined(rt, &mut text, abc, want.as_slice()) {
         return false;
     }
-    if text.reader.agent.totals(&heap) != (3, 3) {
+    let reader = &mut text.reader;
+    if reader.agent.totals(&heap) != (3, 3) {
         return false;
     }
     let full = CounterFull {
