@@ -112,5 +112,6 @@ impl<'h> Strings for Session<'h> {
         self.limit.units()
     }
 
-    ghost sound = { λ s. sound_of (view_of s.text.reader.agent) s.limit (table_of s.text.reader.heap.now) s.text.reader.belongs.5 };
+    ghost sound = { λ s. sound_of (view_of s.text.reader.agent) s.limit
+        (table_of s.text.reader.heap.now) s.text.reader.belongs.5 };
 }

@@ -84,7 +84,8 @@ impl<'h> Reader<'h> {
             × ((view_in self.new).low.words ≡ f.at)
             × ((view_in self.new).used.words ≡ (view_in self.old).used.words)) }
         ensures forms { KeepsForms (view_in self.old) (view_in self.new) }
-        ensures stays { (c x : ℕ) → Has (view_in self.old).own_words c x → Has (view_in self.new).own_words c x }
+        ensures stays { (c x : ℕ) → Has (view_in self.old).own_words c x
+            → Has (view_in self.new).own_words c x }
         ensures fresh { IfOk result
             (λ start. (q : ℕ) → q < words_over wide n → HasKey (view_in self.old).own_words (start + q) → ⊥) }
     {

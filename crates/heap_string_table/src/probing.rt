@@ -49,7 +49,8 @@ fn visit_used<L: Ledger>(
     ensures heap { reader.new.heap ≡ reader.old.heap }
     ensures visited { (us : List ℕ) → Has (view_in reader.old).units s.id us
         → Visited (view_in reader.old) (view_in reader.new) us (header_plan s us) k header result }
-    ensures loads { LoadsOne (view_in reader.old) (view_in reader.new) k (entries result) steps.old steps.new }
+    ensures loads { LoadsOne (view_in reader.old) (view_in reader.new) k
+        (entries result) steps.old steps.new }
     ensures count { steps.new ≡ steps.old + entries result }
 {
     if is_same(reader, s, t) {
@@ -72,7 +73,8 @@ fn put<L: Ledger>(reader: &mut Reader, s: Sought, k: u32, id: u32, steps: &mut S
     ensures heap { reader.new.heap ≡ reader.old.heap }
     ensures visited { (us : List ℕ) → Has (view_in reader.old).units s.id us
         → Visited (view_in reader.old) (view_in reader.new) us (header_plan s us) k (Some id) result }
-    ensures loads { LoadsOne (view_in reader.old) (view_in reader.new) k (entries result) steps.old steps.new }
+    ensures loads { LoadsOne (view_in reader.old) (view_in reader.new) k
+        (entries result) steps.old steps.new }
 {
     match reader.agent.claim_slot(reader.heap, k, id) {
         Step::Won => Visit::Answer { id },
@@ -161,7 +163,8 @@ fn probe<L: Ledger>(
     ensures forms { HoldsForms (view_in reader.old) (view_in reader.new) }
     ensures interns { (us : List ℕ) → Has (view_in reader.old).units s.id us
         → Interns (view_in reader.old) (view_in reader.new) us (header_plan s us) result }
-    ensures loads { LoadsSlots (view_in reader.old) (view_in reader.new) (answered result) steps.old steps.new }
+    ensures loads { LoadsSlots (view_in reader.old) (view_in reader.new)
+        (answered result) steps.old steps.new }
     ensures first { (us : List ℕ) → Has (view_in reader.old).units s.id us → IsFirst (view_in reader.old) us
         → steps.new ≡ steps.old + 2 }
 {
@@ -198,7 +201,8 @@ pub fn intern_counted<L: Ledger>(
         → (plan : Plan) × IsPlan (view_in reader.old) (view_in reader.new) id us plan
         × Interns (view_in reader.old) (view_in reader.new) us plan result }
     ensures forwards { IfOk result (λ i. IsForwarded (view_in reader.new) id i) }
-    ensures loads { LoadsSlots (view_in reader.old) (view_in reader.new) (answered result) steps.old steps.new }
+    ensures loads { LoadsSlots (view_in reader.old) (view_in reader.new)
+        (answered result) steps.old steps.new }
     ensures first { (us : List ℕ) → Has (view_in reader.old).units id us → IsFirst (view_in reader.old) us
         → steps.new ≡ steps.old + 2 }
     ensures few { (k : ℕ) → loads_at (view_in reader.new) k ≤ loads_at (view_in reader.old) k + 2 }

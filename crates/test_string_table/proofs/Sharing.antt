@@ -7,7 +7,7 @@ use Rattle.heap_table.specs.declared.agent.Agent.{Agent}
 use Rattle.heap_table.specs.declared.heap.Heap.{Heap}
 use Rattle.heap_table.specs.Agents.{Belongs, view_of}
 use Rattle.heap_table.specs.Known.{KeepsKnown}
-use Rattle.heap_text.specs.Texts.{Continues}
+use Rattle.heap_read.specs.Reads.{Continues}
 use Rattle.heap_string_table.specs.declared.faults.TableFull.{TableFull}
 use Rattle.heap_string_table.specs.Answers.{Interns, Plan}
 use Rattle.heap_string_table.specs.Goes.{Goes}

@@ -211,7 +211,8 @@ fn interned_at_once(
     Option<Result<u32, TableFull>>,
 )
     requires short { length units.now ≤ 65536 }
-    ensures heaps { (left.new.reader.heap ≡ left.old.reader.heap) × (right.new.reader.heap ≡ right.old.reader.heap) }
+    ensures heaps { (left.new.reader.heap ≡ left.old.reader.heap)
+        × (right.new.reader.heap ≡ right.old.reader.heap) }
     ensures left { GoesOn (view_of left.old.reader.agent) left.new.reader.agent left.new.reader.heap.now }
     ensures right { GoesOn (view_of right.old.reader.agent) right.new.reader.agent right.new.reader.heap.now }
 {
