@@ -160,7 +160,8 @@ pub(crate) fn cut_parts(alloc: Global, count: u32) -> Result<u64, Refusal> {
 fn cut_often(text: &mut Text, s: JsStr, count: u32) -> Result<u64, Refusal>
     requires text { Belongs text.old.reader.agent text.old.reader.heap.now }
     requires settled { IsSettled (view_of text.old.reader.agent) s.id }
-    requires known { (us : List ℕ) × Has (view_of text.old.reader.agent).units s.id us × (length us ≡ 1000001) }
+    requires known { (us : List ℕ) × Has (view_of text.old.reader.agent).units s.id us
+        × (length us ≡ 1000001) }
 {
     let mut sum = 0u64;
     for i in 0..count {

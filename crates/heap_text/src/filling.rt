@@ -90,8 +90,9 @@ fn fill_leaf(reader: &mut Reader, of: JsStr, window: Window, at: u32, n: u32, to
     reader.copy_lanes(&source, n, to, at);
 }
 
-// Lanes `at` on of a run of own words become the `n` units of any string. It goes into the shorter side of a Cons and loops on the longer
-// one; each load of a form is one step. A leaf costs three at most.
+// Lanes `at` on of a run of own words become the `n` units of any string. It goes into the shorter
+// side of a Cons and loops on the longer one; each load of a form is one step. A leaf costs three at
+// most.
 pub(crate) fn fill<L: Ledger>(
     reader: &mut Reader,
     mut id: u32,

@@ -20,7 +20,8 @@ impl<'h> Text<'h> {
         ensures limit { self.new.limit ≡ self.old.limit }
         ensures reads { Reads (view_of self.old.reader.agent) (view_of self.new.reader.agent) }
         ensures forms { KeepsForms (view_of self.old.reader.agent) (view_of self.new.reader.agent) }
-        ensures length { (us : List ℕ) → Has (view_of self.old.reader.agent).units s.id us → result ≡ length us }
+        ensures length { (us : List ℕ) → Has (view_of self.old.reader.agent).units s.id us
+            → result ≡ length us }
     {
         self.reader.len(s)
     }
@@ -49,8 +50,10 @@ impl<'h> Text<'h> {
         ensures limit { self.new.limit ≡ self.old.limit }
         ensures reads { Reads (view_of self.old.reader.agent) (view_of self.new.reader.agent) }
         ensures forms { KeepsForms (view_of self.old.reader.agent) (view_of self.new.reader.agent) }
-        ensures lane { result ≡ lane_in (shown (view_of self.new.reader.agent)) w.wide w.start (w.offset + i) }
-        ensures unit { (us : List ℕ) → IsWindow (view_of self.old.reader.agent) w us → result ≡ slice_index us i }
+        ensures lane { result ≡ lane_in (shown (view_of self.new.reader.agent)) w.wide w.start
+            (w.offset + i) }
+        ensures unit { (us : List ℕ) → IsWindow (view_of self.old.reader.agent) w us
+            → result ≡ slice_index us i }
     {
         self.reader.unit_in(w, i)
     }
@@ -58,7 +61,8 @@ impl<'h> Text<'h> {
     /// Unit `i` of a settled string.
     pub fn unit_at(&mut self, s: JsStr, i: u32) -> u16
         requires settled { IsSettled (view_of self.old.reader.agent) s.id }
-        requires within { (us : List ℕ) × Has (view_of self.old.reader.agent).units s.id us × (i < length us) }
+        requires within { (us : List ℕ) × Has (view_of self.old.reader.agent).units s.id us
+            × (i < length us) }
         ensures text { Belongs self.new.reader.agent self.new.reader.heap.now }
         ensures heap { self.new.reader.heap ≡ self.old.reader.heap }
         ensures limit { self.new.limit ≡ self.old.limit }

@@ -95,7 +95,8 @@ impl<'h> Text<'h> {
         ensures later { IsSettled (view_of self.old.reader.agent) s.id
             → IsSeenLater (view_of self.old.reader.agent) (view_of self.new.reader.agent) s.id }
         ensures loads { (us : List ℕ) → Has (view_of self.old.reader.agent).units s.id us → 0 < length us
-            → (view_of self.new.reader.agent).form_loads ≤ (view_of self.old.reader.agent).form_loads + 8 * length us }
+            → (view_of self.new.reader.agent).form_loads
+            ≤ (view_of self.old.reader.agent).form_loads + 8 * length us }
     {
         let mut steps = Steps::<L>::start(blank);
         self.settle_counted(s, &mut steps)
@@ -124,7 +125,8 @@ impl<'h> Text<'h> {
         ensures later { IsSettled (view_of self.old.reader.agent) s.id
             → IsSeenLater (view_of self.old.reader.agent) (view_of self.new.reader.agent) s.id }
         ensures loads { (us : List ℕ) → Has (view_of self.old.reader.agent).units s.id us → 0 < length us
-            → (view_of self.new.reader.agent).form_loads ≤ (view_of self.old.reader.agent).form_loads + 8 * length us }
+            → (view_of self.new.reader.agent).form_loads
+            ≤ (view_of self.old.reader.agent).form_loads + 8 * length us }
     {
         self.settle_by::<Brand>(s, Blank::new(1))
     }

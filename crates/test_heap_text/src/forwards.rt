@@ -34,7 +34,8 @@ fn sixteen(text: &mut Text, front: u64, back: u64, fixed: bool) -> Option<(JsStr
     ensures continues { Continues (view_of text.old.reader.agent) (view_of text.new.reader.agent) }
     ensures units { IfSome result
         (λ r. Has (view_of text.new.reader.agent).units r.0.id (bytes_of front ++ bytes_of back)) }
-    ensures form { IfSome result (λ r. Has (view_of text.new.reader.agent).forms r.0.id (Flat false r.1 fixed)) }
+    ensures form { IfSome result
+        (λ r. Has (view_of text.new.reader.agent).forms r.0.id (Flat false r.1 fixed)) }
     ensures small { IfSome result (λ r. r.1 < 2 ^ 29) }
 {
     let reader = &mut text.reader;
@@ -123,7 +124,8 @@ fn forwarded(text: &mut Text) -> Option<(JsStr, JsStr)>
     ensures text { Belongs text.new.reader.agent text.new.reader.heap.now }
     ensures heap { text.new.reader.heap ≡ text.old.reader.heap }
     ensures known { IfSome result
-        (λ r. HasKey (view_of text.new.reader.agent).units r.0.id × HasKey (view_of text.new.reader.agent).units r.1.id) }
+        (λ r. HasKey (view_of text.new.reader.agent).units r.0.id
+        × HasKey (view_of text.new.reader.agent).units r.1.id) }
 {
     let target = interned(text, FRONT, BACK)?;
     let (s, _start) = sixteen(text, FRONT, BACK, false)?;

@@ -155,7 +155,8 @@ fn both_at_once(
     requires right { Belongs right.old.reader.agent right.old.reader.heap.now }
     requires known_left { HasKey (view_of left.old.reader.agent).units first.s.id }
     requires known_right { HasKey (view_of right.old.reader.agent).units second.s.id }
-    ensures heaps { (left.new.reader.heap ≡ left.old.reader.heap) × (right.new.reader.heap ≡ right.old.reader.heap) }
+    ensures heaps { (left.new.reader.heap ≡ left.old.reader.heap)
+        × (right.new.reader.heap ≡ right.old.reader.heap) }
     ensures left { GoesOn (view_of left.old.reader.agent) left.new.reader.agent left.new.reader.heap.now }
     ensures right { GoesOn (view_of right.old.reader.agent) right.new.reader.agent right.new.reader.heap.now }
 {
@@ -222,7 +223,8 @@ fn shares_a_rope(rt: &impl Threads, alloc: Global) -> bool {
     if encode(cons) != 17179869186 {
         return false;
     }
-    if text.reader.agent.totals(&heap) != (3, 3) {
+    let reader = &mut text.reader;
+    if reader.agent.totals(&heap) != (3, 3) {
         return false;
     }
     let units = &LETTERS[..];
@@ -233,7 +235,8 @@ fn shares_a_rope(rt: &impl Threads, alloc: Global) -> bool {
     if !is_narrow_flat(header(&mut text, s)) {
         return false;
     }
-    let (ids, words) = text.reader.agent.totals(&heap);
+    let reader = &mut text.reader;
+    let (ids, words) = reader.agent.totals(&heap);
     ids == 3 && (words == 5 || words == 7)
 }
 

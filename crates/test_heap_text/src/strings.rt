@@ -138,7 +138,8 @@ fn twice_at_once(
     requires right { Belongs right.old.reader.agent right.old.reader.heap.now }
     requires known_left { HasKey (view_of left.old.reader.agent).units s.id }
     requires known_right { HasKey (view_of right.old.reader.agent).units s.id }
-    ensures heaps { (left.new.reader.heap ≡ left.old.reader.heap) × (right.new.reader.heap ≡ right.old.reader.heap) }
+    ensures heaps { (left.new.reader.heap ≡ left.old.reader.heap)
+        × (right.new.reader.heap ≡ right.old.reader.heap) }
     ensures left { GoesOn (view_of left.old.reader.agent) left.new.reader.agent left.new.reader.heap.now }
     ensures right { GoesOn (view_of right.old.reader.agent) right.new.reader.agent right.new.reader.heap.now }
     ensures known_left { IfSome result.0 (λ t. HasKey (view_of left.new.reader.agent).units t.id) }
@@ -212,7 +213,8 @@ fn shares_a_heap(rt: &impl Threads, alloc: Global) -> bool {
     if !split_and_joined(rt, &mut text, abc, want.as_slice()) {
         return false;
     }
-    if text.reader.agent.totals(&heap) != (3, 3) {
+    let reader = &mut text.reader;
+    if reader.agent.totals(&heap) != (3, 3) {
         return false;
     }
     let full = CounterFull {
