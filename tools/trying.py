@@ -9,10 +9,13 @@ import time
 
 import proving
 
-# So many runs are at work at a time. The cases are run in parts, since one takes long; each part has so many seconds.
-AT_A_TIME, PARTS, SECONDS = 4, 3, 160
-# The program that runs the cases. Its `args` names the files in its `data`, and it tells of each in a line, and at last of all.
-CASES, TOTAL = "jsstr_cases", re.compile(r"(\d+) cases, \d+ differ")
+# So many runs are at work at a time. Each has so many seconds.
+AT_A_TIME, SECONDS = 4, 160
+# The programs that run cases, and in how many parts, since one takes long. The `args` of each names the files in its `data`; it may tell of
+# each file in a line, and tells at last of all.
+CASES, TOTAL = {"jsstr_cases": 3, "jssched_cases": 2}, re.compile(r"(\d+) cases, (?:\d+ runs, )?\d+ differ")
+# Files of cases that take minutes unproved, which the gate alone runs.
+LONG = {"long.cases"}
 # A run's crate, whether all of it is well, what it told, how many tests and cases it ran, what rt said, and how long it took.
 Outcome = collections.namedtuple("Outcome", "name is_well told tests cases log seconds")
 
@@ -47,22 +50,31 @@ def run_tests(name, folder):
     return Outcome(name, is_well, f"{passed} tests passed, {failed} failed", passed + failed, 0, out + err, seconds)
 
 
-def run_cases(folder, files):
+def run_cases(name, folder, files):
     given = [word for it in files for word in ("--data", f"{it}=data/{it}")]
     out, err, status, seconds = tried(folder, "--seconds", str(SECONDS), *given, "--", *files)
     *lines, last = out.splitlines() or [""]
     count = TOTAL.fullmatch(last)
     is_well = status == 0 and count is not None and set(lines) <= set(lines_of(folder, "stdout"))
-    return Outcome(CASES, is_well, last or "nothing is printed", 0, int(count[1]) if count else 0, out + err, seconds)
+    return Outcome(name, is_well, last or "nothing is printed", 0, int(count[1]) if count else 0, out + err, seconds)
+
+
+def cases_there(folder):
+    """How many cases a program's `stdout` tells of, but for those of long files; nothing where it tells of none."""
+    lines = lines_of(folder, "stdout")
+    total = TOTAL.fullmatch((lines or [""])[-1])
+    left_out = sum(int(it.split()[1]) for it in lines if it.split()[0] in LONG)
+    return int(total[1]) - left_out if total else None
 
 
 def runs(root):
     """Each run as a function and its arguments, those that take longest first."""
-    folder = os.path.join(root, "crates", CASES)
-    files = lines_of(folder, "args")
-    for part in range(PARTS):
-        if files[part::PARTS]:
-            yield run_cases, folder, files[part::PARTS]
+    for name, parts in CASES.items():
+        folder = os.path.join(root, "crates", name)
+        files = [it for it in lines_of(folder, "args") if it not in LONG]
+        for part in range(parts):
+            if files[part::parts]:
+                yield run_cases, name, folder, files[part::parts]
     for name in reversed(proving.listed(root)):
         folder = os.path.join(root, "crates", name)
         if has_tests(folder):
@@ -71,18 +83,20 @@ def runs(root):
 
 def run_all(root, tell):
     """Runs them all, tells of each as it ends, and answers how much was run, and the crates where something is wrong."""
-    tests, cases, wrong = 0, 0, set()
+    tests, cases, wrong = 0, collections.Counter(), set()
     with concurrent.futures.ThreadPoolExecutor(AT_A_TIME) as pool:
         for done in concurrent.futures.as_completed([pool.submit(*it) for it in runs(root)]):
             it = done.result()
-            tests, cases = tests + it.tests, cases + it.cases
+            tests += it.tests
+            cases[it.name] += it.cases
             if it.is_well:
                 tell(f"{it.name}: {it.told}, in {it.seconds:.0f} s")
             else:
                 wrong.add(it.name)
                 tell("\n".join([f"{it.name}: WRONG: {it.told}", *it.log.splitlines()[-20:]]))
-    wanted = TOTAL.fullmatch((lines_of(root, "crates", CASES, "stdout") or [""])[-1])
-    if wanted and int(wanted[1]) != cases:
-        wrong.add(CASES)
-        tell(f"{CASES}: WRONG: {cases} cases are run, and {wanted[1]} are there")
-    return tests, cases, sorted(wrong)
+    for name in CASES:
+        wanted = cases_there(os.path.join(root, "crates", name))
+        if wanted is not None and wanted != cases[name]:
+            wrong.add(name)
+            tell(f"{name}: WRONG: {cases[name]} cases are run, and {wanted} are there")
+    return tests, sum(cases.values()), sorted(wrong)
