@@ -14,8 +14,6 @@ AT_A_TIME, SECONDS = 4, 160
 # The programs that run cases, and in how many parts, since one takes long. The `args` of each names the files in its `data`; it may tell of
 # each file in a line, and tells at last of all.
 CASES, TOTAL = {"jsstr_cases": 3, "jssched_cases": 2}, re.compile(r"(\d+) cases, (?:\d+ runs, )?\d+ differ")
-# Files of cases that take minutes unproved, which the gate alone runs.
-LONG = {"long.cases"}
 # A run's crate, whether all of it is well, what it told, how many tests and cases it ran, what rt said, and how long it took.
 Outcome = collections.namedtuple("Outcome", "name is_well told tests cases log seconds")
 
@@ -60,18 +58,17 @@ def run_cases(name, folder, files):
 
 
 def cases_there(folder):
-    """How many cases a program's `stdout` tells of, but for those of long files; nothing where it tells of none."""
+    """How many cases a program's `stdout` tells of; nothing where it tells of none."""
     lines = lines_of(folder, "stdout")
     total = TOTAL.fullmatch((lines or [""])[-1])
-    left_out = sum(int(it.split()[1]) for it in lines if it.split()[0] in LONG)
-    return int(total[1]) - left_out if total else None
+    return int(total[1]) if total else None
 
 
 def runs(root):
     """Each run as a function and its arguments, those that take longest first."""
     for name, parts in CASES.items():
         folder = os.path.join(root, "crates", name)
-        files = [it for it in lines_of(folder, "args") if it not in LONG]
+        files = lines_of(folder, "args")
         for part in range(parts):
             if files[part::parts]:
                 yield run_cases, name, folder, files[part::parts]
