@@ -14,6 +14,8 @@ AT_A_TIME, SECONDS = 4, 160
 # The programs that run cases, and in how many parts, since one takes long. The `args` of each names the files in its `data`; it may tell of
 # each file in a line, and tells at last of all.
 CASES, TOTAL = {"jsstr_cases": 3, "jssched_cases": 2}, re.compile(r"(\d+) cases, (?:\d+ runs, )?\d+ differ")
+# The files of cases that take too long here: the gate alone runs them.
+LONG = {"jsstr_cases": {"long.cases"}}
 # A run's crate, whether all of it is well, what it told, how many tests and cases it ran, what rt said, and how long it took.
 Outcome = collections.namedtuple("Outcome", "name is_well told tests cases log seconds")
 
@@ -57,18 +59,18 @@ def run_cases(name, folder, files):
     return Outcome(name, is_well, last or "nothing is printed", 0, int(count[1]) if count else 0, out + err, seconds)
 
 
-def cases_there(folder):
-    """How many cases a program's `stdout` tells of; nothing where it tells of none."""
-    lines = lines_of(folder, "stdout")
-    total = TOTAL.fullmatch((lines or [""])[-1])
-    return int(total[1]) if total else None
+def cases_there(name, folder):
+    """How many cases a program's `stdout` tells of, less those that take too long; nothing where it tells of none."""
+    *lines, last = lines_of(folder, "stdout") or [""]
+    total, counts = TOTAL.fullmatch(last), dict(line.rsplit(" ", 1) for line in lines if " " in line)
+    return int(total[1]) - sum(int(counts[it]) for it in LONG.get(name, ())) if total else None
 
 
 def runs(root):
     """Each run as a function and its arguments, those that take longest first."""
     for name, parts in CASES.items():
         folder = os.path.join(root, "crates", name)
-        files = lines_of(folder, "args")
+        files = [it for it in lines_of(folder, "args") if it not in LONG.get(name, ())]
         for part in range(parts):
             if files[part::parts]:
                 yield run_cases, name, folder, files[part::parts]
@@ -92,7 +94,7 @@ def run_all(root, tell):
                 wrong.add(it.name)
                 tell("\n".join([f"{it.name}: WRONG: {it.told}", *it.log.splitlines()[-20:]]))
     for name in CASES:
-        wanted = cases_there(os.path.join(root, "crates", name))
+        wanted = cases_there(name, os.path.join(root, "crates", name))
         if wanted is not None and wanted != cases[name]:
             wrong.add(name)
             tell(f"{name}: WRONG: {cases[name]} cases are run, and {wanted} are there")
