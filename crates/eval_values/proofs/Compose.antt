@@ -181,7 +181,7 @@ cut_of_step {a = a} {b = b} {f = f} l s h n p q = record {
   within_words = let e = s.within_words in omega arith;
 }
 
--- want of memory of the evaluator's own
+-- out of memory of the evaluator's own
 pub cut_of_memory : {F : Type 0} {a b : State F} {i w : ℕ} (l : Ledger) → Step a b None i w → b.history ≡ a.history → i ≤ l.ids → w ≤ l.words → Cut a b Memory l
 cut_of_memory {a = a} l s h p q = record {
   grows = s.grows;

@@ -1,6 +1,6 @@
 // The kinds of event over the parts of a machine: whether one may come, and what it does. The
 // parts stand apart, and not in one value, so that only `apply` closes the value again. What can
-// be refused for want of memory comes before the first change.
+// be refused for lack of memory comes before the first change.
 ghost use Rattle.std.specs.Prelude.{◌≡◌, ◌≢◌, ℕ, ◌<◌, ◌≤◌, ◌↔◌, [], ◌∷◌, replicate, IsTrue, OnOk, OnErr};
 ghost use Rattle.heap_rule.specs.Layout.{IsLawful, word_count};
 ghost use Rattle.heap_rule.specs.Maps.{HasKey};

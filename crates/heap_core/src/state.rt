@@ -217,7 +217,7 @@ pub fn enabled(state: &CoreState, event: &Event) -> bool
 }
 
 /// Makes the event, and answers the word that it found. `NotEnabled` comes exactly where the
-/// event is not enabled, but that want of memory may come before it.
+/// event is not enabled, unless memory runs out first.
 pub fn apply(state: &mut CoreState, event: &Event) -> Result<u64, Refusal>
     ensures enabled { IfOk result (λ _. Enabled state.old event.now) }
     ensures after { IfOk result (λ _. state.new ≡ after state.old event.now) }

@@ -206,7 +206,7 @@ fn run_file<F: Files, O: Sink, E: Sink>(
 /// | 2 | the words aren't the program's name and one word that doesn't begin with `-` |
 /// | 3 | the file can't be read, or has more than [`js_io::FILE_MAX`] bytes |
 /// | 4 | a line isn't of the form |
-/// | 6 | want of memory |
+/// | 6 | out of memory |
 /// | 7 | a write of what is shown failed |
 pub fn run_schedule<F: Files, O: Sink, E: Sink>(
     alloc: Global,

@@ -38,7 +38,7 @@ module _ {F R : Type 0} (s : State F) (name : R → ℕ) (x : List ℕ) where
     leaves = ap (λ q. bindings_seen s name q) h ∙ sym (declared_by (λ w. seen s name w) bs b);
   }
 
-  -- want of memory before anything was done
+  -- out of memory before anything was done
   pub memory_went : (bs : Bindings Val) (f : Flow) → Went s s x x (Err (Store Memory)) bs f
   memory_went bs f = record {
     did = cut_of_memory (ledger_of f.out) (step_refl s) refl (omega arith) (omega arith);

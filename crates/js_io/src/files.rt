@@ -15,7 +15,7 @@ pub enum ReadFault {
     Failed,
     /// It has more than [`FILE_MAX`] bytes.
     TooLarge,
-    /// Want of memory.
+    /// Out of memory.
     Memory,
 }
 

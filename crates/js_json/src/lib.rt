@@ -3,7 +3,7 @@
 //!
 //! Each call settles what it reads, keeps what the store knows and the history of interned
 //! strings, and never finds the string table full. Every fault but a RangeError is one that the
-//! store answered, or want of memory for a list of the call's own.
+//! store answered, or out of memory for a list of the call's own.
 #![tactic(auto)]
 
 mod escapes;

@@ -21,7 +21,7 @@ IsElement text at (Ok (next.Skip end)) = ElementAt text at (Skip end) × IsForwa
 IsElement text at (Ok (next.Token k end)) = ElementAt text at (TokenOf k end) × IsForward text at end
 IsElement text at (Err e) = (e ≡ faults.Memory) ⊎ ElementAt text at (Fault e)
 
--- want of memory is the lexer's own
+-- out of memory is the lexer's own
 abbrev pub lex_fault : LiteralFault → LexFault
 lex_fault literals.Memory = faults.Memory
 lex_fault f = faults.Literal f

@@ -110,7 +110,7 @@ pub fn one_answer()
         ⊎ ((f : LexFault) × LexFaultOf bytes f) }
 {}
 
-/// From a place on, one thing comes next: two answers are the same, unless one is want of memory.
+/// From a place on, one thing comes next: two answers are the same, unless one is out of memory.
 pub fn one_next()
     ensures { (text : List ℕ) (at : ℕ) (r s : Result (Option Token) LexFault) → IsUtf8 text
         → GivesToken text at r → GivesToken text at s → (r ≡ s) ⊎ ((r ≡ Err Memory) ⊎ (s ≡ Err Memory)) }

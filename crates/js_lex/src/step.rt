@@ -31,7 +31,7 @@ fn from(text: &str, at: u32) -> &str
     &text[at as usize..]
 }
 
-/// The fault of a literal; want of memory is the lexer's own.
+/// The fault of a literal; out of memory is the lexer's own.
 fn lex_fault(fault: LiteralFault) -> LexFault
     ensures { result ≡ Steps.lex_fault fault }
 {

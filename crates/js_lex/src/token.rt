@@ -88,9 +88,9 @@ pub enum LexFault {
     BadCharacter { at: u32 },
     /// A comment `/*` without its end; at the slash.
     OpenComment { at: u32 },
-    /// Any fault of a string literal but want of memory.
+    /// Any fault of a string literal but out of memory.
     Literal(LiteralFault),
     Number(NumberFault),
-    /// Want of memory.
+    /// Out of memory.
     Memory,
 }

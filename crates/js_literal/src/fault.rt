@@ -13,7 +13,7 @@ pub enum LiteralFault {
     CodePointTooLarge { at: u32 },
     /// `\1` to `\9`, or `\0` before a digit, which strict code doesn't have; at the backslash.
     LegacyOctal { at: u32 },
-    /// Want of memory.
+    /// Out of memory.
     Memory,
 }
 

@@ -54,7 +54,7 @@ pub data Refused (r : Role) (outer : List (List ℕ)) (bytes : List ℕ) : Parse
   grammatical : (tokens : List Token) (literals names : List (List ℕ)) (kind : Kind) (rest : List Token) → Reads bytes tokens literals names → IsRefused (Statements names (prints r)) most tokens kind rest → Refused r outer bytes (misplaced kind rest (length bytes))
   of_names : (script : Tree) (f : NameFault) → Parses r bytes script → IsFirstFault outer script f → Refused r outer bytes (misnamed f)
 
--- x, or want of memory
+-- x, or out of memory
 abbrev pub IsOrMemory : {X A : Type 0} → (X → A) → Result X ParseFault → A → Type 0
 IsOrMemory view (Ok y) x = view y ≡ x
 IsOrMemory view (Err fault.Memory) x = Unit {0}
@@ -65,7 +65,7 @@ IsOrMemory view (Err (fault.TooDeep at)) x = ⊥
 IsOrMemory view (Err (fault.Duplicate at)) x = ⊥
 IsOrMemory view (Err (fault.LoopName at)) x = ⊥
 
--- this holds of a fault other than want of memory
+-- this holds of a fault other than out of memory
 abbrev pub Refuses : {X : Type 0} → Result X ParseFault → (ParseFault → Type 0) → Type 0
 Refuses (Ok x) P = Unit {0}
 Refuses (Err fault.Memory) P = Unit {0}

@@ -13,10 +13,10 @@ pub enum Role {
     Main,
 }
 
-/// Why a text is no script, with the byte offset of the fault; or want of memory.
+/// Why a text is no script, with the byte offset of the fault; or out of memory.
 #[derive(Clone, Copy, Debug, PartialEq, Eq)]
 pub enum ParseFault {
-    /// The first lexical fault, which comes before all others. It is never want of memory.
+    /// The first lexical fault, which comes before all others. It is never out of memory.
     Lex(LexFault),
     /// The token can't stand there; at the end of the text, its length.
     Unexpected { at: u32 },

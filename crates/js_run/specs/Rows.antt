@@ -30,16 +30,16 @@ use Rattle.js_run.specs.Ending.{TakesAll, IsTold, IsCutAtOut, IsCutAtErr, IsEnd}
 abbrev pub NoFault : ℕ → ℕ → Type 0
 NoFault before after = (after ≤ before) × (after ≡ 2 ^ 64 - 1 → ⊥)
 
--- want of memory before anything was run: out took nothing, err its line, and nothing is kept
+-- out of memory before anything was run: out took nothing, err its line, and nothing is kept
 pub record IsWant (ended : Ended) (old new : Moment) : Type 0 where
   pub told : IsTold 6 memory_line ended.code old.sinks new.sinks
   pub kept : ended.kept ≡ None
 
--- this status, or want of memory in its place
+-- this status, or out of memory in its place
 abbrev pub OrWant : ℕ → Ended → Moment → Moment → Type 0
 OrWant status ended old new = (ended.code ≡ status) ⊎ IsWant ended old new
 
--- the status comes exactly there, but for want of memory
+-- the status comes exactly there, unless memory runs out
 abbrev pub Exactly : ℕ → Ended → Moment → Moment → Type 0 → Type 0
 Exactly status ended old new P = (ended.code ≡ status → P) × (P → OrWant status ended old new)
 
@@ -105,7 +105,7 @@ pub data IsLine (words : List (List ℕ)) (code : ℕ) (old new : FilesState) : 
   refused : code ≡ 4 → (request : Request) → request_of words ≡ Some request → (name : Name) (fault : ParseFault) → OfTexts request old new (Refused name fault)
       → IsLine words code old new (refused_line name fault)
 
--- the statuses of what isn't run, but for want of memory
+-- the statuses of what isn't run, unless memory runs out
 abbrev pub IsRefusal : Ended → Type 0
 IsRefusal ended = (ended.code ≡ 2) ⊎ ((ended.code ≡ 3) ⊎ (ended.code ≡ 4))
 

@@ -52,7 +52,7 @@ fn run<R: Threads + Sync, F: Files, O: Sink, E: Sink, G: Gate + Sync>(
 /// | 3 | a file can't be read, or has more than [`js_io::FILE_MAX`] bytes |
 /// | 4 | all files were read, and one spells no script |
 /// | 5 | the first file that didn't end Done found the heap full |
-/// | 6 | want of memory: before anything ran, or of the first file that didn't end Done |
+/// | 6 | out of memory: before anything ran, or of the first file that didn't end Done |
 /// | 7 | a write of what the scripts print failed |
 ///
 /// With 0, 1, 5 and the second 6 what the scripts printed was written in the order of the words,

@@ -96,7 +96,7 @@ pub trait Strings {
     }
 
     /// The units of `a` followed by those of `b`. It is refused as too long exactly where that
-    /// is longer than the limit; only want of memory may stand in the place of that answer.
+    /// is longer than the limit; only `Memory` may stand in the place of that answer.
     fn concat(&mut self, a: Self::Ref, b: Self::Ref) -> Result<Self::Ref, ConcatFault>
         requires left { IsKnown (state self.old) (number a) }
         requires right { IsKnown (state self.old) (number b) }

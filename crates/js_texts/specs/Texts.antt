@@ -21,7 +21,7 @@ abbrev pub settle_most : {F R : Type 0} → State F → (R → ℕ) → List R �
 settle_most s name [] = 0
 settle_most s name (r ∷ rs) = settle_words (s.settled (name r)) (length (text s (name r))) + settle_most s name rs
 
--- the report of a call that may want memory itself: its own want of memory says nothing of the store
+-- the report of a call that may find no memory itself: its own lack of memory says nothing of the store
 abbrev pub full_only : StoreFault → Option StoreFault
 full_only (Full r) = Some (Full r)
 full_only Memory = None

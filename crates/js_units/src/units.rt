@@ -5,7 +5,7 @@ ghost use Rattle.js_units.specs.Text.{utf16_of};
 use std::alloc::{AllocError, AllocFailed, Global};
 use std::marker::Model;
 
-/// Want of memory: a growth was refused.
+/// Out of memory: a growth was refused.
 #[derive(Clone, Copy, Debug, PartialEq, Eq)]
 pub struct NoMemory;
 

@@ -31,7 +31,7 @@ abbrev pub Throws : {R : Type 0} → Result R UriFault → ℕ → Outcome → T
 Throws (Ok r) limit o = IsWithin limit o
 Throws (Err f) limit o = IsThrown f limit o
 
--- the report of a call that may find no memory itself: its own want of memory says nothing of the store
+-- the report of a call that may find no memory itself: its own lack of memory says nothing of the store
 abbrev pub full_part : UriFault → Option StoreFault
 full_part (Malformed at) = None
 full_part (RangeError c) = None

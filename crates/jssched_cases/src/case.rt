@@ -66,7 +66,7 @@ impl fmt::Display for Fault {
     fn fmt<W: fmt::Write>(&self, f: &mut fmt::Formatter<W>) -> fmt::Result {
         match self {
             Fault::Form(why) => write!(f, "{why}"),
-            Fault::Memory => write!(f, "want of memory"),
+            Fault::Memory => write!(f, "out of memory"),
         }
     }
 }

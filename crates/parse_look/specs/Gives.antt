@@ -16,14 +16,14 @@ abbrev pub Gives : {X A : Type 0} → (X → A) → (X → List Token) → Resul
 Gives view rest (Ok x) answer = answer ≡ Got (view x) (rest x)
 Gives view rest (Err e) answer = Fails e answer
 
--- a fault other than want of memory
+-- a fault other than out of memory
 abbrev pub OnFault : {X : Type 0} → Result X Fault → (Kind → List Token → Type 0) → Type 0
 OnFault (Ok x) P = Unit {0}
 OnFault (Err fault.Memory) P = Unit {0}
 OnFault (Err (fault.Wrong rest)) P = P Wrong rest.now
 OnFault (Err (fault.TooDeep rest)) P = P TooDeep rest.now
 
--- x, or want of memory
+-- x, or out of memory
 abbrev pub IsOrMemory : {X A : Type 0} → (X → A) → Result X Fault → A → Type 0
 IsOrMemory view (Ok y) x = view y ≡ x
 IsOrMemory view (Err fault.Memory) x = Unit {0}

@@ -135,7 +135,7 @@ request_for plan = record {
   limit = plan.limit;
 }
 
--- why there is no plan: the words ask for nothing that is lawful; want of memory says nothing
+-- why there is no plan: the words ask for nothing that is lawful; out of memory says nothing
 abbrev pub IsRefusal : {T : Type 0} → Option T → WordsFault → Type 0
 IsRefusal asked Refused = asked ≡ None
 IsRefusal asked Memory = ⊤

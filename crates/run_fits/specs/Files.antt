@@ -49,7 +49,7 @@ pub record AreJobs (mean : Job → Flow) (jobs : List Job) (outcomes : List Outc
 abbrev pub IsAsMeant : RunFile → Type 0
 IsAsMeant f = f.end ≡ end_of f.mean.out
 
--- the end is neither Full nor want of memory
+-- the end is neither Full nor out of memory
 abbrev pub IsOwnEnd : End → Type 0
 IsOwnEnd Done = Unit {0}
 IsOwnEnd (Threw kind) = Unit {0}

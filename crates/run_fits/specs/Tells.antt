@@ -43,7 +43,7 @@ RanOut z s means m part (Ids at want end) = IdsRanOut z s means
 RanOut z s means m part (Words at want end) = WordsRanOut z s means m
 RanOut z s means m part (Slots slots) = SlotsRanOut z s means m part
 
--- an end is the meaning's, or Full for what ran out, or want of memory
+-- an end is the meaning's, or Full for what ran out, or out of memory
 abbrev pub EndTells : {F : Type 0} → Sizes → State F → List Flow → Flow → Part → End → Type 0
 EndTells z s means m part Done = Done ≡ end_of m.out
 EndTells z s means m part (Threw kind) = Threw kind ≡ end_of m.out
@@ -64,7 +64,7 @@ pub record FirstLists (lists meant : List (List ℕ)) : Type 0 where
   pub split : meant ≡ lists ++ left
 
 -- What one file tells. Its lines, and its lists in the history, are those of the meaning where its end is, and else the first ones of them.
--- Where it ended neither Full nor for want of memory, every string that one of its expressions gave is known.
+-- Where it ended neither Full nor out of memory, every string that one of its expressions gave is known.
 pub record FileTells {F : Type 0} (z : Sizes) (s : State F) (means : List Flow) (f : RunFile) : Type 0 where
   pub end : EndTells z s means f.mean f.part f.end
   pub lines : IsAsMeant f → f.lines ≡ concat f.mean.lines
@@ -79,7 +79,7 @@ IsMeantOrMemory f = IsAsMeant f ⊎ (f.end ≡ Memory)
 -- What files tell that were run on a heap of these sizes, of all those with these meanings.
 pub record Tells {F : Type 0} (z : Sizes) (s : State F) (means : List Flow) (files : List RunFile) : Type 0 where
   pub each : Every (FileTells z s means) files
-  -- where the sizes are enough every end is the meaning's, or want of memory
+  -- where the sizes are enough every end is the meaning's, or out of memory
   pub fits : Fits z means → Every IsMeantOrMemory files
   -- where there are more different lists than slots, or than ids, not every end is the meaning's
   pub many_for_slots : z.slots < count_different (lists_interned means) → Every IsAsMeant files → ⊥

@@ -37,7 +37,7 @@ pub record Part : Type 0 where
   pub ids : ℕ
   pub words : ℕ
 
--- the fault of the store, or the want of memory, by which a script ended
+-- the fault of the store, or the lack of memory, by which a script ended
 abbrev pub fault_in : End → Option StoreFault
 fault_in Done = None
 fault_in (Threw kind) = None
@@ -61,7 +61,7 @@ pub record Whole {F : Type 0} (s : State F) (m : Flow) (lines : List ℕ) (end :
   pub interned : map (λ p. p.0) part.pairs ≡ meant.interned m
   pub texts : (u : List ℕ) → Contains (meant.texts m) u → (n : ℕ) × Has s n u
 
--- A job that a full store or want of memory ended: the report is true, the first ones of the lines are there, each of them whole, and the
+-- A job that a full store or lack of memory ended: the report is true, the first ones of the lines are there, each of them whole, and the
 -- first ones of what is meant were interned. Where the string table was full the next one is shut.
 pub record Broken {F : Type 0} (s : State F) (m : Flow) (lines : List ℕ) (fault : StoreFault) (part : Part) : Type 0 where
   pub reports : Reports s fault

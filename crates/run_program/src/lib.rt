@@ -2,8 +2,8 @@
 //!
 //! [`run_program`] makes a heap, runs the prelude on it, and then, where that ended Done, each of the
 //! scripts from the bindings that the prelude left, in groups. Whatever the number of groups and
-//! however the threads take turns, each script prints and ends as it is meant, or ends Full or for
-//! want of memory with the first ones of its lines.
+//! however the threads take turns, each script prints and ends as it is meant, or ends Full or out
+//! of memory with the first ones of its lines.
 #![tactic(auto)]
 
 mod prepare;

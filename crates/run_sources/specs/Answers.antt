@@ -82,7 +82,7 @@ abbrev pub RefusesPreludeText : Option Named → Stop → Type 0
 RefusesPreludeText None s = ⊥
 RefusesPreludeText (Some source) s = RefusesText role.Prelude [] source s
 
--- the first of the scripts that is none, or want of memory
+-- the first of the scripts that is none, or out of memory
 abbrev pub RefusesAmong : List (List ℕ) → List Named → Stop → Type 0
 RefusesAmong outer sources (stop.Refused name fault) = FirstAmong outer name.now fault sources
 RefusesAmong outer sources stop.NoMemory = ⊤

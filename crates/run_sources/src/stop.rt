@@ -12,7 +12,7 @@ pub enum Stop<'a> {
     NotRead(&'a str),
     /// It has more than [`js_io::FILE_MAX`] bytes.
     TooLarge(&'a str),
-    /// It spells no script. The fault is never want of memory.
+    /// It spells no script. The fault is never out of memory.
     Refused(&'a str, ParseFault),
     NoMemory,
 }
