@@ -11,7 +11,7 @@ use Rattle.js_eval.specs.declared.ending.End.TheVariants.{Done, Threw, Unsupport
 use Rattle.js_eval.specs.Script.{Flow, meaning}
 use Rattle.run_jobs.specs.declared.job.Outcome.{Outcome}
 use Rattle.js_store.specs.Limits.{limit_units}
-use Rattle.run_fits.specs.Files.{RunFile, AreFilesOf, AfterPrelude}
+use Rattle.run_program.specs.Files.{RunFile, AreFilesOf, AfterPrelude}
 use Rattle.std.specs.Borrow.{Bor}
 use Rattle.std.specs.Option.{option_copied}
 use Rattle.eval_tree.specs.declared.tree.Script.{Script}

@@ -9,10 +9,10 @@ use Rattle.js_eval.specs.declared.ending.End.TheVariants.{Done, Threw, Unsupport
 use Rattle.js_eval.specs.Evaluates.{end_of}
 use Rattle.js_eval.specs.Script.{Flow}
 use Rattle.run_jobs.specs.declared.job.Outcome.{Outcome}
-use Rattle.run_fits.specs.Files.{RunFile, IsAsMeant, means_of}
-use Rattle.run_fits.specs.Fits.{Fits, all_meant}
-use Rattle.run_fits.specs.Tells.{EndTells, FileTells, IsMeantOrMemory}
-use Rattle.run_fits.proofs.First.{AreFirst, are_first}
+use Rattle.run_program.specs.Files.{RunFile, IsAsMeant, means_of}
+use Rattle.run_program.specs.Fits.{Fits, all_meant}
+use Rattle.run_program.specs.Tells.{EndTells, FileTells, IsMeantOrMemory}
+use Rattle.run_program.proofs.First.{AreFirst, are_first}
 use Rattle.run_command.specs.Words.{Request}
 use Rattle.run_sources.specs.Program.{Name, Program, in_order}
 use Rattle.run_program.specs.declared.ran.Ran.{Ran}

@@ -5,7 +5,7 @@ use Rattle.eval_tree.specs.Tree.{Tree}
 use Rattle.js_eval.specs.declared.ending.End.{End}
 use Rattle.js_eval.specs.Evaluates.{end_of}
 use Rattle.js_eval.specs.Script.{Flow}
-use Rattle.run_fits.specs.Fits.{after_prelude}
+use Rattle.run_program.specs.Fits.{after_prelude}
 use Rattle.run_command.specs.Words.{Request}
 use Rattle.run_sources.specs.Program.{Name, Program, in_order}
 use Rattle.run_program.specs.Ran.{all_by, prelude_by, scripts_by}

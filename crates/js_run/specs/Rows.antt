@@ -10,9 +10,9 @@ use Rattle.js_store.specs.State.{Sizes, State}
 use Rattle.js_store.specs.declared.faults.FullReport.{FullReport}
 use Rattle.js_eval.specs.declared.ending.End.TheVariants.{Done, Full, Memory}
 use Rattle.js_eval.specs.Script.{Flow}
-use Rattle.run_fits.specs.Files.{RunFile}
-use Rattle.run_fits.specs.Fits.{Fits}
-use Rattle.run_fits.specs.Tells.{RanOut}
+use Rattle.run_program.specs.Files.{RunFile}
+use Rattle.run_program.specs.Fits.{Fits}
+use Rattle.run_program.specs.Tells.{RanOut}
 use Rattle.run_command.specs.Words.{Request, request_of}
 use Rattle.run_sources.specs.Program.{Name, Program, in_order}
 use Rattle.run_sources.specs.Reading.{Read, IsQuiet, IsUnread, IsLarge}

@@ -18,8 +18,8 @@ use Rattle.heap_intern.specs.Sessions.{SessionFrame}
 use Rattle.run_jobs.specs.declared.job.Job.{Job}
 use Rattle.run_jobs.specs.declared.job.Outcome.{Outcome}
 use Rattle.run_jobs.specs.Jobs.{Part, Runs, number, means}
-use Rattle.run_fits.specs.Files.{RunFile, AreRun, AfterPrelude}
-use Rattle.run_fits.proofs.Files.{run_jobs, run_one}
+use Rattle.run_program.specs.Files.{RunFile, AreRun, AfterPrelude}
+use Rattle.run_program.proofs.Files.{run_jobs, run_one}
 use Rattle.run_program.specs.Meant.{scripts_meant}
 use Rattle.run_program.specs.Stages.{AreNumbered, HaveRunFrom, IsUnused, job_trees}
 use Rattle.run_program.proofs.Numbered.{in_places, means_jobs}

@@ -1,3 +1,7 @@
+pub mod Counts
+pub mod Files
+pub mod First
+pub mod Tells
 pub mod Numbered
 pub mod Having
 pub mod Telling

@@ -18,10 +18,10 @@ use Rattle.heap_intern.specs.Sound.{sound_of}
 use Rattle.heap_intern.specs.Whole.{HasAll}
 use Rattle.heap_intern.proofs.Whole.{whole_all}
 use Rattle.run_jobs.specs.declared.job.Outcome.{Outcome}
-use Rattle.run_fits.specs.Files.{RunFile, AreRun}
-use Rattle.run_fits.proofs.Files.{run_stays, run_totals}
-use Rattle.run_fits.proofs.First.{are_first}
-use Rattle.run_fits.proofs.Tells.{tells}
+use Rattle.run_program.specs.Files.{RunFile, AreRun}
+use Rattle.run_program.proofs.Files.{run_stays, run_totals}
+use Rattle.run_program.proofs.First.{are_first}
+use Rattle.run_program.proofs.Tells.{tells}
 use Rattle.run_program.specs.declared.ran.Ran.{Ran}
 use Rattle.run_program.specs.declared.ran.Setup.{Setup}
 use Rattle.run_program.specs.Meant.{prelude_meant}

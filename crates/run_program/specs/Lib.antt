@@ -1,3 +1,7 @@
+pub mod Fits
+pub mod Files
+pub mod Tells
+pub mod Laws
 pub mod Meant
 pub mod Ran
 pub mod Stages

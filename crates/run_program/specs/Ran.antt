@@ -11,9 +11,9 @@ use Rattle.heap_string_table.specs.Counting.{different}
 use Rattle.heap_intern.specs.Sessions.{SessionFrame, state_by, table_of}
 use Rattle.heap_intern.specs.Shares.{IsWhole}
 use Rattle.run_jobs.specs.declared.job.Outcome.{Outcome}
-use Rattle.run_fits.specs.Fits.{all_meant}
-use Rattle.run_fits.specs.Files.{RunFile, AreRun, AreFilesOf}
-use Rattle.run_fits.specs.Tells.{Tells}
+use Rattle.run_program.specs.Fits.{all_meant}
+use Rattle.run_program.specs.Files.{RunFile, AreRun, AreFilesOf}
+use Rattle.run_program.specs.Tells.{Tells}
 use Rattle.run_program.specs.declared.ran.Kept.{Kept}
 use Rattle.run_program.specs.declared.ran.Ran.{Ran}
 use Rattle.run_program.specs.declared.ran.Setup.{Setup}

@@ -8,7 +8,7 @@ use Rattle.heap_intern.specs.Sessions.{SessionFrame}
 use Rattle.heap_intern.specs.Shares.{IsWhole}
 use Rattle.run_jobs.specs.declared.job.Job.{Job}
 use Rattle.run_jobs.specs.declared.job.Outcome.{Outcome}
-use Rattle.run_fits.specs.Files.{RunFile, AreRun, AreFilesOf}
+use Rattle.run_program.specs.Files.{RunFile, AreRun, AreFilesOf}
 use Rattle.run_program.specs.Meant.{prelude_meant, scripts_meant}
 use Rattle.run_program.specs.declared.ran.Setup.{Setup}
 use Rattle.run_program.specs.Ran.{all_outcomes, counted, HasOutcome, AreInPlaces, prelude_by, scripts_by, sizes_by}

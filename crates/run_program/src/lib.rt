@@ -4,12 +4,18 @@
 //! scripts from the bindings that the prelude left, in groups. Whatever the number of groups and
 //! however the threads take turns, each script prints and ends as it is meant, or ends Full or out
 //! of memory with the first ones of its lines.
+//!
+//! When the stated needs of scripts fit into a heap, and what the ends of files that were run on it
+//! tell, stands in `specs/`: where a full heap is told it was full, and the needs didn't fit.
+//! [`files_are_run`] and [`ends_tell`] do nothing, and state its laws.
 #![tactic(auto)]
 
+mod laws;
 mod prepare;
 mod program;
 mod ran;
 mod stages;
 
+pub use laws::{ends_tell, files_are_run};
 pub use program::run_program;
 pub use ran::{Kept, Ran, Setup};

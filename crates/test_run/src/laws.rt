@@ -3,7 +3,7 @@ use heap_intern::Session;
 use heap_rule::HeapSize;
 use heap_table::Heap;
 use js_store::Limit;
-use run_fits::{ends_tell, files_are_run};
+use run_program::{ends_tell, files_are_run};
 use std::alloc::Global;
 
 // On a new heap nothing was run, and nothing is used.

@@ -18,7 +18,7 @@ use Rattle.heap_intern.specs.Whole.{HasAll}
 use Rattle.run_jobs.specs.declared.job.Job.{Job}
 use Rattle.run_jobs.specs.declared.job.Outcome.{Outcome}
 use Rattle.run_jobs.specs.Jobs.{Part, RanJobs}
-use Rattle.run_fits.specs.Files.{RunFile, AreRun, AreJobs}
+use Rattle.run_program.specs.Files.{RunFile, AreRun, AreJobs}
 
 -- on a heap that was just made no file was run
 abbrev pub NoneRun : Type 0

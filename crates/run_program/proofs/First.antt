@@ -8,8 +8,8 @@ use Rattle.js_eval.specs.declared.ending.End.TheVariants.{Done, Threw, Unsupport
 use Rattle.js_eval.specs.Evaluates.{end_of}
 use Rattle.js_eval.specs.Script.{Flow}
 use Rattle.run_jobs.specs.Jobs.{Ended}
-use Rattle.run_fits.specs.Fits.{all_meant, after_prelude}
-use Rattle.run_fits.specs.Files.{RunFile, Came, IsAsMeant, AfterPrelude, AreFilesOf, means_of}
+use Rattle.run_program.specs.Fits.{all_meant, after_prelude}
+use Rattle.run_program.specs.Files.{RunFile, Came, IsAsMeant, AfterPrelude, AreFilesOf, means_of}
 
 -- all of them where every end is the meaning's
 pub record AreFirst (means : List Flow) (files : List RunFile) : Type 0 where

@@ -21,11 +21,11 @@ use Rattle.heap_string_table.specs.Counting.{different}
 use Rattle.heap_intern.specs.Sessions.{SessionFrame}
 use Rattle.heap_intern.specs.Whole.{HasAll}
 use Rattle.run_jobs.specs.Jobs.{Part, Whole, Broken, Ended, fault_in, pairs_of, ids_of, words_of}
-use Rattle.run_fits.specs.Fits.{Fits, count_different, ids_needed, words_needed, lists_interned}
-use Rattle.run_fits.specs.Files.{RunFile, Came, AreRun, IsAsMeant, IsOwnEnd, means_of, parts_of}
-use Rattle.run_fits.specs.Tells.{IdsRanOut, WordsRanOut, SlotsRanOut, RanOut, EndTells, FirstLines, FirstLists, FileTells, Tells}
-use Rattle.run_fits.proofs.First.{AreFirst}
-use Rattle.run_fits.proofs.Counts.{called, different_lists, more_different}
+use Rattle.run_program.specs.Fits.{Fits, count_different, ids_needed, words_needed, lists_interned}
+use Rattle.run_program.specs.Files.{RunFile, Came, AreRun, IsAsMeant, IsOwnEnd, means_of, parts_of}
+use Rattle.run_program.specs.Tells.{IdsRanOut, WordsRanOut, SlotsRanOut, RanOut, EndTells, FirstLines, FirstLists, FileTells, Tells}
+use Rattle.run_program.proofs.First.{AreFirst}
+use Rattle.run_program.proofs.Counts.{called, different_lists, more_different}
 
 -- the needs of some are at most those of more
 ids_front : (ms ns : List Flow) → ids_needed ms ≤ ids_needed (ms ++ ns)

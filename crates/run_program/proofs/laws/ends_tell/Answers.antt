@@ -2,10 +2,10 @@ use Rattle.js_store.specs.Limits.{limit_units}
 use Rattle.heap_intern.specs.Sessions.{state_in, table_of, view_in}
 use Rattle.heap_intern.specs.Sound.{sound_of}
 use Rattle.heap_intern.proofs.Whole.{whole_all}
-use Rattle.run_fits.specs.Fits.{all_meant}
-use Rattle.run_fits.proofs.First.{are_first}
-use Rattle.run_fits.proofs.Tells.{tells}
-use Rattle.run_fits.proofs.laws.ends_tell.Goals as goal
+use Rattle.run_program.specs.Fits.{all_meant}
+use Rattle.run_program.proofs.First.{are_first}
+use Rattle.run_program.proofs.Tells.{tells}
+use Rattle.run_program.proofs.laws.ends_tell.Goals as goal
 
 pub returns : goal.returns
 returns c whole z prelude scripts files run of = let s = c.args._session.now in let table = table_of s.text.reader.heap.now in

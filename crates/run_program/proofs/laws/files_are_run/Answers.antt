@@ -3,8 +3,8 @@ use Rattle.heap_rule.specs.Agents.{first_view}
 use Rattle.heap_intern.specs.Sessions.{state_by}
 use Rattle.js_eval.specs.Script.{meaning}
 use Rattle.eval_tree.specs.Tree.{tree_of}
-use Rattle.run_fits.proofs.Files.{run_jobs, run_none, run_one, run_stays, run_totals}
-use Rattle.run_fits.proofs.laws.files_are_run.Goals as goal
+use Rattle.run_program.proofs.Files.{run_jobs, run_none, run_one, run_stays, run_totals}
+use Rattle.run_program.proofs.laws.files_are_run.Goals as goal
 
 pub returns-clause-none : goal.returns-clause-none
 returns-clause-none c z agents limit table = run_none (state_by (first_view z agents) limit table) refl refl refl

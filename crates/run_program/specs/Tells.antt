@@ -15,8 +15,8 @@ use Rattle.heap_string_table.specs.Counting.{different}
 use Rattle.heap_intern.specs.Sessions.{SessionFrame}
 use Rattle.heap_intern.specs.Shares.{IsWhole}
 use Rattle.run_jobs.specs.Jobs.{Part}
-use Rattle.run_fits.specs.Fits.{FitsIds, FitsWords, FitsSlots, Fits, count_different, all_meant, ids_needed, words_needed, lists_interned}
-use Rattle.run_fits.specs.Files.{RunFile, AreRun, AreFilesOf, IsAsMeant, IsOwnEnd, means_of}
+use Rattle.run_program.specs.Fits.{FitsIds, FitsWords, FitsSlots, Fits, count_different, all_meant, ids_needed, words_needed, lists_interned}
+use Rattle.run_program.specs.Files.{RunFile, AreRun, AreFilesOf, IsAsMeant, IsOwnEnd, means_of}
 
 -- A file ended Full for ids: all ids of the heap are claimed, and the files need more.
 pub record IdsRanOut {F : Type 0} (z : Sizes) (s : State F) (means : List Flow) : Type 0 where

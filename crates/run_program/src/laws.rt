@@ -1,7 +1,7 @@
 // Laws of files that were run on one heap, which a call brings into a proof.
 ghost use Rattle.heap_intern.specs.Sessions.{state_in};
-ghost use Rattle.run_fits.specs.Laws.{JobsRun, NoneRun, ScriptRun, StaysRun, TotalsRun};
-ghost use Rattle.run_fits.specs.Tells.{WholeTells};
+ghost use Rattle.run_program.specs.Laws.{JobsRun, NoneRun, ScriptRun, StaysRun, TotalsRun};
+ghost use Rattle.run_program.specs.Tells.{WholeTells};
 
 use heap_intern::Session;
 

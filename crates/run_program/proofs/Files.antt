@@ -23,7 +23,7 @@ use Rattle.run_jobs.specs.declared.job.Job.{Job}
 use Rattle.run_jobs.specs.declared.job.Outcome.{Outcome}
 use Rattle.run_jobs.specs.Jobs.{Part, Reports, Whole, Broken, Ended, CameOf, AtEach, pairs_of, ids_of, words_of, Later, RanJobs}
 use Rattle.run_jobs.proofs.Jobs.{grows_later, pairs_append, ids_append, words_append, ran_one}
-use Rattle.run_fits.specs.Files.{RunFile, Came, AreRun, AreJobs, parts_of}
+use Rattle.run_program.specs.Files.{RunFile, Came, AreRun, AreJobs, parts_of}
 
 -- a later moment
 module _ {F : Type 0} {b c : State F} (l : Later b c) where

@@ -1,4 +1,0 @@
-pub mod Counts
-pub mod Files
-pub mod First
-pub mod Tells

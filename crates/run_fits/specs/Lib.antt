@@ -1,4 +1,0 @@
-pub mod Fits
-pub mod Files
-pub mod Tells
-pub mod Laws
