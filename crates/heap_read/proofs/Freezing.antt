@@ -1,15 +1,12 @@
 -- Words that are known to be frozen once they were loaded, and what is a fixed Flat.
-use Rattle.std.proofs.Common.{◌≡◌, ℕ, ◌+◌, ◌-◌, ◌/◌, ◌%◌, ◌<◌, ◌≤◌, ◌⊎◌, inl, inr, ⊎_elim, Bool, true, false, cond, List, length, get_or, sym, refl, ap, ◌∙◌, subst, arith}
-use mathlib.Core.Logic.{dite}
-use native.Mathlib.Decide.{ℕ_discrete}
+use Rattle.std.proofs.Common.{◌≡◌, ℕ, ◌+◌, ◌-◌, ◌/◌, ◌%◌, ◌<◌, ◌≤◌, inl, inr, ⊎_elim, Bool, true, false, cond, sym, refl, ap, ◌∙◌, subst, arith}
 use Rattle.std.proofs.Math.Logic.{∥∥₁_elim}
 use Rattle.std.proofs.Props.{props}
-use Rattle.std.specs.FinMap.{contains_key, get, insert}
-use Rattle.js_units.specs.Lanes.{lane_count, lane_of, words_over}
+use Rattle.std.specs.FinMap.{contains_key, insert}
+use Rattle.js_units.specs.Lanes.{lane_count, words_over}
 use Rattle.js_header.specs.declared.form.Form.{Form}
 use Rattle.js_header.specs.declared.form.Form.TheVariants.{Flat, Thin}
 use Rattle.heap_rule.specs.declared.view.View.{View}
-use Rattle.heap_rule.specs.Contents.{lane_in}
 use Rattle.heap_rule.specs.Learning.{learned_all}
 use Rattle.heap_rule.specs.Loads.{loaded_word}
 use Rattle.heap_rule.specs.Maps.{Has, HasKey}
@@ -19,9 +16,8 @@ use Rattle.heap_rule.proofs.Loads.{frozen_right}
 use Rattle.heap_rule.proofs.MapLemmas.{has_key, insert_same, key_of}
 use Rattle.heap_rule.proofs.Possible.{possible_slot}
 use Rattle.heap_table.specs.Known.{KeepsKnown}
-use Rattle.heap_read.specs.declared.source.Held.{Held}
 use Rattle.heap_read.specs.declared.string.Window.{Window}
-use Rattle.heap_read.specs.Frozen.{AreFrozen, HasLane, IsFixedBy, IsFixedWindow, IsHeld}
+use Rattle.heap_read.specs.Frozen.{HasLane, IsFixedBy, IsFixedWindow, IsHeld}
 use Rattle.heap_read.specs.Windows.{IsFrozenWindow}
 use Rattle.heap_read.proofs.Holding.{lane_by, lane_small, same_word}
 use Rattle.heap_read.proofs.Leading.{possible_target}

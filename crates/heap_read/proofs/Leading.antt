@@ -13,7 +13,7 @@ use Rattle.heap_rule.specs.Sound.{IsPossible, StandsIn}
 use Rattle.heap_rule.specs.Views.{HasLength, LeadsTo}
 use Rattle.heap_rule.proofs.Possible.{possible_length}
 use Rattle.heap_table.specs.Known.{KeepsKnown}
-use Rattle.heap_read.specs.Windows.{IsLed, IsWindow, IsWindowOf, StandsFor}
+use Rattle.heap_read.specs.Windows.{IsLed, IsWindow, StandsFor}
 use Rattle.heap_read.proofs.Showing.{forms_held, stands_for_kept}
 
 none_later : (f : Form) (wide : Bool) (start : ℕ) → IsLater f (Flat wide start true) → ⊥

@@ -13,3 +13,5 @@ pub mod Learned
 pub mod Freezing
 pub mod WindowLemmas
 pub mod Comparison
+pub mod ShiftedLanes
+pub mod Narrowness

@@ -6,4 +6,5 @@ pub mod Sources
 pub mod Written
 pub mod Filling
 pub mod Frozen
+pub mod Shifted
 pub mod Spans

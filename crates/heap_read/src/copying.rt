@@ -1,5 +1,5 @@
 // Making a flat string with the units of a source.
-ghost use Rattle.std.specs.Prelude.{◌≡◌, ◌+◌, ◌*◌, ◌/◌, ◌%◌, ◌≤◌, ◌<◌, ◌^◌, ℕ, IfOk, IfErr, Some, false, slice_index, length};
+ghost use Rattle.std.specs.Prelude.{◌≡◌, List, ◌+◌, ◌*◌, ◌/◌, ◌%◌, ◌≤◌, ◌<◌, ◌^◌, ℕ, IfOk, IfErr, Some, false, true, slice_index, length};
 ghost use Rattle.js_units.specs.Lanes.{IsWordOf, is_wide, lane_base, lane_count, words_over};
 ghost use Rattle.js_header.specs.declared.form.Form.TheVariants.{Flat};
 ghost use Rattle.heap_rule.specs.Layout.{MAX};
@@ -9,12 +9,15 @@ ghost use Rattle.heap_table.specs.Full.{IsFull};
 ghost use Rattle.heap_read.specs.Readers.{Moves, view_in};
 ghost use Rattle.heap_read.specs.Reads.{Continues, KeepsForms, Reads};
 ghost use Rattle.heap_read.specs.Sources.{Shows, listed_in};
-ghost use Rattle.heap_read.specs.Written.{Holds, IsWritten};
+ghost use Rattle.heap_read.specs.Windows.{IsWindow};
+ghost use Rattle.heap_read.specs.Written.{IsWritten};
 
 use crate::reader::Reader;
-use crate::source::{Held, Source};
+use crate::shifting::has_wide_lane;
+use crate::source::Source;
+use crate::string::Window;
 use heap_table::CounterFull;
-use js_units::{lane_size, lanes, words_for};
+use js_units::{lanes, words_for};
 
 impl<'h> Reader<'h> {
     /// Whether a unit is over 255.
@@ -27,29 +30,53 @@ impl<'h> Reader<'h> {
         ensures wide { result ≡ is_wide (listed_in self.old source.now) }
         ensures forms { KeepsForms (view_in self.old) (view_in self.new) }
     {
-        if let Source::Units(units) = source {
-            return js_units::has_wide(units);
+        match source {
+            Source::Units(units) => js_units::has_wide(units),
+            Source::Piece(piece) => self.is_wide_in(piece.window),
+            Source::Pieces(front, back) => self.is_wide_in(front.window)
+                || self.is_wide_in(back.window),
         }
-        let mut held = Held::none();
-        for i in 0..n {
-            if self.unit_or_zero(source, n, i, &mut held) > 255 {
+    }
+
+    // Whether a unit of a window is over 255. In one-byte lanes none is.
+    fn is_wide_in(&mut self, w: Window) -> bool
+        requires { (us : List ℕ) × IsWindow (view_in self.old) w us }
+        ensures reads { Moves Reads self.old self.new }
+        ensures forms { KeepsForms (view_in self.old) (view_in self.new) }
+        ensures wide { (us : List ℕ) → IsWindow (view_in self.old) w us → result ≡ is_wide us }
+    {
+        if w.wide { self.has_wide_unit(w) } else { false }
+    }
+
+    // The same of a window over two-byte lanes, a word at a time.
+    fn has_wide_unit(&mut self, w: Window) -> bool
+        requires window { (us : List ℕ) × IsWindow (view_in self.old) w us }
+        requires lanes { w.wide ≡ true }
+        ensures reads { Moves Reads self.old self.new }
+        ensures forms { KeepsForms (view_in self.old) (view_in self.new) }
+        ensures wide { (us : List ℕ) → IsWindow (view_in self.old) w us → result ≡ is_wide us }
+    {
+        let mut i = 0;
+        while i < w.len {
+            let held = self.hold_in(w, i);
+            let count = held.count_from(i);
+            if has_wide_lane(held.part(i, count, true)) {
                 return true;
             }
+            i += count;
         }
         false
     }
 
-    // Word number `at` of the units, the last unit's lane first.
-    fn pack(&mut self, source: &Source, n: u32, wide: bool, at: u32, held: &mut Held) -> u64
+    // Word number `at` of the units.
+    fn pack(&mut self, source: &Source, n: u32, wide: bool, at: u32) -> u64
         requires shows { Shows (view_in self.old) source.now }
         requires count { length (listed_in self.old source.now) ≡ n }
         requires wide { wide ≡ is_wide (listed_in self.old source.now) }
         requires within { (n ≤ MAX) × (at < words_over wide n) }
-        requires holds { Holds (listed_in self.old source.now) held.old }
         ensures reads { Moves Reads self.old self.new }
         ensures shows { Shows (view_in self.new) source.now }
         ensures listed { listed_in self.new source.now ≡ listed_in self.old source.now }
-        ensures holds { Holds (listed_in self.old source.now) held.new }
         ensures word { IsWordOf wide (listed_in self.old source.now) at result }
         ensures forms { KeepsForms (view_in self.old) (view_in self.new) }
     {
@@ -57,13 +84,8 @@ impl<'h> Reader<'h> {
             return js_units::pack(units, wide, at);
         }
         let lanes = lanes(wide);
-        let base = lane_size(wide);
-        let mut word = 0;
-        for k in 0..lanes {
-            let unit = self.unit_or_zero(source, n, at * lanes + (lanes - 1 - k), held);
-            word = word * base + u64::from(unit);
-        }
-        word
+        let first = at * lanes;
+        self.word_of(source, wide, first, lanes.min(n - first))
     }
 
     /// Content words with the units of a source, now the agent's own. The answer is the first.
@@ -94,9 +116,8 @@ impl<'h> Reader<'h> {
             return Ok(0);
         }
         let start = self.agent.claim_words(self.heap, want)?;
-        let mut held = Held::none();
         for at in 0..want {
-            let word = self.pack(source, n, wide, at, &mut held);
+            let word = self.pack(source, n, wide, at);
             self.agent.store_word(self.heap, start + at, word);
         }
         Ok(start)

@@ -13,6 +13,7 @@ mod hashing;
 mod lanes;
 mod reader;
 mod reading;
+mod shifting;
 mod source;
 mod spans;
 mod steps;

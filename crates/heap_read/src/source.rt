@@ -1,14 +1,17 @@
 // Where the units of a new string come from.
-ghost use Rattle.std.specs.Prelude.{◌≡◌, ℕ, List, ◌+◌, ◌-◌, ◌/◌, ◌%◌, ◌≤◌, ◌<◌, ◌↔◌, IsTrue, slice_index, length};
+ghost use Rattle.std.specs.Prelude.{◌≡◌, ℕ, List, ◌+◌, ◌-◌, ◌/◌, ◌%◌, ◌≤◌, ◌<◌, ◌↔◌, IsTrue, false, slice_index, length};
 ghost use Rattle.js_units.specs.Lanes.{lane_count, lane_of};
+ghost use Rattle.heap_rule.specs.Layout.{MAX};
 ghost use Rattle.heap_read.specs.Frozen.{IsHeld, IsLearned};
 ghost use Rattle.heap_read.specs.Readers.{Moves, view_in};
 ghost use Rattle.heap_read.specs.Reads.{KeepsForms, Reads};
-ghost use Rattle.heap_read.specs.Sources.{Shows, listed_in};
+ghost use Rattle.heap_read.specs.Shifted.{HoldsLanes};
+ghost use Rattle.heap_read.specs.Sources.{FitsLanes, Shows, listed_in};
 ghost use Rattle.heap_read.specs.Windows.{IsFrozenWindow, IsWindow};
 ghost use Rattle.heap_read.specs.Written.{HasAt, Holds, held_unit};
 
 use crate::reader::Reader;
+use crate::shifting::{lanes_at, narrowed, put_above, widened};
 use crate::string::{JsStr, Window};
 use js_units::{lane, lanes, word_and_lane};
 
@@ -77,6 +80,23 @@ impl Held {
         self.count - (i - self.from)
     }
 
+    // The `count` units from number `i` on, which it has, as the lowest lanes of a word.
+    pub(crate) fn part(&self, i: u32, count: u32, wide: bool) -> u64
+        requires has { HasAt self.now i count }
+        requires room { count ≤ lane_count wide }
+        requires fits { wide ≡ false → (k : ℕ) → k < count → held_unit self.now (i + k) < 256 }
+        ensures { HoldsLanes wide result count (λ k. held_unit self.now (i + k)) }
+    {
+        let lanes = lanes_at(self.word, self.wide, self.lane + (i - self.from), count);
+        if self.wide == wide {
+            return lanes;
+        }
+        if wide {
+            return widened(lanes);
+        }
+        narrowed(lanes)
+    }
+
     // Whether another word is the same, with unit `i` in the same lane.
     pub(crate) fn is_alike(&self, other: &Held, i: u32) -> bool
         requires left { HasAt self.now i 0 }
@@ -100,6 +120,7 @@ impl<'h> Reader<'h> {
         ensures held { IsHeld (view_in self.new) w result }
         ensures holds { (us : List ℕ) → IsWindow (view_in self.old) w us → Holds us result }
         ensures learned { IsLearned (view_in self.new) }
+        ensures wide { result.wide ≡ w.wide }
     {
         let lanes = lanes(w.wide);
         let place = w.offset + i;
@@ -152,45 +173,32 @@ impl<'h> Reader<'h> {
         }
     }
 
-    // The unit with this number: of the word that was read last, where that has it.
-    pub fn unit_held(&mut self, source: &Source, i: u32, held: &mut Held) -> u16
+    // The `count` units from number `first` on, as lanes of one word, by a load for each word
+    // that they lie in.
+    pub(crate) fn word_of(&mut self, source: &Source, wide: bool, first: u32, count: u32) -> u64
         requires shows { Shows (view_in self.old) source.now }
-        requires within { i < length (listed_in self.old source.now) }
-        requires holds { Holds (listed_in self.old source.now) held.old }
+        requires within { first + count ≤ length (listed_in self.old source.now) }
+        requires short { length (listed_in self.old source.now) ≤ MAX }
+        requires room { count ≤ lane_count wide }
+        requires fits { FitsLanes wide (listed_in self.old source.now) }
         ensures reads { Moves Reads self.old self.new }
         ensures forms { KeepsForms (view_in self.old) (view_in self.new) }
         ensures shows { Shows (view_in self.new) source.now }
         ensures listed { listed_in self.new source.now ≡ listed_in self.old source.now }
-        ensures holds { Holds (listed_in self.old source.now) held.new }
-        ensures fits { result < 65536 }
-        ensures unit { result ≡ slice_index (listed_in self.old source.now) i }
+        ensures word { HoldsLanes wide result count
+            (λ k. slice_index (listed_in self.old source.now) (first + k)) }
     {
-        if held.has(i) {
-            return held.unit(i);
+        let mut word = 0;
+        let mut done = 0;
+        while done < count {
+            let i = first + done;
+            let held = self.hold(source, i);
+            let more = held.count_from(i).min(count - done);
+            let part = held.part(i, more, wide);
+            word = put_above(word, part, wide, done);
+            done += more;
         }
-        let next = self.hold(source, i);
-        *held = next;
-        next.unit(i)
-    }
-
-    // The same, and 0 past the last unit.
-    pub fn unit_or_zero(&mut self, source: &Source, n: u32, i: u32, held: &mut Held) -> u16
-        requires shows { Shows (view_in self.old) source.now }
-        requires count { length (listed_in self.old source.now) ≡ n }
-        requires holds { Holds (listed_in self.old source.now) held.old }
-        ensures reads { Moves Reads self.old self.new }
-        ensures shows { Shows (view_in self.new) source.now }
-        ensures listed { listed_in self.new source.now ≡ listed_in self.old source.now }
-        ensures holds { Holds (listed_in self.old source.now) held.new }
-        ensures fits { result < 65536 }
-        ensures unit { result ≡ slice_index (listed_in self.old source.now) i }
-        ensures forms { KeepsForms (view_in self.old) (view_in self.new) }
-    {
-        if i < n {
-            self.unit_held(source, i, held)
-        } else {
-            0
-        }
+        word
     }
 }
 

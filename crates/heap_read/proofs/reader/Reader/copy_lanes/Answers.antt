@@ -10,7 +10,6 @@ use Rattle.heap_table.specs.Known.{KeepsKnown}
 use Rattle.heap_read.specs.Filling.{IsFilled, IsPlaced, own_word}
 use Rattle.heap_read.specs.Reads.{Writes}
 use Rattle.heap_read.specs.Sources.{listed}
-use Rattle.heap_read.specs.Written.{Holds}
 use Rattle.heap_read.proofs.Going.{known_stored}
 use Rattle.heap_read.proofs.Listing.{listed_same, shows_kept}
 use Rattle.heap_read.proofs.Placing.{IsStored, filled_none, filled_on, lane_small, placed_filled}
@@ -24,7 +23,6 @@ loop-done-init c = let v : View = c.args.self.now.agent.seat.me.0 in let us : Li
   writes = writes_refl v;
   forms = (refl, refl);
   shows = c.requires.shows;
-  holds = c.none-held.ensures us;
   same = refl;
   filled = filled_none c.args.to.wide c.args.to.start (own_word v.own_words) c.args.at (λ k. get_or us k 0);
   within = omega arith;
@@ -48,9 +46,6 @@ overflow_add-to-in-loop-done c = let u : View = c.loop-done.self.agent.seat.me.0
     (c.loop-done.invariant.writes.own_words (c.args.to.start + o / lane_count c.args.to.wide) (c.requires.own o (omega arith) (omega (arith, c.loop-done-test.true)))) in
     let a = (possible_within u p).words (c.args.to.start + c.word_and_lane-number.result.0) own in let b = (possible_lawful u p).3 in omega arith
 
-pub patched-word-requires-clause-holds : goal.patched-word-requires-clause-holds
-patched-word-requires-clause-holds c = subst (λ (xs : List ℕ). Holds xs c.loop-done.held) (sym c.loop-done.invariant.same) c.loop-done.invariant.holds
-
 pub loop-done-preserved : goal.loop-done-preserved
 loop-done-preserved c = let v : View = c.args.self.now.agent.seat.me.0 in let u : View = c.loop-done.self.agent.seat.me.0 in let p : View = c.patched-word.new.self.agent.seat.me.0 in let w : View = c.store_word.new.self.seat.me.0 in
     let i = c.loop-done.invariant in let e = c.patched-word.ensures in let f = c.store_word.ensures in let wide = c.args.to.wide in let start = c.args.to.start in let done = c.loop-done.done in let count = c.min-count.result in let o : ℕ = c.args.at + done in
@@ -71,7 +66,6 @@ loop-done-preserved c = let v : View = c.args.self.now.agent.seat.me.0 in let u 
       writes = writes_trans v u w i.writes (writes_trans u p w (writes_reads u p e.reads.view) (subst (Writes p) (sym f.view) (writes_stored p (start + number) x)));
       forms = (ap (λ (y : View). y.forms) f.view ∙ (e.forms.0 ∙ i.forms.0), ap (λ (y : View). y.form_loads) f.view ∙ (e.forms.1 ∙ i.forms.1));
       shows = shows_kept p w c.args.source.now known (forms_held p w (ap (λ (y : View). y.forms) f.view)) e.shows;
-      holds = subst (λ (xs : List ℕ). Holds xs c.patched-word.new.held) i.same e.holds;
       same = listed_same p w c.args.source.now known e.shows ∙ (e.listed ∙ i.same);
       filled = filled_on wide start (own_word v.own_words) (own_word u.own_words) (own_word w.own_words) c.args.at done count (λ k. get_or us k 0) i.filled next;
       within = omega arith;

@@ -3,7 +3,6 @@ use Rattle.heap_read.specs.Filling.{IsFilled, own_word}
 use Rattle.heap_read.specs.Readers.{view_in}
 use Rattle.heap_read.specs.Reads.{KeepsForms, Writes}
 use Rattle.heap_read.specs.Sources.{Shows, listed}
-use Rattle.heap_read.specs.Written.{Holds}
 use Rattle.heap_read.proofs.reader.Reader.copy_lanes.Given as goal
 
 abbrev pub invariant-loop-done : goal.invariant-loop-done
@@ -12,7 +11,6 @@ invariant-loop-done l = record {
   writes : Writes (view_in l.fn.self) (view_in l.self);
   forms : KeepsForms (view_in l.fn.self) (view_in l.self);
   shows : Shows (view_in l.self) l.source;
-  holds : Holds (listed (view_in l.fn.self) l.source) l.held;
   same : listed (view_in l.self) l.source ≡ listed (view_in l.fn.self) l.source;
   filled : IsFilled l.to.wide l.to.start (own_word (view_in l.fn.self).own_words) (own_word (view_in l.self).own_words) l.at l.done (λ k. get_or (listed (view_in l.fn.self) l.source) k 0);
   within : l.done ≤ l.n;

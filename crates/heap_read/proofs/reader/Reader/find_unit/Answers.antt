@@ -1,4 +1,4 @@
-use Rattle.std.proofs.Common.{◌≡◌, ℕ, ◌+◌, ◌-◌, ◌<◌, ◌≤◌, List, sym, arith, ◌∙◌}
+use Rattle.std.proofs.Common.{◌+◌, ◌-◌, ◌<◌, sym, arith, ◌∙◌}
 use Rattle.heap_rule.specs.declared.view.View.{View}
 use Rattle.heap_read.proofs.Loaded.{reads_trans}
 use Rattle.heap_read.proofs.Showing.{window_length}

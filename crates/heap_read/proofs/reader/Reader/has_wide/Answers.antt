@@ -1,34 +1,41 @@
-use Rattle.std.proofs.Common.{◌≡◌, ◌≤◌, ◌∙◌, ℕ, List, get_or, below_more, ap, subst, sym, arith}
+use Rattle.std.proofs.Common.{◌≡◌, ◌∙◌, ℕ, List, Bool, false, ◌++◌, ap, subst, sym}
+use Rattle.std.specs.Prelude.{nat_lt, ◌||◌}
+use Rattle.std.proofs.lemmas.List.Folds.{list_any-append}
+use Rattle.js_units.specs.Lanes.{is_wide}
 use Rattle.heap_rule.specs.declared.view.View.{View}
-use Rattle.heap_read.specs.Sources.{listed}
-use Rattle.heap_read.specs.Written.{Holds}
-use Rattle.heap_read.proofs.Loaded.{reads_trans}
-use Rattle.heap_read.proofs.WindowLemmas.{forms_trans}
-use Rattle.js_units.proofs.PackedWords.{none_wide, some_wide}
+use Rattle.heap_read.specs.declared.source.Source.{Source}
+use Rattle.heap_read.specs.Sources.{Shows, listed, piece_units}
+use Rattle.heap_read.proofs.Listing.{listed_same, shows_kept}
+use Rattle.heap_read.proofs.Showing.{forms_held}
+use Rattle.heap_read.proofs.WindowLemmas.{window_later}
 use Rattle.heap_read.proofs.reader.Reader.has_wide.Goals as goal
 
-pub returns-then-unit_or_zero-gt255 : goal.returns-then-unit_or_zero-gt255
-returns-then-unit_or_zero-gt255 c = let v : View = c.args.self.now.agent.seat.me.0 in let us : List ℕ = listed v c.args.source.now in let e = c.unit_or_zero.ensures in let i = c.loop-i.invariant in
-    let is : c.unit_or_zero.result ≡ get_or us c.loop-i.i 0 = e.unit ∙ ap (λ (xs : List ℕ). get_or xs c.loop-i.i 0) i.same in let n = c.requires.count in let l = c.loop-i-test.true in let t = c.if-unit_or_zero-gt255.true in record {
-      reads = record { heap = e.reads.heap ∙ i.heap; view = reads_trans v c.loop-i.self.agent.seat.me.0 c.unit_or_zero.new.self.agent.seat.me.0 i.reads e.reads.view };
-      shows = e.shows;
-      listed = e.listed ∙ i.same;
-      forms = forms_trans v c.loop-i.self.agent.seat.me.0 c.unit_or_zero.new.self.agent.seat.me.0 i.forms e.forms;
-      wide = sym (some_wide us c.loop-i.i (omega arith) (omega arith));
-    }
+pub is_wide_in-requires-else-is_wide_in : goal.is_wide_in-requires-else-is_wide_in
+is_wide_in-requires-else-is_wide_in c = let v : View = c.args.self.now.agent.seat.me.0 in let x : View = c.is_wide_in-in-Pieces.new.self.agent.seat.me.0 in let e = c.is_wide_in-in-Pieces.ensures in let q = c.in-Pieces.back in
+    let s = subst (Shows v) c.in-Pieces.is c.requires.shows in (piece_units v q, window_later v x q.window (piece_units v q) e.reads.view e.forms s.1.1)
 
-pub loop-i-preserved : goal.loop-i-preserved
-loop-i-preserved c = let v : View = c.args.self.now.agent.seat.me.0 in let us : List ℕ = listed v c.args.source.now in let e = c.unit_or_zero.ensures in let i = c.loop-i.invariant in
-    let is : c.unit_or_zero.result ≡ get_or us c.loop-i.i 0 = e.unit ∙ ap (λ (xs : List ℕ). get_or xs c.loop-i.i 0) i.same in let t = c.if-unit_or_zero-gt255.false in let here : get_or us c.loop-i.i 0 ≤ 255 = omega arith in record {
-      heap = e.reads.heap ∙ i.heap;
-      reads = reads_trans v c.loop-i.self.agent.seat.me.0 c.unit_or_zero.new.self.agent.seat.me.0 i.reads e.reads.view;
-      forms = forms_trans v c.loop-i.self.agent.seat.me.0 c.unit_or_zero.new.self.agent.seat.me.0 i.forms e.forms;
-      shows = e.shows;
-      holds = subst (λ (xs : List ℕ). Holds xs c.unit_or_zero.new.held) i.same e.holds;
-      same = e.listed ∙ i.same;
-      narrow = below_more (λ (q : ℕ). get_or us q 0 ≤ 255) c.loop-i.i i.narrow here;
-    }
+pub returns-in-Piece-clause-shows : goal.returns-in-Piece-clause-shows
+returns-in-Piece-clause-shows c = let v : View = c.args.self.now.agent.seat.me.0 in let x : View = c.is_wide_in.new.self.agent.seat.me.0 in let e = c.is_wide_in.ensures in
+    shows_kept v x c.args.source.now e.reads.view.known (forms_held v x e.forms.0) c.requires.shows
 
-pub returns-clause-wide : goal.returns-clause-wide
-returns-clause-wide c = let n = c.requires.count in let test = c.loop-i-test.false in
-    sym (none_wide (listed c.args.self.now.agent.seat.me.0 c.args.source.now) (λ q l. c.loop-i.invariant.narrow q (omega arith)))
+pub returns-then-is_wide_in-clause-shows : goal.returns-then-is_wide_in-clause-shows
+returns-then-is_wide_in-clause-shows c = let v : View = c.args.self.now.agent.seat.me.0 in let x : View = c.is_wide_in-in-Pieces.new.self.agent.seat.me.0 in let e = c.is_wide_in-in-Pieces.ensures in
+    shows_kept v x c.args.source.now e.reads.view.known (forms_held v x e.forms.0) c.requires.shows
+
+pub returns-else-is_wide_in-clause-shows : goal.returns-else-is_wide_in-clause-shows
+returns-else-is_wide_in-clause-shows c = let v : View = c.args.self.now.agent.seat.me.0 in let x : View = c.is_wide_in-in-Pieces.new.self.agent.seat.me.0 in let y : View = c.is_wide_in-else-is_wide_in.new.self.agent.seat.me.0 in
+    let e = c.is_wide_in-in-Pieces.ensures in let f = c.is_wide_in-else-is_wide_in.ensures in
+    shows_kept x y c.args.source.now f.reads.view.known (forms_held x y f.forms.0) (shows_kept v x c.args.source.now e.reads.view.known (forms_held v x e.forms.0) c.requires.shows)
+
+pub returns-else-is_wide_in-clause-listed : goal.returns-else-is_wide_in-clause-listed
+returns-else-is_wide_in-clause-listed c = let v : View = c.args.self.now.agent.seat.me.0 in let x : View = c.is_wide_in-in-Pieces.new.self.agent.seat.me.0 in let y : View = c.is_wide_in-else-is_wide_in.new.self.agent.seat.me.0 in
+    let e = c.is_wide_in-in-Pieces.ensures in let f = c.is_wide_in-else-is_wide_in.ensures in
+    listed_same x y c.args.source.now f.reads.view.known (shows_kept v x c.args.source.now e.reads.view.known (forms_held v x e.forms.0) c.requires.shows) ∙ listed_same v x c.args.source.now e.reads.view.known c.requires.shows
+
+pub returns-else-is_wide_in-clause-wide : goal.returns-else-is_wide_in-clause-wide
+returns-else-is_wide_in-clause-wide c = let v : View = c.args.self.now.agent.seat.me.0 in let x : View = c.is_wide_in-in-Pieces.new.self.agent.seat.me.0 in let e = c.is_wide_in-in-Pieces.ensures in let f = c.is_wide_in-else-is_wide_in.ensures in
+    let p = c.in-Pieces.front in let q = c.in-Pieces.back in let s = subst (Shows v) c.in-Pieces.is c.requires.shows in let us : List ℕ = piece_units v p in let vs : List ℕ = piece_units v q in
+    let front : is_wide us ≡ false = sym (e.wide us s.0.1) ∙ c.if-is_wide_in.false in
+    let back = f.wide vs (window_later v x q.window vs e.reads.view e.forms s.1.1) in
+    let whole : is_wide (listed v c.args.source.now) ≡ is_wide (us ++ vs) = ap (λ (y : Source). is_wide (listed v y)) c.in-Pieces.is in
+    back ∙ sym (whole ∙ (list_any-append (λ u. nat_lt 255 u) us vs ∙ ap (λ (b : Bool). b || is_wide vs) front))

@@ -1,4 +1,4 @@
-use Rattle.std.proofs.Common.{◌≡◌, ◌∙◌, ℕ, ◌+◌, ◌-◌, ◌<◌, ◌≤◌, List, drop, take, length, get_or, get_or-take, ap, subst, sym, arith}
+use Rattle.std.proofs.Common.{◌≡◌, ◌∙◌, ℕ, ◌+◌, ◌-◌, ◌≤◌, List, drop, take, length, get_or-take, ap, arith}
 use Rattle.std.proofs.lemmas.List.{length-take-le}
 use Rattle.js_units.specs.Lanes.{hash_from, hash_of}
 use Rattle.js_units.proofs.Hashing.{hash_end}
@@ -7,7 +7,7 @@ use Rattle.heap_rule.specs.declared.view.View.{View}
 use Rattle.heap_read.proofs.Comparison.{words_on}
 use Rattle.heap_read.proofs.Loaded.{reads_trans}
 use Rattle.heap_read.proofs.Showing.{window_length}
-use Rattle.heap_read.proofs.WindowLemmas.{forms_trans, frozen_later, hash_word, unit_of_lane, window_later, window_short}
+use Rattle.heap_read.proofs.WindowLemmas.{forms_trans, frozen_later, hash_word, unit_of_lane, window_later}
 use Rattle.heap_read.proofs.reader.Reader.hash_in.Goals as goal
 
 pub hold_in-held-requires-clause-frozen : goal.hold_in-held-requires-clause-frozen

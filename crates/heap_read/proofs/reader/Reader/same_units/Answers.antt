@@ -1,9 +1,9 @@
-use Rattle.std.proofs.Common.{◌≡◌, ◌∙◌, ℕ, ◌+◌, ◌<◌, List, length, get_or, subst, sym, arith}
+use Rattle.std.proofs.Common.{◌≡◌, ◌∙◌, ℕ, ◌+◌, ◌<◌, arith}
 use Rattle.heap_rule.specs.declared.view.View.{View}
 use Rattle.heap_read.specs.Written.{HasAt, Holds, held_unit}
 use Rattle.heap_read.proofs.Comparison.{compared_on, compared_other, frozen_window_stays}
 use Rattle.heap_read.proofs.Loaded.{reads_trans}
-use Rattle.heap_read.proofs.Showing.{forms_held, window_length}
+use Rattle.heap_read.proofs.Showing.{forms_held}
 use Rattle.heap_read.proofs.WindowLemmas.{forms_trans, frozen_later, window_later}
 use Rattle.heap_read.proofs.reader.Reader.same_units.Goals as goal
 

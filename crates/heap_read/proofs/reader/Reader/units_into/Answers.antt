@@ -1,9 +1,9 @@
-use Rattle.std.proofs.Common.{◌≡◌, ℕ, ◌+◌, ◌-◌, ◌<◌, ◌≤◌, List, length, get_or, sym, arith, ◌∙◌}
+use Rattle.std.proofs.Common.{◌+◌, length, arith, ◌∙◌}
 use Rattle.heap_rule.specs.declared.view.View.{View}
 use Rattle.heap_read.proofs.Loaded.{reads_trans}
 use Rattle.heap_read.proofs.Showing.{window_length}
 use Rattle.js_units.proofs.Shifted.{lanes_most}
-use Rattle.heap_read.proofs.WindowLemmas.{window_short, forms_trans, frozen_later, read_more, read_all, unit_of_lane, window_later}
+use Rattle.heap_read.proofs.WindowLemmas.{forms_trans, frozen_later, read_more, read_all, unit_of_lane, window_later}
 use Rattle.heap_read.proofs.reader.Reader.units_into.Goals as goal
 
 pub hold_in-held-requires-clause-frozen : goal.hold_in-held-requires-clause-frozen

@@ -1,4 +1,4 @@
-use Rattle.std.proofs.Common.{◌≡◌, ◌<◌, ◌+◌, ◌∙◌, ℕ, List, suc, refl, ap, subst, sym, arith}
+use Rattle.std.proofs.Common.{◌≡◌, ◌+◌, ◌∙◌, ℕ, List, suc, refl, ap, subst, sym, arith}
 use Rattle.js_units.specs.Lanes.{IsWordOf}
 use Rattle.std.specs.FinMap.{FinMap}
 use Rattle.std.specs.Ordering.{nat_cmp}
@@ -7,9 +7,9 @@ use Rattle.heap_rule.specs.declared.size.Counters.{Counters}
 use Rattle.heap_rule.specs.Maps.{Has, HasKey}
 use Rattle.heap_table.specs.Known.{KeepsKnown}
 use Rattle.heap_rule.proofs.MapLemmas.{insert_other, key_of}
-use Rattle.heap_read.specs.Reads.{Continues, KeepsForms}
+use Rattle.heap_read.specs.Reads.{Continues}
 use Rattle.heap_read.specs.Sources.{listed}
-use Rattle.heap_read.specs.Written.{AreWords, Holds}
+use Rattle.heap_read.specs.Written.{AreWords}
 use Rattle.heap_read.proofs.Going.{continues_reads, continues_stored, continues_trans, continues_words, known_stored, known_words, run_below, run_kept, run_keys, words_stored}
 use Rattle.heap_read.proofs.Loaded.{key_more}
 use Rattle.heap_read.proofs.Listing.{listed_same, shows_kept}
@@ -23,7 +23,6 @@ loop-at-init c = let v : View = c.args.self.now.agent.seat.me.0 in let w : View 
       heap = refl;
       continues = continues_words v w start want e.view e.low;
       shows = shows_kept v w c.args.source.now known (forms_held v w (ap (λ (x : View). x.forms) e.view)) c.requires.shows;
-      holds = c.none-held.ensures (listed v c.args.source.now);
       same = listed_same v w c.args.source.now known c.requires.shows;
       ids = ap (λ (x : View). x.used.ids) e.view;
       words = ap (λ (x : View). x.used.words) e.view;
@@ -44,7 +43,6 @@ loop-at-preserved c = let v : View = c.args.self.now.agent.seat.me.0 in let u : 
       heap = e.reads.heap ∙ i.heap;
       continues = continues_trans v u w i.continues (continues_trans u p w (continues_reads u p e.reads.view) (subst (Continues p) (sym f.view) (continues_stored p (start + at) word)));
       shows = shows_kept p w c.args.source.now known (forms_held p w (ap (λ (x : View). x.forms) f.view)) e.shows;
-      holds = subst (λ (xs : List ℕ). Holds xs c.pack-word.new.held) i.same e.holds;
       same = listed_same p w c.args.source.now known e.shows ∙ (e.listed ∙ i.same);
       ids = ap (λ (x : View). x.used.ids) f.view ∙ (ap (λ (n : Counters). n.ids) e.reads.view.used ∙ i.ids);
       words = ap (λ (x : View). x.used.words) f.view ∙ (ap (λ (n : Counters). n.words) e.reads.view.used ∙ i.words);

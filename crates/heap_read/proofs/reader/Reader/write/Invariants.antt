@@ -3,7 +3,7 @@ use Rattle.heap_rule.specs.Maps.{Has, HasKey}
 use Rattle.heap_read.specs.Readers.{view_in}
 use Rattle.heap_read.specs.Reads.{Continues, KeepsForms}
 use Rattle.heap_read.specs.Sources.{Shows, listed}
-use Rattle.heap_read.specs.Written.{AreWords, Holds}
+use Rattle.heap_read.specs.Written.{AreWords}
 use Rattle.heap_read.proofs.reader.Reader.write.Given as goal
 
 abbrev pub invariant-loop-at : goal.invariant-loop-at
@@ -12,7 +12,6 @@ invariant-loop-at l = record {
   continues : Continues (view_in l.fn.self) (view_in l.self);
   forms : KeepsForms (view_in l.fn.self) (view_in l.self);
   shows : Shows (view_in l.self) l.source;
-  holds : Holds (listed (view_in l.fn.self) l.source) l.held;
   same : listed (view_in l.self) l.source ≡ listed (view_in l.fn.self) l.source;
   ids : (view_in l.self).used.ids ≡ (view_in l.fn.self).used.ids;
   words : (view_in l.self).used.words ≡ (view_in l.fn.self).used.words + l.want;
