@@ -1,6 +1,7 @@
 // The calls on strings that no script makes yet, over a plain store.
 ghost use Rattle.std.specs.Prelude.{◌≤◌, length};
 
+use crate::rows::{Table, check, parted, units_of};
 use js_replace::substitution;
 use js_search::{compare, equal, stands_at};
 use js_store::{Limit, StoreFault, Strings};
@@ -33,36 +34,24 @@ ff5e | d83d de00 -> Greater false
 d83d | d83d de00 -> Less false
 de00 61 d83d | de00 61 de00 -> Less false";
 
-fn units_of(alloc: Global, text: &str) -> Result<Vec<u16>, Fail> {
-    let mut units = Vec::new(alloc);
-    if text != "-" {
-        for digits in text.split(' ') {
-            units.push(u16::from_str_radix(digits, 16)?)?;
-        }
-    }
-    Ok(units)
-}
+struct Orders;
 
-// What comes of a row's strings, and what is wanted.
-fn told_order(alloc: Global, row: &str) -> Result<(String, &str), Fail> {
-    let (given, want) = row.split_once(" -> ").ok_or("nothing is wanted")?;
-    let (a, b) = given.split_once(" | ").ok_or("one string")?;
-    let (a, b) = (units_of(alloc, a)?, units_of(alloc, b)?);
-    if a.len() > 100 || b.len() > 100 {
-        return Ok((String::new(alloc), want));
+impl Table for Orders {
+    fn told(alloc: Global, given: &str) -> Result<String, Fail> {
+        let (a, b) = parted(given, " | ")?;
+        let (a, b) = (units_of(alloc, a)?, units_of(alloc, b)?);
+        if a.len() > 100 || b.len() > 100 {
+            return Ok(String::from_str(alloc, "too long")?);
+        }
+        let mut store = PlainStore::new(alloc, Limit::Bits64);
+        let (order, equal) = ordered(&mut store, a.as_slice(), b.as_slice())?;
+        Ok(format!(in alloc; "{order:?} {equal}")?)
     }
-    let mut store = PlainStore::new(alloc, Limit::Bits64);
-    let (order, equal) = ordered(&mut store, a.as_slice(), b.as_slice())?;
-    Ok((format!(in alloc; "{order:?} {equal}")?, want))
 }
 
 #[test]
 fn strings_are_ordered_by_their_units(rt: HostRuntime) -> Result<(), Fail> {
-    for row in ORDERS.lines() {
-        let (found, want) = told_order(rt.alloc(), row)?;
-        assert_eq!(rt; found.as_str(), want, "{row}");
-    }
-    Ok(())
+    check::<Orders>(&rt, rt.alloc(), ORDERS)
 }
 
 // Whether `ab` stands in `abab` at each place, and what a template stands for at the match.
@@ -98,20 +87,19 @@ const PLACES: &str = "0 -> [36, 97, 98, 97, 98]
 3 -> none
 5 -> none";
 
-fn told_match(alloc: Global, place: u32) -> Result<String, Fail> {
-    let mut store = PlainStore::new(alloc, Limit::Bits64);
-    match matched(alloc, &mut store, &TEMPLATE, place)? {
-        Some(units) => Ok(format!(in alloc; "{:?}", units.as_slice())?),
-        None => Ok(String::from_str(alloc, "none")?),
+struct Places;
+
+impl Table for Places {
+    fn told(alloc: Global, given: &str) -> Result<String, Fail> {
+        let mut store = PlainStore::new(alloc, Limit::Bits64);
+        match matched(alloc, &mut store, &TEMPLATE, given.parse::<u32>()?)? {
+            Some(units) => Ok(format!(in alloc; "{:?}", units.as_slice())?),
+            None => Ok(String::from_str(alloc, "none")?),
+        }
     }
 }
 
 #[test]
 fn a_template_stands_for_a_text_at_a_match(rt: HostRuntime) -> Result<(), Fail> {
-    for row in PLACES.lines() {
-        let (place, want) = row.split_once(" -> ").ok_or("nothing is wanted")?;
-        let found = told_match(rt.alloc(), place.parse::<u32>()?)?;
-        assert_eq!(rt; found.as_str(), want, "{row}");
-    }
-    Ok(())
+    check::<Places>(&rt, rt.alloc(), PLACES)
 }
