@@ -2,8 +2,8 @@ use Rattle.std.proofs.Common.{◌++◌, ℕ, List, inl, subst, sym}
 use Rattle.heap_rule.specs.declared.view.View.{View}
 use Rattle.heap_rule.specs.Maps.{Has}
 use Rattle.heap_rule.proofs.MapLemmas.{key_of}
-use Rattle.test_heap_table.specs.Ropes.{bytes_of}
-use Rattle.test_heap_table.proofs.ropes.one_of_two_flattens.Goals as goal
+use Rattle.test_heap_text.specs.Ropes.{bytes_of}
+use Rattle.test_heap_text.proofs.table_ropes.one_of_two_flattens.Goals as goal
 
 pub load_form-requires-clause-known : goal.load_form-requires-clause-known
 load_form-requires-clause-known g c = let us : List ℕ = bytes_of 7523094288207667809 ++ bytes_of 8101815670912281193 in let id = c.in-Some.id in

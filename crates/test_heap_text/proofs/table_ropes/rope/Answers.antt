@@ -4,9 +4,9 @@ use Rattle.heap_rule.specs.declared.view.View.{View}
 use Rattle.heap_rule.specs.Births.{MayBear, born, stored_length}
 use Rattle.heap_rule.specs.Maps.{Has, HasKey}
 use Rattle.heap_rule.proofs.MapLemmas.{key_of}
-use Rattle.test_heap_table.specs.Ropes.{bytes_of}
-use Rattle.test_heap_table.proofs.Making.{cons_fits, cons_form, cons_units, id_own}
-use Rattle.test_heap_table.proofs.ropes.rope.Goals as goal
+use Rattle.test_heap_text.specs.Ropes.{bytes_of}
+use Rattle.test_heap_text.proofs.Making.{cons_fits, cons_form, cons_units, id_own}
+use Rattle.test_heap_text.proofs.table_ropes.rope.Goals as goal
 
 pub store_length-requires-clause-may : goal.store_length-requires-clause-may
 store_length-requires-clause-may c = let id = c.in-Ok.id in (subst (λ (y : View). HasKey y.own_ids id) (sym c.in-Ok.ensures.view) (id_own c.eight-2.new.agent.seat.me.0 id), omega arith)

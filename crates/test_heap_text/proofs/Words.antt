@@ -2,7 +2,7 @@
 use Rattle.std.proofs.Common.{◌≡◌, ℕ, zero, suc, ◌+◌, ◌/◌, ◌%◌, ◌<◌, ◌≤◌, false, List, ◌∷◌, ◌++◌, refl, ap, ◌∙◌, arith}
 use Rattle.js_units.specs.Lanes.{lane_of}
 use Rattle.heap_rule.specs.Contents.{lane_in, span}
-use Rattle.test_heap_table.specs.Ropes.{bytes_of}
+use Rattle.test_heap_text.specs.Ropes.{bytes_of}
 
 module _ (f : ℕ → ℕ) (start : ℕ) where
   low_lane : (k : ℕ) → k < 8 → lane_in f false start k ≡ lane_in (λ _. f start) false 0 k

@@ -26,8 +26,8 @@ use Rattle.heap_rule.proofs.MapLemmas.{insert_other, insert_same, key_of}
 use Rattle.heap_table.specs.declared.stores.Step.{Step}
 use Rattle.heap_table.specs.declared.stores.Step.TheVariants.{Won, Lost}
 use Rattle.heap_table.specs.Headers.{IsMoved, header_found}
-use Rattle.test_heap_table.specs.Ropes.{IsLost, bytes_of}
-use Rattle.test_heap_table.proofs.Words.{low_span, two_words}
+use Rattle.test_heap_text.specs.Ropes.{IsLost, bytes_of}
+use Rattle.test_heap_text.proofs.Words.{low_span, two_words}
 
 pub word_own : (v : View) (start : ℕ) → HasKey (won_claim v Words start 1).own_words start
 word_own v start = key_of (insert v.own_words start 0) start 0 (insert_same v.own_words start 0)

@@ -6,8 +6,8 @@ use Rattle.heap_rule.specs.Births.{stored_word}
 use Rattle.heap_rule.specs.HeaderMoves.{MayFlatten}
 use Rattle.heap_rule.specs.Maps.{HasKey}
 use Rattle.heap_rule.proofs.Possible.{possible_lawful}
-use Rattle.test_heap_table.proofs.Making.{first_claimed, first_own, laid, lost_own, may_flatten, second_claimed}
-use Rattle.test_heap_table.proofs.ropes.flatten.Goals as goal
+use Rattle.test_heap_text.proofs.Making.{first_claimed, first_own, laid, lost_own, may_flatten, second_claimed}
+use Rattle.test_heap_text.proofs.table_ropes.flatten.Goals as goal
 
 pub store_word-requires-clause-own : goal.store_word-requires-clause-own
 store_word-requires-clause-own c = subst (λ (y : View). HasKey y.own_words c.in-Ok.start) (sym c.in-Ok.ensures.view) (first_claimed c.args.agent.now.seat.me.0 c.in-Ok.start)

@@ -4,7 +4,7 @@ ghost use Rattle.heap_rule.specs.Forms.{IsCons};
 ghost use Rattle.heap_rule.specs.Maps.{Has, HasKey};
 ghost use Rattle.heap_rule.specs.Views.{IsKnown};
 ghost use Rattle.heap_table.specs.Agents.{Belongs, view_of};
-ghost use Rattle.test_heap_table.specs.Ropes.{IsLost, KeepsUnits, bytes_of};
+ghost use Rattle.test_heap_text.specs.Ropes.{IsLost, KeepsUnits, bytes_of};
 
 use heap_rule::HeapSize;
 use heap_table::{Agent, Heap, Step};

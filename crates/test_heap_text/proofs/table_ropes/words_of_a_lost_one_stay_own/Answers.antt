@@ -3,7 +3,7 @@ use Rattle.heap_rule.specs.declared.view.View.{View}
 use Rattle.heap_rule.specs.Births.{stored_word}
 use Rattle.heap_rule.specs.Loads.{MayLoadWord}
 use Rattle.heap_rule.proofs.MapLemmas.{insert_same, key_of}
-use Rattle.test_heap_table.proofs.ropes.words_of_a_lost_one_stay_own.Goals as goal
+use Rattle.test_heap_text.proofs.table_ropes.words_of_a_lost_one_stay_own.Goals as goal
 
 pub load_word-requires-clause-may : goal.load_word-requires-clause-may
 load_word-requires-clause-may g c = let v : View = c.flatten-2.new.agent.seat.me.0 in let start = c.in-Some-default-Lost.start in

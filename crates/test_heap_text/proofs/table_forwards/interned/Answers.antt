@@ -3,9 +3,9 @@ use Rattle.heap_rule.specs.declared.size.HeapSize.{HeapSize}
 use Rattle.heap_rule.specs.declared.view.View.{View}
 use Rattle.heap_rule.specs.Maps.{Has}
 use Rattle.heap_rule.proofs.MapLemmas.{insert_same}
-use Rattle.test_heap_table.specs.Ropes.{bytes_of}
-use Rattle.test_heap_table.proofs.Making.{may_take}
-use Rattle.test_heap_table.proofs.forwards.interned.Goals as goal
+use Rattle.test_heap_text.specs.Ropes.{bytes_of}
+use Rattle.test_heap_text.proofs.Making.{may_take}
+use Rattle.test_heap_text.proofs.table_forwards.interned.Goals as goal
 
 pub claim_slot-requires-clause-may : goal.claim_slot-requires-clause-may
 claim_slot-requires-clause-may c = let v : View = c.eight.new.agent.seat.me.0 in let e = c.in-Some.ensures in

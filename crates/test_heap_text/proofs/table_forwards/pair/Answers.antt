@@ -1,7 +1,7 @@
 use Rattle.heap_rule.specs.declared.view.View.{View}
-use Rattle.test_heap_table.specs.Ropes.{bytes_of}
-use Rattle.test_heap_table.proofs.Making.{may_thin}
-use Rattle.test_heap_table.proofs.forwards.pair.Goals as goal
+use Rattle.test_heap_text.specs.Ropes.{bytes_of}
+use Rattle.test_heap_text.proofs.Making.{may_thin}
+use Rattle.test_heap_text.proofs.table_forwards.pair.Goals as goal
 
 pub returns-clause-may : goal.returns-clause-may
 returns-clause-may c = let w : View = c.eight.new.agent.seat.me.0 in let e = c.in-Some-eight.ensures in let t = c.in-Some.target in let us = bytes_of c.args.word in let s = c.in-Some.ensures.slot in
