@@ -56,7 +56,7 @@ def block(lines):
     files, words, told, others = {}, ["a.js"], {"out": b"", "err": b""}, []
     number, status = 0, None
     while number < len(lines):
-        head = re.fullmatch(r"-- (@?)(file|words|out|err|status)(?: (.*))?", lines[number])
+        head = re.fullmatch(r"-- (@?)(file|fill|fail|words|no words|cut|held|out|err|status)(?: (.*))?", lines[number])
         if not head:
             raise Malformed
         escaped, kind, rest = head[1] == "@", head[2], head[3]
@@ -69,7 +69,14 @@ def block(lines):
             body += (raw(line) if escaped else line.encode("utf-8")) + (b"" if joined else b"\n")
             number += 1
         if kind == "file":
-            files[rest] = body
+            files[rest], last = body, rest
+        elif kind == "fill":
+            files[last] = files[last].ljust(int(rest), b"\n")
+        elif kind in ("fail", "cut", "held"):
+            # (how the program is run, and not what on)
+            pass
+        elif kind == "no words":
+            words = []
         elif kind == "words":
             words = [word_of(word) if escaped else word for word in rest.split(" ")] if rest else []
         elif kind == "status" and rest.endswith(" or"):

@@ -1,6 +1,6 @@
 // A case that is a block of lines.
 
-use crate::case::{Case, Each, Ending, Fault};
+use crate::case::{Case, Ending, Fault, Way};
 use crate::line::words;
 use crate::spelling::bytes_of;
 use js_io::MemFiles;
@@ -11,7 +11,10 @@ use std::alloc::Global;
 enum Part {
     Head,
     File,
+    Fail,
     Words,
+    NoWords,
+    Way(Way),
     Out,
     Err,
 }
@@ -21,9 +24,11 @@ impl Part {
         match self {
             Part::Head => 0,
             Part::File => 1,
-            Part::Words => 2,
-            Part::Out => 3,
-            Part::Err => 4,
+            Part::Fail => 2,
+            Part::Words | Part::NoWords => 3,
+            Part::Way(_) => 4,
+            Part::Out => 5,
+            Part::Err => 6,
         }
     }
 
@@ -40,7 +45,9 @@ impl Part {
 fn part_of(head: &str) -> Result<(Part, Option<&str>), Fault> {
     match head.split_once(' ') {
         Some(("file", name)) => Ok((Part::File, Some(name))),
+        Some(("fail", call)) => Ok((Part::Fail, Some(call))),
         Some(("words", words)) => Ok((Part::Words, Some(words))),
+        Some(("no", "words")) => Ok((Part::NoWords, None)),
         Some(_) => Err(Fault::Form("no such section")),
         None => Ok((alone(head)?, None)),
     }
@@ -49,6 +56,8 @@ fn part_of(head: &str) -> Result<(Part, Option<&str>), Fault> {
 fn alone(head: &str) -> Result<Part, Fault> {
     match head {
         "words" => Ok(Part::Words),
+        "cut" => Ok(Part::Way(Way::Cut)),
+        "held" => Ok(Part::Way(Way::Held)),
         "out" => Ok(Part::Out),
         "err" => Ok(Part::Err),
         _ => Err(Fault::Form("no such section")),
@@ -77,7 +86,7 @@ impl Block {
                 line,
                 files: MemFiles::new(alloc),
                 words: words(alloc)?,
-                each: None,
+                way: Way::Once,
                 wanted: Vec::new(alloc),
             },
             part: Part::Head,
@@ -100,6 +109,10 @@ impl Block {
             self.add(alloc, line)?;
             return Ok(false);
         };
+        if let Some(size) = section.strip_prefix("fill ") {
+            self.fill(size)?;
+            return Ok(false);
+        }
         self.close(alloc)?;
         if let Some(status) = section.strip_prefix("status ") {
             return self.end(alloc, status);
@@ -113,7 +126,7 @@ impl Block {
 
     // Adds a line to the section.
     fn add(&mut self, alloc: Global, line: &str) -> Result<(), Fault> {
-        if line.starts_with("== ") || matches!(self.part, Part::Head | Part::Words) {
+        if line.starts_with("== ") || !matches!(self.part, Part::File | Part::Out | Part::Err) {
             return Err(Fault::Form("a line of no section"));
         }
         if !self.spelled {
@@ -130,11 +143,22 @@ impl Block {
         Ok(())
     }
 
+    // Adds line feeds to the file that is open, until it has so many bytes.
+    fn fill(&mut self, size: &str) -> Result<(), Fault> {
+        let Ok(size) = size.parse::<u32>() else {
+            return Err(Fault::Form("a size that is no number"));
+        };
+        for _ in self.bytes.len()..size as usize {
+            self.bytes.push(b'\n')?;
+        }
+        Ok(())
+    }
+
     // Puts what the section has where it belongs.
     fn close(&mut self, alloc: Global) -> Result<(), Fault> {
         let bytes = std::mem::replace(&mut self.bytes, Vec::new(alloc));
         match self.part {
-            Part::Head | Part::Words => {}
+            Part::Head | Part::Fail | Part::Words | Part::NoWords | Part::Way(_) => {}
             Part::File => self.case.files.put(self.name.as_str(), &bytes)?,
             Part::Out => self.out = bytes,
             Part::Err => self.err = bytes,
@@ -153,9 +177,20 @@ impl Block {
             (Part::File, Some(name)) => self.name = String::from_str(alloc, name)?,
             (Part::Words, Some(words)) => self.set_words(alloc, words)?,
             (Part::Words, None) => self.case.words.truncate(1),
+            (Part::NoWords, _) => self.case.words.truncate(0),
+            (Part::Fail, Some(call)) => self.fail(call)?,
+            (Part::Way(way), _) => self.case.way = way,
             _ => {}
         }
         Ok(())
+    }
+
+    // The read of this number fails, counted from 0.
+    fn fail(&mut self, call: &str) -> Result<(), Fault> {
+        match call.parse::<u32>() {
+            Ok(call) => Ok(self.case.files.fail_at(call)?),
+            Err(_) => Err(Fault::Form("a read that is no number")),
+        }
     }
 
     // Puts the words behind the program's name.
@@ -165,7 +200,7 @@ impl Block {
             let word = self.word_of(alloc, word)?;
             if let Some((first, last)) = range_of(word.as_str()) {
                 let place = self.case.words.len();
-                self.case.each = Some(Each { place, first, last });
+                self.case.way = Way::Each { place, first, last };
             }
             self.case.words.push(word)?;
         }

@@ -38,12 +38,16 @@ impl fmt::Display for Ending {
     }
 }
 
-/// The place of a word that stands for each number of a range, and that range.
+/// How a case is run.
 #[derive(Clone, Copy)]
-pub(crate) struct Each {
-    pub place: usize,
-    pub first: u32,
-    pub last: u32,
+pub(crate) enum Way {
+    Once,
+    /// With each number of this range as the word at a place.
+    Each { place: usize, first: u32, last: u32 },
+    /// And then with each sink cut before each byte, and behind the last one.
+    Cut,
+    /// With a gate that holds the first script until the second one has entered.
+    Held,
 }
 
 /// Files, the words of the command line with the program's name first, and what is wanted.
@@ -53,8 +57,7 @@ pub(crate) struct Case {
     pub line: usize,
     pub files: MemFiles,
     pub words: Vec<String>,
-    /// A word that stands for many.
-    pub each: Option<Each>,
+    pub way: Way,
     /// One of these.
     pub wanted: Vec<Ending>,
 }

@@ -1,6 +1,6 @@
 // The case of one line.
 
-use crate::case::{Case, Ending, FILE, Fault};
+use crate::case::{Case, Ending, FILE, Fault, Way};
 use crate::spelling::{bytes_of, text_of};
 use js_io::MemFiles;
 use std::alloc::Global;
@@ -22,7 +22,7 @@ pub(crate) fn case_of(alloc: Global, line: usize, text: &str) -> Result<Case, Fa
         line,
         files,
         words: words(alloc)?,
-        each: None,
+        way: Way::Once,
         wanted,
     })
 }

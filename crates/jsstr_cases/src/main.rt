@@ -51,13 +51,21 @@
 //! -- status 1
 //! ```
 //!
-//! Its sections come in this order: `-- file NAME`, none or more; `-- words WORD ..`, the words
-//! behind the program's name, with one blank between two (`-- words` alone: none); `-- out` and
-//! `-- err` (left out: nothing); and the status. The lines below `file`, `out` and `err` are their
-//! bytes, each with its line feed. With `@` before the section's name (`-- @file a.js`,
+//! Its sections come in this order: `-- file NAME`, none or more; `-- fail N`, where the read of this
+//! number is to fail, counted from 0; `-- words WORD ..`, the words behind the program's name, with one
+//! blank between two (`-- words` alone: none; `-- no words`: not even that name); `-- cut` or `-- held`,
+//! where the case is run so; `-- out` and `-- err` (left out: nothing); and the status. The lines below
+//! `file`, `out` and `err` are their bytes, each with its line feed; `-- fill SIZE` behind those of a file
+//! adds line feeds until it has so many bytes. With `@` before the section's name (`-- @file a.js`,
 //! `-- @words ..`, `-- @out`, `-- @err`), `%XX` is the byte XX in its lines or words, and a `%` at
 //! the end of a line takes its line feed away, at the end of a word nothing (so `%` is the empty
 //! word). A line that begins with `-- ` or `== ` is written `%2D- ` or `%3D= `.
+//!
+//! With `-- cut` the case is run again with sinks that take 1, 2, 3 or 7 bytes a write, and so many in
+//! all: none, one, up to all that are wanted, those of `out` before those of `err`. Each run counts. What is
+//! wanted then follows: the first bytes, and the status 7 where files were run.
+//! With `-- held` a gate holds the first script until the second has entered, and the case differs where
+//! its turns run out.
 //!
 //! A word `FIRST..LAST` stands for each number from FIRST to LAST: the case is run once with each,
 //! and counts as so many. Where one of several endings may come, all but the last one end with
@@ -86,10 +94,14 @@
 mod block;
 mod case;
 mod check;
+mod cut;
+mod gate;
 mod line;
 mod reading;
+mod run;
 mod spelling;
 mod tally;
+mod telling;
 
 use anyhow::{Result, bail};
 use check::check_file;

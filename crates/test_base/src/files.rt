@@ -1,14 +1,18 @@
-// Files and sinks in memory.
-use crate::rows::parted;
-use js_io::{FILE_MAX, Files, MemFiles, MemSink, NullSink, Sink, write_all};
+// Files and sinks, in memory and of the process.
+use crate::rows::{Table, check, parted};
+use js_io::{
+    FILE_MAX, Files, HostErr, HostFiles, HostOut, MemFiles, MemSink, NullSink, Sink, write_all,
+};
 use std::alloc::{AllocError, Global};
+use std::fs;
+use std::process::Abort;
 use std::test::Fail;
 
 // A text of so many bytes.
 fn text(alloc: Global, len: u32) -> Result<Vec<u8>, AllocError> {
     let mut bytes = Vec::new(alloc);
     for _byte in 0..len {
-        bytes.push(b'x')?;
+        bytes.push(b' ')?;
     }
     Ok(bytes)
 }
@@ -19,6 +23,21 @@ fn length<F: Files>(files: &mut F, alloc: Global, name: &str) -> Result<String, 
         Ok(bytes) => format!(in alloc; "{}", bytes.len()),
         Err(fault) => format!(in alloc; "{fault:?}"),
     }
+}
+
+// Whether each name of the rows is read in this order as its row wants.
+fn check_reads<F: Files>(
+    rt: &impl Abort,
+    alloc: Global,
+    files: &mut F,
+    rows: &str,
+) -> Result<(), Fail> {
+    for row in rows.lines() {
+        let (name, want) = parted(row, " -> ")?;
+        let found = length(files, alloc, name)?;
+        assert_eq!(rt; found.as_str(), want, "{row}");
+    }
+    Ok(())
 }
 
 // The files that are read in this order, of whose reads the second and the fifth are to fail, and what
@@ -41,12 +60,32 @@ fn files_in_memory(rt: HostRuntime) -> Result<(), Fail> {
     files.put("twice", b"then")?;
     files.fail_at(4)?;
     files.fail_at(1)?;
-    for row in READS.lines() {
-        let (name, want) = parted(row, " -> ")?;
-        let found = length(&mut files, alloc, name)?;
-        assert_eq!(rt; found.as_str(), want, "{row}");
-    }
-    Ok(())
+    check_reads(&rt, alloc, &mut files, READS)
+}
+
+const HOST_READS: &str = "full -> 1048576
+over -> TooLarge
+empty -> 0
+folder -> Failed
+none -> Failed";
+
+#[test]
+fn files_of_the_process(rt: HostRuntime) -> Result<(), Fail> {
+    let alloc = rt.alloc();
+    fs::write(&rt, "full", text(alloc, FILE_MAX)?.as_slice())?;
+    fs::write(&rt, "over", text(alloc, FILE_MAX + 1)?.as_slice())?;
+    fs::write(&rt, "empty", "")?;
+    fs::create_dir(&rt, "folder")?;
+    check_reads(&rt, alloc, &mut HostFiles::new(&rt, alloc), HOST_READS)
+}
+
+#[test]
+fn streams_of_the_process(rt: HostRuntime) {
+    let mut out = HostOut::new(&rt);
+    let written = (write_all(&mut out, b"out\n"), out.write(b""));
+    assert_eq!(rt; written, (Ok(()), Ok(0)));
+    let mut err = HostErr::new(&rt);
+    assert_eq!(rt; write_all(&mut err, b"err\n"), Ok(()));
 }
 
 #[test]
@@ -64,20 +103,19 @@ const WRITES: &str = "1 5 -> Ok(()) hello
 2 4 -> Err(Failed) hell
 3 0 -> Err(Failed) ";
 
-fn told_write(alloc: Global, given: &str) -> Result<String, Fail> {
-    let (most, room) = parted(given, " ")?;
-    let most = most.parse::<u32>()?.max(1);
-    let mut sink = MemSink::new(alloc, most, room.parse::<u32>()?)?;
-    let written = write_all(&mut sink, b"hello");
-    Ok(format!(in alloc; "{written:?} {}", sink.taken().escape_ascii())?)
+struct Writes;
+
+impl Table for Writes {
+    fn told(alloc: Global, given: &str) -> Result<String, Fail> {
+        let (most, room) = parted(given, " ")?;
+        let most = most.parse::<u32>()?.max(1);
+        let mut sink = MemSink::new(alloc, most, room.parse::<u32>()?)?;
+        let written = write_all(&mut sink, b"hello");
+        Ok(format!(in alloc; "{written:?} {}", sink.taken().escape_ascii())?)
+    }
 }
 
 #[test]
 fn a_sink_in_memory(rt: HostRuntime) -> Result<(), Fail> {
-    for row in WRITES.lines() {
-        let (given, want) = parted(row, " -> ")?;
-        let found = told_write(rt.alloc(), given)?;
-        assert_eq!(rt; found.as_str(), want, "{row}");
-    }
-    Ok(())
+    check::<Writes>(&rt, rt.alloc(), WRITES)
 }

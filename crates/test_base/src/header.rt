@@ -1,7 +1,7 @@
 // The words of forms.
-use crate::rows::parted;
+use crate::rows::{Table, check};
 use js_header::{decode, encode};
-use std::alloc::{AllocError, Global};
+use std::alloc::Global;
 use std::test::Fail;
 
 // Words that were packed by hand, with their form and the form's word; and words of no form: a tag
@@ -24,19 +24,18 @@ const WORDS: &str = "0 -> Unborn 0
 20 -> none
 17179869188 -> none";
 
-fn told(alloc: Global, word: u64) -> Result<String, AllocError> {
-    match decode(word) {
-        Some(form) => format!(in alloc; "{form:?} {}", encode(form)),
-        None => String::from_str(alloc, "none"),
+struct Words;
+
+impl Table for Words {
+    fn told(alloc: Global, given: &str) -> Result<String, Fail> {
+        match decode(given.parse::<u64>()?) {
+            Some(form) => Ok(format!(in alloc; "{form:?} {}", encode(form))?),
+            None => Ok(String::from_str(alloc, "none")?),
+        }
     }
 }
 
 #[test]
 fn words_of_forms(rt: HostRuntime) -> Result<(), Fail> {
-    for row in WORDS.lines() {
-        let (word, want) = parted(row, " -> ")?;
-        let found = told(rt.alloc(), word.parse::<u64>()?)?;
-        assert_eq!(rt; found.as_str(), want, "{row}");
-    }
-    Ok(())
+    check::<Words>(&rt, rt.alloc(), WORDS)
 }

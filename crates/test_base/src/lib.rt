@@ -1,6 +1,7 @@
-//! Tests of the lowest crates by their public calls: units and words, forms of strings, files and
-//! sinks in memory, numbers, and the plain store. A table is one text, a row a line: what is given, an
-//! arrow, and what is wanted. A proof then goes through a loop, and not through each row.
+//! Tests of crates that stand on no heap and no tree, by their public calls: units and words, forms of
+//! strings, files and sinks in memory and of the process, numbers, the plain store, the URI functions,
+//! the order of strings, and the words of the command line. A table is one text, a row a line: what is
+//! given, an arrow, and what is wanted; one loop goes through all of them.
 #![tactic(auto)]
 
 #[cfg(test)]
@@ -14,6 +15,10 @@ mod rows;
 #[cfg(test)]
 mod store;
 #[cfg(test)]
+mod strings;
+#[cfg(test)]
 mod units;
 #[cfg(test)]
 mod uri;
+#[cfg(test)]
+mod words;

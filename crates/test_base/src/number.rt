@@ -2,9 +2,9 @@
 ghost use Rattle.std.specs.Prelude.{IfSome};
 ghost use Rattle.js_number.specs.Places.{IsLawful};
 
-use crate::rows::parted;
+use crate::rows::{Table, check, parted, text_of};
 use js_number::Num;
-use js_units::{Units, append_utf8};
+use js_units::Units;
 use std::alloc::Global;
 use std::test::Fail;
 
@@ -44,21 +44,20 @@ Infinity -> PosInf NegInf 0 0 9007199254740991
 9007199254740991 -> Int(9007199254740991) Int(-9007199254740991) 65535 4294967295 9007199254740991
 -9007199254740991 -> Int(-9007199254740991) Int(9007199254740991) 1 1 0";
 
-fn told_alone(alloc: Global, given: &str) -> Result<String, Fail> {
-    let n = spelled(given).ok_or("no number")?;
-    let integer = n.to_integer_or_infinity();
-    let (uint16, uint32, length) = (n.to_uint16(), n.to_uint32(), n.to_length());
-    Ok(format!(in alloc; "{integer:?} {:?} {uint16} {uint32} {length}", n.neg())?)
+struct Alone;
+
+impl Table for Alone {
+    fn told(alloc: Global, given: &str) -> Result<String, Fail> {
+        let n = spelled(given).ok_or("no number")?;
+        let integer = n.to_integer_or_infinity();
+        let (uint16, uint32, length) = (n.to_uint16(), n.to_uint32(), n.to_length());
+        Ok(format!(in alloc; "{integer:?} {:?} {uint16} {uint32} {length}", n.neg())?)
+    }
 }
 
 #[test]
 fn numbers_alone(rt: HostRuntime) -> Result<(), Fail> {
-    for row in ALONE.lines() {
-        let (given, want) = parted(row, " -> ")?;
-        let found = told_alone(rt.alloc(), given)?;
-        assert_eq!(rt; found.as_str(), want, "{row}");
-    }
-    Ok(())
+    check::<Alone>(&rt, rt.alloc(), ALONE)
 }
 
 // A number and an end: the place clamped to the end, and the place that counts from the end.
@@ -78,21 +77,20 @@ Infinity 5 -> 5 5
 9007199254740991 4294967295 -> 4294967295 4294967295
 -1 4294967295 -> 0 4294967294";
 
-fn told_place(alloc: Global, given: &str) -> Result<String, Fail> {
-    let (n, end) = parted(given, " ")?;
-    let n = spelled(n).ok_or("no number")?;
-    let end = end.parse::<u32>()?;
-    Ok(format!(in alloc; "{} {}", n.clamp_to(end), n.relative_to(end))?)
+struct Places;
+
+impl Table for Places {
+    fn told(alloc: Global, given: &str) -> Result<String, Fail> {
+        let (n, end) = parted(given, " ")?;
+        let n = spelled(n).ok_or("no number")?;
+        let end = end.parse::<u32>()?;
+        Ok(format!(in alloc; "{} {}", n.clamp_to(end), n.relative_to(end))?)
+    }
 }
 
 #[test]
-fn places(rt: HostRuntime) -> Result<(), Fail> {
-    for row in PLACES.lines() {
-        let (given, want) = parted(row, " -> ")?;
-        let found = told_place(rt.alloc(), given)?;
-        assert_eq!(rt; found.as_str(), want, "{row}");
-    }
-    Ok(())
+fn numbers_as_places(rt: HostRuntime) -> Result<(), Fail> {
+    check::<Places>(&rt, rt.alloc(), PLACES)
 }
 
 // Two numbers: their sum, their difference, and whether the first is below the second.
@@ -120,49 +118,45 @@ NaN NaN -> Some(NaN) Some(NaN) None
 NaN 0 -> Some(NaN) Some(NaN) None
 -Infinity NaN -> Some(NaN) Some(NaN) None";
 
-fn told_pair(alloc: Global, given: &str) -> Result<String, Fail> {
-    let (a, b) = parted(given, " ")?;
-    let a = spelled(a).ok_or("no number")?;
-    let b = spelled(b).ok_or("no number")?;
-    Ok(format!(in alloc; "{:?} {:?} {:?}", a.add(b), a.sub(b), a.less(b))?)
+struct Pairs;
+
+impl Table for Pairs {
+    fn told(alloc: Global, given: &str) -> Result<String, Fail> {
+        let (a, b) = parted(given, " ")?;
+        let a = spelled(a).ok_or("no number")?;
+        let b = spelled(b).ok_or("no number")?;
+        Ok(format!(in alloc; "{:?} {:?} {:?}", a.add(b), a.sub(b), a.less(b))?)
+    }
 }
 
 #[test]
-fn pairs(rt: HostRuntime) -> Result<(), Fail> {
-    for row in PAIRS.lines() {
-        let (given, want) = parted(row, " -> ")?;
-        let found = told_pair(rt.alloc(), given)?;
-        assert_eq!(rt; found.as_str(), want, "{row}");
-    }
-    Ok(())
+fn pairs_of_numbers(rt: HostRuntime) -> Result<(), Fail> {
+    check::<Pairs>(&rt, rt.alloc(), PAIRS)
 }
 
-const TEXTS: &str = "NaN
-Infinity
--Infinity
-0
--1
-1234567890
-9007199254740991
--9007199254740991";
+// The texts of numbers, behind `=`.
+const TEXTS: &str = "NaN -> =NaN
+Infinity -> =Infinity
+-Infinity -> =-Infinity
+0 -> =0
+-1 -> =-1
+1234567890 -> =1234567890
+9007199254740991 -> =9007199254740991
+-9007199254740991 -> =-9007199254740991";
 
-// The text behind `=`.
-fn text_of(alloc: Global, n: Num) -> Result<Vec<u8>, Fail>
-    requires { IsLawful n }
-{
-    let mut units = Units::new(alloc);
-    units.push(61)?;
-    n.to_text(&mut units)?;
-    let mut bytes = Vec::new(alloc);
-    append_utf8(units.as_slice(), &mut bytes)?;
-    Ok(bytes)
+struct Texts;
+
+impl Table for Texts {
+    fn told(alloc: Global, given: &str) -> Result<String, Fail> {
+        let n = spelled(given).ok_or("no number")?;
+        let mut units = Units::new(alloc);
+        units.push(61)?;
+        n.to_text(&mut units)?;
+        text_of(alloc, units.as_slice())
+    }
 }
 
 #[test]
-fn texts(rt: HostRuntime) -> Result<(), Fail> {
-    for text in TEXTS.lines() {
-        let bytes = text_of(rt.alloc(), spelled(text).ok_or("no number")?)?;
-        assert_eq!(rt; bytes.strip_prefix(b"="), Some(text.as_bytes()), "{text}");
-    }
-    Ok(())
+fn texts_of_numbers(rt: HostRuntime) -> Result<(), Fail> {
+    check::<Texts>(&rt, rt.alloc(), TEXTS)
 }

@@ -1,13 +1,30 @@
-// What the rows of the tables spell.
+// Tables of tests, and what their rows spell.
+use js_units::append_utf8;
 use std::alloc::Global;
+use std::process::Abort;
 use std::test::Fail;
 
-// The two texts with this between them.
+/// What a table says of what its rows give.
+pub(crate) trait Table {
+    fn told(alloc: Global, given: &str) -> Result<String, Fail>;
+}
+
+/// Whether what is told of each row is what it wants. A row has what is given, an arrow, and what is wanted.
+pub(crate) fn check<T: Table>(rt: &impl Abort, alloc: Global, rows: &str) -> Result<(), Fail> {
+    for row in rows.lines() {
+        let (given, want) = parted(row, " -> ")?;
+        let found = T::told(alloc, given)?;
+        assert_eq!(rt; found.as_str(), want, "{row}");
+    }
+    Ok(())
+}
+
+/// The two texts with this between them.
 pub(crate) fn parted<'a>(text: &'a str, mark: &str) -> Result<(&'a str, &'a str), Fail> {
     Ok(text.split_once(mark).ok_or("a part is missing")?)
 }
 
-// Units in hexadecimal digits, one blank apart; `-` is none.
+/// Units in hexadecimal digits, one blank apart; `-` is none.
 pub(crate) fn units_of(alloc: Global, text: &str) -> Result<Vec<u16>, Fail> {
     let mut units = Vec::new(alloc);
     if text != "-" {
@@ -16,4 +33,11 @@ pub(crate) fn units_of(alloc: Global, text: &str) -> Result<Vec<u16>, Fail> {
         }
     }
     Ok(units)
+}
+
+/// The text of units, none of which is a surrogate alone.
+pub(crate) fn text_of(alloc: Global, units: &[u16]) -> Result<String, Fail> {
+    let mut bytes = Vec::new(alloc);
+    append_utf8(units, &mut bytes)?;
+    Ok(String::from_utf8(bytes)?)
 }

@@ -1,7 +1,7 @@
 // Every call on a plain store, with ample memory.
 ghost use Rattle.std.specs.Prelude.{◌≤◌, length};
 
-use crate::rows::{parted, units_of};
+use crate::rows::{Table, check, parted, units_of};
 use js_store::{Limit, StoreFault, Strings};
 use plain_store::PlainStore;
 use std::alloc::Global;
@@ -49,24 +49,23 @@ const INTERNED: &str = "61 62 63 | 61 62 63 -> (1, 1, true)
 61 62 63 | 61 62 64 -> (0, 1, false)
 d83d | d83d de00 -> (0, 1, false)";
 
-fn told(alloc: Global, given: &str) -> Result<String, Fail> {
-    let (early, late) = parted(given, " | ")?;
-    let early = units_of(alloc, early)?;
-    let late = units_of(alloc, late)?;
-    let mut store = PlainStore::new(alloc, Limit::Bits64);
-    if early.len() > 100 || late.len() > 100 {
-        return Ok(String::from_str(alloc, "too long")?);
+struct Interning;
+
+impl Table for Interning {
+    fn told(alloc: Global, given: &str) -> Result<String, Fail> {
+        let (early, late) = parted(given, " | ")?;
+        let early = units_of(alloc, early)?;
+        let late = units_of(alloc, late)?;
+        let mut store = PlainStore::new(alloc, Limit::Bits64);
+        if early.len() > 100 || late.len() > 100 {
+            return Ok(String::from_str(alloc, "too long")?);
+        }
+        let found = interned(&mut store, early.as_slice(), late.as_slice())?;
+        Ok(format!(in alloc; "{found:?}")?)
     }
-    let found = interned(&mut store, early.as_slice(), late.as_slice())?;
-    Ok(format!(in alloc; "{found:?}")?)
 }
 
 #[test]
 fn equal_units_are_interned_once(rt: HostRuntime) -> Result<(), Fail> {
-    for row in INTERNED.lines() {
-        let (given, want) = parted(row, " -> ")?;
-        let found = told(rt.alloc(), given)?;
-        assert_eq!(rt; found.as_str(), want, "{row}");
-    }
-    Ok(())
+    check::<Interning>(&rt, rt.alloc(), INTERNED)
 }

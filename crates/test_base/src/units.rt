@@ -1,5 +1,5 @@
 // Units and words, with values from the standard.
-use crate::rows::{parted, units_of};
+use crate::rows::{Table, check, parted, units_of};
 use js_units::{
     NoMemory, Units, append_utf8, code_point, hash_step, is_lead, is_trail, is_trimmed, lane,
     lanes, set_lane, words_for,
@@ -19,21 +19,20 @@ dc00 d800 -> > \xef\xbf\xbd\xef\xbf\xbd
 d83d d83d de00 -> > \xef\xbf\xbd\xf0\x9f\x98\x80
 - -> > ";
 
-fn told_bytes(alloc: Global, given: &str) -> Result<String, Fail> {
-    let mut out = Vec::new(alloc);
-    out.extend_from_slice(b"> ")?;
-    append_utf8(units_of(alloc, given)?.as_slice(), &mut out)?;
-    Ok(format!(in alloc; "{}", out.escape_ascii())?)
+struct Bytes;
+
+impl Table for Bytes {
+    fn told(alloc: Global, given: &str) -> Result<String, Fail> {
+        let mut out = Vec::new(alloc);
+        out.extend_from_slice(b"> ")?;
+        append_utf8(units_of(alloc, given)?.as_slice(), &mut out)?;
+        Ok(format!(in alloc; "{}", out.escape_ascii())?)
+    }
 }
 
 #[test]
 fn units_as_bytes(rt: HostRuntime) -> Result<(), Fail> {
-    for row in BYTES.lines() {
-        let (given, want) = parted(row, " -> ")?;
-        let found = told_bytes(rt.alloc(), given)?;
-        assert_eq!(rt; found.as_str(), want, "{row}");
-    }
-    Ok(())
+    check::<Bytes>(&rt, rt.alloc(), BYTES)
 }
 
 // Code points, a trailing surrogate alone, and two units more.
@@ -90,16 +89,19 @@ dc00 -> false true false
 dfff -> false true false
 e000 -> false false false";
 
-#[test]
-fn kinds_of_units(rt: HostRuntime) -> Result<(), Fail> {
-    for row in KINDS.lines() {
-        let (given, want) = parted(row, " -> ")?;
+struct Kinds;
+
+impl Table for Kinds {
+    fn told(alloc: Global, given: &str) -> Result<String, Fail> {
         let unit = u16::from_str_radix(given, 16)?;
         let (lead, trail) = (is_lead(unit), is_trail(unit));
-        let found = format!(in rt.alloc(); "{lead} {trail} {}", is_trimmed(unit))?;
-        assert_eq!(rt; found.as_str(), want, "{row}");
+        Ok(format!(in alloc; "{lead} {trail} {}", is_trimmed(unit))?)
     }
-    Ok(())
+}
+
+#[test]
+fn kinds_of_units(rt: HostRuntime) -> Result<(), Fail> {
+    check::<Kinds>(&rt, rt.alloc(), KINDS)
 }
 
 // The code point of a pair; a number as that of its two halves.
@@ -126,15 +128,18 @@ const WORDS: &str = "0 -> 0 0
 8 -> 2 1
 9 -> 3 2";
 
+struct Words;
+
+impl Table for Words {
+    fn told(alloc: Global, given: &str) -> Result<String, Fail> {
+        let n = given.parse::<u32>()?;
+        Ok(format!(in alloc; "{} {}", words_for(n, true), words_for(n, false))?)
+    }
+}
+
 #[test]
 fn words_for_units(rt: HostRuntime) -> Result<(), Fail> {
-    for row in WORDS.lines() {
-        let (given, want) = parted(row, " -> ")?;
-        let n = given.parse::<u32>()?;
-        let found = format!(in rt.alloc(); "{} {}", words_for(n, true), words_for(n, false))?;
-        assert_eq!(rt; found.as_str(), want, "{row}");
-    }
-    Ok(())
+    check::<Words>(&rt, rt.alloc(), WORDS)
 }
 
 #[test]
@@ -162,21 +167,20 @@ const HASHES: &str = "0 41 61 -> 2112
 0 42 42 -> 2112
 4294967295 ffff -> 65504";
 
-fn hashed(alloc: Global, given: &str) -> Result<u32, Fail> {
-    let (start, units) = parted(given, " ")?;
-    let mut hash = start.parse::<u32>()?;
-    for unit in units_of(alloc, units)?.iter() {
-        hash = hash_step(hash, *unit);
+struct Hashes;
+
+impl Table for Hashes {
+    fn told(alloc: Global, given: &str) -> Result<String, Fail> {
+        let (start, units) = parted(given, " ")?;
+        let mut hash = start.parse::<u32>()?;
+        for unit in units_of(alloc, units)?.iter() {
+            hash = hash_step(hash, *unit);
+        }
+        Ok(format!(in alloc; "{hash}")?)
     }
-    Ok(hash)
 }
 
 #[test]
-fn hashes(rt: HostRuntime) -> Result<(), Fail> {
-    for row in HASHES.lines() {
-        let (given, want) = parted(row, " -> ")?;
-        let found = hashed(rt.alloc(), given)?;
-        assert_eq!(rt; found, want.parse::<u32>()?, "{row}");
-    }
-    Ok(())
+fn hashes_of_units(rt: HostRuntime) -> Result<(), Fail> {
+    check::<Hashes>(&rt, rt.alloc(), HASHES)
 }

@@ -6,14 +6,12 @@
 //     birth .. -> FOUND = UNITS then EVENT -> FOUND      and has them still after this event
 //     words = WORDS                    all words of the heap
 //     entry VIEW SLOT = ENTRY          what the view has of the string in the slot
+//     == ..                            the end of the play before: a new machine, with no heap
 //     # ..                             a comment
 //
 // A list is written [1, 2, 3], and an entry is `none` or a list of units; numbers are decimal. Each
-// event is written as `reading.rt` names it, its fields in the order of `Event`. The forms are
-// `unborn`, `flat START`, `fixed START`, `cons LEFT RIGHT`, `sliced PARENT OFFSET`, `thin TARGET`,
-// and `wide-flat` and `wide-cons` of two-byte units. `learn ID ID ..` may stand last where the
-// event learns. Blanks in front of a line are let go. A line that can't be read fails the test, as
-// does a text of no line.
+// event is written as in a schedule (`docs/HEAP.md`), and the making of a heap as `make` with its ids,
+// content words, slots and agents. A line that can't be read fails the test, as does a text of no line.
 ghost use Rattle.heap_core.specs.Events.{IsSoundCore};
 ghost use Rattle.heap_rule.specs.Layout.{IsBorn};
 
@@ -22,17 +20,20 @@ use heap_core::{CoreState, Event, Refusal, apply, enabled};
 use std::alloc::Global;
 use std::process::Abort;
 
-// Plays the start, and then the text.
-pub(crate) fn plays(rt: &impl Abort, alloc: Global, start: &str, text: &str) {
-    let mut state = CoreState::new(alloc);
-    play_lines(rt, alloc, &mut state, start);
-    play_lines(rt, alloc, &mut state, text);
+/// Plays each play of the text on a machine of its own.
+pub(crate) fn plays(rt: &impl Abort, alloc: Global, text: &str) {
+    for play in text.split("== ") {
+        let mut state = CoreState::new(alloc);
+        if let Some((_name, lines)) = play.split_once('\n') {
+            play_lines(rt, alloc, &mut state, lines);
+        }
+    }
 }
 
-fn play_lines(rt: &impl Abort, alloc: Global, state: &mut CoreState, text: &str) {
+/// Plays these lines on the machine as it is.
+pub(crate) fn play_lines(rt: &impl Abort, alloc: Global, state: &mut CoreState, text: &str) {
     let mut is_played = false;
     for line in text.lines() {
-        let line = line.trim_start();
         if !line.starts_with('#') {
             play_line(rt, alloc, state, line);
             is_played = true;
@@ -82,8 +83,14 @@ fn play(rt: &impl Abort, state: &mut CoreState, event: &Event, found: &str, line
     assert_eq!(rt; apply(state, event), Ok(found), "{line}");
 }
 
-// The event does not come, and no word changes.
-fn refuse(rt: &impl Abort, alloc: Global, state: &mut CoreState, event: &Event, line: &str) {
+/// The event does not come, and no word changes.
+pub(crate) fn refuse(
+    rt: &impl Abort,
+    alloc: Global,
+    state: &mut CoreState,
+    event: &Event,
+    line: &str,
+) {
     let Ok(before) = state.words().to_vec(alloc) else {
         panic!(rt; "no memory");
     };

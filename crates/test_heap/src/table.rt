@@ -1,5 +1,6 @@
 ghost use Rattle.std.specs.Prelude.{◌≡◌};
 
+use crate::reading::making_of;
 use heap_rule::HeapSize;
 use heap_table::{Agent, CounterFull, Heap, MakeFault};
 use std::alloc::Global;
@@ -38,18 +39,8 @@ const SIZES: &str = "0 1 1 1 -> 0
 // The share that a row wants, and the one that is found.
 fn shares(alloc: Global, row: &str) -> Option<(u32, u32)> {
     let (given, want) = row.split_once(" -> ")?;
-    let (sizes, agents) = given.rsplit_once(' ')?;
-    let (ids, sizes) = sizes.split_once(' ')?;
-    let (words, slots) = sizes.split_once(' ')?;
-    let given = size(
-        ids.parse::<u32>().ok()?,
-        words.parse::<u32>().ok()?,
-        slots.parse::<u32>().ok()?,
-    );
-    Some((
-        want.parse::<u32>().ok()?,
-        made(alloc, given, agents.parse::<u32>().ok()?)?,
-    ))
+    let (size, agents) = making_of(given)?;
+    Some((want.parse::<u32>().ok()?, made(alloc, size, agents)?))
 }
 
 #[test]

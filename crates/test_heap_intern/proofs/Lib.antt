@@ -1,1 +1,4 @@
 pub mod Sharing
+pub mod SharingAgents
+pub mod Wide
+pub mod First

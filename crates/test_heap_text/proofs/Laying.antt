@@ -13,9 +13,9 @@ use Rattle.heap_rule.specs.Maps.{Has}
 use Rattle.heap_rule.specs.Views.{shown}
 use Rattle.heap_rule.proofs.MapLemmas.{insert_same}
 use Rattle.heap_table.specs.Known.{KeepsKnown}
-use Rattle.test_heap_table.specs.Ropes.{bytes_of}
-use Rattle.test_heap_table.proofs.Making.{first_there, laid, own, second_there}
-use Rattle.test_heap_table.proofs.Words.{two_words}
+use Rattle.test_heap_text.specs.Ropes.{bytes_of}
+use Rattle.test_heap_text.proofs.Making.{first_there, laid, own, second_there}
+use Rattle.test_heap_text.proofs.Words.{two_words}
 use Rattle.heap_read.specs.Reads.{Continues}
 
 -- two words and an id were claimed, and all was stored to

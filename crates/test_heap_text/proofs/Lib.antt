@@ -1,2 +1,4 @@
+pub mod Words
+pub mod Making
 pub mod Sharing
 pub mod Laying

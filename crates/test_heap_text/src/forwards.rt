@@ -3,7 +3,7 @@ ghost use Rattle.std.specs.Prelude.{◌≡◌, ◌<◌, ◌^◌, ◌++◌, ℕ, 
 ghost use Rattle.js_header.specs.declared.form.Form.TheVariants.{Flat};
 ghost use Rattle.heap_rule.specs.Maps.{Has, HasKey};
 ghost use Rattle.heap_table.specs.Agents.{Belongs, size_of, view_of};
-ghost use Rattle.test_heap_table.specs.Ropes.{bytes_of};
+ghost use Rattle.test_heap_text.specs.Ropes.{bytes_of};
 ghost use Rattle.heap_read.specs.Reads.{Continues};
 
 use crate::ropes::header;

@@ -5,10 +5,12 @@ ghost use Rattle.heap_table.specs.Agents.{Belongs, view_of};
 ghost use Rattle.heap_table.specs.Known.{KeepsKnown};
 
 use crate::ropes::doubled;
+use crate::rows::{Table, check, parted, units_of};
 use heap_rule::{HeapSize, MAX};
 use heap_table::Heap;
 use heap_text::{JoinFault, JsStr, Text};
 use std::alloc::Global;
+use std::test::Fail;
 
 // The string, with a rope behind it where the bit is set.
 fn with_bit(text: &mut Text, s: JsStr, rope: JsStr, bit: bool) -> Option<JsStr>
@@ -132,26 +134,31 @@ fn joined_length(alloc: Global, left: &[u16], right: &[u16]) -> Option<Result<u3
     }
 }
 
-fn too_long(left: u32, right: u32) -> Result<u32, JoinFault> {
-    Err(JoinFault::TooLong { left, right })
+// Two strings of so many units, and the length of both joined: a string itself may be longer than the
+// limit, but no answer is.
+const TWENTY: &str = "12 8 -> Ok(20)
+12 9 -> Err(TooLong { left: 12, right: 9 })
+7 14 -> Err(TooLong { left: 7, right: 14 })
+0 20 -> Ok(20)
+20 0 -> Ok(20)
+0 30 -> Err(TooLong { left: 0, right: 30 })
+21 0 -> Err(TooLong { left: 21, right: 0 })";
+
+struct Twenty;
+
+impl Table for Twenty {
+    fn told(alloc: Global, given: &str) -> Result<String, Fail> {
+        let (left, right) = parted(given, " ")?;
+        let (left, right) = (units_of(alloc, left)?, units_of(alloc, right)?);
+        if left.len() > 1000 || right.len() > 1000 {
+            return Ok(String::from_str(alloc, "too long")?);
+        }
+        let length = joined_length(alloc, left.as_slice(), right.as_slice()).ok_or("no room")?;
+        Ok(format!(in alloc; "{length:?}")?)
+    }
 }
 
-// A string itself may be longer than the limit, but no answer is.
 #[test]
-fn a_limit_of_twenty_units(rt: HostRuntime) {
-    let units = [97; 30];
-    for (left, right, want) in [
-        (&units[..12], &units[..8], Ok(20)),
-        (&units[..12], &units[..9], too_long(12, 9)),
-        (&units[..7], &units[..14], too_long(7, 14)),
-        (&units[..0], &units[..20], Ok(20)),
-        (&units[..20], &units[..0], Ok(20)),
-        (&units[..0], &units[..30], too_long(0, 30)),
-        (&units[..21], &units[..0], too_long(21, 0)),
-    ] {
-        assert!(rt;
-            joined_length(rt.alloc(), left, right) == Some(want),
-            "{left:?} {right:?}"
-        );
-    }
+fn a_limit_of_twenty_units(rt: HostRuntime) -> Result<(), Fail> {
+    check::<Twenty>(&rt, rt.alloc(), TWENTY)
 }

@@ -7,6 +7,7 @@ ghost use Rattle.heap_table.specs.Known.{KeepsKnown};
 ghost use Rattle.heap_read.specs.Reads.{Continues};
 ghost use Rattle.heap_text.specs.Turns.{GoesOn};
 
+use crate::rows::{Table, check, parted, units_of};
 use crate::strings::reads;
 use heap_read::{Reader, Steps};
 use heap_rule::{HeapSize, MAX};
@@ -16,6 +17,7 @@ use js_header::{Form, encode};
 use std::alloc::Global;
 use std::marker::Brand;
 use std::sync::ledger::{Blank, Ledger};
+use std::test::Fail;
 use std::thread::{Threads, join_mut};
 
 // abcdefghijklm
@@ -71,36 +73,34 @@ fn joined_header(alloc: Global, left: &[u16], right: &[u16]) -> Option<Form>
     Some(header(&mut text, s))
 }
 
-// Twelve units or fewer are copied; a rope has the numbers of its sides, and is wide where one of
-// them is.
-#[test]
-fn what_is_a_rope(rt: HostRuntime) {
-    let wide = [256; 12];
-    let flat = |start| Form::Flat {
-        wide: false,
-        start,
-        fixed: false,
-    };
-    let cons = |wide| Form::Cons {
-        wide,
-        left: 0,
-        right: 1,
-    };
-    for (left, right, want) in [
-        (&LETTERS[..11], &LETTERS[..1], flat(3)),
-        (&LETTERS[..12], &LETTERS[..1], cons(false)),
-        (&LETTERS[..1], &LETTERS[..12], cons(false)),
-        (&LETTERS[..13], &LETTERS[..13], cons(false)),
-        (&LETTERS[..0], &LETTERS[..13], flat(0)),
-        (&LETTERS[..13], &LETTERS[..0], flat(0)),
-        (&wide[..12], &LETTERS[..12], cons(true)),
-        (&LETTERS[..12], &wide[..12], cons(true)),
-    ] {
-        assert!(rt;
-            joined_header(rt.alloc(), left, right) == Some(want),
-            "{left:?} {right:?}"
-        );
+// The units of two strings, and the header of both joined. Twelve units or fewer are copied; a rope has
+// the numbers of its sides, and is wide where one of them is.
+const JOINED: &str = "11 1 -> Flat { wide: false, start: 3, fixed: false }
+12 1 -> Cons { wide: false, left: 0, right: 1 }
+1 12 -> Cons { wide: false, left: 0, right: 1 }
+13 13 -> Cons { wide: false, left: 0, right: 1 }
+0 13 -> Flat { wide: false, start: 0, fixed: false }
+13 0 -> Flat { wide: false, start: 0, fixed: false }
+w12 12 -> Cons { wide: true, left: 0, right: 1 }
+12 w12 -> Cons { wide: true, left: 0, right: 1 }";
+
+struct Headers;
+
+impl Table for Headers {
+    fn told(alloc: Global, given: &str) -> Result<String, Fail> {
+        let (left, right) = parted(given, " ")?;
+        let (left, right) = (units_of(alloc, left)?, units_of(alloc, right)?);
+        if left.len() > 1000 || right.len() > 1000 {
+            return Ok(String::from_str(alloc, "too long")?);
+        }
+        let header = joined_header(alloc, left.as_slice(), right.as_slice()).ok_or("no room")?;
+        Ok(format!(in alloc; "{header:?}")?)
     }
+}
+
+#[test]
+fn what_is_a_rope(rt: HostRuntime) -> Result<(), Fail> {
+    check::<Headers>(&rt, rt.alloc(), JOINED)
 }
 
 // No word is left for the units of a rope.

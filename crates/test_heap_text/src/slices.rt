@@ -5,12 +5,14 @@ ghost use Rattle.heap_table.specs.Agents.{Belongs, view_of};
 ghost use Rattle.heap_read.specs.Reads.{Continues};
 
 use crate::ropes::{header, joined};
+use crate::rows::{Table, check, parted};
 use crate::strings::reads;
 use heap_rule::{HeapSize, MAX};
 use heap_table::Heap;
 use heap_text::{JsStr, Text};
 use js_header::{Form, encode};
 use std::alloc::Global;
+use std::test::Fail;
 
 // abcdefghijklmnopqr
 const LETTERS: [u16; 18] = [
@@ -61,34 +63,29 @@ fn cut_header(alloc: Global, from: u32, to: u32) -> Option<Form> {
     Some(header(&mut text, t))
 }
 
-// Twelve units or fewer are copied behind the three words of the letters; the whole is the string
-// itself.
-#[test]
-fn what_is_a_slice(rt: HostRuntime) {
-    let flat = |start| Form::Flat {
-        wide: false,
-        start,
-        fixed: false,
-    };
-    let sliced = |offset| Form::Sliced {
-        wide: false,
-        parent: 0,
-        offset,
-    };
-    for (from, to, want) in [
-        (2, 17, sliced(2)),
-        (0, 13, sliced(0)),
-        (5, 18, sliced(5)),
-        (0, 12, flat(3)),
-        (6, 18, flat(3)),
-        (4, 4, flat(0)),
-        (0, 18, flat(0)),
-    ] {
-        assert!(rt;
-            cut_header(rt.alloc(), from, to) == Some(want),
-            "{from} {to}"
-        );
+// The ends of a part of the letters, and its header. Twelve units or fewer are copied behind the three
+// words of the letters; the whole is the string itself.
+const PARTS: &str = "2 17 -> Sliced { wide: false, parent: 0, offset: 2 }
+0 13 -> Sliced { wide: false, parent: 0, offset: 0 }
+5 18 -> Sliced { wide: false, parent: 0, offset: 5 }
+0 12 -> Flat { wide: false, start: 3, fixed: false }
+6 18 -> Flat { wide: false, start: 3, fixed: false }
+4 4 -> Flat { wide: false, start: 0, fixed: false }
+0 18 -> Flat { wide: false, start: 0, fixed: false }";
+
+struct Parts;
+
+impl Table for Parts {
+    fn told(alloc: Global, given: &str) -> Result<String, Fail> {
+        let (from, to) = parted(given, " ")?;
+        let header = cut_header(alloc, from.parse::<u32>()?, to.parse::<u32>()?);
+        Ok(format!(in alloc; "{:?}", header.ok_or("no room")?)?)
     }
+}
+
+#[test]
+fn what_is_a_slice(rt: HostRuntime) -> Result<(), Fail> {
+    check::<Parts>(&rt, rt.alloc(), PARTS)
 }
 
 // A slice of a slice stands on the string from which the first one was cut.

@@ -5,11 +5,13 @@ ghost use Rattle.heap_table.specs.Agents.{Belongs, share_of, view_of};
 ghost use Rattle.heap_read.specs.Reads.{Continues};
 ghost use Rattle.heap_text.specs.Turns.{GoesOn};
 
+use crate::rows::{Table, check, parted, units_of};
 use heap_read::Reader;
 use heap_rule::{HeapSize, MAX};
 use heap_table::{CounterFull, Heap, MakeFault};
 use heap_text::{JoinFault, JsStr, Text, TextFull};
 use std::alloc::Global;
+use std::test::Fail;
 use std::thread::{Threads, join_mut};
 
 // Whether the string has these units, read one by one, by a window and without.
@@ -249,16 +251,8 @@ fn a_thousand_heaps_are_shared(rt: HostRuntime) {
     }
 }
 
-// A call that may want more ids or words than there are left.
-#[derive(Clone, Copy)]
-enum Call {
-    Flat,
-    Join,
-    Cut,
-}
-
 // What is left for another call, once a string of these units is made, is too little: why.
-fn refusal(text: &mut Text, units: &[u16], call: Call) -> Option<TextFull>
+fn refusal(text: &mut Text, units: &[u16], call: &str) -> Option<TextFull>
     requires text { Belongs text.old.reader.agent text.old.reader.heap.now }
     requires short { length units.now ≤ 1000 }
 {
@@ -270,48 +264,57 @@ fn refusal(text: &mut Text, units: &[u16], call: Call) -> Option<TextFull>
         return None;
     };
     match call {
-        Call::Flat => text.make_flat(units).err(),
-        Call::Cut => text.slice(s, 0, n / 2).err(),
-        Call::Join => match text.concat(s, s) {
+        "flat" => text.make_flat(units).err(),
+        "cut" => text.slice(s, 0, n / 2).err(),
+        _ => match text.concat(s, s) {
             Err(JoinFault::Full(full)) => Some(full),
             _ => None,
         },
     }
 }
 
+fn refused(alloc: Global, size: HeapSize, units: &[u16], call: &str) -> Option<TextFull>
+    requires short { length units.now ≤ 1000 }
+{
+    let Ok((heap, agent)) = Heap::make(alloc, size, 1) else {
+        return None;
+    };
+    let mut text = Text::new(&heap, agent, MAX);
+    refusal(&mut text, units, call)
+}
+
 // A heap of so many ids and words, the string made there, the call, and its refusal.
-#[test]
-fn refusals(rt: HostRuntime) {
-    let ids = TextFull::Ids(CounterFull {
-        at: 1,
-        want: 1,
-        end: 1,
-    });
-    let words = |at, want, end| TextFull::Words(CounterFull { at, want, end });
-    let narrow = [97; 17];
-    let wide = [256; 8];
-    for (ids, words, units, call, want) in [
-        (1, 100, &narrow[..8], Call::Flat, ids),
-        (1, 100, &narrow[..8], Call::Join, ids),
-        (1, 100, &narrow[..8], Call::Cut, ids),
-        (8, 1, &narrow[..8], Call::Flat, words(1, 1, 1)),
-        (8, 2, &narrow[..6], Call::Join, words(1, 2, 2)),
-        (8, 2, &narrow[..16], Call::Cut, words(2, 1, 2)),
-        (8, 5, &narrow[..17], Call::Flat, words(3, 3, 5)),
-        (8, 4, &wide[..6], Call::Join, words(2, 3, 4)),
-    ] {
+const REFUSALS: &str = "1 100 8 flat -> Ids(CounterFull { at: 1, want: 1, end: 1 })
+1 100 8 join -> Ids(CounterFull { at: 1, want: 1, end: 1 })
+1 100 8 cut -> Ids(CounterFull { at: 1, want: 1, end: 1 })
+8 1 8 flat -> Words(CounterFull { at: 1, want: 1, end: 1 })
+8 2 6 join -> Words(CounterFull { at: 1, want: 2, end: 2 })
+8 2 16 cut -> Words(CounterFull { at: 2, want: 1, end: 2 })
+8 5 17 flat -> Words(CounterFull { at: 3, want: 3, end: 5 })
+8 4 w6 join -> Words(CounterFull { at: 2, want: 3, end: 4 })";
+
+struct Refusals;
+
+impl Table for Refusals {
+    fn told(alloc: Global, given: &str) -> Result<String, Fail> {
+        let (ids, rest) = parted(given, " ")?;
+        let (words, rest) = parted(rest, " ")?;
+        let (units, call) = parted(rest, " ")?;
+        let units = units_of(alloc, units)?;
+        if units.len() > 1000 {
+            return Ok(String::from_str(alloc, "too long")?);
+        }
         let size = HeapSize {
-            ids,
-            words,
+            ids: ids.parse::<u32>()?,
+            words: words.parse::<u32>()?,
             slots: 1,
         };
-        let Ok((heap, agent)) = Heap::make(rt.alloc(), size, 1) else {
-            panic!(rt; "no heap");
-        };
-        let mut text = Text::new(&heap, agent, MAX);
-        assert!(rt;
-            refusal(&mut text, units, call) == Some(want),
-            "{ids} ids, {words} words"
-        );
+        let full = refused(alloc, size, units.as_slice(), call).ok_or("no refusal")?;
+        Ok(format!(in alloc; "{full:?}")?)
     }
+}
+
+#[test]
+fn what_is_refused(rt: HostRuntime) -> Result<(), Fail> {
+    check::<Refusals>(&rt, rt.alloc(), REFUSALS)
 }

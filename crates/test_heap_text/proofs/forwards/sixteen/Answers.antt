@@ -8,8 +8,8 @@ use Rattle.heap_rule.specs.Claims.{won_claim}
 use Rattle.heap_rule.specs.Maps.{Has, HasKey}
 use Rattle.heap_rule.proofs.Possible.{possible_lawful}
 use Rattle.heap_table.specs.Known.{KeepsKnown}
-use Rattle.test_heap_table.specs.Ropes.{bytes_of}
-use Rattle.test_heap_table.proofs.Making.{first_claimed, id_own, second_claimed}
+use Rattle.test_heap_text.specs.Ropes.{bytes_of}
+use Rattle.test_heap_text.proofs.Making.{first_claimed, id_own, second_claimed}
 use Rattle.heap_read.specs.Reads.{Continues}
 use Rattle.heap_read.proofs.Going.{continues_full_ids, continues_full_words, continues_ids, continues_length, continues_stored, continues_trans, continues_words}
 use Rattle.test_heap_text.proofs.Laying.{continues_flat, ready, sixteen_fits, sixteen_form, sixteen_units}

@@ -1,9 +1,0 @@
-use Rattle.std.proofs.Common.{◌≡◌, length, All}
-use Rattle.run_jobs.specs.Jobs.{HasNoLines}
-use Rattle.test_run.proofs.outcomes.places.Given as goal
-
-abbrev pub invariant-loop-turn : goal.invariant-loop-turn
-invariant-loop-turn l = record {
-  len : length l.places.items ≡ l._turn;
-  empty : All HasNoLines l.places.items;
-}

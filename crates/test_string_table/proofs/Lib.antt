@@ -1,3 +1,0 @@
-pub mod Sharing
-pub mod Wide
-pub mod First
