@@ -11,5 +11,5 @@ mod lists;
 mod quoting;
 
 pub use js_print::print_line;
-pub use lists::stringify_list;
+pub use lists::{append_elements, append_quoted, element_len, list_len, stringify_list};
 pub use quoting::quote;

@@ -41,11 +41,16 @@ pub fn stringify_list<S: Strings>(
     Ok(store.from_units(text.as_slice())?)
 }
 
-// How many units the array has.
+/// How many units the array has that `stringify_list` gives.
 #[tactic(auto, using(crate::proofs::Elements::no_elements, crate::proofs::Elements::some_elements))]
-fn list_len<S: Strings>(alloc: Global, store: &mut S, parts: &[S::Ref]) -> Result<u128, StoreFault>
+pub fn list_len<S: Strings>(
+    alloc: Global,
+    store: &mut S,
+    parts: &[S::Ref],
+) -> Result<u128, StoreFault>
     requires { AllKnown (S.state store.old) S.number parts.now }
     ensures value { IfOk result (λ n. n ≡ length (list_text (texts (S.state store.old) S.number parts.now))) }
+    ensures most { IfOk result (λ n. n ≤ 2 + length parts.now * 4294967296) }
     ensures step { Step (S.state store.old) (S.state store.new) (full_fault_of result) 0
         (settle_most (S.state store.old) S.number parts.now) }
     ensures slots { NeverSlots (full_fault_of result) }
@@ -60,6 +65,7 @@ fn list_len<S: Strings>(alloc: Global, store: &mut S, parts: &[S::Ref]) -> Resul
 fn rest_len<S: Strings>(alloc: Global, store: &mut S, rest: &[S::Ref]) -> Result<u128, StoreFault>
     requires { AllKnown (S.state store.old) S.number rest.now }
     ensures value { IfOk result (λ n. n ≡ length (list_rest (texts (S.state store.old) S.number rest.now))) }
+    ensures most { IfOk result (λ n. n ≤ 1 + length rest.now * 4294967296) }
     ensures step { Step (S.state store.old) (S.state store.new) (full_fault_of result) 0
         (settle_most (S.state store.old) S.number rest.now) }
     ensures slots { NeverSlots (full_fault_of result) }
@@ -72,8 +78,8 @@ fn rest_len<S: Strings>(alloc: Global, store: &mut S, rest: &[S::Ref]) -> Result
     Ok(len)
 }
 
-// How many units the string has with its quotes.
-fn element_len<S: Strings>(alloc: Global, store: &mut S, s: S::Ref) -> Result<u128, StoreFault>
+/// How many units the string has with its quotes, as `quote` gives it.
+pub fn element_len<S: Strings>(alloc: Global, store: &mut S, s: S::Ref) -> Result<u128, StoreFault>
     requires { IsKnown (S.state store.old) (S.number s) }
     ensures value { IfOk result (λ n. n ≡ length (quoted (text_of (S.state store.old) (S.number s)))) }
     ensures most { IfOk result (λ n. n ≤ 2 + 6 * length (text_of (S.state store.old) (S.number s))) }
@@ -105,8 +111,8 @@ fn list_units<S: Strings>(
     Ok(text)
 }
 
-// Adds the elements with a comma between two, and the last bracket.
-fn append_elements<S: Strings>(
+/// Adds the elements with a comma between two, and the last bracket.
+pub fn append_elements<S: Strings>(
     alloc: Global,
     store: &mut S,
     parts: &[S::Ref],
@@ -151,8 +157,8 @@ fn append_rest<S: Strings>(
     push_unit(text, 0x5D)
 }
 
-// Adds a string between its quotes.
-fn append_quoted<S: Strings>(
+/// Adds a string between its quotes, as `quote` gives it.
+pub fn append_quoted<S: Strings>(
     alloc: Global,
     store: &mut S,
     s: S::Ref,

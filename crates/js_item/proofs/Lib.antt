@@ -1,0 +1,5 @@
+pub mod Members
+pub mod Sizes
+pub mod Still
+pub mod Finding
+pub mod Values

@@ -1,0 +1,87 @@
+-- What is fine stays fine while the store grows.
+use Rattle.std.proofs.Common.{◌≡◌, ℕ, zero, suc, ◌<◌, Bool, true, false, List, [], ◌∷◌, ◌++◌, length, get_or, refl, sym, subst, arith}
+use Rattle.std.specs.Prelude.{if◌then◌else◌, Contains, Option, Some}
+use Rattle.std.proofs.lemmas.List.Elements.{Contains-append_right}
+use Rattle.js_store.specs.State.{State, Grows, Has, IsSettled, Interned, text}
+use Rattle.js_store.proofs.Laws.{known_still, text_still, has_known, has_text}
+use Rattle.js_texts.specs.Texts.{Every}
+use Rattle.js_texts.proofs.Lists.{every_map}
+use Rattle.js_item.specs.Contents.{Content, undefined, null, bool, number, text as texted, symbol, list, object, Fields, no_fields, field}
+use Rattle.js_item.specs.declared.item.Item.{Item}
+use Rattle.js_item.specs.declared.item.Member.{Member}
+use Rattle.js_item.specs.Views.{content, fields_of}
+use Rattle.js_item.specs.Puts.{value_by, put_by}
+use Rattle.js_item.specs.Fine.{Strings, strings_of, SymbolFine, KeyFine, FineOf, FineFields, KeysFine, IsFine}
+
+module _ {F : Type 0} (a b : State F) (g : Grows a b) where
+  symbol_still : (n : ℕ) → SymbolFine (strings_of a) n → SymbolFine (strings_of b) n
+  symbol_still n h = (known_still g n h.0, subst (λ (u : List ℕ). Interned b u n) (sym (text_still g n h.0)) (g.interned (text a n) n h.1))
+
+  pub key_still : (n : ℕ) → KeyFine (strings_of a) n → KeyFine (strings_of b) n
+  key_still n h =
+      let s : SymbolFine (strings_of b) n = symbol_still n (h.known, h.interned) in
+      record { known = s.0; interned = s.1; settled = g.settled n h.settled }
+
+  module _ {R : Type 0} (name : R → ℕ) where
+    mutual
+      pub fine_of_still : (c : Content R) → FineOf (strings_of a) name c → FineOf (strings_of b) name c
+      fine_of_still undefined h = tt
+      fine_of_still null h = tt
+      fine_of_still (bool t) h = tt
+      fine_of_still (number n) h = h
+      fine_of_still (texted r) h = known_still g (name r) h
+      fine_of_still (symbol r) h = symbol_still (name r) h
+      fine_of_still (list rs) h = every_map (λ r k. known_still g (name r) k) rs h
+      fine_of_still (object fs) h = (fine_fields_still fs h.0, h.1)
+
+      pub fine_fields_still : (fs : Fields R) → FineFields (strings_of a) name fs → FineFields (strings_of b) name fs
+      fine_fields_still no_fields h = tt
+      fine_fields_still (field key value rest) h = (key_still (name key) h.0, fine_of_still value h.1, fine_fields_still rest h.2)
+
+    pub fine_still : (v : Item R) → IsFine a name v → IsFine b name v
+    fine_still v h = fine_of_still (content v) h
+
+    pub keys_still : (fs : Fields R) → KeysFine (strings_of a) name fs → KeysFine (strings_of b) name fs
+    keys_still no_fields h = tt
+    keys_still (field key value rest) h = (key_still (name key) h.0, keys_still rest h.1)
+
+-- the keys of a fine object are fine, and so is each value, also once one more was put in
+module _ {R : Type 0} (s : Strings) (name : R → ℕ) where
+  pub fine_keys : (fs : Fields R) → FineFields s name fs → KeysFine s name fs
+  fine_keys no_fields h = tt
+  fine_keys (field key value rest) h = (h.0, fine_keys rest h.2)
+
+  pub fine_value : (ms : List (Member R)) (i : ℕ) (m : Member R) → i < length ms → m ≡ get_or ms i m → FineFields s name (fields_of ms) → FineOf s name (content m.value)
+  fine_value [] i m l e h = absurd (omega arith)
+  fine_value (n ∷ ms) zero m l e h = let P : Member R → Type 0 = λ p. FineOf s name (content p.value) in subst P (sym e) h.1
+  fine_value (n ∷ ms) (suc i) m l e h = fine_value ms i m (omega arith) e h.2
+
+  fine_pick : (b : Bool) (w v : Content R) (o : Option (Content R)) → (if b then Some w else o) ≡ Some v → FineOf s name w → (o ≡ Some v → FineOf s name v) → FineOf s name v
+  fine_pick true w v o e h k = let same : w ≡ v = cc in subst (λ (c : Content R). FineOf s name c) same h
+  fine_pick false w v o e h k = k e
+
+  pub fine_by : (is : R → Bool) (fs : Fields R) (v : Content R) → FineFields s name fs → value_by is fs ≡ Some v → FineOf s name v
+  fine_by is no_fields v h e = cc
+  fine_by is (field k w rest) v h e = fine_pick (is k) w v (value_by is rest) e h.1 (λ r. fine_by is rest v h.2 r)
+
+  fine_if : (b : Bool) (fs gs : Fields R) → FineFields s name fs → FineFields s name gs → FineFields s name (if b then fs else gs)
+  fine_if true fs gs h k = h
+  fine_if false fs gs h k = k
+
+  pub fine_put : (is : R → Bool) (key : R) (value : Content R) (fs : Fields R) → KeyFine s (name key) → FineOf s name value → FineFields s name fs → FineFields s name (put_by is key value fs)
+  fine_put is key value no_fields k v h = (k, v, tt)
+  fine_put is key value (field l w rest) k v h = fine_if (is l) (field l value rest) (field l w (put_by is key value rest)) (h.0, v, h.2) (h.0, h.1, fine_put is key value rest k v h.2)
+
+-- what was interned last is a key
+pub key_made : {F : Type 0} (s : State F) (n : ℕ) (u : List ℕ) (h : List (List ℕ × ℕ)) → Has s n u → IsSettled s n → s.history ≡ h ++ (u, n) ∷ [] → KeyFine (strings_of s) n
+key_made s n u h k t e =
+    let there : Contains s.history (u, n) = subst (λ (l : List (List ℕ × ℕ)). Contains l (u, n)) (sym e) (Contains-append_right h ((u, n) ∷ []) (u, n) (0, omega arith, refl)) in
+    record {
+      known = has_known s n u k;
+      interned = subst (λ (w : List ℕ). Interned s w n) (sym (has_text s n u k)) there;
+      settled = t;
+    }
+
+-- what is fine in a store is so in one that differs from it in counters and in its frame alone: this holds by computation
+pub fine_beside : {F R : Type 0} (s : State F) (f : F) (name : R → ℕ) (vs : List (Item R)) → Every (λ v. IsFine s name v) vs → Every (λ v. IsFine (record s { used_ids = 0; used_words = 0; frame = f }) name v) vs
+fine_beside s f name vs h = h

@@ -1,0 +1,7 @@
+pub mod Contents
+pub mod Codes
+pub mod Views
+pub mod Falls
+pub mod Fine
+pub mod Puts
+pub mod Seen

@@ -1,0 +1,20 @@
+-- What an item and the members of an object hold.
+use Rattle.std.specs.Prelude.{List, [], ◌∷◌}
+use Rattle.js_item.specs.Contents.{Content, undefined, null, bool, number, text, symbol, list, object, Fields, no_fields, field}
+use Rattle.js_item.specs.declared.item.Item.{Item}
+use Rattle.js_item.specs.declared.item.Item.TheVariants as item
+use Rattle.js_item.specs.declared.item.Member.{Member}
+
+abbrev pub content : {R : Type 0} → Item R → Content R
+content item.Undefined = undefined
+content item.Null = null
+content (item.Bool b) = bool b
+content (item.Number n) = number n
+content (item.Text r) = text r
+content (item.Symbol r) = symbol r
+content (item.List v) = list v.items
+content (item.Object fs) = object fs
+
+abbrev pub fields_of : {R : Type 0} → List (Member R) → Fields R
+fields_of [] = no_fields
+fields_of (m ∷ ms) = field m.key (content m.value) (fields_of ms)

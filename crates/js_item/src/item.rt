@@ -1,0 +1,107 @@
+// Items, which are the values of the language, and objects, which are lists of members.
+ghost use Rattle.std.specs.Prelude.{◌≡◌, ◌<◌, length, OnOk, OnErr};
+ghost use Rattle.js_item.specs.Contents.{no_fields, add};
+ghost use Rattle.js_item.specs.Puts.{width, with_value};
+ghost use Rattle.js_item.specs.Views.{content, fields_of};
+
+use js_number::Num;
+use js_units::NoMemory;
+use std::alloc::Global;
+use std::marker::Model;
+
+/// A value, where strings are references into a store.
+#[cycle(item)]
+#[derive(Debug, Drop)]
+pub enum Item<R> {
+    Undefined,
+    Null,
+    Bool(bool),
+    Number(Num),
+    Text(R),
+    Symbol(R),
+    List(Vec<R>),
+    Object(Object<R>),
+}
+
+/// A key, which is an interned string, and its value.
+#[cycle(item)]
+#[derive(Debug, Drop)]
+pub struct Member<R> {
+    pub key: R,
+    pub value: Item<R>,
+}
+
+/// A list of members.
+#[cycle(item)]
+#[derive(Debug, Drop)]
+pub struct Object<R> {
+    members: Vec<Member<R>>,
+}
+
+impl<R> Model for Object<R> {
+    ghost use Rattle.js_item.specs.Contents.{Fields, count};
+    ghost use Rattle.js_item.specs.Codes.{fields_code};
+
+    ghost Value = { Fields R };
+
+    ghost coded = { fields_code R.code };
+
+    ghost use Rattle.js_item.specs.Views.{fields_of};
+
+    ghost view = { λ o. fields_of o.members.items };
+
+    ghost size = { count };
+
+    ghost use Rattle.js_item.specs.Falls.{depth_le_size};
+
+    ghost size_decreases = { λ o h. depth_le_size o.members.items };
+}
+
+impl<R: Copy> Object<R> {
+    /// An object with no member. It takes no memory.
+    pub fn new(alloc: Global) -> Object<R>
+        ensures { result ≡ no_fields }
+    {
+        Object {
+            members: Vec::new(alloc),
+        }
+    }
+
+    // An object of these members.
+    pub(crate) fn of(members: Vec<Member<R>>) -> Object<R>
+        ensures { result ≡ fields_of members.items }
+    {
+        Object { members }
+    }
+
+    // Adds a member at the end.
+    pub(crate) fn push(&mut self, member: Member<R>) -> Result<(), NoMemory>
+        ensures added { OnOk result (self.new ≡ add member.key (content member.value) self.old) }
+        ensures unchanged { OnErr result (self.new ≡ self.old) }
+    {
+        self.members.push(member)?;
+        Ok(())
+    }
+
+    // Puts the value in the place of that of the member there.
+    pub(crate) fn replace(&mut self, place: u32, value: Item<R>)
+        requires { place < width self.old }
+        ensures { self.new ≡ with_value place (content value) self.old }
+    {
+        let member = &mut self.members[place as usize];
+        member.value = value;
+    }
+
+    // What its vector takes memory from.
+    pub(crate) fn alloc(&self) -> Global {
+        *self.members.allocator()
+    }
+
+    /// The members in order.
+    pub fn members(&self) -> &[Member<R>]
+        ensures fields { fields_of result.now ≡ self.now }
+        ensures len { length result.now ≡ width self.now }
+    {
+        self.members.as_slice()
+    }
+}

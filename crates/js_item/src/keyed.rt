@@ -1,0 +1,111 @@
+// The members of objects, by their keys.
+ghost use Rattle.std.specs.Prelude.{◌≡◌, ◌<◌, OnOk, OnErr, MatchOption, None, Some, is_some, bytes_eq};
+ghost use Rattle.js_store.specs.State.{text};
+ghost use Rattle.js_store.specs.Faults.{Step};
+ghost use Rattle.js_item.specs.Fine.{strings_of, KeyFine, KeysFine};
+ghost use Rattle.js_item.specs.Puts.{width, has_units, names_key, place_by, value_by, put_by};
+ghost use Rattle.js_item.specs.Views.{content, fields_of};
+
+use crate::item::{Item, Member, Object};
+use js_store::Strings;
+use js_units::NoMemory;
+
+impl<R: Copy> Object<R> {
+    /// The place of the member whose key has the units of `key`, if there is one. It compares
+    /// numbers alone.
+    pub fn find<S: Strings<Ref = R>>(&self, store: &mut S, key: R) -> Option<u32>
+        requires few { width self.now < 4294967296 }
+        requires keys { KeysFine (strings_of (S.state store.old)) S.number self.now }
+        requires key { KeyFine (strings_of (S.state store.old)) (S.number key) }
+        ensures place { result ≡ place_by (names_key (S.state store.old) S.number key) self.now }
+        ensures step { Step (S.state store.old) (S.state store.new) None 0 0 }
+        ensures history { (S.state store.new).history ≡ (S.state store.old).history }
+    {
+        for (i, member) in self.members().iter().enumerate() {
+            if store.same(member.key, key) {
+                return Some(i as u32);
+            }
+        }
+        None
+    }
+
+    /// The value of the member whose key has the units of `key`, if there is one.
+    pub fn get<S: Strings<Ref = R>>(&self, store: &mut S, key: R) -> Option<&Item<R>>
+        requires few { width self.now < 4294967296 }
+        requires keys { KeysFine (strings_of (S.state store.old)) S.number self.now }
+        requires key { KeyFine (strings_of (S.state store.old)) (S.number key) }
+        ensures value { MatchOption result
+            (value_by (names_key (S.state store.old) S.number key) self.now ≡ None)
+            (λ item. value_by (names_key (S.state store.old) S.number key) self.now
+            ≡ Some (content item.now)) }
+        ensures step { Step (S.state store.old) (S.state store.new) None 0 0 }
+        ensures history { (S.state store.new).history ≡ (S.state store.old).history }
+    {
+        match self.find(store, key) {
+            Some(place) => Some(&self.members()[place as usize].value),
+            None => None,
+        }
+    }
+
+    /// Puts the value in the place of the one whose key has the units of `key`, or else a new
+    /// member at the end. A refusal leaves the object as it was.
+    pub fn insert<S: Strings<Ref = R>>(
+        &mut self,
+        store: &mut S,
+        key: R,
+        value: Item<R>,
+    ) -> Result<(), NoMemory>
+        requires few { width self.old < 4294967295 }
+        requires keys { KeysFine (strings_of (S.state store.old)) S.number self.old }
+        requires key { KeyFine (strings_of (S.state store.old)) (S.number key) }
+        ensures added { OnOk result
+            (self.new ≡ put_by (names_key (S.state store.old) S.number key) key (content value) self.old) }
+        ensures unchanged { OnErr result (self.new ≡ self.old) }
+        ensures step { Step (S.state store.old) (S.state store.new) None 0 0 }
+        ensures history { (S.state store.new).history ≡ (S.state store.old).history }
+    {
+        match self.find(store, key) {
+            Some(place) => {
+                self.replace(place, value);
+                Ok(())
+            }
+            None => self.push(Member { key, value }),
+        }
+    }
+
+    /// Whether there is a member whose key has these units, of which the store needs no string. It
+    /// reads the keys.
+    pub fn has<S: Strings<Ref = R>>(&self, store: &mut S, units: &[u16]) -> bool
+        requires { KeysFine (strings_of (S.state store.old)) S.number self.now }
+        ensures value { result ≡ is_some
+            (place_by (has_units (S.state store.old) S.number units.now) self.now) }
+        ensures step { Step (S.state store.old) (S.state store.new) None 0 0 }
+        ensures history { (S.state store.new).history ≡ (S.state store.old).history }
+    {
+        for member in self.members() {
+            if is_key(store, member.key, units) {
+                return true;
+            }
+        }
+        false
+    }
+}
+
+// Whether a key has these units.
+fn is_key<S: Strings>(store: &mut S, key: S::Ref, units: &[u16]) -> bool
+    requires { KeyFine (strings_of (S.state store.old)) (S.number key) }
+    ensures value { result ≡ bytes_eq (text (S.state store.old) (S.number key)) units.now }
+    ensures step { Step (S.state store.old) (S.state store.new) None 0 0 }
+    ensures history { (S.state store.new).history ≡ (S.state store.old).history }
+{
+    let len = store.len(key);
+    if len as usize != units.len() {
+        return false;
+    }
+    for i in 0..len {
+        if store.unit_at(key, i) != units[i as usize] {
+            return false;
+        }
+    }
+    true
+}

@@ -1,0 +1,16 @@
+//! Items, which are the values of the language, and objects whose keys are interned strings, over
+//! any store of strings.
+//!
+//! An object is a list of members with different keys (ECMA-262, "The Object Type"). A member is
+//! found by its key's number, never by its units, for two interned strings are equal exactly where
+//! their numbers are. What an item holds stands in `specs/Contents.antt`, when it may be used in a
+//! store in `specs/Fine.antt`, and what it stands for, with lists of units in the place of
+//! references, in `specs/Seen.antt`. No call here uses an id or a content word.
+#![tactic(auto)]
+
+mod bounds;
+mod copying;
+mod item;
+mod keyed;
+
+pub use item::{Item, Member, Object};

@@ -1,0 +1,80 @@
+-- Items and objects as JSON text (ECMA-262, "SerializeJSONProperty", "SerializeJSONObject").
+use Rattle.std.specs.Prelude.{ℕ, Bool, true, false, ◌==◌, if◌then◌else◌, List, [], ◌∷◌, ◌++◌, map, Option, Some, None, codes}
+use Rattle.std.specs.Fmt.{signed_decimal}
+use Rattle.js_number.specs.declared.Num.{Num}
+use Rattle.js_number.specs.declared.Num.TheVariants.{Int, NaN, PosInf, NegInf}
+use Rattle.js_texts.specs.Delimited.{delimited}
+use Rattle.js_json.specs.Quoting.{quoted, list_text}
+use Rattle.js_item.specs.Contents.{Content, undefined, null, bool, number, text, symbol, list, object, Fields, no_fields, field}
+use Rattle.js_object.specs.Keys.{index_of, ordered}
+
+-- the digits of a whole number, and null for each other one
+abbrev pub number_json : Num → List ℕ
+number_json (Int z) = signed_decimal z
+number_json NaN = codes "null"
+number_json PosInf = codes "null"
+number_json NegInf = codes "null"
+
+abbrev pub bool_json : Bool → List ℕ
+bool_json true = codes "true"
+bool_json false = codes "false"
+
+-- undefined and symbols are left out
+abbrev pub is_shown : {R : Type 0} → Content R → Bool
+is_shown undefined = false
+is_shown null = true
+is_shown (bool b) = true
+is_shown (number n) = true
+is_shown (text r) = true
+is_shown (symbol r) = false
+is_shown (list rs) = true
+is_shown (object fs) = true
+
+-- what a member gives: the units of its key, and the text of its value, where it has one
+abbrev pub Part : Type 0
+Part = List ℕ × Option (List ℕ)
+
+abbrev pub part_index : Part → Option ℕ
+part_index p = index_of p.0
+
+-- the quoted key, a colon and the value's text
+abbrev pub more_shown : List ℕ → Option (List ℕ) → List (List ℕ) → List (List ℕ)
+more_shown key (Some u) us = (quoted key ++ 0x3A ∷ u) ∷ us
+more_shown key None us = us
+
+abbrev pub shown : List Part → List (List ℕ)
+shown [] = []
+shown (p ∷ ps) = more_shown p.0 p.1 (shown ps)
+
+-- braces around the members in their order, with a comma between two
+abbrev pub object_json : List Part → List ℕ
+object_json ps = 0x7B ∷ delimited (λ u. u) 0x2C 0x7D (shown (ordered part_index ps))
+
+abbrev mutual
+  -- the text of an item that is shown, where the units of references are told
+  pub text_json : {R : Type 0} → (R → List ℕ) → Content R → List ℕ
+  text_json say undefined = []
+  text_json say null = codes "null"
+  text_json say (bool b) = bool_json b
+  text_json say (number n) = number_json n
+  text_json say (text r) = quoted (say r)
+  text_json say (symbol r) = []
+  text_json say (list rs) = list_text (map say rs)
+  text_json say (object fs) = object_json (parts say fs)
+
+  -- one part for each member, in the order of the members
+  pub parts : {R : Type 0} → (R → List ℕ) → Fields R → List Part
+  parts say no_fields = []
+  parts say (field key value rest) = (say key, if is_shown value then Some (text_json say value) else None) ∷ parts say rest
+
+-- the text of an object
+abbrev pub json_of : {R : Type 0} → (R → List ℕ) → Fields R → List ℕ
+json_of say fs = object_json (parts say fs)
+
+-- the texts with a unit before each, a brace or else a comma, and the last brace
+abbrev pub closed : ℕ → List ℕ
+closed sep = if sep == 0x7B then 0x7B ∷ 0x7D ∷ [] else 0x7D ∷ []
+
+abbrev pub braced : ℕ → List (List ℕ) → List ℕ
+braced sep [] = closed sep
+braced sep (u ∷ us) = sep ∷ u ++ braced 0x2C us

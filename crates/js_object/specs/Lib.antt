@@ -1,0 +1,4 @@
+pub mod Readable
+pub mod Keys
+pub mod Json
+pub mod Use
