@@ -1,0 +1,5 @@
+pub mod Walks
+pub mod Boxed
+pub mod Ready
+pub mod Interned
+pub mod Settled

@@ -1,0 +1,5 @@
+pub mod Handles
+pub mod Ready
+pub mod Kept
+pub mod Interned
+pub mod Reports

@@ -1,0 +1,68 @@
+-- The numbers of refusals, and what an answer tells of each.
+use Rattle.std.specs.Prelude.{ℕ, Result, Ok, Err}
+use Rattle.heap_read.specs.declared.string.JsStr.{JsStr}
+use Rattle.heap_text.specs.declared.faults.JoinFault.{JoinFault}
+use Rattle.heap_text.specs.declared.faults.JoinFault.TheVariants.{TooLong, Full}
+use Rattle.heap_text.specs.declared.faults.TextFull.{TextFull}
+use Rattle.heap_text.specs.declared.faults.TextFull.TheVariants.{Ids, Words}
+use Rattle.heap_string_table.specs.declared.faults.TableFull.{TableFull}
+use Rattle.heap_string_table.specs.declared.faults.TableFull.TheVariants as table
+use Rattle.heap_rule.specs.declared.size.HeapSize.{HeapSize}
+use Rattle.jsstr_c.specs.declared.answer.JsAnswer.{JsAnswer}
+use Rattle.jsstr_c.specs.declared.life.JsSize.{JsSize}
+
+abbrev pub DONE : ℕ
+DONE = 0
+
+abbrev pub NO_MEMORY : ℕ
+NO_MEMORY = 1
+
+abbrev pub BAD_SIZE : ℕ
+BAD_SIZE = 2
+
+abbrev pub NO_IDS : ℕ
+NO_IDS = 3
+
+abbrev pub NO_WORDS : ℕ
+NO_WORDS = 4
+
+abbrev pub NO_SLOTS : ℕ
+NO_SLOTS = 5
+
+abbrev pub TOO_LONG : ℕ
+TOO_LONG = 6
+
+abbrev pub done : ℕ → JsAnswer
+done id = record { status = DONE; id = id; at = 0; want = 0; end = 0 }
+
+abbrev pub text_report : TextFull → JsAnswer
+text_report (Ids f) = record { status = NO_IDS; id = 0; at = f.at; want = f.want; end = f.end }
+text_report (Words f) = record { status = NO_WORDS; id = 0; at = f.at; want = f.want; end = f.end }
+
+abbrev pub join_report : JoinFault → JsAnswer
+join_report (TooLong left right) = record { status = TOO_LONG; id = 0; at = left; want = right; end = 0 }
+join_report (Full f) = text_report f
+
+abbrev pub text_answer : Result JsStr TextFull → JsAnswer
+text_answer (Ok s) = done s.id
+text_answer (Err f) = text_report f
+
+abbrev pub join_answer : Result JsStr JoinFault → JsAnswer
+join_answer (Ok s) = done s.id
+join_answer (Err f) = join_report f
+
+abbrev pub table_report : TableFull → JsAnswer
+table_report (table.Ids f) = record { status = NO_IDS; id = 0; at = f.at; want = f.want; end = f.end }
+table_report (table.Words f) = record { status = NO_WORDS; id = 0; at = f.at; want = f.want; end = f.end }
+table_report (table.Slots n) = record { status = NO_SLOTS; id = 0; at = 0; want = 0; end = n }
+
+abbrev pub table_answer : Result ℕ TableFull → JsAnswer
+table_answer (Ok i) = done i
+table_answer (Err f) = table_report f
+
+abbrev pub no_memory : JsAnswer
+no_memory = record { status = NO_MEMORY; id = 0; at = 0; want = 0; end = 0 }
+
+-- the sizes that C gives, as those of a heap
+abbrev pub size_for : JsSize → HeapSize
+size_for z = record { ids = z.ids; words = z.words; slots = z.slots }

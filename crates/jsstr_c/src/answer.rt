@@ -1,0 +1,124 @@
+// What a call answers.
+ghost use Rattle.std.specs.Prelude.{◌≡◌};
+ghost use Rattle.jsstr_c.specs.Reports as reports;
+ghost use Rattle.jsstr_c.specs.Reports.{join_answer, table_answer, text_answer};
+
+use heap_string_table::TableFull;
+use heap_table::CounterFull;
+use heap_text::{JoinFault, JsStr, TextFull};
+
+pub(crate) const DONE: u32 = 0;
+
+pub(crate) const NO_MEMORY: u32 = 1;
+
+pub(crate) const BAD_SIZE: u32 = 2;
+
+const NO_IDS: u32 = 3;
+
+const NO_WORDS: u32 = 4;
+
+const NO_SLOTS: u32 = 5;
+
+const TOO_LONG: u32 = 6;
+
+/// A status, and at 0 the string. Where a counter was full, `at`, `want` and `end` are its report;
+/// where two strings would be too long, `at` and `want` are their lengths.
+#[repr(C)]
+#[derive(Clone, Copy)]
+pub struct JsAnswer {
+    pub status: u32,
+    pub id: u32,
+    pub at: u32,
+    pub want: u32,
+    pub end: u32,
+}
+
+fn done(s: JsStr) -> JsAnswer
+    ensures { result ≡ reports.done s.id }
+{
+    JsAnswer {
+        status: DONE,
+        id: s.id,
+        at: 0,
+        want: 0,
+        end: 0,
+    }
+}
+
+fn report(full: TextFull) -> JsAnswer
+    ensures { result ≡ reports.text_report full }
+{
+    let (status, full) = match full {
+        TextFull::Ids(full) => (NO_IDS, full),
+        TextFull::Words(full) => (NO_WORDS, full),
+    };
+    JsAnswer {
+        status,
+        id: 0,
+        at: full.at,
+        want: full.want,
+        end: full.end,
+    }
+}
+
+pub(crate) fn of_text(answer: Result<JsStr, TextFull>) -> JsAnswer
+    ensures { result ≡ text_answer answer }
+{
+    match answer {
+        Ok(s) => done(s),
+        Err(full) => report(full),
+    }
+}
+
+pub(crate) fn of_join(answer: Result<JsStr, JoinFault>) -> JsAnswer
+    ensures { result ≡ join_answer answer }
+{
+    match answer {
+        Ok(s) => done(s),
+        Err(JoinFault::Full(full)) => report(full),
+        Err(JoinFault::TooLong { left, right }) => JsAnswer {
+            status: TOO_LONG,
+            id: 0,
+            at: left,
+            want: right,
+            end: 0,
+        },
+    }
+}
+
+pub(crate) fn of_table(answer: Result<u32, TableFull>) -> JsAnswer
+    ensures { result ≡ table_answer answer }
+{
+    let (status, full) = match answer {
+        Ok(id) => return done(JsStr { id }),
+        Err(TableFull::Ids(full)) => (NO_IDS, full),
+        Err(TableFull::Words(full)) => (NO_WORDS, full),
+        Err(TableFull::Slots { slots }) => {
+            let full = CounterFull {
+                at: 0,
+                want: 0,
+                end: slots,
+            };
+            (NO_SLOTS, full)
+        }
+    };
+    JsAnswer {
+        status,
+        id: 0,
+        at: full.at,
+        want: full.want,
+        end: full.end,
+    }
+}
+
+pub(crate) fn no_memory() -> JsAnswer
+    ensures { result ≡ reports.no_memory }
+{
+    JsAnswer {
+        status: NO_MEMORY,
+        id: 0,
+        at: 0,
+        want: 0,
+        end: 0,
+    }
+}
