@@ -1,7 +1,7 @@
 -- What the scope of the code stands for.
-use Rattle.std.specs.Prelude.{◌≡◌, ℕ, zero, suc, ◌<◌, length, List, [], ◌∷◌, map, reverse, Option, slice_get, option_and_then, unwrap_or}
+use Rattle.std.specs.Prelude.{◌≡◌, ℕ, zero, suc, ◌<◌, length, List, [], ◌∷◌, false, map, reverse, Option, slice_get, option_and_then, unwrap_or}
 use Rattle.eval_scopes.specs.declared.env.Binding.{Binding}
-use Rattle.eval_scopes.specs.declared.scope.Frame.{Frame as CodeFrame}
+use Rattle.eval_scopes.specs.declared.frames.Frame.{Frame as CodeFrame}
 use Rattle.eval_scopes.specs.declared.scope.Scope.{Scope}
 use Rattle.eval_scopes.specs.declared.scope.Place.{Place}
 use Rattle.eval_scopes.specs.declared.scope.Place.TheVariants.{Top, Block}
@@ -24,7 +24,7 @@ abbrev pub frames_of : {T : Type 0} → List (CodeFrame T) → List (Frame T)
 frames_of fs = reverse (map frame_of fs)
 
 abbrev pub bindings_of : {T : Type 0} → Scope T → Bindings T
-bindings_of s = record { blocks = frames_of s.blocks.items; top = bounds_of s.env }
+bindings_of s = record { blocks = frames_of s.blocks; top = bounds_of s.env }
 
 -- the binding at a place of a list, and the list with another value there
 abbrev pub put : {T : Type 0} → List (Bound T) → ℕ → T → List (Bound T)
@@ -37,6 +37,11 @@ pub record IsAt {T : Type 0} (bs : List (Bound T)) (x : List ℕ) (i : ℕ) : Ty
   pub reads : bound_in bs x ≡ slice_get bs i
   pub writes : (v : T) → changed bs x v ≡ put bs i v
 
+-- one binding alone, of this name, which is not constant: with another value it is a turn's
+pub record IsOnly {T : Type 0} (bs : List (Bound T)) (x : List ℕ) : Type 0 where
+  pub within : 0 < length bs
+  pub again : (v : T) → put bs 0 v ≡ record { name = x; constant = false; value = v } ∷ []
+
 -- the same for a place of a scope
 abbrev pub put_in : {T : Type 0} → List (Frame T) → ℕ → ℕ → T → List (Frame T)
 put_in [] k i v = []
@@ -48,11 +53,11 @@ got f i = option_and_then (λ g. slice_get g.bound i) f
 
 abbrev pub bound_at : {T : Type 0} → Scope T → Place → Option (Bound T)
 bound_at s (Top i) = slice_get (bounds_of s.env) i
-bound_at s (Block k i) = got (slice_get (map frame_of s.blocks.items) k) i
+bound_at s (Block k i) = got (slice_get (map frame_of s.blocks) k) i
 
 abbrev pub put_at : {T : Type 0} → Scope T → Place → T → Bindings T
-put_at s (Top i) v = record { blocks = frames_of s.blocks.items; top = put (bounds_of s.env) i v }
-put_at s (Block k i) v = record { blocks = reverse (put_in (map frame_of s.blocks.items) k i v); top = bounds_of s.env }
+put_at s (Top i) v = record { blocks = frames_of s.blocks; top = put (bounds_of s.env) i v }
+put_at s (Block k i) v = record { blocks = reverse (put_in (map frame_of s.blocks) k i v); top = bounds_of s.env }
 
 abbrev pub InBlock : {T : Type 0} → List (CodeFrame T) → ℕ → ℕ → Type 0
 InBlock [] k i = ⊥
@@ -61,7 +66,7 @@ InBlock (f ∷ fs) (suc k) i = InBlock fs k i
 
 abbrev pub Within : {T : Type 0} → Scope T → Place → Type 0
 Within s (Top i) = i < length s.env
-Within s (Block k i) = InBlock s.blocks.items k i
+Within s (Block k i) = InBlock s.blocks k i
 
 pub record IsPlace {T : Type 0} (s : Scope T) (x : List ℕ) (p : Place) : Type 0 where
   pub within : Within s p

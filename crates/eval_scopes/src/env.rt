@@ -1,8 +1,8 @@
 // The bindings of a script's top, and of a block.
-ghost use Rattle.std.specs.Prelude.{◌≡◌, ◌<◌, ◌≤◌, ◌∷◌, ◌++◌, [], None, length, MatchOption, IfOk, OnOk, OnErr};
-ghost use Rattle.eval_scopes.specs.Index.{IsIndex, NoneNamed};
+ghost use Rattle.std.specs.Prelude.{◌≡◌, ◌<◌, ◌≤◌, ◌∷◌, ◌++◌, [], true, None, length, min, MatchOption, IfOk, OnOk, OnErr};
+ghost use Rattle.eval_scopes.specs.Index.{few, IsIndex, NoneNamed};
 ghost use Rattle.eval_scopes.specs.Bindings.{bound_in};
-ghost use Rattle.eval_scopes.specs.Seen.{bound_of, bounds_of, put, IsAt};
+ghost use Rattle.eval_scopes.specs.Seen.{bound_of, bounds_of, put, IsAt, IsOnly};
 
 use crate::index::{FEW, Index};
 use eval_tree::Name;
@@ -59,6 +59,7 @@ impl<T: Drop> Env<T> {
     }
 
     /// The place of the first binding of a name.
+    #[inline(always)]
     pub fn position(&self, name: &Name) -> Option<usize>
         ensures { MatchOption result (bound_in (bounds_of self.now) name.now ≡ None)
             (λ i. IsAt (bounds_of self.now) name.now i) }
@@ -66,10 +67,27 @@ impl<T: Drop> Env<T> {
         let all = self.bindings.len();
         match position_in(&self.bindings, 0, FEW.min(all), name) {
             Some(index) => Some(index),
-            None => match self.first.start(name.key()) {
-                Some(start) => position_in(&self.bindings, start, all, name),
-                None => None,
-            },
+            None => {
+                if all <= FEW {
+                    None
+                } else {
+                    self.position_by_key(name, all)
+                }
+            }
+        }
+    }
+
+    // The same where none of the first few has the name.
+    #[inline(never)]
+    fn position_by_key(&self, name: &Name, all: usize) -> Option<usize>
+        requires all { all ≡ length self.now }
+        requires few { NoneNamed self.now name.now (min few all) }
+        ensures { MatchOption result (bound_in (bounds_of self.now) name.now ≡ None)
+            (λ i. IsAt (bounds_of self.now) name.now i) }
+    {
+        match self.first.start(name.key()) {
+            Some(start) => position_in(&self.bindings, start, all, name),
+            None => None,
         }
     }
 
@@ -87,6 +105,28 @@ impl<T: Drop> Env<T> {
         }
     }
 
+    /// Whether it has one binding alone, of this name, which is not constant.
+    pub(crate) fn is_only(&self, name: &Name) -> bool
+        ensures { result ≡ true → IsOnly (bounds_of self.now) name.now }
+    {
+        if self.bindings.len() != 1 {
+            return false;
+        }
+        let one = &self.bindings[0];
+        if one.constant {
+            return false;
+        }
+        one.name.is(name)
+    }
+
+    /// No binding is left. Its memory is kept for others.
+    pub(crate) fn clear(&mut self)
+        ensures { self.new ≡ [] }
+    {
+        self.bindings.clear();
+        self.first = Index::new();
+    }
+
     /// Another value for one binding.
     pub fn set(&mut self, index: usize, value: T)
         requires { index < length self.old }
@@ -97,6 +137,7 @@ impl<T: Drop> Env<T> {
 }
 
 // The first binding of a name, which no binding before `start` has, among those before `end`.
+#[inline(always)]
 fn position_in<T>(bound: &[Binding<T>], start: usize, end: usize, name: &Name) -> Option<usize>
     requires within { end ≤ length bound.now }
     requires before { NoneNamed bound.now name.now start }

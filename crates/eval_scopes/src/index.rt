@@ -1,5 +1,5 @@
 // The names of a block, and the index by which a name is found among many.
-ghost use Rattle.std.specs.Prelude.{◌≡◌, ◌<◌, ◌≤◌, ◌⊎◌, ℕ, List, [], false, true, length, IfOk, OnOk, IsSome};
+ghost use Rattle.std.specs.Prelude.{◌≡◌, ◌<◌, ◌≤◌, ◌⊎◌, ℕ, List, [], false, true, length, min, IfOk, OnOk, IsSome};
 ghost use Rattle.std.specs.Ordering.{nat_cmp};
 ghost use Rattle.std.specs.Map.{lookup};
 ghost use Rattle.std.specs.BTreeMap.{is_at};
@@ -132,8 +132,23 @@ impl<'a> Declared<'a> {
         if is_one_of(names, 0, FEW.min(all), name) {
             return true;
         }
+        if all <= FEW {
+            return false;
+        }
+        self.has_by_key(name)
+    }
+
+    // The same where none of the first few is the name.
+    #[inline(never)]
+    fn has_by_key(&self, name: &Name) -> bool
+        requires { NoneAmong self.now name.now (min few (length self.now)) }
+        ensures { result ≡ is_among self.now name.now }
+    {
         match self.first.start(name.key()) {
-            Some(start) => is_one_of(names, start, all, name),
+            Some(start) => {
+                let names = self.names.as_slice();
+                is_one_of(names, start, names.len(), name)
+            }
             None => false,
         }
     }

@@ -5,9 +5,11 @@
 #![tactic(auto)]
 
 mod env;
+mod frames;
 mod index;
 mod scope;
 
 pub use env::{Binding, Env};
+pub use frames::{Frame, Frames};
 pub use index::Declared;
-pub use scope::{Frame, Place, Scope};
+pub use scope::{Place, Scope};

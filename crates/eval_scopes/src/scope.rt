@@ -1,26 +1,19 @@
 // The blocks that were entered, over the top.
-ghost use Rattle.std.specs.Prelude.{◌≡◌, ◌∷◌, ◌+◌, [], ℕ, Some, None, length, map, MatchOption, OnOk, OnErr, List};
-ghost use Rattle.eval_scopes.specs.Bindings.{is_among, Bound, meant, declare, declared, entered, turned, inside, outer};
-ghost use Rattle.eval_scopes.specs.Seen.{bound_of, bounds_of, names_of, frame_of, frames_of, bindings_of, put_in, InBlock, bound_at, put_at, Within, IsPlace};
+ghost use Rattle.std.specs.Prelude.{◌≡◌, Some, None, MatchOption, OnOk, OnErr};
+ghost use Rattle.eval_scopes.specs.Bindings.{is_among, meant, declared, entered, turned, outer};
+ghost use Rattle.eval_scopes.specs.Seen.{bound_of, names_of, bindings_of, bound_at, put_at, Within, IsPlace};
 
 use crate::env::{Binding, Env, bind_name};
+use crate::frames::{Frame, Frames};
 use crate::index::Declared;
 use eval_tree::{Name, Names};
 use js_units::NoMemory;
 use std::alloc::Global;
 
-/// A block that was entered: the names that it declares, and those that were evaluated. A turn of a
-/// `for` has no names beside the one that is bound.
-#[derive(Drop)]
-pub struct Frame<'a, T> {
-    pub names: Option<Declared<'a>>,
-    pub bound: Env<T>,
-}
-
 /// The blocks that were entered, the innermost at the end, and the top.
 #[derive(Drop)]
 pub struct Scope<'a, T> {
-    pub blocks: Vec<Frame<'a, T>>,
+    pub blocks: Frames<'a, T>,
     pub env: Env<T>,
 }
 
@@ -38,8 +31,9 @@ impl<'a, T: Drop> Scope<'a, T> {
         ensures { MatchOption result (meant (bindings_of self.now) name.now ≡ None)
             (λ p. IsPlace self.now name.now p) }
     {
-        for block in (0..self.blocks.len()).rev() {
-            let frame = &self.blocks[block];
+        let blocks = self.blocks.as_slice();
+        for block in (0..blocks.len()).rev() {
+            let frame = &blocks[block];
             if let Some(index) = frame.bound.position(name) {
                 return Some(Place::Block { block, index });
             }
@@ -60,7 +54,7 @@ impl<'a, T: Drop> Scope<'a, T> {
     {
         match place {
             Place::Top { index } => &self.env.list()[index],
-            Place::Block { block, index } => &self.blocks[block].bound.list()[index],
+            Place::Block { block, index } => &self.blocks.as_slice()[block].bound.list()[index],
         }
     }
 
@@ -71,7 +65,7 @@ impl<'a, T: Drop> Scope<'a, T> {
     {
         match place {
             Place::Top { index } => self.env.set(index, value),
-            Place::Block { block, index } => set_in_block(&mut self.blocks, block, index, value),
+            Place::Block { block, index } => self.blocks.set(block, index, value),
         }
     }
 
@@ -82,11 +76,11 @@ impl<'a, T: Drop> Scope<'a, T> {
         ensures refused { OnErr result (bindings_of self.new ≡ bindings_of self.old) }
     {
         let binding = bind_name(name, constant, value)?;
-        let blocks = self.blocks.len();
+        let blocks = self.blocks.as_slice().len();
         if blocks == 0 {
             self.env.push(binding)
         } else {
-            declare_in_block(&mut self.blocks, blocks - 1, binding)
+            self.blocks.declare(blocks - 1, binding)
         }
     }
 
@@ -95,9 +89,8 @@ impl<'a, T: Drop> Scope<'a, T> {
         ensures entered { OnOk result (bindings_of self.new ≡ entered names.now (bindings_of self.old)) }
         ensures refused { OnErr result (bindings_of self.new ≡ bindings_of self.old) }
     {
-        let names = Some(Declared::new(alloc, names)?);
-        let bound = Env::new(alloc);
-        push_frame(self, Frame { names, bound })
+        let names = Declared::new(alloc, names)?;
+        self.blocks.enter(alloc, names)
     }
 
     /// Enters a turn of a `for`, with its name bound; unchanged on refusal.
@@ -105,51 +98,14 @@ impl<'a, T: Drop> Scope<'a, T> {
         ensures entered { OnOk result (bindings_of self.new ≡ turned name.now value (bindings_of self.old)) }
         ensures refused { OnErr result (bindings_of self.new ≡ bindings_of self.old) }
     {
-        let binding = bind_name(name, false, value)?;
-        let mut bound = Env::new(alloc);
-        bound.push(binding)?;
-        push_frame(self, Frame { names: None, bound })
+        self.blocks.enter_turn(alloc, name, value)
     }
 
     /// Leaves the innermost block.
     pub fn leave(&mut self)
         ensures { bindings_of self.new ≡ outer (bindings_of self.old) }
     {
-        self.blocks.pop();
-    }
-}
-
-// Another value for a binding of a block.
-fn set_in_block<T: Drop>(blocks: &mut Vec<Frame<T>>, block: usize, index: usize, value: T)
-    requires { InBlock blocks.old.items block index }
-    ensures { map frame_of blocks.new.items ≡ put_in (map frame_of blocks.old.items) block index value }
-{
-    blocks[block].bound.set(index, value)
-}
-
-// One more binding of the last block.
-fn declare_in_block<T: Drop>(
-    blocks: &mut Vec<Frame<T>>,
-    last: usize,
-    binding: Binding<T>,
-) -> Result<(), NoMemory>
-    requires { length blocks.old.items ≡ last + 1 }
-    ensures declared { OnOk result ((top : List (Bound T)) →
-        (record { blocks = frames_of blocks.new.items; top = top }) ≡ declare
-        (frames_of blocks.old.items) top (bound_of binding)) }
-    ensures refused { OnErr result (frames_of blocks.new.items ≡ frames_of blocks.old.items) }
-{
-    blocks[last].bound.push(binding)
-}
-
-fn push_frame<'a, T: Drop>(scope: &mut Scope<'a, T>, frame: Frame<'a, T>) -> Result<(), NoMemory>
-    ensures entered { OnOk result (bindings_of scope.new ≡ inside (frame_of frame.entry)
-        (bindings_of scope.old)) }
-    ensures refused { OnErr result (bindings_of scope.new ≡ bindings_of scope.old) }
-{
-    match scope.blocks.push(frame) {
-        Ok(()) => Ok(()),
-        Err(_) => Err(NoMemory),
+        self.blocks.leave();
     }
 }
 

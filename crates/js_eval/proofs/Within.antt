@@ -39,7 +39,7 @@ module _ {F R : Type 0} (s : State F) (name : R → ℕ) where
 
   pub place_fine : (scope : Scope (Value R)) (p : Place) (b : Bound (Value R)) → BindingsFine s name (bindings_of scope) → Some b ≡ bound_at scope p → IsFine s name b.value
   place_fine scope (Top i) b h e = every_get (λ c. IsFine s name c.value) (bounds_of scope.env) i b h.top (sym e)
-  place_fine scope (Block k i) b h e = got_fine (map frame_of scope.blocks.items) k i b (every_unreversed (λ (f : Frame (Value R)). BoundsFine s name f.bound) (map frame_of scope.blocks.items) h.blocks) e
+  place_fine scope (Block k i) b h e = got_fine (map frame_of scope.blocks) k i b (every_unreversed (λ (f : Frame (Value R)). BoundsFine s name f.bound) (map frame_of scope.blocks) h.blocks) e
 
   put_fine : (bs : List (Bound (Value R))) (i : ℕ) (v : Value R) → IsFine s name v → BoundsFine s name bs → BoundsFine s name (put bs i v)
   put_fine [] i v f h = tt
@@ -56,5 +56,5 @@ module _ {F R : Type 0} (s : State F) (name : R → ℕ) where
   put_at_fine scope (Top i) v f h = record { blocks = h.blocks; top = put_fine (bounds_of scope.env) i v f h.top }
   put_at_fine scope (Block k i) v f h =
       let P : Frame (Value R) → Type 0 = λ g. BoundsFine s name g.bound in
-      let fs : List (Frame (Value R)) = map frame_of scope.blocks.items in
+      let fs : List (Frame (Value R)) = map frame_of scope.blocks in
       record { blocks = every_reversed P (put_in fs k i v) (put_in_fine fs k i v f (every_unreversed P fs h.blocks)); top = h.top }

@@ -3,6 +3,7 @@ ghost use Rattle.std.specs.Prelude.{◌≡◌, [], IfOk, IfSome, unwrap_or};
 ghost use Rattle.eval_scopes.specs.Bindings.{meant};
 ghost use Rattle.eval_values.specs.Outcome.{bind};
 ghost use Rattle.js_store.specs.State.{Grows};
+ghost use Rattle.eval_tree.specs.Tree as tree;
 ghost use Rattle.eval_tree.specs.Tree.{variable, expr_tree, link_tree, links_tree, step_tree, steps_tree, exprs_tree};
 ghost use Rattle.js_eval.specs.Expression.{read_out, expr_out, links_out, link_out, steps_out, step_out, exprs_out};
 ghost use Rattle.eval_values.specs.Seen.{seen, all_seen, IsFine, AllFine};
@@ -14,7 +15,7 @@ use crate::literals::read_literal;
 use crate::operators::{apply, is_decided, is_true};
 use eval_builtins::{call_builtin, read_description};
 use eval_members::{call, present, read_index, read_length};
-use eval_tree::{Expr, Link, Name, PostStep};
+use eval_tree::{Builtin, Expr, Link, Name, PostStep};
 use eval_values::{Kind, Stop, Value, apply_unary, number_value, push};
 use js_number::Num;
 use js_store::Strings;
@@ -44,34 +45,129 @@ pub fn expr<S: Strings>(
         Expr::Bool { value } => Ok(Value::Bool(*value)),
         Expr::NaN => Ok(Value::Number(Num::NaN)),
         Expr::Infinity => Ok(Value::Number(Num::PosInf)),
-        Expr::Unary { at, minus, of } => {
+        Expr::Unary { at, minus, of } => unary(alloc, store, context, *at, *minus, of),
+        Expr::Chain { first, rest } => chain(alloc, store, context, rest, first),
+        Expr::Cond { test, yes, no } => conditional(alloc, store, context, test, yes, no),
+        Expr::Post { of, steps: rest } => post(alloc, store, context, rest, of),
+        Expr::Builtin { at, which, args } => builtin(alloc, store, context, *at, *which, args),
+    }
+}
+
+// A minus, or a `!`. Each form that holds others has a function of its own, since each call pays for its locals.
+#[cycle(expr)]
+fn unary<S: Strings>(
+    alloc: Global,
+    store: &mut S,
+    context: &Context<S::Ref>,
+    at: u32,
+    minus: bool,
+    of: &Expr,
+) -> Result<Value<S::Ref>, Stop>
+    requires { ContextFine (S.state store.old) S.number context.now }
+    ensures grows { Grows (S.state store.old) (S.state store.new) }
+    ensures context { ContextFine (S.state store.new) S.number context.now }
+    ensures fine { IfOk result (λ v. IsFine (S.state store.new) S.number v) }
+    ensures did { Does S.number (S.state store.old) (S.state store.new) result
+        (expr_out (tree.unary at minus (expr_tree of.now))
+        (scope_of (S.state store.old) S.number context.now)) }
+{
+    let value = expr(alloc, store, context, of)?;
+    apply_unary(store, at, minus, &value)
+}
+
+// A first operand and the links behind it.
+#[cycle(expr)]
+fn chain<S: Strings>(
+    alloc: Global,
+    store: &mut S,
+    context: &Context<S::Ref>,
+    rest: &[Link],
+    first: &Expr,
+) -> Result<Value<S::Ref>, Stop>
+    requires { ContextFine (S.state store.old) S.number context.now }
+    ensures grows { Grows (S.state store.old) (S.state store.new) }
+    ensures context { ContextFine (S.state store.new) S.number context.now }
+    ensures fine { IfOk result (λ v. IsFine (S.state store.new) S.number v) }
+    ensures did { Does S.number (S.state store.old) (S.state store.new) result
+        (expr_out (tree.chain (expr_tree first.now) (links_tree rest.now))
+        (scope_of (S.state store.old) S.number context.now)) }
+{
+    let value = expr(alloc, store, context, first)?;
+    links(alloc, store, context, value, rest)
+}
+
+// The one of two expressions that a test chooses.
+#[cycle(expr)]
+fn conditional<S: Strings>(
+    alloc: Global,
+    store: &mut S,
+    context: &Context<S::Ref>,
+    test: &Expr,
+    yes: &Expr,
+    no: &Expr,
+) -> Result<Value<S::Ref>, Stop>
+    requires { ContextFine (S.state store.old) S.number context.now }
+    ensures grows { Grows (S.state store.old) (S.state store.new) }
+    ensures context { ContextFine (S.state store.new) S.number context.now }
+    ensures fine { IfOk result (λ v. IsFine (S.state store.new) S.number v) }
+    ensures did { Does S.number (S.state store.old) (S.state store.new) result
+        (expr_out (tree.conditional (expr_tree test.now) (expr_tree yes.now) (expr_tree no.now))
+        (scope_of (S.state store.old) S.number context.now)) }
+{
+    let value = expr(alloc, store, context, test)?;
+    if is_true(store, context, &value) {
+        expr(alloc, store, context, yes)
+    } else {
+        expr(alloc, store, context, no)
+    }
+}
+
+// An expression and the steps behind it.
+#[cycle(expr)]
+fn post<S: Strings>(
+    alloc: Global,
+    store: &mut S,
+    context: &Context<S::Ref>,
+    rest: &[PostStep],
+    of: &Expr,
+) -> Result<Value<S::Ref>, Stop>
+    requires { ContextFine (S.state store.old) S.number context.now }
+    ensures grows { Grows (S.state store.old) (S.state store.new) }
+    ensures context { ContextFine (S.state store.new) S.number context.now }
+    ensures fine { IfOk result (λ v. IsFine (S.state store.new) S.number v) }
+    ensures did { Does S.number (S.state store.old) (S.state store.new) result
+        (expr_out (tree.post (expr_tree of.now) (steps_tree rest.now))
+        (scope_of (S.state store.old) S.number context.now)) }
+{
+    match name_of(of) {
+        Some(name) => steps_of_name(alloc, store, context, name, rest),
+        None => {
             let value = expr(alloc, store, context, of)?;
-            apply_unary(store, *at, *minus, &value)
-        }
-        Expr::Chain { first, rest } => {
-            let value = expr(alloc, store, context, first)?;
-            links(alloc, store, context, value, rest)
-        }
-        Expr::Cond { test, yes, no } => {
-            let value = expr(alloc, store, context, test)?;
-            if is_true(store, context, &value) {
-                expr(alloc, store, context, yes)
-            } else {
-                expr(alloc, store, context, no)
-            }
-        }
-        Expr::Post { of, steps: rest } => match name_of(of) {
-            Some(name) => steps_of_name(alloc, store, context, name, rest),
-            None => {
-                let value = expr(alloc, store, context, of)?;
-                steps(alloc, store, context, &value, rest)
-            }
-        },
-        Expr::Builtin { at, which, args } => {
-            let values = exprs(alloc, store, context, args)?;
-            call_builtin(alloc, store, *at, *which, &values)
+            steps(alloc, store, context, &value, rest)
         }
     }
+}
+
+// A call of a built-in function.
+#[cycle(expr)]
+fn builtin<S: Strings>(
+    alloc: Global,
+    store: &mut S,
+    context: &Context<S::Ref>,
+    at: u32,
+    which: Builtin,
+    args: &[Expr],
+) -> Result<Value<S::Ref>, Stop>
+    requires { ContextFine (S.state store.old) S.number context.now }
+    ensures grows { Grows (S.state store.old) (S.state store.new) }
+    ensures context { ContextFine (S.state store.new) S.number context.now }
+    ensures fine { IfOk result (λ v. IsFine (S.state store.new) S.number v) }
+    ensures did { Does S.number (S.state store.old) (S.state store.new) result
+        (expr_out (tree.builtin at which (exprs_tree args.now))
+        (scope_of (S.state store.old) S.number context.now)) }
+{
+    let values = exprs(alloc, store, context, args)?;
+    call_builtin(alloc, store, at, which, &values)
 }
 
 // The links of a chain, from the value on their left.

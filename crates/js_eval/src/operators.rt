@@ -1,9 +1,11 @@
 // Operators on the values of both sides.
-ghost use Rattle.std.specs.Prelude.{◌≡◌, None, IfOk};
+ghost use Rattle.std.specs.Prelude.{◌≡◌, ℕ, Ok, None, IfOk, IfSome};
+ghost use Rattle.js_number.specs.Places.{IsLawful};
 ghost use Rattle.js_store.specs.State.{Grows};
 ghost use Rattle.js_store.specs.Faults.{Step};
 ghost use Rattle.eval_values.specs.Comparing.{is_less as less_in, is_greater as greater_in, is_at_most as at_most_in, is_at_least as at_least_in};
 ghost use Rattle.eval_values.specs.Conversions.{to_boolean};
+ghost use Rattle.eval_values.specs.Outcome.{number};
 ghost use Rattle.eval_values.specs.Seen.{seen, IsFine};
 ghost use Rattle.eval_values.specs.Does.{Does};
 ghost use Rattle.js_eval.specs.Expression.{decides, operated};
@@ -12,6 +14,7 @@ ghost use Rattle.js_eval.specs.Seen.{ContextFine};
 use crate::context::Context;
 use eval_tree::Op;
 use eval_values::{Stop, Value, compare, is_same, plus, subtract, truth};
+use js_number::Num;
 use js_store::Strings;
 use std::alloc::Global;
 use std::cmp::Ordering;
@@ -76,6 +79,29 @@ pub fn apply<S: Strings>(
         (operated op at (S.state store.old).limit
         (seen (S.state store.old) S.number left.now) (seen (S.state store.old) S.number right)) }
 {
+    match of_numbers(store, op, left, &right) {
+        Some(value) => Ok(value),
+        None => apply_to_any(alloc, store, at, op, left, right),
+    }
+}
+
+// The same for any two values.
+fn apply_to_any<S: Strings>(
+    alloc: Global,
+    store: &mut S,
+    at: u32,
+    op: Op,
+    left: &Value<S::Ref>,
+    right: Value<S::Ref>,
+) -> Result<Value<S::Ref>, Stop>
+    requires left { IsFine (S.state store.old) S.number left.now }
+    requires right { IsFine (S.state store.old) S.number right }
+    ensures grows { Grows (S.state store.old) (S.state store.new) }
+    ensures fine { IfOk result (λ v. IsFine (S.state store.new) S.number v) }
+    ensures did { Does S.number (S.state store.old) (S.state store.new) result
+        (operated op at (S.state store.old).limit
+        (seen (S.state store.old) S.number left.now) (seen (S.state store.old) S.number right)) }
+{
     match op {
         Op::Or | Op::And => Ok(right),
         Op::Same => {
@@ -104,6 +130,64 @@ pub fn apply<S: Strings>(
         }
         Op::Plus => plus(alloc, store, at, left, &right),
         Op::Minus => subtract(store, at, left, &right),
+    }
+}
+
+// The short way of a sum, a difference or a `<` of two numbers, where there is a value.
+fn of_numbers<S: Strings>(
+    store: &S,
+    op: Op,
+    left: &Value<S::Ref>,
+    right: &Value<S::Ref>,
+) -> Option<Value<S::Ref>>
+    requires left { IsFine (S.state store.now) S.number left.now }
+    requires right { IsFine (S.state store.now) S.number right.now }
+    ensures fine { IfSome result (λ v. IsFine (S.state store.now) S.number v) }
+    ensures did { (at limit : ℕ) → IfSome result (λ v. Does S.number (S.state store.now) (S.state store.now) (Ok v)
+        (operated op at limit (seen (S.state store.now) S.number left.now)
+        (seen (S.state store.now) S.number right.now))) }
+{
+    match left {
+        Value::Number(m) => match right {
+            Value::Number(n) => of_both(store, op, *m, *n),
+            Value::Undefined
+            | Value::Null
+            | Value::Bool(_)
+            | Value::Text(_)
+            | Value::Symbol(_)
+            | Value::List(_) => None,
+        },
+        Value::Undefined
+        | Value::Null
+        | Value::Bool(_)
+        | Value::Text(_)
+        | Value::Symbol(_)
+        | Value::List(_) => None,
+    }
+}
+
+fn of_both<S: Strings>(_store: &S, op: Op, m: Num, n: Num) -> Option<Value<S::Ref>>
+    requires left { IsLawful m }
+    requires right { IsLawful n }
+    ensures fine { IfSome result (λ v. IsFine (S.state _store.now) S.number v) }
+    ensures did { (at limit : ℕ) → IfSome result (λ v. Does S.number (S.state _store.now) (S.state _store.now) (Ok v)
+        (operated op at limit (number m) (number n))) }
+{
+    match op {
+        Op::Plus => match m.add(n) {
+            Some(sum) => Some(Value::Number(sum)),
+            None => None,
+        },
+        Op::Minus => match m.sub(n) {
+            Some(difference) => Some(Value::Number(difference)),
+            None => None,
+        },
+        Op::Less => match m.less(n) {
+            Some(less) => Some(Value::Bool(less)),
+            None => None,
+        },
+        Op::Or | Op::And | Op::Same | Op::NotSame | Op::Greater | Op::LessEq | Op::GreaterEq =>
+            None,
     }
 }
 

@@ -22,7 +22,7 @@ use crate::ending::End;
 use crate::env::Env;
 use crate::expr::{expr, exprs};
 use crate::literals::intern_literals;
-use eval_scopes::{Place, Scope};
+use eval_scopes::{Frames, Place, Scope};
 use eval_tree::{Arm, Block, Expr, Name, Script, Stmt};
 use eval_values::{Kind, Stop, Value, plus, texts, truth};
 use js_number::Num;
@@ -78,7 +78,7 @@ fn run<S: Strings>(
     let mut context = Context {
         literals,
         scope: Scope {
-            blocks: Vec::new(alloc),
+            blocks: Frames::new(alloc),
             env: mem::replace(&mut env.top, eval_scopes::Env::new(alloc)),
         },
     };

@@ -20,59 +20,50 @@ use Rattle.eval_values.proofs.Still.{seen_still, fine_still}
 use Rattle.js_eval.proofs.Stays.{scope_still, context_fine_still}
 use Rattle.js_eval.proofs.expr.+expr.Goals as goal
 
-pub expr-returns-in-Unary-clause-context : goal.expr-returns-in-Unary-clause-context
-expr-returns-in-Unary-clause-context g t c =
-    context_fine_still (g.S.Strings.state c.expr.new.store) (g.S.Strings.state c.apply_unary.new.store) g.S.Strings.number c.apply_unary.ensures.grows c.args.context.now c.in_ok-value-in-Unary.ensures.context
+pub unary-returns-clause-context : goal.unary-returns-clause-context
+unary-returns-clause-context g t c =
+    context_fine_still (g.S.Strings.state c.expr.new.store) (g.S.Strings.state c.apply_unary.new.store) g.S.Strings.number c.apply_unary.ensures.grows c.args.context.now c.in_ok-value.ensures.context
 
-pub expr-returns-in-Unary-clause-did : goal.expr-returns-in-Unary-clause-did
-expr-returns-in-Unary-clause-did g t c =
+pub unary-returns-clause-did : goal.unary-returns-clause-did
+unary-returns-clause-did g t c =
     let state = g.S.Strings.state in
-    let i = c.in_ok-value-in-Unary.ensures.did in
-    let d = c.deref.ensures in
-    rw (c.in-Unary.is, tree_of_unary c.in-Unary.at c.in-Unary.minus c.in-Unary.of)
-    (unary_does g.S.Strings.number (state c.args.store.now) (state c.expr.new.store) (state c.apply_unary.new.store) c.in_ok-value-in-Unary.value c.apply_unary.result c.in-Unary.at c.in-Unary.minus (expr_tree c.in-Unary.of.value) (scope_of (state c.args.store.now) g.S.Strings.number c.args.context.now) (rw d at i) c.apply_unary.ensures.did)
+    let i = c.in_ok-value.ensures.did in
+    (unary_does g.S.Strings.number (state c.args.store.now) (state c.expr.new.store) (state c.apply_unary.new.store) c.in_ok-value.value c.apply_unary.result c.args.at c.args.minus (expr_tree c.args.of.now) (scope_of (state c.args.store.now) g.S.Strings.number c.args.context.now) i c.apply_unary.ensures.did)
 
-pub expr-returns-in_err-value-in-Chain-clause-did : goal.expr-returns-in_err-value-in-Chain-clause-did
-expr-returns-in_err-value-in-Chain-clause-did g t c =
+pub chain-returns-in_err-value-clause-did : goal.chain-returns-in_err-value-clause-did
+chain-returns-in_err-value-clause-did g t c =
     let state = g.S.Strings.state in
-    let p = err_from_is_err_and c.from_residual-in_err-value-in-Chain.result c.from_residual-in_err-value-in-Chain.ensures.1 in
-    let i = c.in_err-value-in-Chain.ensures.did in
-    let d = c.deref-in-Chain.ensures in
-    rw (p.1, p.2, c.in-Chain.is, tree_of_chain c.in-Chain.first c.in-Chain.rest)
-    (chain_stops g.S.Strings.number (state c.args.store.now) (state c.expr-in-Chain.new.store) c.in_err-value-in-Chain.field-0.0 (expr_tree c.in-Chain.first.value) (links_tree c.in-Chain.rest.items) (scope_of (state c.args.store.now) g.S.Strings.number c.args.context.now) (rw d at i))
+    let p = err_from_is_err_and c.from_residual.result c.from_residual.ensures.1 in
+    let i = c.in_err-value.ensures.did in
+    rw (p.1, p.2)
+    (chain_stops g.S.Strings.number (state c.args.store.now) (state c.expr.new.store) c.in_err-value.field-0.0 (expr_tree c.args.first.now) (links_tree c.args.rest.now) (scope_of (state c.args.store.now) g.S.Strings.number c.args.context.now) i)
 
-pub expr-returns-in-Chain-clause-did : goal.expr-returns-in-Chain-clause-did
-expr-returns-in-Chain-clause-did g t c =
+pub chain-returns-clause-did : goal.chain-returns-clause-did
+chain-returns-clause-did g t c =
     let state = g.S.Strings.state in
-    let i = c.in_ok-value-in-Chain.ensures.did in
+    let i = c.in_ok-value.ensures.did in
     let k = c.links.ensures.did in
-    let d = c.deref-in-Chain.ensures in
-    let e = c.deref-in-Chain-2.ensures.value in
-    rw (c.in-Chain.is, tree_of_chain c.in-Chain.first c.in-Chain.rest)
-    (chain_does g.S.Strings.number (state c.args.store.now) (state c.expr-in-Chain.new.store) (state c.links.new.store) c.in_ok-value-in-Chain.value c.links.result (expr_tree c.in-Chain.first.value) (links_tree c.in-Chain.rest.items) c.args.context.now c.in_ok-value-in-Chain.ensures.grows c.requires (rw d at i) (rw e at k))
+    (chain_does g.S.Strings.number (state c.args.store.now) (state c.expr.new.store) (state c.links.new.store) c.in_ok-value.value c.links.result (expr_tree c.args.first.now) (links_tree c.args.rest.now) c.args.context.now c.in_ok-value.ensures.grows c.requires i k)
 
-pub expr-returns-in_err-values-in-Builtin-clause-did : goal.expr-returns-in_err-values-in-Builtin-clause-did
-expr-returns-in_err-values-in-Builtin-clause-did g t c =
+pub builtin-returns-in_err-values-clause-did : goal.builtin-returns-in_err-values-clause-did
+builtin-returns-in_err-values-clause-did g t c =
     let state = g.S.Strings.state in
-    let p = err_from_is_err_and c.from_residual-in_err-values-in-Builtin.result c.from_residual-in_err-values-in-Builtin.ensures.1 in
-    let i = c.in_err-values-in-Builtin.ensures.did in
-    let d = c.deref-in-Builtin.ensures.value in
-    rw (p.1, p.2, c.in-Builtin.is, tree_of_builtin c.in-Builtin.at c.in-Builtin.which c.in-Builtin.args)
-    (builtin_stops g.S.Strings.number (state c.args.store.now) (state c.exprs.new.store) c.in_err-values-in-Builtin.field-0.0 c.in-Builtin.at c.in-Builtin.which (exprs_tree c.in-Builtin.args.items) (scope_of (state c.args.store.now) g.S.Strings.number c.args.context.now) (rw d at i))
+    let p = err_from_is_err_and c.from_residual.result c.from_residual.ensures.1 in
+    let i = c.in_err-values.ensures.did in
+    rw (p.1, p.2)
+    (builtin_stops g.S.Strings.number (state c.args.store.now) (state c.exprs.new.store) c.in_err-values.field-0.0 c.args.at c.args.which (exprs_tree c.args.args.now) (scope_of (state c.args.store.now) g.S.Strings.number c.args.context.now) i)
 
-pub expr-returns-clause-context : goal.expr-returns-clause-context
-expr-returns-clause-context g t c =
-    context_fine_still (g.S.Strings.state c.exprs.new.store) (g.S.Strings.state c.call_builtin.new.store) g.S.Strings.number c.call_builtin.ensures.grows c.args.context.now c.in_ok-values-in-Builtin.ensures.context
+pub builtin-returns-clause-context : goal.builtin-returns-clause-context
+builtin-returns-clause-context g t c =
+    context_fine_still (g.S.Strings.state c.exprs.new.store) (g.S.Strings.state c.call_builtin.new.store) g.S.Strings.number c.call_builtin.ensures.grows c.args.context.now c.in_ok-values.ensures.context
 
-pub expr-returns-clause-did : goal.expr-returns-clause-did
-expr-returns-clause-did g t c =
+pub builtin-returns-clause-did : goal.builtin-returns-clause-did
+builtin-returns-clause-did g t c =
     let state = g.S.Strings.state in
-    let i = c.in_ok-values-in-Builtin.ensures.did in
+    let i = c.in_ok-values.ensures.did in
     let k = c.call_builtin.ensures.did in
-    let d = c.deref-in-Builtin.ensures.value in
-    let e = c.deref-in-Builtin-2.ensures.value in
-    rw (c.in-Builtin.is, tree_of_builtin c.in-Builtin.at c.in-Builtin.which c.in-Builtin.args)
-    (builtin_does g.S.Strings.number (state c.args.store.now) (state c.exprs.new.store) (state c.call_builtin.new.store) c.in_ok-values-in-Builtin.values c.call_builtin.result c.in-Builtin.at c.in-Builtin.which (exprs_tree c.in-Builtin.args.items) c.args.context.now c.in_ok-values-in-Builtin.ensures.grows (rw d at i) (rw e at k))
+    let e = c.deref.ensures.value in
+    (builtin_does g.S.Strings.number (state c.args.store.now) (state c.exprs.new.store) (state c.call_builtin.new.store) c.in_ok-values.values c.call_builtin.result c.args.at c.args.which (exprs_tree c.args.args.now) c.args.context.now c.in_ok-values.ensures.grows i (rw e at k))
 
 pub links-returns-in_err-value-clause-did : goal.links-returns-in_err-value-clause-did
 links-returns-in_err-value-clause-did g t c =
@@ -301,34 +292,27 @@ exprs-returns-in_err-value-clause-grows g t c = grows_trans c.loop-e.invariant.g
 pub exprs-returns-in_err-push-clause-grows : goal.exprs-returns-in_err-push-clause-grows
 exprs-returns-in_err-push-clause-grows g t c = grows_trans c.loop-e.invariant.grows c.in_ok-value.ensures.grows
 
-pub expr-returns-in_err-value-in-Cond-clause-did : goal.expr-returns-in_err-value-in-Cond-clause-did
-expr-returns-in_err-value-in-Cond-clause-did g t c =
+pub conditional-returns-in_err-value-clause-did : goal.conditional-returns-in_err-value-clause-did
+conditional-returns-in_err-value-clause-did g t c =
     let state = g.S.Strings.state in
-    let p = err_from_is_err_and c.from_residual-in_err-value-in-Cond.result c.from_residual-in_err-value-in-Cond.ensures.1 in
-    let i = c.in_err-value-in-Cond.ensures.did in
-    let d = c.deref-in-Cond.ensures in
-    rw (p.1, p.2, c.in-Cond.is, tree_of_conditional c.in-Cond.test c.in-Cond.yes c.in-Cond.no)
-    (condition_stops g.S.Strings.number (state c.args.store.now) (state c.expr-in-Cond.new.store) c.in_err-value-in-Cond.field-0.0 (expr_tree c.in-Cond.test.value) (expr_tree c.in-Cond.yes.value) (expr_tree c.in-Cond.no.value) (scope_of (state c.args.store.now) g.S.Strings.number c.args.context.now) (rw d at i))
+    let p = err_from_is_err_and c.from_residual.result c.from_residual.ensures.1 in
+    let i = c.in_err-value.ensures.did in
+    rw (p.1, p.2)
+    (condition_stops g.S.Strings.number (state c.args.store.now) (state c.expr.new.store) c.in_err-value.field-0.0 (expr_tree c.args.test.now) (expr_tree c.args.yes.now) (expr_tree c.args.no.now) (scope_of (state c.args.store.now) g.S.Strings.number c.args.context.now) i)
 
-pub expr-returns-then-is_true-clause-did : goal.expr-returns-then-is_true-clause-did
-expr-returns-then-is_true-clause-did g t c =
+pub conditional-returns-then-is_true-clause-did : goal.conditional-returns-then-is_true-clause-did
+conditional-returns-then-is_true-clause-did g t c =
     let state = g.S.Strings.state in
-    let i = c.in_ok-value-in-Cond.ensures.did in
+    let i = c.in_ok-value.ensures.did in
     let k = c.expr-then-is_true.ensures.did in
-    let d = c.deref-in-Cond.ensures in
-    let e = c.deref-then-is_true.ensures in
-    rw (c.in-Cond.is, tree_of_conditional c.in-Cond.test c.in-Cond.yes c.in-Cond.no)
-    (condition_holds g.S.Strings.number (state c.args.store.now) (state c.expr-in-Cond.new.store) (state c.is_true.new.store) (state c.expr-then-is_true.new.store) c.in_ok-value-in-Cond.value c.expr-then-is_true.result (expr_tree c.in-Cond.test.value) (expr_tree c.in-Cond.yes.value) (expr_tree c.in-Cond.no.value) c.args.context.now c.in_ok-value-in-Cond.ensures.grows c.is_true.ensures.step c.is_true.ensures.history c.requires (rw d at i) (sym c.is_true.ensures.value ∙ c.if-is_true.true) (rw e at k))
+    (condition_holds g.S.Strings.number (state c.args.store.now) (state c.expr.new.store) (state c.is_true.new.store) (state c.expr-then-is_true.new.store) c.in_ok-value.value c.expr-then-is_true.result (expr_tree c.args.test.now) (expr_tree c.args.yes.now) (expr_tree c.args.no.now) c.args.context.now c.in_ok-value.ensures.grows c.is_true.ensures.step c.is_true.ensures.history c.requires i (sym c.is_true.ensures.value ∙ c.if-is_true.true) k)
 
-pub expr-returns-in-Cond-clause-did : goal.expr-returns-in-Cond-clause-did
-expr-returns-in-Cond-clause-did g t c =
+pub conditional-returns-clause-did : goal.conditional-returns-clause-did
+conditional-returns-clause-did g t c =
     let state = g.S.Strings.state in
-    let i = c.in_ok-value-in-Cond.ensures.did in
+    let i = c.in_ok-value.ensures.did in
     let k = c.expr-else-is_true.ensures.did in
-    let d = c.deref-in-Cond.ensures in
-    let e = c.deref-else-is_true.ensures in
-    rw (c.in-Cond.is, tree_of_conditional c.in-Cond.test c.in-Cond.yes c.in-Cond.no)
-    (condition_fails g.S.Strings.number (state c.args.store.now) (state c.expr-in-Cond.new.store) (state c.is_true.new.store) (state c.expr-else-is_true.new.store) c.in_ok-value-in-Cond.value c.expr-else-is_true.result (expr_tree c.in-Cond.test.value) (expr_tree c.in-Cond.yes.value) (expr_tree c.in-Cond.no.value) c.args.context.now c.in_ok-value-in-Cond.ensures.grows c.is_true.ensures.step c.is_true.ensures.history c.requires (rw d at i) (sym c.is_true.ensures.value ∙ c.if-is_true.false) (rw e at k))
+    (condition_fails g.S.Strings.number (state c.args.store.now) (state c.expr.new.store) (state c.is_true.new.store) (state c.expr-else-is_true.new.store) c.in_ok-value.value c.expr-else-is_true.result (expr_tree c.args.test.now) (expr_tree c.args.yes.now) (expr_tree c.args.no.now) c.args.context.now c.in_ok-value.ensures.grows c.is_true.ensures.step c.is_true.ensures.history c.requires i (sym c.is_true.ensures.value ∙ c.if-is_true.false) k)
 
 pub steps_of_name-returns-in-None-clause-did : goal.steps_of_name-returns-in-None-clause-did
 steps_of_name-returns-in-None-clause-did g t c =
@@ -351,32 +335,28 @@ pub expr-returns-in-Number-clause-did : goal.expr-returns-in-Number-clause-did
 expr-returns-in-Number-clause-did g t c =
     rw (c.in-Number.is, tree_of_number c.in-Number.value) (written_does g.S.Strings.number (g.S.Strings.state c.args.store.now) c.number_value.result c.in-Number.value c.number_value.ensures)
 
-pub expr-returns-clause-grows : goal.expr-returns-clause-grows
-expr-returns-clause-grows g t c = grows_trans c.in_ok-values-in-Builtin.ensures.grows c.call_builtin.ensures.grows
+pub builtin-returns-clause-grows : goal.builtin-returns-clause-grows
+builtin-returns-clause-grows g t c = grows_trans c.in_ok-values.ensures.grows c.call_builtin.ensures.grows
 
 pub one_link-apply-requires-clause-left : goal.one_link-apply-requires-clause-left
 one_link-apply-requires-clause-left g t c =
     let state = g.S.Strings.state in
     fine_still (state c.args.store.now) (state c.expr.new.store) g.S.Strings.number (grows_trans c.is_decided.ensures.step.grows c.in_ok-right.ensures.grows) c.args.left c.requires.left
 
-pub expr-returns-in_err-value-in-None-clause-did : goal.expr-returns-in_err-value-in-None-clause-did
-expr-returns-in_err-value-in-None-clause-did g t c =
+pub post-returns-in_err-value-in-None-clause-did : goal.post-returns-in_err-value-in-None-clause-did
+post-returns-in_err-value-in-None-clause-did g t c =
     let state = g.S.Strings.state in
-    let p = err_from_is_err_and c.from_residual-in_err-value-in-None.result c.from_residual-in_err-value-in-None.ensures.1 in
+    let p = err_from_is_err_and c.from_residual.result c.from_residual.ensures.1 in
     let i = c.in_err-value-in-None.ensures.did in
-    let d = c.deref-in-None.ensures in
-    rw (p.1, p.2, c.in-Post.is, tree_of_post c.in-Post.of c.in-Post.rest)
-    (post_stops g.S.Strings.number (state c.args.store.now) (state c.expr-in-None.new.store) c.in_err-value-in-None.field-0.0 (expr_tree c.in-Post.of.value) (steps_tree c.in-Post.rest.items) (scope_of (state c.args.store.now) g.S.Strings.number c.args.context.now) (rw d at i))
+    rw (p.1, p.2)
+    (post_stops g.S.Strings.number (state c.args.store.now) (state c.expr.new.store) c.in_err-value-in-None.field-0.0 (expr_tree c.args.of.now) (steps_tree c.args.rest.now) (scope_of (state c.args.store.now) g.S.Strings.number c.args.context.now) i)
 
-pub expr-returns-in-Post-clause-did : goal.expr-returns-in-Post-clause-did
-expr-returns-in-Post-clause-did g t c =
+pub post-returns-in_ok-value-in-None-clause-did : goal.post-returns-in_ok-value-in-None-clause-did
+post-returns-in_ok-value-in-None-clause-did g t c =
     let state = g.S.Strings.state in
     let i = c.in_ok-value-in-None.ensures.did in
     let k = c.steps.ensures.did in
-    let d = c.deref-in-None.ensures in
-    let e = c.deref-in-None-2.ensures.value in
-    rw (c.in-Post.is, tree_of_post c.in-Post.of c.in-Post.rest)
-    (post_does g.S.Strings.number (state c.args.store.now) (state c.expr-in-None.new.store) (state c.steps.new.store) c.in_ok-value-in-None.value c.steps.result (expr_tree c.in-Post.of.value) (steps_tree c.in-Post.rest.items) c.args.context.now c.in_ok-value-in-None.ensures.grows c.requires (rw d at i) (rw e at k))
+    (post_does g.S.Strings.number (state c.args.store.now) (state c.expr.new.store) (state c.steps.new.store) c.in_ok-value-in-None.value c.steps.result (expr_tree c.args.of.now) (steps_tree c.args.rest.now) c.args.context.now c.in_ok-value-in-None.ensures.grows c.requires i k)
 
 pub steps-returns-in_err-copy-in-None-clause-did : goal.steps-returns-in_err-copy-in-None-clause-did
 steps-returns-in_err-copy-in-None-clause-did g t c =
@@ -393,3 +373,28 @@ steps-returns-in_ok-copy-in-None-clause-did g t c =
     let k = c.loop-step.invariant.fine in
     c.loop-step.invariant.completes (state c.loop-step.store) (Ok c.in_ok-copy-in-None.field-0)
     (rw (past, c.in-None.is) (copy_does g.S.Strings.number (state c.loop-step.store) c.args.first.now c.in_ok-copy-in-None.field-0 c.in_ok-copy-in-None.ensures (rw c.in-None.is at k)))
+
+pub expr-returns-in-Unary-clause-did : goal.expr-returns-in-Unary-clause-did
+expr-returns-in-Unary-clause-did g t c =
+    let w = c.unary.ensures.did in
+    rw (c.in-Unary.is, tree_of_unary c.in-Unary.at c.in-Unary.minus c.in-Unary.of) (rw c.deref.ensures at w)
+
+pub expr-returns-in-Chain-clause-did : goal.expr-returns-in-Chain-clause-did
+expr-returns-in-Chain-clause-did g t c =
+    let w = c.chain.ensures.did in
+    rw (c.in-Chain.is, tree_of_chain c.in-Chain.first c.in-Chain.rest) (rw (c.deref-in-Chain.ensures.value, c.deref-in-Chain-2.ensures) at w)
+
+pub expr-returns-in-Cond-clause-did : goal.expr-returns-in-Cond-clause-did
+expr-returns-in-Cond-clause-did g t c =
+    let w = c.conditional.ensures.did in
+    rw (c.in-Cond.is, tree_of_conditional c.in-Cond.test c.in-Cond.yes c.in-Cond.no) (rw (c.deref-in-Cond.ensures, c.deref-in-Cond-2.ensures, c.deref-in-Cond-3.ensures) at w)
+
+pub expr-returns-in-Post-clause-did : goal.expr-returns-in-Post-clause-did
+expr-returns-in-Post-clause-did g t c =
+    let w = c.post.ensures.did in
+    rw (c.in-Post.is, tree_of_post c.in-Post.of c.in-Post.rest) (rw (c.deref-in-Post.ensures.value, c.deref-in-Post-2.ensures) at w)
+
+pub expr-returns-in-Builtin-clause-did : goal.expr-returns-in-Builtin-clause-did
+expr-returns-in-Builtin-clause-did g t c =
+    let w = c.builtin.ensures.did in
+    rw (c.in-Builtin.is, tree_of_builtin c.in-Builtin.at c.in-Builtin.which c.in-Builtin.args) (rw c.deref-in-Builtin.ensures.value at w)

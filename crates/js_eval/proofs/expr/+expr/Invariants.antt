@@ -1,5 +1,6 @@
-use Rattle.std.proofs.Common.{drop, unwrap_or, Result, Vec, Global}
+use Rattle.std.proofs.Common.{◌+◌, ◌*◌, max, drop, unwrap_or, Result, Vec, Global}
 use Rattle.js_store.specs.State.{State, Grows}
+use Rattle.eval_tree.specs.declared.tree.Expr.{size-Expr}
 use Rattle.eval_tree.specs.Tree.{expr_tree, links_tree, steps_tree, exprs_tree}
 use Rattle.eval_values.specs.declared.value.Value.{Value}
 use Rattle.eval_values.specs.declared.value.Stop.{Stop}
@@ -50,3 +51,40 @@ invariant-exprs-loop-e g l =
           GivesAll number (state l.store) c r (each_behind (λ e. expr_out (expr_tree e) meant) (drop l.e-index l.list) (all_seen (state l.store) number l.values.items)) →
           GivesAll number (state l.fn.store) c r (exprs_out (exprs_tree l.list) meant);
     }
+
+-- each form in one of its own functions, then its parts; a form of several parts is as deep as the deepest of them
+abbrev pub decreases-expr : goal.decreases-expr
+decreases-expr g l = 8 * goal.size-expr g l
+
+abbrev pub decreases-unary : goal.decreases-unary
+decreases-unary g l = 8 * goal.size-unary g l + 1
+
+abbrev pub decreases-conditional : goal.decreases-conditional
+decreases-conditional g l = 8 * max (size-Expr l.test.now) (max (size-Expr l.yes.now) (size-Expr l.no.now)) + 1
+
+abbrev pub decreases-exprs : goal.decreases-exprs
+decreases-exprs g l = 8 * goal.size-exprs g l + 1
+
+abbrev pub decreases-builtin : goal.decreases-builtin
+decreases-builtin g l = 8 * goal.size-builtin g l + 2
+
+abbrev pub decreases-one_link : goal.decreases-one_link
+decreases-one_link g l = 8 * goal.size-one_link g l + 1
+
+abbrev pub decreases-links : goal.decreases-links
+decreases-links g l = 8 * goal.size-links g l + 2
+
+abbrev pub decreases-chain : goal.decreases-chain
+decreases-chain g l = 8 * max (goal.size-chain g l) (size-Expr l.first.now) + 3
+
+abbrev pub decreases-one_step : goal.decreases-one_step
+decreases-one_step g l = 8 * goal.size-one_step g l + 2
+
+abbrev pub decreases-steps : goal.decreases-steps
+decreases-steps g l = 8 * goal.size-steps g l + 3
+
+abbrev pub decreases-steps_of_name : goal.decreases-steps_of_name
+decreases-steps_of_name g l = 8 * goal.size-steps_of_name g l + 4
+
+abbrev pub decreases-post : goal.decreases-post
+decreases-post g l = 8 * max (goal.size-post g l) (size-Expr l.of.now) + 5

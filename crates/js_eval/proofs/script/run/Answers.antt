@@ -22,7 +22,7 @@ returns-in_err-literals-clause-env g c =
 pub statements-result-requires : goal.statements-result-requires
 statements-result-requires g c =
     let kept = bounds_fine_still (g.S.Strings.state c.args.store.now) (g.S.Strings.state c.intern_literals.new.store) g.S.Strings.number c.in_ok-literals.ensures.grows (bounds_of c.args.env.now) c.requires in
-    record { literals = c.in_ok-literals.ensures.known; bindings = record { blocks = rw c.new.ensures.items tt; top = rw (c.replace.ensures.value, c.env.view_is) kept } }
+    record { literals = c.in_ok-literals.ensures.known; bindings = record { blocks = rw c.new.ensures tt; top = rw (c.replace.ensures.value, c.env.view_is) kept } }
 
 pub returns-clause-went : goal.returns-clause-went
 returns-clause-went g c =
@@ -33,6 +33,6 @@ returns-clause-went g c =
     let d = c.in_ok-literals.ensures.did in
     let r = c.statements-result in
     let w = r.ensures.went in
-    let none : c.new.result.items ≡ [] = c.new.ensures.items in
-    let begun : record { blocks = frames_of c.new.result.items; top = bounds_of c.replace.result } ≡ record { blocks = []; top = bounds_of c.args.env.now } = cc (ap frames_of none, ap bounds_of (c.replace.ensures.value ∙ c.env.view_is)) in
+    let none : c.new.result ≡ [] = c.new.ensures in
+    let begun : record { blocks = frames_of c.new.result; top = bounds_of c.replace.result } ≡ record { blocks = []; top = bounds_of c.args.env.now } = cc (ap frames_of none, ap bounds_of (c.replace.ensures.value ∙ c.env.view_is)) in
     script_went number (state c.args.store.now) (state c.intern_literals.new.store) c.args.lines.now (bounds_of c.args.env.now) (tree_of c.args.script.now) c.in_ok-literals.ensures.grows c.requires (state r.new.store) r.new.lines (record { literals = c.in_ok-literals.literals; scope = record { blocks = c.new.result; env = c.replace.result } }) r.result (context_bindings (state r.new.store) number r.new.context) begun (rw e at d) (rw q at w)

@@ -1,0 +1,10 @@
+use Rattle.std.proofs.Common.{arith, List, subst, sym, ◌∙◌}
+use Rattle.eval_scopes.specs.declared.env.Binding.{Binding}
+use Rattle.eval_scopes.specs.Seen.{bounds_of, IsOnly}
+use Rattle.eval_scopes.proofs.Stacked.{only_one}
+use Rattle.eval_scopes.proofs.env.Env.is_only.Goals as goal
+
+pub returns : goal.returns
+returns g c = λ t.
+    subst (λ (q : List (Binding g.row.T.Denot)). IsOnly (bounds_of q) c.args.name.now) c.self.view_is
+    (only_one c.self.inside.bindings.items c.index-one.result.now c.args.name.now (omega arith) c.index-one.ensures c.if-one.false (sym c.is.ensures ∙ t))

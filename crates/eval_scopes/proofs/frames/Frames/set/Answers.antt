@@ -1,0 +1,16 @@
+use Rattle.std.proofs.Common.{◌≡◌, List, map, take, subst, sym}
+use Rattle.eval_scopes.specs.declared.frames.Frame.{Frame as CodeFrame}
+use Rattle.eval_scopes.specs.Seen.{frame_of, put_in, InBlock}
+use Rattle.eval_scopes.proofs.Stacked.{in_taken, put_stacked}
+use Rattle.eval_scopes.proofs.frames.Frames.set.Goals as goal
+
+pub set_in_block-requires : goal.set_in_block-requires
+set_in_block-requires g c =
+    in_taken c.self.inside.entered c.self.inside.all.items c.args.block c.args.index
+    (subst (λ (q : List (CodeFrame g.row.T.Denot)). InBlock q c.args.block c.args.index) (sym c.self.view_is) c.requires)
+
+pub returns : goal.returns
+returns g c =
+    let new = c.set_in_block.new.blocks.items in
+    subst (λ (q : List (CodeFrame g.row.T.Denot)). map frame_of (take c.self.inside.entered new) ≡ put_in (map frame_of q) c.args.block c.args.index c.args.value) c.self.view_is
+    (put_stacked c.self.inside.entered c.self.inside.all.items new c.args.block c.args.index c.args.value c.set_in_block.ensures.put)

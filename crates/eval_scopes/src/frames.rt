@@ -1,0 +1,231 @@
+// Frames: the blocks that were entered. Those that were left stay in their places, so that one that is
+// entered there later takes their memory over.
+ghost use Rattle.std.specs.Prelude.{◌≡◌, ◌<◌, ◌≤◌, ◌+◌, ◌∷◌, [], true, false, length, map, take, List, OnOk, OnErr};
+ghost use Rattle.eval_scopes.specs.Bindings.{Bound, declare, all_but_first};
+ghost use Rattle.eval_scopes.specs.Seen.{bound_of, bounds_of, names_of, frame_of, frames_of, put_in, InBlock, IsOnly};
+
+use crate::env::{Binding, Env, bind_name};
+use crate::index::Declared;
+use eval_tree::Name;
+use js_units::NoMemory;
+use std::alloc::Global;
+use std::marker::Model;
+
+/// A block that was entered: the names that it declares, and those that were evaluated. A turn of a
+/// `for` has no names beside the one that is bound.
+#[derive(Drop)]
+pub struct Frame<'a, T> {
+    pub names: Option<Declared<'a>>,
+    pub bound: Env<T>,
+}
+
+impl<'a, T: Drop> Frame<'a, T> {
+    // A block is entered in the place of this one.
+    fn enter(&mut self, names: Declared<'a>)
+        ensures { frame_of self.new ≡ record { names = names.entry; bound = [] } }
+    {
+        self.names = Some(names);
+        self.bound.clear();
+    }
+
+    // The same with a turn of a `for`. Where the one before was a turn of the same name, it takes no memory.
+    fn enter_turn(&mut self, name: &Name, value: T) -> Result<(), NoMemory>
+        ensures { OnOk result (frame_of self.new ≡ record {
+          names = [];
+          bound = record { name = name.now; constant = false; value = value } ∷ [];
+        }) }
+    {
+        if self.is_turn_of(name) {
+            self.bound.set(0, value);
+            return Ok(());
+        }
+        let binding = bind_name(name, false, value)?;
+        self.names = None;
+        self.bound.clear();
+        self.bound.push(binding)
+    }
+
+    // Whether it is a turn of a `for` over this name.
+    fn is_turn_of(&self, name: &Name) -> bool
+        ensures names { result ≡ true → names_of self.now ≡ [] }
+        ensures bound { result ≡ true → IsOnly (bounds_of self.now.bound) name.now }
+    {
+        match &self.names {
+            Some(_) => false,
+            None => self.bound.is_only(name),
+        }
+    }
+}
+
+/// The blocks that were entered, the innermost at the end. Contracts see them as a list.
+#[derive(Drop)]
+pub struct Frames<'a, T> {
+    all: Vec<Frame<'a, T>>,
+    // as many were entered and not left
+    entered: usize,
+}
+
+impl<'a, T> Model for Frames<'a, T> {
+    ghost use Rattle.std.specs.Prelude.{List, ◌≤◌, length, take};
+    ghost use Rattle.eval_scopes.specs.declared.frames.Frame.{Frame as CodeFrame};
+
+    ghost Value = { List (CodeFrame T) };
+
+    ghost view = { λ f. take f.entered f.all.items };
+
+    ghost invariant = { λ f. f.entered ≤ length f.all.items };
+}
+
+impl<'a, T: Drop> Frames<'a, T> {
+    /// No block. It takes no memory.
+    pub fn new(alloc: Global) -> Frames<'a, T>
+        ensures { result ≡ [] }
+    {
+        Frames {
+            all: Vec::new(alloc),
+            entered: 0,
+        }
+    }
+
+    /// The blocks.
+    pub fn as_slice(&self) -> &[Frame<'a, T>]
+        ensures { result.now ≡ self.now }
+    {
+        &self.all[..self.entered]
+    }
+
+    // Another value for a binding of a block.
+    pub(crate) fn set(&mut self, block: usize, index: usize, value: T)
+        requires { InBlock self.old block index }
+        ensures { map frame_of self.new ≡ put_in (map frame_of self.old) block index value }
+    {
+        set_in_block(&mut self.all, block, index, value)
+    }
+
+    // One more binding of the innermost block.
+    pub(crate) fn declare(&mut self, last: usize, binding: Binding<T>) -> Result<(), NoMemory>
+        requires { length self.old ≡ last + 1 }
+        ensures declared { OnOk result ((top : List (Bound T)) →
+            (record { blocks = frames_of self.new; top = top }) ≡ declare
+            (frames_of self.old) top (bound_of binding)) }
+        ensures refused { OnErr result (frames_of self.new ≡ frames_of self.old) }
+    {
+        declare_in_block(&mut self.all, last, binding)
+    }
+
+    // One more block, with its names.
+    pub(crate) fn enter(&mut self, alloc: Global, names: Declared<'a>) -> Result<(), NoMemory>
+        ensures entered { OnOk result (frames_of self.new
+            ≡ record { names = names.entry; bound = [] } ∷ frames_of self.old) }
+        ensures refused { OnErr result (self.new ≡ self.old) }
+    {
+        make_room(alloc, &mut self.all, self.entered)?;
+        enter_at(&mut self.all, self.entered, names);
+        self.entered += 1;
+        Ok(())
+    }
+
+    // One more block, a turn of a `for`.
+    pub(crate) fn enter_turn(
+        &mut self,
+        alloc: Global,
+        name: &Name,
+        value: T,
+    ) -> Result<(), NoMemory>
+        ensures entered { OnOk result (frames_of self.new ≡ record {
+          names = [];
+          bound = record { name = name.now; constant = false; value = value } ∷ [];
+        } ∷ frames_of self.old) }
+        ensures refused { OnErr result (self.new ≡ self.old) }
+    {
+        make_room(alloc, &mut self.all, self.entered)?;
+        enter_turn_at(&mut self.all, self.entered, name, value)?;
+        self.entered += 1;
+        Ok(())
+    }
+
+    // The innermost block is left.
+    pub(crate) fn leave(&mut self)
+        ensures { frames_of self.new ≡ all_but_first (frames_of self.old) }
+    {
+        if self.entered > 0 {
+            self.entered -= 1;
+        }
+    }
+}
+
+// Another value for a binding of a block.
+fn set_in_block<T: Drop>(blocks: &mut Vec<Frame<T>>, block: usize, index: usize, value: T)
+    requires { InBlock blocks.old.items block index }
+    ensures put { map frame_of blocks.new.items ≡ put_in (map frame_of blocks.old.items) block index value }
+    ensures as_many { length blocks.new.items ≡ length blocks.old.items }
+{
+    blocks[block].bound.set(index, value)
+}
+
+// One more binding of a block, the last one that was entered.
+fn declare_in_block<T: Drop>(
+    blocks: &mut Vec<Frame<T>>,
+    last: usize,
+    binding: Binding<T>,
+) -> Result<(), NoMemory>
+    requires { last < length blocks.old.items }
+    ensures declared { OnOk result ((top : List (Bound T)) →
+        (record { blocks = frames_of (take (last + 1) blocks.new.items); top = top }) ≡ declare
+        (frames_of (take (last + 1) blocks.old.items)) top (bound_of binding)) }
+    ensures refused { OnErr result (frames_of (take (last + 1) blocks.new.items)
+        ≡ frames_of (take (last + 1) blocks.old.items)) }
+    ensures as_many { length blocks.new.items ≡ length blocks.old.items }
+{
+    blocks[last].bound.push(binding)
+}
+
+// A frame behind so many, if there is none.
+fn make_room<'a, T: Drop>(
+    alloc: Global,
+    all: &mut Vec<Frame<'a, T>>,
+    entered: usize,
+) -> Result<(), NoMemory>
+    requires { entered ≤ length all.old.items }
+    ensures kept { take entered all.new.items ≡ take entered all.old.items }
+    ensures within { entered ≤ length all.new.items }
+    ensures room { OnOk result (entered < length all.new.items) }
+{
+    if entered < all.len() {
+        return Ok(());
+    }
+    match all.push(Frame {
+        names: None,
+        bound: Env::new(alloc),
+    }) {
+        Ok(()) => Ok(()),
+        Err(_) => Err(NoMemory),
+    }
+}
+
+// A block is entered in the place of one that was left.
+fn enter_at<'a, T: Drop>(all: &mut Vec<Frame<'a, T>>, place: usize, names: Declared<'a>)
+    requires { place < length all.old.items }
+    ensures entered { frames_of (take (place + 1) all.new.items)
+        ≡ record { names = names.entry; bound = [] } ∷ frames_of (take place all.old.items) }
+    ensures as_many { length all.new.items ≡ length all.old.items }
+{
+    all[place].enter(names)
+}
+
+fn enter_turn_at<T: Drop>(
+    all: &mut Vec<Frame<T>>,
+    place: usize,
+    name: &Name,
+    value: T,
+) -> Result<(), NoMemory>
+    requires { place < length all.old.items }
+    ensures entered { OnOk result (frames_of (take (place + 1) all.new.items) ≡ record {
+      names = [];
+      bound = record { name = name.now; constant = false; value = value } ∷ [];
+    } ∷ frames_of (take place all.old.items)) }
+    ensures kept { take place all.new.items ≡ take place all.old.items }
+    ensures as_many { length all.new.items ≡ length all.old.items }
+{
+    all[place].enter_turn(name, value)
+}
