@@ -1,8 +1,8 @@
 -- What the two compare-exchanges of a header do to the machine, as plain data. P says where such a step may come, and F what it makes of the view.
 use Rattle.std.proofs.Common.{◌≡◌, ℕ, ◌<◌, Bool, true, false, cond, eqb, List, [], length, get_or, set, sym, refl, ap, ◌∙◌, subst, arith, IsTrue, Option, Some, None, Result, Ok, Err}
 use Rattle.std.specs.Prelude.{unwrap_or}
+use mathlib.Core.Option.{some-injective}
 use Rattle.std.specs.FinMap.{get, insert}
-use Rattle.std.specs.Global.{Vec}
 use Rattle.js_header.specs.Form.{IsInRange, form_of, word_of}
 use Rattle.js_header.proofs.RoundTrip.{word_of-form_of}
 use Rattle.js_header.specs.declared.form.Form.{Form}
@@ -18,18 +18,13 @@ use Rattle.heap_rule.specs.Sound.{At, AreStanding, IsSound, KnowsForm}
 use Rattle.heap_rule.specs.Agents.{spent}
 use Rattle.heap_core_views.specs.declared.load.Load.{Load}
 use Rattle.heap_core_views.specs.Loading.{loaded_by, HasRoom}
-use Rattle.heap_core_views.specs.Probing.{HasShorts}
 use Rattle.heap_core_births.specs.Moving.{Stays}
-use Rattle.heap_core.specs.declared.event.Refusal.{Refusal}
-use Rattle.heap_core.specs.declared.event.Refusal.TheVariants.{NotEnabled, Memory}
-use Rattle.heap_core.specs.declared.event.Event.TheVariants as event
 use Rattle.heap_core.specs.Core.{Core, core}
-use Rattle.heap_core.specs.Events.{IsCore, IsSoundCore, LiveIn, view_at, CanMove, CanFlatten, after_flatten, CanThinTo, after_thin, Moved, Applied}
+use Rattle.heap_core.specs.Events.{IsCore, IsSoundCore, LiveIn, view_at, stored, looked, exchanged, CanMove, after_move}
 use Rattle.heap_rule.proofs.ListLemmas.{at_index, set_there}
 use Rattle.heap_rule.proofs.KindsKept.{kinds_keep}
 use Rattle.heap_core.proofs.LoadSteps.{room_of}
-use Rattle.heap_core.proofs.SlotEvents.{has_shorts}
-use Rattle.heap_core.proofs.StateLemmas.{sound_of, live_if, Tells}
+use Rattle.heap_core.proofs.StateLemmas.{sound_of, live_tells, Tells}
 
 -- a view stays live
 flat_live : (v : View) (i n : ℕ) (new : Form) → (freeze_form v n new).live ≡ v.live
@@ -69,33 +64,33 @@ module _ (s : Core) (h : IsCore s) (j i : ℕ) where
     abbrev pub Turns : Type 0
     Turns = (v : View) → At s.views j v → v.live ≡ true → P v → ((F v found).live ≡ true) × ((W : List ℕ) × IsSound s.size s.agents W (set s.views j (F v found)))
 
-    pub move_not_may : (names : List ℕ) (v : View) → v ≡ get_or s.views j v → (P v → IsTrue false) → Tells false (CanMove s j i P F names)
-    move_not_may names v here not = ((λ (e : false ≡ true). absurd (cc)), (λ t. not (subst P (sym (here ∙ at_index s.views j t.0 v t.1)) t.3.0)))
+    pub move_not_may : (names : List ℕ) (v : View) → At s.views j v × (v.live ≡ true) → (P v → IsTrue false) → Tells false (CanMove s j i P F names)
+    move_not_may names v is not = ((λ (e : false ≡ true). absurd (cc)), (λ t. not (subst P (some-injective t.0 v (sym t.1 ∙ is.0)) t.3.0)))
 
-    pub move_room : (each : Turns) (u w : View) (l : Load) (stands : Form) (t : LiveIn s.views j P) → u ≡ t.0 → w ≡ t.0 → form_of found ≡ Some stands → loaded_by u l ≡ F u (word_of stands) → HasRoom (loaded_by w l)
-    move_room each u w l stands t here there e is = let k = each t.0 t.1 t.2 t.3 in
-        let word : word_of stands ≡ found = word_of-form_of found stands e in
-        let same : loaded_by w l ≡ F t.0 found = ap (λ (y : View). loaded_by y l) (there ∙ sym here) ∙ (is ∙ (λ q. F (here q) (word q))) in
-        subst HasRoom (sym same) (room_of s.size s.agents k.1.0 (set s.views j (F t.0 found)) k.1.1 j (F t.0 found) (set_there s.views j (F t.0 found) t.0 t.1) k.0)
+    -- what is added where the word that stands is found
+    seen_by : (l : Load) (v : View) (stands : Form) → form_of found ≡ Some stands → loaded_by v l ≡ F v (word_of stands) → loaded_by v l ≡ F v found
+    seen_by l v stands e is = is ∙ ap (F v) (word_of-form_of found stands e)
 
-    pub move_if : (names : List ℕ) (u w : View) (l : Load) (stands : Form) (b : Bool) (t : LiveIn s.views j P) → u ≡ t.0 → w ≡ get_or s.views j w → form_of found ≡ Some stands → loaded_by u l ≡ F u (word_of stands)
-        → Tells b (MayLearn (loaded_by w l) names) → Tells b (CanMove s j i P F names)
-    move_if names u w l stands b t here there e is test = let same : w ≡ t.0 = there ∙ at_index s.views j t.0 w t.1 in
-        let seen : loaded_by w l ≡ F w found = ap (λ (y : View). loaded_by y l) (same ∙ sym here) ∙ (is ∙ (λ q. F ((here ∙ sym same) q) (word_of-form_of found stands e q))) in
-        live_if s.views j (λ v. P v × MayLearn (F v found) names) w b (t.0, t.1, t.2, tt) there (
-          (λ q. (subst P (sym same) t.3, subst (λ (y : View). MayLearn y names) seen (test.0 q))),
+    pub room_by : (each : Turns) (l : Load) (stands : Form) (t : LiveIn s.views j P) → form_of found ≡ Some stands → loaded_by t.0 l ≡ F t.0 (word_of stands) → HasRoom (loaded_by t.0 l)
+    room_by each l stands t e is = let k = each t.0 t.1 t.2 t.3 in
+        subst HasRoom (sym (seen_by l t.0 stands e is)) (room_of s.size s.agents k.1.0 (set s.views j (F t.0 found)) k.1.1 j (F t.0 found) (set_there s.views j (F t.0 found) t.0 t.1) k.0)
+
+    pub move_room : (each : Turns) (l : Load) (stands : Form) (v : View) (t : LiveIn s.views j P) → v ≡ t.0 → form_of found ≡ Some stands → loaded_by v l ≡ F v (word_of stands) → HasRoom (loaded_by v l)
+    move_room each l stands v t is e seen = subst (λ (y : View). HasRoom (loaded_by y l)) (sym is) (room_by each l stands t e (subst (λ (y : View). loaded_by y l ≡ F y (word_of stands)) is seen))
+
+    pub move_tells : (names : List ℕ) (l : Load) (stands : Form) (b : Bool) (t : LiveIn s.views j P) → form_of found ≡ Some stands → loaded_by t.0 l ≡ F t.0 (word_of stands)
+        → Tells b (MayLearn (loaded_by t.0 l) names) → Tells b (CanMove s j i P F names)
+    move_tells names l stands b t e is test = let seen : loaded_by t.0 l ≡ F t.0 found = seen_by l t.0 stands e is in
+        live_tells s.views j (λ v. P v × MayLearn (F v found) names) t.0 b (t.1, t.2) (
+          (λ q. (t.3, subst (λ (y : View). MayLearn y names) seen (test.0 q))),
           (λ p. test.1 (subst (λ (y : View). MayLearn y names) (sym seen) p.1)),
         )
 
-    pub move_done : (old new stands : Form) (names : List ℕ) (u d w : View) (l : Load) (p n : ℕ) (can : CanMove s j i P F names) → u ≡ can.0 → form_of found ≡ Some stands → loaded_by u l ≡ F u (word_of stands)
-        → p ≡ form_at s.size i → n ≡ cond (eqb (word_of stands) (word_of old)) (word_of new) (word_of stands) → w ≡ learned (loaded_by (get_or s.views j d) l) names
-        → Moved s j i P F old new names (core s.size s.agents (set s.words p n) (set s.views j w)) (Ok (get_or s.words p 0))
-    move_done old new stands names u d w l p n can here e is place put seen = let word : word_of stands ≡ found = word_of-form_of found stands e in
-        let at : get_or s.views j d ≡ u = at_index s.views j can.0 d can.1 ∙ sym here in
-        let back : u ≡ view_at s j = here ∙ sym (at_index s.views j can.0 spent can.1) in
-        let same : w ≡ learned (F (view_at s j) found) names = seen ∙ (ap (λ (y : View). learned (loaded_by y l) names) at ∙ (ap (λ (y : View). learned y names) is ∙ (λ q. learned (F (back q) (word q)) names))) in
-        let left : n ≡ cond (eqb found (word_of old)) (word_of new) found = put ∙ ap (λ (x : ℕ). cond (eqb x (word_of old)) (word_of new) x) word in
-        (can, (λ q. core s.size s.agents (set s.words (place q) (left q)) (set s.views j (same q))), ap (λ (q : ℕ). get_or s.words q 0) place)
+    pub move_became : (old new stands : Form) (names : List ℕ) (l : Load) (t u : Core) (x : ℕ) → form_of found ≡ Some stands → loaded_by (view_at s j) l ≡ F (view_at s j) (word_of stands)
+        → u ≡ looked s j (learned (loaded_by (view_at s j) l) names) → t ≡ stored u (form_at u.size i) (exchanged u (form_at u.size i) (word_of old) (word_of new)) → x ≡ get_or u.words (form_at u.size i) 0
+        → (t ≡ after_move s j i old new F names) × (x ≡ found)
+    move_became old new stands names l t u x e is seen left here = let same : u ≡ looked s j (learned (F (view_at s j) found) names) = seen ∙ ap (λ (y : View). looked s j (learned y names)) (seen_by l (view_at s j) stands e is) in
+        (left ∙ ap (λ (y : Core). stored y (form_at y.size i) (exchanged y (form_at y.size i) (word_of old) (word_of new))) same, here ∙ ap (λ (y : Core). get_or y.words (form_at y.size i) 0) same)
 
   -- the two
   pub flatten_turns : (old new : Form) → Turns (λ v. MayFlatten v i old new) (λ v x. flattened v i old new x)
@@ -136,19 +131,8 @@ flatten_live vs j i old new t = (t.0, t.1, t.2, flatten_seen t.0 i old new t.3)
 pub thin_live : (vs : List View) (j i : ℕ) (old : Form) (target : ℕ) → LiveIn vs j (λ v. MayThin v i old target) → LiveIn vs j (λ v. Has v.forms i old)
 thin_live vs j i old target t = (t.0, t.1, t.2, t.3.0)
 
--- the lists of the live view are short
-pub shorts_at : (s : Core) (h : IsCore s) (j : ℕ) (d : View) → LiveIn s.views j (λ _. Unit {0}) → HasShorts (get_or s.views j d)
-shorts_at s h j d t = has_shorts s h j (get_or s.views j d) t (at_index s.views j t.0 d t.1 ∙ sym (at_index s.views j t.0 (get_or s.views j d) t.1))
-
--- the two as events
-pub flatten_applied : (s t : Core) (j i : ℕ) (old new : Form) (names : Vec ℕ) (ns : List ℕ) (r : Result ℕ Refusal) → ns ≡ names.items → Moved s j i (λ v. MayFlatten v i old new) (λ v x. flattened v i old new x) old new ns t r
-    → Applied s (event.Flatten j i old new names) t r
-flatten_applied s t j i old new names ns (Ok x) e a = subst (λ (l : List ℕ). CanFlatten s j i old new l × (t ≡ after_flatten s j i old new l) × (x ≡ get_or s.words (form_at s.size i) 0)) e a
-flatten_applied s t j i old new names ns (Err NotEnabled) e a = subst (λ (l : List ℕ). (CanFlatten s j i old new l → ⊥) × (t ≡ s)) e a
-flatten_applied s t j i old new names ns (Err Memory) e a = a
-
-pub thin_applied : (s t : Core) (j i : ℕ) (old : Form) (target : ℕ) (names : Vec ℕ) (ns : List ℕ) (r : Result ℕ Refusal) → ns ≡ names.items → Moved s j i (λ v. MayThin v i old target) (λ v x. thinned v i old target x) old (Thin target) ns t r
-    → Applied s (event.Thin j i old target names) t r
-thin_applied s t j i old target names ns (Ok x) e a = subst (λ (l : List ℕ). CanThinTo s j i old target l × (t ≡ after_thin s j i old target l) × (x ≡ get_or s.words (form_at s.size i) 0)) e a
-thin_applied s t j i old target names ns (Err NotEnabled) e a = subst (λ (l : List ℕ). (CanThinTo s j i old target l → ⊥) × (t ≡ s)) e a
-thin_applied s t j i old target names ns (Err Memory) e a = a
+-- what a compare-exchange of the form word leaves there
+pub exchange_done : (s : Core) (i p n : ℕ) (old new stands : Form) → form_of (form s.size s.words i) ≡ Some stands → p ≡ form_at s.size i → n ≡ cond (eqb (word_of stands) (word_of old)) (word_of new) (word_of stands)
+    → stored s p n ≡ stored s (form_at s.size i) (exchanged s (form_at s.size i) (word_of old) (word_of new))
+exchange_done s i p n old new stands e place put = let word : word_of stands ≡ form s.size s.words i = word_of-form_of (form s.size s.words i) stands e in
+    λ q. stored s (place q) ((put ∙ ap (λ (x : ℕ). cond (eqb x (word_of old)) (word_of new) x) word) q)

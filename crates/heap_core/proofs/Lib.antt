@@ -5,6 +5,7 @@ pub mod Kept
 pub mod HeaderMoves
 pub mod EveryRun
 pub mod Entries
+pub mod EventParts
 pub mod Reading
 pub mod EventSteps
 pub mod SlotEvents

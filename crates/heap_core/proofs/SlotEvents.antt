@@ -1,6 +1,5 @@
 -- What the executable steps on slots do to the machine, as plain data.
 use Rattle.std.proofs.Common.{◌≡◌, ℕ, zero, suc, ◌+◌, ◌/◌, ◌%◌, ◌^◌, cond, eqb, refl, ◌<◌, ⊎_elim, Bool, true, false, List, length, get_or, set, sym, ap, ◌∙◌, subst, arith, Some, Option, Result, Ok, Err}
-use Rattle.std.specs.Global.{Vec}
 use Rattle.js_header.specs.Form.{IsInRange, form_of, word_of, fields_of, first_field, second_field, is_wide, is_fixed}
 use Rattle.heap_rule.proofs.Learning.{if_some}
 use Rattle.std.proofs.Math.Nat.{mod-lt}
@@ -16,11 +15,8 @@ use Rattle.heap_rule.specs.Sound.{At}
 use Rattle.heap_rule.specs.Agents.{spent}
 use Rattle.heap_core_views.specs.Loading.{HasRoom}
 use Rattle.heap_core_views.specs.Probing.{HasForms, HasShorts}
-use Rattle.heap_core.specs.declared.event.Refusal.{Refusal}
-use Rattle.heap_core.specs.declared.event.Refusal.TheVariants.{NotEnabled, Memory}
-use Rattle.heap_core.specs.declared.event.Event.TheVariants.{LoadSlot, TakeSlot}
 use Rattle.heap_core.specs.Core.{Core, core}
-use Rattle.heap_core.specs.Events.{IsCore, IsSoundCore, LiveIn, view_at, CanLoadSlot, after_load_slot, CanTakeSlot, after_take_slot, LoadedSlot, TookSlot, Applied}
+use Rattle.heap_core.specs.Events.{IsCore, IsSoundCore, LiveIn, view_at, stored, looked, exchanged, after_load_slot, after_take_slot}
 use Rattle.heap_rule.proofs.ListLemmas.{at_index}
 use Rattle.heap_rule.proofs.Steps.{sizes_are}
 use Rattle.heap_rule.proofs.Possible.{possible_short, possible_slot}
@@ -46,23 +42,24 @@ never_later : (wide : Bool) (start : ℕ) (f : Form) → IsLater (Flat wide star
 never_later wide start f l = absurd (cc)
 
 module _ (s : Core) (h : IsCore s) (j : ℕ) where
-  -- what a test of the live view asks
-  of_live_view : (P : View → Type 0) → ((g : IsSoundCore s) (v : View) → At s.views j v → v.live ≡ true → P v) → (v : View) → LiveIn s.views j (λ _. Unit {0}) → v ≡ get_or s.views j v → P v
-  of_live_view P each v t here = let g : IsSoundCore s = sound_of s j (λ _. Unit {0}) h t in subst P (sym (here ∙ at_index s.views j t.0 v t.1)) (each g t.0 t.1 t.2)
+  module _ (v : View) (is : At s.views j v × (v.live ≡ true)) where
+    whole : IsSoundCore s
+    whole = sound_of s j (λ _. Unit {0}) h (v, is.0, is.1, tt)
 
-  pub has_room : (v : View) → LiveIn s.views j (λ _. Unit {0}) → v ≡ get_or s.views j v → HasRoom v
-  has_room = of_live_view HasRoom (λ g v at live. room_of s.size s.agents s.words s.views g j v at live)
+    -- what a test of the live view asks
+    pub has_room : HasRoom v
+    has_room = room_of s.size s.agents s.words s.views whole j v is.0 is.1
 
-  pub has_shorts : (v : View) → LiveIn s.views j (λ _. Unit {0}) → v ≡ get_or s.views j v → HasShorts v
-  has_shorts = of_live_view HasShorts (λ g v at live i us u. possible_short v ∣ (s.size, s.agents, s.words, s.views, j, g, at, live) ∣₁ i us u)
+    pub has_shorts : HasShorts v
+    has_shorts = λ i us u. possible_short v ∣ (s.size, s.agents, s.words, s.views, j, whole, is.0, is.1) ∣₁ i us u
 
-  pub few_slots : (v : View) → LiveIn s.views j (λ _. Unit {0}) → v ≡ get_or s.views j v → v.sizes.slots < 2 ^ 29
-  few_slots = of_live_view (λ v. v.sizes.slots < 2 ^ 29) (λ g v at live. subst (λ (z : HeapSize). z.slots < 2 ^ 29) (sym (sizes_are s.size s.agents s.words s.views g j v at live)) g.lawful.5)
+    pub few_slots : v.sizes.slots < 2 ^ 29
+    few_slots = subst (λ (z : HeapSize). z.slots < 2 ^ 29) (sym (sizes_are s.size s.agents s.words s.views whole j v is.0 is.1)) whole.lawful.5
 
-  pub has_forms : (v : View) → LiveIn s.views j (λ _. Unit {0}) → v ≡ get_or s.views j v → HasForms v
-  has_forms = of_live_view HasForms (λ g v at live k i f a b. let fixed = possible_slot v ∣ (s.size, s.agents, s.words, s.views, j, g, at, live) ∣₁ k i f a b in let o = (g.knows j v at live).of_forms i f b in
-      let now : o.now ≡ Flat fixed.0 fixed.1 true = ⊎_elim (λ (e : f ≡ o.now). sym e ∙ fixed.2) (λ (l : IsLater f o.now). absurd (never_later fixed.0 fixed.1 o.now (subst (λ (y : Form). IsLater y o.now) fixed.2 l))) o.later in
-      subst IsInRange (sym fixed.2) (flat_range (form s.size s.words i) fixed.0 fixed.1 true (o.decodes ∙ ap Some now)))
+    pub has_forms : HasForms v
+    has_forms = λ k i f a b. let fixed = possible_slot v ∣ (s.size, s.agents, s.words, s.views, j, whole, is.0, is.1) ∣₁ k i f a b in let o = (whole.knows j v is.0 is.1).of_forms i f b in
+        let now : o.now ≡ Flat fixed.0 fixed.1 true = ⊎_elim (λ (e : f ≡ o.now). sym e ∙ fixed.2) (λ (l : IsLater f o.now). absurd (never_later fixed.0 fixed.1 o.now (subst (λ (y : Form). IsLater y o.now) fixed.2 l))) o.later in
+        subst IsInRange (sym fixed.2) (flat_range (form s.size s.words i) fixed.0 fixed.1 true (o.decodes ∙ ap Some now))
 
   -- a word of a slot is an id plus 1, or 0
   word_small : IsSoundCore s → (k : ℕ) → k < s.size.slots → (x : ℕ) → slot s.size s.words k ≡ x → x < 2 ^ 32
@@ -79,32 +76,18 @@ module _ (s : Core) (h : IsCore s) (j : ℕ) where
     pub slot_small : (p : ℕ) → p ≡ slot_at s.size k → get_or s.words p 0 < 2 ^ 32
     slot_small p e = subst (λ (q : ℕ). get_or s.words q 0 < 2 ^ 32) (sym e) (word_small sound k slot_inside.1 (slot s.size s.words k) refl)
 
-    pub slot_room : (d : View) → HasRoom (get_or s.views j d)
-    slot_room d = subst HasRoom (sym (at_index s.views j t.0 d t.1)) (room_of s.size s.agents s.words s.views sound j t.0 t.1 t.2)
+    pub slot_room : HasRoom (view_at s j)
+    slot_room = subst HasRoom (sym (at_index s.views j t.0 spent t.1)) (room_of s.size s.agents s.words s.views sound j t.0 t.1 t.2)
 
-  at_spent : (d v : View) → At s.views j v → get_or s.views j d ≡ view_at s j
-  at_spent d v at = at_index s.views j v d at ∙ sym (at_index s.views j v spent at)
+  -- what a load of a slot leaves, and a claim of one
+  pub load_became : (k p x : ℕ) (entry : Option (List ℕ)) (names : List ℕ) (w : View) (t : Core) → p ≡ slot_at s.size k → x ≡ get_or s.words p 0 → w ≡ learned (loaded_slot (view_at s j) k entry x) names → t ≡ looked s j w
+      → (t ≡ after_load_slot s j k entry names) × (x ≡ get_or s.words (slot_at s.size k) 0)
+  load_became k p x entry names w t place found is left = let there : x ≡ get_or s.words (slot_at s.size k) 0 = found ∙ ap (λ (q : ℕ). get_or s.words q 0) place in
+      (left ∙ ap (looked s j) (is ∙ ap (λ (y : ℕ). learned (loaded_slot (view_at s j) k entry y) names) there), there)
 
-  pub load_done : (k p : ℕ) (entry : Option (List ℕ)) (names : List ℕ) (d w : View) → CanLoadSlot s j k entry names → p ≡ slot_at s.size k → w ≡ learned (loaded_slot (get_or s.views j d) k entry (get_or s.words p 0)) names
-      → LoadedSlot s j k entry names (core s.size s.agents s.words (set s.views j w)) (Ok (get_or s.words p 0))
-  load_done k p entry names d w can place is = let same : w ≡ learned (loaded_slot (view_at s j) k entry (get_or s.words (slot_at s.size k) 0)) names =
-      is ∙ (λ q. learned (loaded_slot (at_spent d can.0 can.1 q) k entry (get_or s.words (place q) 0)) names) in
-      (can, (λ q. core s.size s.agents s.words (set s.views j (same q))), ap (λ (q : ℕ). get_or s.words q 0) place)
-
-  pub take_done : (k i p n : ℕ) (names : List ℕ) (d w : View) → CanTakeSlot s j k i names → p ≡ slot_at s.size k → n ≡ cond (eqb (get_or s.words p 0) 0) (i + 1) (get_or s.words p 0)
-      → w ≡ learned (took_slot (get_or s.views j d) k i (get_or s.words p 0)) names → TookSlot s j k i names (core s.size s.agents (set s.words p n) (set s.views j w)) (Ok (get_or s.words p 0))
-  take_done k i p n names d w can place new is = let same : w ≡ learned (took_slot (view_at s j) k i (get_or s.words (slot_at s.size k) 0)) names =
-      is ∙ (λ q. learned (took_slot (at_spent d can.0 can.1 q) k i (get_or s.words (place q) 0)) names) in
-      let put : n ≡ cond (eqb (slot s.size s.words k) 0) (i + 1) (slot s.size s.words k) = new ∙ ap (λ (q : ℕ). cond (eqb (get_or s.words q 0) 0) (i + 1) (get_or s.words q 0)) place in
-      (can, (λ q. core s.size s.agents (set s.words (place q) (put q)) (set s.views j (same q))), ap (λ (q : ℕ). get_or s.words q 0) place)
-
--- the two as events
-pub load_applied : (s t : Core) (j k : ℕ) (entry : Option (List ℕ)) (names : Vec ℕ) (ns : List ℕ) (r : Result ℕ Refusal) → ns ≡ names.items → LoadedSlot s j k entry ns t r → Applied s (LoadSlot j k entry names) t r
-load_applied s t j k entry names ns (Ok x) e a = subst (λ (l : List ℕ). CanLoadSlot s j k entry l × (t ≡ after_load_slot s j k entry l) × (x ≡ get_or s.words (slot_at s.size k) 0)) e a
-load_applied s t j k entry names ns (Err NotEnabled) e a = subst (λ (l : List ℕ). (CanLoadSlot s j k entry l → ⊥) × (t ≡ s)) e a
-load_applied s t j k entry names ns (Err Memory) e a = a
-
-pub take_applied : (s t : Core) (j k i : ℕ) (names : Vec ℕ) (ns : List ℕ) (r : Result ℕ Refusal) → ns ≡ names.items → TookSlot s j k i ns t r → Applied s (TakeSlot j k i names) t r
-take_applied s t j k i names ns (Ok x) e a = subst (λ (l : List ℕ). CanTakeSlot s j k i l × (t ≡ after_take_slot s j k i l) × (x ≡ get_or s.words (slot_at s.size k) 0)) e a
-take_applied s t j k i names ns (Err NotEnabled) e a = subst (λ (l : List ℕ). (CanTakeSlot s j k i l → ⊥) × (t ≡ s)) e a
-take_applied s t j k i names ns (Err Memory) e a = a
+  pub take_became : (k i p x n : ℕ) (names : List ℕ) (w : View) (t u : Core) → p ≡ slot_at s.size k → x ≡ get_or s.words p 0 → n ≡ cond (eqb x 0) (i + 1) x → w ≡ learned (took_slot (view_at s j) k i x) names → u ≡ looked s j w → t ≡ stored u p n
+      → (t ≡ after_take_slot s j k i names) × (x ≡ get_or s.words (slot_at s.size k) 0)
+  take_became k i p x n names w t u place found put is seen left = let there : x ≡ get_or s.words (slot_at s.size k) 0 = found ∙ ap (λ (q : ℕ). get_or s.words q 0) place in
+      let new : n ≡ cond (eqb (get_or s.words (slot_at s.size k) 0) 0) (i + 1) (get_or s.words (slot_at s.size k) 0) = put ∙ ap (λ (y : ℕ). cond (eqb y 0) (i + 1) y) there in
+      let same : w ≡ learned (took_slot (view_at s j) k i (get_or s.words (slot_at s.size k) 0)) names = is ∙ ap (λ (y : ℕ). learned (took_slot (view_at s j) k i y) names) there in
+      (left ∙ ((λ q. stored (seen q) (place q) (new q)) ∙ (λ q. stored (looked s j (same q)) (slot_at s.size k) (exchanged s (slot_at s.size k) 0 (i + 1)))), there)

@@ -1,6 +1,6 @@
 -- What the executable steps do to the machine, as plain data.
-use Rattle.std.proofs.Common.{◌≡◌, ◌≢◌, ℕ, zero, suc, ◌+◌, ◌^◌, ◌<◌, ◌≤◌, ⊎_elim, Bool, true, false, cond, List, [], ◌∷◌, ◌++◌, length, get_or, set, sym, refl, ap, ◌∙◌, subst, arith, IsTrue, Option, Some, None, Ok, eqb, eq-eqb, ne_eqb}
-use Rattle.std.specs.Prelude.{unwrap_or}
+use Rattle.std.proofs.Common.{◌≡◌, ◌≢◌, ℕ, zero, suc, ◌+◌, ◌^◌, ◌<◌, ◌≤◌, ⊎_elim, Bool, true, false, cond, List, [], ◌∷◌, ◌++◌, length, get_or, set, sym, refl, ap, ◌∙◌, subst, arith, IsTrue, Option, Some, None, Bor, Ok, eqb, eq-eqb, ne_eqb}
+use Rattle.std.specs.Prelude.{unwrap_or, is_some, IfSome, IsNone}
 use Rattle.std.proofs.lemmas.List.{set-get_or, set-append_left}
 use Rattle.std.proofs.Math.ListN.{get_or-append}
 use Rattle.std.specs.FinMap.{get}
@@ -19,7 +19,7 @@ use Rattle.heap_rule.specs.Maps.{Has, HasKey}
 use Rattle.heap_rule.specs.Forms.{IsCons, IsSliced}
 use Rattle.heap_rule.specs.Sound.{At, EachLive, total}
 use Rattle.heap_core.specs.Core.{Core, core}
-use Rattle.heap_core.specs.Events.{IsCore, IsSoundCore, LiveIn, view_at, Enabled, Applied}
+use Rattle.heap_core.specs.Events.{IsCore, IsSoundCore, LiveIn, view_at, Made}
 use Rattle.heap_rule.specs.Claims.{loaded_counter, MayClaim, won_claim}
 use Rattle.heap_rule.specs.Births.{stored_word, MayStoreLength, stored_length, MayBear, born_with, born}
 use Rattle.heap_rule.specs.Agents.{nothing_used, spent, left_after_split, right_after_split, MayJoin, joined}
@@ -33,28 +33,32 @@ at_here [] i a h e = absurd (omega arith)
 at_here (x ∷ xs) zero a h e = ap some (sym e)
 at_here (x ∷ xs) (suc i) a h e = at_here xs i a (omega arith) e
 
-pub live_here : (vs : List View) (j : ℕ) (v : View) → j < length vs → v ≡ get_or vs j v → (IsTrue v.live → LiveIn vs j (λ v. Unit {0})) × (LiveIn vs j (λ v. Unit {0}) → IsTrue v.live)
-live_here vs j v h e = (
-  (λ l. (v, at_here vs j v h e, l, tt)),
-  (λ t. ap (λ (x : View). x.live) (e ∙ at_index vs j t.0 v t.1) ∙ t.2),
-)
+-- no live view
+pub not_live : (vs : List View) (j : ℕ) (v : View) → At vs j v → v.live ≡ false → LiveIn vs j (λ v. Unit {0}) → ⊥
+not_live vs j v at dead t = let is : t.0 ≡ v = some-injective t.0 v (sym t.1 ∙ at) in let both : true ≡ false = sym t.2 ∙ (ap (λ (x : View). x.live) is ∙ dead) in absurd (cc)
 
-pub no_view : (vs : List View) (j : ℕ) → length vs ≤ j → (IsTrue false → LiveIn vs j (λ v. Unit {0})) × (LiveIn vs j (λ v. Unit {0}) → IsTrue false)
-no_view vs j h = ((λ (e : false ≡ true). absurd (cc)), (λ t. let l = at_within vs j t.0 t.1 in absurd (omega arith)))
+pub no_view : (vs : List View) (j : ℕ) → length vs ≤ j → LiveIn vs j (λ v. Unit {0}) → ⊥
+no_view vs j h t = let l = at_within vs j t.0 t.1 in absurd (omega arith)
 
 pub view_inside : (vs : List View) (j : ℕ) (P : View → Type 0) → LiveIn vs j P → j < length vs
 view_inside vs j P t = at_within vs j t.0 t.1
 
--- what is asked of the live view, by a test of the view
-pub live_if : (vs : List View) (j : ℕ) (P : View → Type 0) (v : View) (b : Bool) → LiveIn vs j (λ v. Unit {0}) → v ≡ get_or vs j v → (IsTrue b → P v) × (P v → IsTrue b)
-    → (IsTrue b → LiveIn vs j P) × (LiveIn vs j P → IsTrue b)
-live_if vs j P v b live here test = let same : v ≡ live.0 = here ∙ at_index vs j live.0 v live.1 in (
-  (λ h. (live.0, live.1, live.2, subst P same (test.0 h))),
-  (λ t. let is : live.0 ≡ t.0 = some-injective live.0 t.0 (sym live.1 ∙ t.1) in test.1 (subst P (sym (same ∙ is)) t.3)),
+abbrev pub Tells : Bool → Type 0 → Type 0
+Tells b P = (IsTrue b → P) × (P → IsTrue b)
+
+-- what a test of the live view tells
+pub live_tells : (vs : List View) (j : ℕ) (P : View → Type 0) (v : View) (b : Bool) → At vs j v × (v.live ≡ true) → Tells b (P v) → Tells b (LiveIn vs j P)
+live_tells vs j P v b is test = (
+  (λ h. (v, is.0, is.1, test.0 h)),
+  (λ t. test.1 (subst P (some-injective t.0 v (sym t.1 ∙ is.0)) t.3)),
 )
 
-pub none_live : (vs : List View) (j : ℕ) (P : View → Type 0) → (LiveIn vs j (λ v. Unit {0}) → IsTrue false) → (IsTrue false → LiveIn vs j P) × (LiveIn vs j P → IsTrue false)
-none_live vs j P not = ((λ (e : false ≡ true). absurd (cc)), (λ t. not (t.0, t.1, t.2, tt)))
+pub none_tells : (vs : List View) (j : ℕ) (P : View → Type 0) → (LiveIn vs j (λ v. Unit {0}) → ⊥) → Tells false (LiveIn vs j P)
+none_tells vs j P not = ((λ (e : false ≡ true). absurd (cc)), (λ t. absurd (not (t.0, t.1, t.2, tt))))
+
+pub some_tells : (vs : List View) (j : ℕ) (o : Option (Bor View)) (b : Bool) → b ≡ is_some o → IfSome o (λ v. At vs j v.now × (v.now.live ≡ true)) → (IsNone o → LiveIn vs j (λ v. Unit {0}) → ⊥) → Tells b (LiveIn vs j (λ v. Unit {0}))
+some_tells vs j (Some v) b e is not = ((λ _. (v.now, is.0, is.1, tt)), (λ _. e))
+some_tells vs j None b e is not = ((λ q. let both : false ≡ true = sym e ∙ q in absurd (cc)), (λ t. absurd (not refl t)))
 
 -- what the live view has, the one that is read there has
 pub live_has : (vs : List View) (j : ℕ) (P : View → Type 0) (d : View) → LiveIn vs j P → P (get_or vs j d)
@@ -72,51 +76,45 @@ module _ (s : Core) (j : ℕ) (d : View) where
   same_view P t = any_default s.views j d spent (view_inside s.views j P t)
 
   pub load_done : (k : Counter) (p x : ℕ) (w : View) → LiveIn s.views j (λ v. Unit {0}) → p ≡ counter_at k → x ≡ get_or s.words p 0 → w ≡ loaded_counter here k x
-      → Applied s (LoadCounter j k) (core s.size s.agents s.words (set s.views j w)) (Ok (get_or s.words p 0))
+      → Made s (LoadCounter j k) (core s.size s.agents s.words (set s.views j w)) (Ok x)
   load_done k p x w live place found is = (
-    live,
     (λ i. core s.size s.agents s.words (set s.views j (is i))) ∙ (λ i. core s.size s.agents s.words (set s.views j (loaded_counter (same_view (λ v. Unit {0}) live i) k ((found ∙ ap (λ (q : ℕ). get_or s.words q 0) place) i)))),
-    ap (λ (q : ℕ). get_or s.words q 0) place,
+    found ∙ ap (λ (q : ℕ). get_or s.words q 0) place,
   )
 
   pub claim_won : (k : Counter) (a want p q x n : ℕ) (w : View) → LiveIn s.views j (λ v. MayClaim v k a want) → p ≡ counter_at k → q ≡ counter_at k → x ≡ get_or s.words p 0 → x ≡ a → n ≡ want → w ≡ won_claim here k a want
-      → Applied s (Claim j k a want) (core s.size s.agents (set s.words q (x + n)) (set s.views j w)) (Ok x)
+      → Made s (Claim j k a want) (core s.size s.agents (set s.words q (x + n)) (set s.views j w)) (Ok x)
   claim_won k a want p q x n w live pe qe found won ne is = let y : ℕ = get_or s.words (counter_at k) 0 in let there : x ≡ y = found ∙ ap (λ (r : ℕ). get_or s.words r 0) pe in let b : eqb y a ≡ true = eq-eqb y a (sym there ∙ won) in let v : View = view_at s j in (
-    live,
     (λ i. core s.size s.agents (set s.words (qe i) (won i + ne i)) (set s.views j ((is ∙ ap (λ (u : View). won_claim u k a want) (same_view (λ v. MayClaim v k a want) live)) i)))
         ∙ (λ i. core s.size s.agents (set s.words (counter_at k) (cond (sym b i) (a + want) y)) (set s.views j (cond (sym b i) (won_claim v k a want) (loaded_counter v k y)))),
     there,
   )
 
   pub claim_lost : (k : Counter) (a want p x : ℕ) (w : View) → LiveIn s.views j (λ v. MayClaim v k a want) → p ≡ counter_at k → x ≡ get_or s.words p 0 → x ≢ a → w ≡ loaded_counter here k x
-      → Applied s (Claim j k a want) (core s.size s.agents s.words (set s.views j w)) (Ok x)
+      → Made s (Claim j k a want) (core s.size s.agents s.words (set s.views j w)) (Ok x)
   claim_lost k a want p x w live pe found lost is = let y : ℕ = get_or s.words (counter_at k) 0 in let there : x ≡ y = found ∙ ap (λ (r : ℕ). get_or s.words r 0) pe in let b : eqb y a ≡ false = ne_eqb y a (λ e. lost (there ∙ e)) in let v : View = view_at s j in (
-    live,
     (λ i. core s.size s.agents (sym (set-get_or s.words (counter_at k) 0) i) (set s.views j ((is ∙ (λ m. loaded_counter (same_view (λ v. MayClaim v k a want) live m) k (there m))) i)))
         ∙ (λ i. core s.size s.agents (set s.words (counter_at k) (cond (sym b i) (a + want) y)) (set s.views j (cond (sym b i) (won_claim v k a want) (loaded_counter v k y)))),
     there,
   )
 
   pub store_done : (c n p x : ℕ) (w : View) → LiveIn s.views j (λ v. HasKey v.own_words c) → p ≡ content_at s.size c → x ≡ get_or s.words p 0 → w ≡ stored_word here c n
-      → Applied s (StoreWord j c n) (core s.size s.agents (set s.words p n) (set s.views j w)) (Ok x)
+      → Made s (StoreWord j c n) (core s.size s.agents (set s.words p n) (set s.views j w)) (Ok x)
   store_done c n p x w live pe found is = (
-    live,
     (λ i. core s.size s.agents (set s.words (pe i) n) (set s.views j ((is ∙ ap (λ (u : View). stored_word u c n) (same_view (λ v. HasKey v.own_words c) live)) i))),
     found ∙ ap (λ (r : ℕ). get_or s.words r 0) pe,
   )
 
   pub length_done : (i n p x m : ℕ) (w : View) → LiveIn s.views j (λ v. MayStoreLength v i n) → p ≡ length_at s.size i → x ≡ get_or s.words p 0 → m ≡ n → w ≡ stored_length here i n
-      → Applied s (StoreLength j i n) (core s.size s.agents (set s.words p m) (set s.views j w)) (Ok x)
+      → Made s (StoreLength j i n) (core s.size s.agents (set s.words p m) (set s.views j w)) (Ok x)
   length_done i n p x m w live pe found me is = (
-    live,
     (λ k. core s.size s.agents (set s.words (pe k) (me k)) (set s.views j ((is ∙ ap (λ (u : View). stored_length u i n) (same_view (λ v. MayStoreLength v i n) live)) k))),
     found ∙ ap (λ (r : ℕ). get_or s.words r 0) pe,
   )
 
   pub birth_done : (i n p x m : ℕ) (f : Form) (w : View) → LiveIn s.views j (λ v. MayBear v i f) → p ≡ form_at s.size i → x ≡ get_or s.words p 0
-      → m ≡ word_of f → n ≡ unwrap_or (get here.own_ids i) 0 → w ≡ born_with here i n f → Applied s (Birth j i f) (core s.size s.agents (set s.words p m) (set s.views j w)) (Ok x)
+      → m ≡ word_of f → n ≡ unwrap_or (get here.own_ids i) 0 → w ≡ born_with here i n f → Made s (Birth j i f) (core s.size s.agents (set s.words p m) (set s.views j w)) (Ok x)
   birth_done i n p x m f w live pe found me ne is = (
-    live,
     (λ k. core s.size s.agents (set s.words (pe k) (me k)) (set s.views j ((is ∙ ((λ r. born_with here i (ne r) f) ∙ ap (λ (u : View). born u i f) (same_view (λ v. MayBear v i f) live))) k))),
     found ∙ ap (λ (r : ℕ). get_or s.words r 0) pe,
   )
@@ -177,38 +175,27 @@ bears_fresh s j i f d h live = let v : View = live.0 in let P : View → Type 0 
     subst (λ (u : View). (get u.units i ≡ None) × (get u.forms i ≡ None)) (sym (at_index s.views j v d live.1))
     (none_or (get v.units i) (λ us e. (k.of_units i us e).0.1 unborn), none_or (get v.forms i) (λ f e. (k.of_forms i f e).born.1 unborn))
 
-abbrev pub Tells : Bool → Type 0 → Type 0
-Tells b P = (IsTrue b → P) × (P → IsTrue b)
-
--- what a test of the views tells of the event
-pub enabled_by : (s t : Core) (e f : Event) (b : Bool) → s ≡ t → e ≡ f → Tells b (Enabled s f) → Tells b (Enabled t e)
-enabled_by s t e f b p q h = subst (λ (x : Core × Event). Tells b (Enabled x.0 x.1)) (λ i. (p i, sym q i)) h
-
-pub views_by : (vs us : List View) (j : ℕ) (P : View → Type 0) (b : Bool) → vs ≡ us → Tells b (LiveIn vs j P) → Tells b (LiveIn us j P)
-views_by vs us j P b e h = subst (λ (l : List View). Tells b (LiveIn l j P)) e h
-
--- what a test of the two views tells of a joining
-pub join_if : (vs : List View) (j o : ℕ) (v b : View) (t : Bool) → j ≢ o → LiveIn vs j (λ v. Unit {0}) → LiveIn vs o (λ v. Unit {0}) → v ≡ get_or vs j v → b ≡ get_or vs o b → Tells t (MayJoin v b)
+-- what a test of the two live views tells of a joining
+pub join_tells : (vs : List View) (j o : ℕ) (v b : View) (t : Bool) → j ≢ o → At vs j v × (v.live ≡ true) → At vs o b × (b.live ≡ true) → Tells t (MayJoin v b)
     → Tells t ((j ≢ o) × LiveIn vs j (λ v. LiveIn vs o (λ b. MayJoin v b)))
-join_if vs j o v b t ne live_j live_o here_v here_b test = let inner = live_if vs o (λ b. MayJoin v b) b t live_o here_b test in let outer = live_if vs j (λ v. LiveIn vs o (λ b. MayJoin v b)) v t live_j here_v inner in
-    ((λ h. (ne, outer.0 h)), (λ h. outer.1 h.1))
+join_tells vs j o v b t ne here there test = let all = live_tells vs j (λ v. LiveIn vs o (λ b. MayJoin v b)) v t here (live_tells vs o (λ b. MayJoin v b) b t there test) in
+    ((λ h. (ne, all.0 h)), (λ h. all.1 h.1))
 
-pub join_not : (vs : List View) (j o : ℕ) → (LiveIn vs j (λ v. Unit {0}) → IsTrue false) → Tells false ((j ≢ o) × LiveIn vs j (λ v. LiveIn vs o (λ b. MayJoin v b)))
-join_not vs j o not = ((λ (e : false ≡ true). absurd (cc)), (λ h. not (h.1.0, h.1.1, h.1.2, tt)))
+pub join_not : (vs : List View) (j o : ℕ) → (LiveIn vs j (λ v. Unit {0}) → ⊥) → Tells false ((j ≢ o) × LiveIn vs j (λ v. LiveIn vs o (λ b. MayJoin v b)))
+join_not vs j o not = ((λ (e : false ≡ true). absurd (cc)), (λ h. absurd (not (h.1.0, h.1.1, h.1.2, tt))))
 
-pub join_not_other : (vs : List View) (j o : ℕ) → (LiveIn vs o (λ v. Unit {0}) → IsTrue false) → Tells false ((j ≢ o) × LiveIn vs j (λ v. LiveIn vs o (λ b. MayJoin v b)))
-join_not_other vs j o not = ((λ (e : false ≡ true). absurd (cc)), (λ h. let t = h.1.3 in not (t.0, t.1, t.2, tt)))
+pub join_not_other : (vs : List View) (j o : ℕ) → (LiveIn vs o (λ v. Unit {0}) → ⊥) → Tells false ((j ≢ o) × LiveIn vs j (λ v. LiveIn vs o (λ b. MayJoin v b)))
+join_not_other vs j o not = ((λ (e : false ≡ true). absurd (cc)), (λ h. let t = h.1.3 in absurd (not (t.0, t.1, t.2, tt))))
 
 -- word 0 is there
 pub some_words : (s : Core) (j : ℕ) (P : View → Type 0) → IsCore s → LiveIn s.views j P → 0 < length s.words
 some_words s j P h t = let g : IsSoundCore s = sound_of s j P h t in let l = g.counted.long in omega arith
 
 pub split_done : (s : Core) (j give x : ℕ) (d e left right : View) (vs : List View) → LiveIn s.views j (λ v. (1 ≤ give) × (give < v.share)) → x ≡ get_or s.words 0 0 → right ≡ right_after_split (get_or s.views j d) give
-    → vs ≡ s.views ++ right ∷ [] → left ≡ left_after_split (get_or vs j e) give → Applied s (Split j give) (core s.size s.agents s.words (set vs j left)) (Ok x)
+    → vs ≡ s.views ++ right ∷ [] → left ≡ left_after_split (get_or vs j e) give → Made s (Split j give) (core s.size s.agents s.words (set vs j left)) (Ok x)
 split_done s j give x d e left right vs live found is grown rest = let P : View → Type 0 = (λ v. (1 ≤ give) × (give < v.share)) in let l = view_inside s.views j P live in let u : View = view_at s j in
     let r : right ≡ right_after_split u give = is ∙ ap (λ (v : View). right_after_split v give) (any_default s.views j d spent l) in
     let h : left ≡ left_after_split u give = rest ∙ ap (λ (v : View). left_after_split v give) (ap (λ (ws : List View). get_or ws j e) grown ∙ (get_or-append s.views (right ∷ []) e j l ∙ any_default s.views j e spent l)) in (
-      live,
       (λ i. core s.size s.agents s.words (set (grown i) j left)) ∙ ((λ i. core s.size s.agents s.words (set-append_left s.views (right ∷ []) j left l i)) ∙ (λ i. core s.size s.agents s.words (set s.views j (h i) ++ r i ∷ []))),
       found,
     )
@@ -219,9 +206,8 @@ split_room vs us j give v right live grown here = let is : v ≡ live.0 = here �
     let less = live.3.1 in subst (λ (u : View). give ≤ u.share) (sym is) (omega arith)
 
 pub join_done : (s : Core) (j o x : ℕ) (d e w b : View) → (j ≢ o) × LiveIn s.views j (λ v. LiveIn s.views o (λ b. MayJoin v b)) → x ≡ get_or s.words 0 0 → w ≡ joined (get_or s.views j d) (get_or s.views o e) → b ≡ spent
-    → Applied s (Join j o) (core s.size s.agents s.words (set (set s.views j w) o b)) (Ok x)
+    → Made s (Join j o) (core s.size s.agents s.words (set (set s.views j w) o b)) (Ok x)
 join_done s j o x d e w b can found is dead = let l = view_inside s.views j (λ v. LiveIn s.views o (λ b. MayJoin v b)) can.1 in let m = view_inside s.views o (λ b. MayJoin can.1.0 b) can.1.3 in (
-  can,
   (λ i. core s.size s.agents s.words (set (set s.views j ((is ∙ (λ k. joined (any_default s.views j d spent l k) (any_default s.views o e spent m k))) i)) o (dead i))),
   found,
 )

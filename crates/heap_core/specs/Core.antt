@@ -2,6 +2,7 @@
 use Rattle.std.specs.Prelude.{ℕ, List}
 use Rattle.heap_rule.specs.declared.view.View.{View}
 use Rattle.heap_rule.specs.declared.size.HeapSize.{HeapSize}
+use Rattle.heap_core.specs.declared.machine.Machine.{Machine}
 
 pub record Core : Type 0 where
   pub size : HeapSize
@@ -11,3 +12,7 @@ pub record Core : Type 0 where
 
 abbrev pub core : HeapSize → ℕ → List ℕ → List View → Core
 core z agents W vs = record { size = z; agents = agents; words = W; views = vs }
+
+-- what the parts of a machine are
+abbrev pub core_of : Machine → Core
+core_of m = core m.size m.agents m.words.items m.views.items

@@ -1,5 +1,6 @@
 -- The machine: where each event may come, and what it does. An event is one atomic step of one agent on one word, but for the making of the heap.
 use Rattle.std.specs.Prelude.{◌≡◌, ◌≢◌, ℕ, ◌+◌, ◌<◌, ◌≤◌, ◌⊎◌, ◌==◌, Bool, true, false, if◌then◌else◌, List, [], ◌∷◌, ◌++◌, slice_index, slice_index_or, slice_set, replicate, Option, Result, Ok, Err}
+use Rattle.js_units.specs.declared.units.NoMemory.{NoMemory}
 use Rattle.js_header.specs.Form.{word_of}
 use Rattle.js_header.specs.declared.form.Form as form
 use Rattle.js_header.specs.declared.form.Form.TheVariants as header
@@ -42,6 +43,10 @@ LiveAt s j P = LiveIn s.views j P
 
 abbrev pub view_at : Core → ℕ → View
 view_at s j = slice_index_or s.views j spent
+
+-- the word p becomes n
+abbrev pub stored : Core → ℕ → ℕ → Core
+stored s p n = record s { words = slice_set s.words p n }
 
 -- the word p becomes n, and the view j becomes w
 abbrev pub moved : Core → ℕ → ℕ → ℕ → View → Core
@@ -190,31 +195,13 @@ Applied s e t (Ok x) = Enabled s e × (t ≡ after s e) × (x ≡ found s e)
 Applied s e t (Err NotEnabled) = (Enabled s e → ⊥) × (t ≡ s)
 Applied s e t (Err Memory) = t ≡ s
 
--- the same of the steps that learn, by the names themselves
-abbrev pub LoadedHeader : Core → ℕ → ℕ → Bool → List ℕ → Core → Result ℕ Refusal → Type 0
-LoadedHeader s j i len names t (Ok x) = CanLoadHeader s j i len names × (t ≡ after_load_header s j i len names) × (x ≡ slice_index s.words (header_at s.size i len))
-LoadedHeader s j i len names t (Err NotEnabled) = (CanLoadHeader s j i len names → ⊥) × (t ≡ s)
-LoadedHeader s j i len names t (Err Memory) = t ≡ s
+-- an event that is enabled was made: on success the machine is `a`, and the answer is the word `x`; without memory nothing changed
+abbrev pub Became : Core → Core → ℕ → Core → Result ℕ NoMemory → Type 0
+Became s a x t (Ok y) = (t ≡ a) × (y ≡ x)
+Became s a x t (Err e) = t ≡ s
 
-abbrev pub LoadedWord : Core → ℕ → ℕ → List ℕ → Core → Result ℕ Refusal → Type 0
-LoadedWord s j c names t (Ok x) = CanLoadWord s j c names × (t ≡ after_load_word s j c names) × (x ≡ slice_index s.words (content_at s.size c))
-LoadedWord s j c names t (Err NotEnabled) = (CanLoadWord s j c names → ⊥) × (t ≡ s)
-LoadedWord s j c names t (Err Memory) = t ≡ s
-
-abbrev pub Moved : Core → ℕ → ℕ → (View → Type 0) → (View → ℕ → View) → form.Form → form.Form → List ℕ → Core → Result ℕ Refusal → Type 0
-Moved s j i P F old new names t (Ok x) = CanMove s j i P F names × (t ≡ after_move s j i old new F names) × (x ≡ slice_index s.words (form_at s.size i))
-Moved s j i P F old new names t (Err NotEnabled) = (CanMove s j i P F names → ⊥) × (t ≡ s)
-Moved s j i P F old new names t (Err Memory) = t ≡ s
-
-abbrev pub LoadedSlot : Core → ℕ → ℕ → Option (List ℕ) → List ℕ → Core → Result ℕ Refusal → Type 0
-LoadedSlot s j k entry names t (Ok x) = CanLoadSlot s j k entry names × (t ≡ after_load_slot s j k entry names) × (x ≡ slice_index s.words (slot_at s.size k))
-LoadedSlot s j k entry names t (Err NotEnabled) = (CanLoadSlot s j k entry names → ⊥) × (t ≡ s)
-LoadedSlot s j k entry names t (Err Memory) = t ≡ s
-
-abbrev pub TookSlot : Core → ℕ → ℕ → ℕ → List ℕ → Core → Result ℕ Refusal → Type 0
-TookSlot s j k i names t (Ok x) = CanTakeSlot s j k i names × (t ≡ after_take_slot s j k i names) × (x ≡ slice_index s.words (slot_at s.size k))
-TookSlot s j k i names t (Err NotEnabled) = (CanTakeSlot s j k i names → ⊥) × (t ≡ s)
-TookSlot s j k i names t (Err Memory) = t ≡ s
+abbrev pub Made : Core → Event → Core → Result ℕ NoMemory → Type 0
+Made s e t r = Became s (after s e) (found s e) t r
 
 -- every born id stays born and keeps its units
 abbrev pub KeepsUnits : Core → Core → Type 0

@@ -9,8 +9,12 @@
 
 mod contents;
 mod event;
+mod loading;
+mod machine;
 mod moves;
+mod owning;
 mod play;
+mod sharing;
 mod slots;
 mod state;
 

@@ -1,76 +1,112 @@
-// The two kinds of event that move a header, over the parts of a machine.
-ghost use Rattle.std.specs.Prelude.{◌≡◌, ◌==◌, if◌then◌else◌, ◌↔◌, IsTrue};
-ghost use Rattle.js_header.specs.Form.{IsInRange, word_of};
-ghost use Rattle.js_header.specs.declared.form.Form.TheVariants as form;
-ghost use Rattle.heap_rule.specs.HeaderMoves.{MayFlatten, flattened, MayThin, thinned};
+// The two kinds of event that move a header.
+ghost use Rattle.std.specs.Prelude.{◌≡◌, ◌<◌, ◌==◌, if◌then◌else◌, ◌↔◌, length, slice_index, IsTrue, Some};
+ghost use Rattle.js_header.specs.Form.{IsInRange, word_of, form_of};
+ghost use Rattle.heap_rule.specs.Layout.{IsLawful, form_at, form};
 ghost use Rattle.heap_core_births.specs.Moving.{Stays};
-ghost use Rattle.heap_core.specs.Core.{core};
-ghost use Rattle.heap_core.specs.Events.{IsCore, Applied, CanFlatten, CanThinTo, Moved};
-ghost use Rattle.heap_core.specs.declared.event.Event.TheVariants as event;
+ghost use Rattle.heap_core.specs.Core.{core_of};
+ghost use Rattle.heap_core.specs.Events.{IsCore, Became, stored, exchanged, CanFlatten, after_flatten, CanThinTo, after_thin};
 
-use crate::contents::header;
-use crate::event::Refusal;
-use crate::play::is_live;
+use crate::machine::Machine;
 use heap_core_births::moves;
-use heap_core_views::learning;
-use heap_rule::{HeapSize, View};
 use js_header::{Form, encode};
-use std::alloc::Global;
+use js_units::NoMemory;
 
-/// Whether the live view may flatten the string and learn all that the event learns.
-pub(crate) fn may_flatten(
-    size: HeapSize,
-    agents: u32,
-    words: &[u64],
-    views: &[View],
-    view: u32,
-    id: u32,
-    old: Form,
-    new: Form,
-    names: &[u32],
-) -> bool
-    requires { IsCore (core size agents words.now views.now) }
-    ensures { IsTrue result ↔ CanFlatten (core size agents words.now views.now) view id old new names.now }
-{
-    if !is_live(views, view) {
-        return false;
+impl Machine {
+    /// Whether the live view may flatten the string and learn all that the event learns.
+    pub(crate) fn may_flatten(
+        &self,
+        view: u32,
+        id: u32,
+        old: Form,
+        new: Form,
+        names: &[u32],
+    ) -> bool
+        requires { IsCore (core_of self.now) }
+        ensures { IsTrue result ↔ CanFlatten (core_of self.now) view id old new names.now }
+    {
+        let Some(v) = self.live(view) else {
+            return false;
+        };
+        if !moves::may_flatten(v, id, old, new) {
+            return false;
+        }
+        let stands = self.header(id).0;
+        moves::flattening(v, id, old, new, stands).justifies_all(v, names)
     }
-    if !moves::may_flatten(&views[view as usize], id, old, new) {
-        return false;
-    }
-    let stands = header(size, words, id).0;
-    moves::flattening(&views[view as usize], id, old, new, stands).justifies_all(
-        &views[view as usize],
-        names,
-    )
-}
 
-/// Whether the live view may forward the string and learn all that the event learns.
-pub(crate) fn may_thin(
-    size: HeapSize,
-    agents: u32,
-    words: &[u64],
-    views: &[View],
-    view: u32,
-    id: u32,
-    old: Form,
-    target: u32,
-    names: &[u32],
-) -> bool
-    requires { IsCore (core size agents words.now views.now) }
-    ensures { IsTrue result ↔ CanThinTo (core size agents words.now views.now) view id old target names.now }
-{
-    if !is_live(views, view) {
-        return false;
+    /// A flattening.
+    pub(crate) fn flatten(
+        &mut self,
+        view: u32,
+        id: u32,
+        old: Form,
+        new: Form,
+        names: &[u32],
+    ) -> Result<u64, NoMemory>
+        requires core { IsCore (core_of self.old) }
+        requires can { CanFlatten (core_of self.old) view id old new names.now }
+        ensures { Became (core_of self.old) (after_flatten (core_of self.old) view id old new names.now)
+            (slice_index self.old.words.items (form_at self.old.size id)) (core_of self.new) result }
+    {
+        let stands = self.header(id).0;
+        let load = moves::flattening(self.view(view), id, old, new, stands);
+        self.learn(view, load, names)?;
+        Ok(self.exchange(id, old, new, stands))
     }
-    if !moves::may_thin(&views[view as usize], id, old, target) {
-        return false;
+
+    /// Whether the live view may forward the string and learn all that the event learns.
+    pub(crate) fn may_thin(&self, view: u32, id: u32, old: Form, target: u32, names: &[u32]) -> bool
+        requires { IsCore (core_of self.now) }
+        ensures { IsTrue result ↔ CanThinTo (core_of self.now) view id old target names.now }
+    {
+        let Some(v) = self.live(view) else {
+            return false;
+        };
+        if !moves::may_thin(v, id, old, target) {
+            return false;
+        }
+        let stands = self.header(id).0;
+        moves::thinning(v, id, old, target, stands).justifies_all(v, names)
     }
-    let stands = header(size, words, id).0;
-    moves::thinning(&views[view as usize], id, old, target, stands).justifies_all(
-        &views[view as usize],
-        names,
-    )
+
+    /// A thinning.
+    pub(crate) fn thin(
+        &mut self,
+        view: u32,
+        id: u32,
+        old: Form,
+        target: u32,
+        names: &[u32],
+    ) -> Result<u64, NoMemory>
+        requires core { IsCore (core_of self.old) }
+        requires can { CanThinTo (core_of self.old) view id old target names.now }
+        ensures { Became (core_of self.old) (after_thin (core_of self.old) view id old target names.now)
+            (slice_index self.old.words.items (form_at self.old.size id)) (core_of self.new) result }
+    {
+        let stands = self.header(id).0;
+        let load = moves::thinning(self.view(view), id, old, target, stands);
+        self.learn(view, load, names)?;
+        Ok(self.exchange(id, old, Form::Thin { target }, stands))
+    }
+
+    /// A compare-exchange of a form word, where the word of `stands` is found. The answer is the
+    /// word found.
+    fn exchange(&mut self, id: u32, old: Form, new: Form, stands: Form) -> u64
+        requires inside { IsLawful self.old.size × (id < self.old.size.ids)
+            × (form_at self.old.size id < length self.old.words.items) }
+        requires stands { form_of (form self.old.size self.old.words.items id) ≡ Some stands }
+        requires range { IsInRange stands }
+        requires new { IsInRange new }
+        requires stays { Stays old stands }
+        ensures after { core_of self.new ≡ stored (core_of self.old) (form_at self.old.size id)
+            (exchanged (core_of self.old) (form_at self.old.size id) (word_of old) (word_of new)) }
+        ensures found { result ≡ slice_index self.old.words.items (form_at self.old.size id) }
+    {
+        let place = self.size.form_place(id);
+        let found = self.word(place);
+        self.store(place, moved_word(old, new, stands));
+        found
+    }
 }
 
 /// What a compare-exchange leaves in the form word, where the word of `stands` is found.
@@ -84,130 +120,4 @@ fn moved_word(old: Form, new: Form, stands: Form) -> u64
         return encode(new);
     }
     encode(stands)
-}
-
-/// A flattening.
-pub(crate) fn flatten(
-    alloc: Global,
-    size: HeapSize,
-    agents: u32,
-    words: &mut [u64],
-    views: &mut [View],
-    view: u32,
-    id: u32,
-    old: Form,
-    new: Form,
-    names: &[u32],
-) -> Result<u64, Refusal>
-    requires { IsCore (core size agents words.old views.old) }
-    ensures { Moved (core size agents words.old views.old) view id (λ v. MayFlatten v id old new)
-        (λ v x. flattened v id old new x) old new names.now (core size agents words.new views.new) result }
-{
-    if !may_flatten(size, agents, words, views, view, id, old, new, names) {
-        return Err(Refusal::NotEnabled);
-    }
-    let stands = header(size, words, id).0;
-    let load = moves::flattening(&views[view as usize], id, old, new, stands);
-    let Ok(seen) = learning::loaded(&views[view as usize], alloc, load, names) else {
-        return Err(Refusal::Memory);
-    };
-    let place = size.form_place(id);
-    let found = words[place];
-    views[view as usize] = seen;
-    words[place] = moved_word(old, new, stands);
-    Ok(found)
-}
-
-/// A thinning.
-pub(crate) fn thin(
-    alloc: Global,
-    size: HeapSize,
-    agents: u32,
-    words: &mut [u64],
-    views: &mut [View],
-    view: u32,
-    id: u32,
-    old: Form,
-    target: u32,
-    names: &[u32],
-) -> Result<u64, Refusal>
-    requires { IsCore (core size agents words.old views.old) }
-    ensures { Moved (core size agents words.old views.old) view id (λ v. MayThin v id old target)
-        (λ v x. thinned v id old target x) old (form.Thin target) names.now
-        (core size agents words.new views.new) result }
-{
-    if !may_thin(size, agents, words, views, view, id, old, target, names) {
-        return Err(Refusal::NotEnabled);
-    }
-    let stands = header(size, words, id).0;
-    let load = moves::thinning(&views[view as usize], id, old, target, stands);
-    let Ok(seen) = learning::loaded(&views[view as usize], alloc, load, names) else {
-        return Err(Refusal::Memory);
-    };
-    let place = size.form_place(id);
-    let found = words[place];
-    views[view as usize] = seen;
-    words[place] = moved_word(old, Form::Thin { target }, stands);
-    Ok(found)
-}
-
-/// The two, with the names as an event has them.
-pub(crate) fn play_flatten(
-    alloc: Global,
-    size: HeapSize,
-    agents: u32,
-    words: &mut [u64],
-    views: &mut [View],
-    view: u32,
-    id: u32,
-    old: Form,
-    new: Form,
-    names: &Vec<u32>,
-) -> Result<u64, Refusal>
-    requires { IsCore (core size agents words.old views.old) }
-    ensures { Applied (core size agents words.old views.old) (event.Flatten view id old new names.now)
-        (core size agents words.new views.new) result }
-{
-    flatten(
-        alloc,
-        size,
-        agents,
-        words,
-        views,
-        view,
-        id,
-        old,
-        new,
-        names.as_slice(),
-    )
-}
-
-pub(crate) fn play_thin(
-    alloc: Global,
-    size: HeapSize,
-    agents: u32,
-    words: &mut [u64],
-    views: &mut [View],
-    view: u32,
-    id: u32,
-    old: Form,
-    target: u32,
-    names: &Vec<u32>,
-) -> Result<u64, Refusal>
-    requires { IsCore (core size agents words.old views.old) }
-    ensures { Applied (core size agents words.old views.old) (event.Thin view id old target names.now)
-        (core size agents words.new views.new) result }
-{
-    thin(
-        alloc,
-        size,
-        agents,
-        words,
-        views,
-        view,
-        id,
-        old,
-        target,
-        names.as_slice(),
-    )
 }

@@ -1,112 +1,81 @@
-// The two kinds of event on slots of the string table, over the parts of a machine.
-ghost use Rattle.std.specs.Prelude.{◌≡◌, ℕ, ◌+◌, ◌==◌, if◌then◌else◌, ◌↔◌, IsTrue};
-ghost use Rattle.heap_core.specs.Core.{core};
-ghost use Rattle.heap_core.specs.Events.{IsCore, Applied, CanLoadSlot, CanTakeSlot, LoadedSlot, TookSlot};
-ghost use Rattle.heap_core.specs.declared.event.Event.TheVariants as event;
+// The two kinds of event on slots of the string table.
+ghost use Rattle.std.specs.Prelude.{◌≡◌, ℕ, ◌+◌, ◌==◌, if◌then◌else◌, ◌↔◌, slice_index, IsTrue};
+ghost use Rattle.heap_rule.specs.Layout.{slot_at};
+ghost use Rattle.heap_core.specs.Core.{core_of};
+ghost use Rattle.heap_core.specs.Events.{IsCore, Became, CanLoadSlot, after_load_slot, CanTakeSlot, after_take_slot};
 
-use crate::event::Refusal;
-use crate::play::is_live;
+use crate::machine::Machine;
 use heap_core_views::slots;
-use heap_rule::{HeapSize, View};
-use js_units::Units;
-use std::alloc::Global;
+use js_units::{NoMemory, Units};
 
-/// Whether the live view may load the slot and learn all that the event learns.
-pub(crate) fn may_load_slot(
-    size: HeapSize,
-    agents: u32,
-    words: &[u64],
-    views: &[View],
-    view: u32,
-    slot: u32,
-    entry: &Option<Units>,
-    names: &[u32],
-) -> bool
-    requires { IsCore (core size agents words.now views.now) }
-    ensures { IsTrue result ↔ CanLoadSlot
-        (core size agents words.now views.now) view slot entry.now names.now }
-{
-    if !is_live(views, view) {
-        return false;
+impl Machine {
+    /// Whether the live view may load the slot and learn all that the event learns.
+    pub(crate) fn may_load_slot(
+        &self,
+        view: u32,
+        slot: u32,
+        entry: &Option<Units>,
+        names: &[u32],
+    ) -> bool
+        requires { IsCore (core_of self.now) }
+        ensures { IsTrue result ↔ CanLoadSlot (core_of self.now) view slot entry.now names.now }
+    {
+        match self.live(view) {
+            Some(v) => slots::may_load(v, slot, entry, names),
+            None => false,
+        }
     }
-    slots::may_load(&views[view as usize], slot, entry, names)
-}
 
-/// Whether the live view may claim the slot and learn all that the event learns.
-pub(crate) fn may_take_slot(
-    size: HeapSize,
-    agents: u32,
-    words: &[u64],
-    views: &[View],
-    view: u32,
-    slot: u32,
-    id: u32,
-    names: &[u32],
-) -> bool
-    requires { IsCore (core size agents words.now views.now) }
-    ensures { IsTrue result ↔ CanTakeSlot (core size agents words.now views.now) view slot id names.now }
-{
-    if !is_live(views, view) {
-        return false;
+    /// A load of a slot.
+    pub(crate) fn load_slot(
+        &mut self,
+        view: u32,
+        slot: u32,
+        entry: &Option<Units>,
+        names: &[u32],
+    ) -> Result<u64, NoMemory>
+        requires core { IsCore (core_of self.old) }
+        requires can { CanLoadSlot (core_of self.old) view slot entry.now names.now }
+        ensures { Became (core_of self.old) (after_load_slot (core_of self.old) view slot entry.now names.now)
+            (slice_index self.old.words.items (slot_at self.old.size slot)) (core_of self.new) result }
+    {
+        let found = self.word(self.size.slot_place(slot));
+        let seen = slots::slot_loaded(self.view(view), self.alloc(), slot, entry, found, names)?;
+        self.look(view, seen);
+        Ok(found)
     }
-    slots::may_take(&views[view as usize], slot, id, names)
-}
 
-/// A load of a slot.
-pub(crate) fn load_slot(
-    alloc: Global,
-    size: HeapSize,
-    agents: u32,
-    words: &[u64],
-    views: &mut [View],
-    view: u32,
-    slot: u32,
-    entry: &Option<Units>,
-    names: &[u32],
-) -> Result<u64, Refusal>
-    requires { IsCore (core size agents words.now views.old) }
-    ensures { LoadedSlot (core size agents words.now views.old) view slot entry.now names.now
-        (core size agents words.now views.new) result }
-{
-    if !may_load_slot(size, agents, words, views, view, slot, entry, names) {
-        return Err(Refusal::NotEnabled);
+    /// Whether the live view may claim the slot and learn all that the event learns.
+    pub(crate) fn may_take_slot(&self, view: u32, slot: u32, id: u32, names: &[u32]) -> bool
+        requires { IsCore (core_of self.now) }
+        ensures { IsTrue result ↔ CanTakeSlot (core_of self.now) view slot id names.now }
+    {
+        match self.live(view) {
+            Some(v) => slots::may_take(v, slot, id, names),
+            None => false,
+        }
     }
-    let found = words[size.slot_place(slot)];
-    let Ok(seen) = slots::slot_loaded(&views[view as usize], alloc, slot, entry, found, names)
-    else {
-        return Err(Refusal::Memory);
-    };
-    views[view as usize] = seen;
-    Ok(found)
-}
 
-/// A claim of a slot.
-pub(crate) fn take_slot(
-    alloc: Global,
-    size: HeapSize,
-    agents: u32,
-    words: &mut [u64],
-    views: &mut [View],
-    view: u32,
-    slot: u32,
-    id: u32,
-    names: &[u32],
-) -> Result<u64, Refusal>
-    requires { IsCore (core size agents words.old views.old) }
-    ensures { TookSlot (core size agents words.old views.old) view slot id names.now
-        (core size agents words.new views.new) result }
-{
-    if !may_take_slot(size, agents, words, views, view, slot, id, names) {
-        return Err(Refusal::NotEnabled);
+    /// A claim of a slot.
+    pub(crate) fn take_slot(
+        &mut self,
+        view: u32,
+        slot: u32,
+        id: u32,
+        names: &[u32],
+    ) -> Result<u64, NoMemory>
+        requires core { IsCore (core_of self.old) }
+        requires can { CanTakeSlot (core_of self.old) view slot id names.now }
+        ensures { Became (core_of self.old) (after_take_slot (core_of self.old) view slot id names.now)
+            (slice_index self.old.words.items (slot_at self.old.size slot)) (core_of self.new) result }
+    {
+        let place = self.size.slot_place(slot);
+        let found = self.word(place);
+        let seen = slots::slot_taken(self.view(view), self.alloc(), slot, id, found, names)?;
+        self.look(view, seen);
+        self.store(place, taken_word(found, id));
+        Ok(found)
     }
-    let place = size.slot_place(slot);
-    let found = words[place];
-    let Ok(seen) = slots::slot_taken(&views[view as usize], alloc, slot, id, found, names) else {
-        return Err(Refusal::Memory);
-    };
-    views[view as usize] = seen;
-    words[place] = taken_word(found, id);
-    Ok(found)
 }
 
 /// What a claim leaves in the slot.
@@ -117,61 +86,4 @@ fn taken_word(found: u64, id: u32) -> u64
         return u64::from(id) + 1;
     }
     found
-}
-
-/// The two, with the names as an event has them.
-pub(crate) fn play_load_slot(
-    alloc: Global,
-    size: HeapSize,
-    agents: u32,
-    words: &[u64],
-    views: &mut [View],
-    view: u32,
-    slot: u32,
-    entry: &Option<Units>,
-    names: &Vec<u32>,
-) -> Result<u64, Refusal>
-    requires { IsCore (core size agents words.now views.old) }
-    ensures { Applied (core size agents words.now views.old) (event.LoadSlot view slot entry.now names.now)
-        (core size agents words.now views.new) result }
-{
-    load_slot(
-        alloc,
-        size,
-        agents,
-        words,
-        views,
-        view,
-        slot,
-        entry,
-        names.as_slice(),
-    )
-}
-
-pub(crate) fn play_take_slot(
-    alloc: Global,
-    size: HeapSize,
-    agents: u32,
-    words: &mut [u64],
-    views: &mut [View],
-    view: u32,
-    slot: u32,
-    id: u32,
-    names: &Vec<u32>,
-) -> Result<u64, Refusal>
-    requires { IsCore (core size agents words.old views.old) }
-    ensures { Applied (core size agents words.old views.old) (event.TakeSlot view slot id names.now)
-        (core size agents words.new views.new) result }
-{
-    take_slot(
-        alloc,
-        size,
-        agents,
-        words,
-        views,
-        view,
-        slot,
-        id,
-        names.as_slice(),
-    )
 }

@@ -7,8 +7,8 @@ ghost use Rattle.heap_core.specs.Steps.{EventsAreSteps};
 ghost use Rattle.heap_core.specs.declared.event.Refusal.TheVariants as refusal;
 
 use crate::event::{Event, Refusal};
-use crate::{contents, moves, play, slots};
-use heap_rule::{HeapSize, View};
+use crate::machine::Machine;
+use heap_rule::HeapSize;
 use js_units::{NoMemory, Units};
 use std::alloc::Global;
 use std::marker::Model;
@@ -17,14 +17,11 @@ use std::marker::Model;
 /// plain data. It has no heap yet, or its words and views meet the rule.
 #[derive(Drop)]
 pub struct CoreState {
-    size: HeapSize,
-    agents: u32,
-    words: Vec<u64>,
-    views: Vec<View>,
+    machine: Machine,
 }
 
 impl Model for CoreState {
-    ghost use Rattle.heap_core.specs.Core.{Core, core};
+    ghost use Rattle.heap_core.specs.Core.{Core, core_of};
     ghost use Rattle.heap_core.specs.Events.{IsCore};
     ghost use Rattle.heap_rule.specs.contracts.view.View as v;
     ghost use Rattle.std.specs.Coded.{codes};
@@ -33,9 +30,9 @@ impl Model for CoreState {
 
     ghost coded = { Prim.hlevel (codes, v.the_row.coded) };
 
-    ghost view = { λ s. core s.size s.agents s.words.items s.views.items };
+    ghost view = { λ s. core_of s.machine };
 
-    ghost invariant = { λ s. IsCore (core s.size s.agents s.words.items s.views.items) };
+    ghost invariant = { λ s. IsCore (core_of s.machine) };
 }
 
 impl CoreState {
@@ -44,14 +41,7 @@ impl CoreState {
         ensures { HasNoHeap result }
     {
         CoreState {
-            size: HeapSize {
-                ids: 0,
-                words: 0,
-                slots: 0,
-            },
-            agents: 0,
-            words: Vec::new(alloc),
-            views: Vec::new(alloc),
+            machine: Machine::new(alloc),
         }
     }
 
@@ -59,14 +49,14 @@ impl CoreState {
     pub fn size(&self) -> HeapSize
         ensures { result ≡ self.now.size }
     {
-        self.size
+        self.machine.size
     }
 
     /// The words of the heap.
     pub fn words(&self) -> &[u64]
         ensures { result.now ≡ self.now.words }
     {
-        self.words.as_slice()
+        self.machine.words.as_slice()
     }
 
     /// The units of a born id.
@@ -76,7 +66,7 @@ impl CoreState {
         ensures { IfOk result (λ us. us ≡ units_of self.now.size self.now.words id) }
     {
         let mut units = Units::new(alloc);
-        contents::add_units(self.size, self.words.as_slice(), id, &mut units)?;
+        self.machine.add_units(id, &mut units)?;
         Ok(units)
     }
 
@@ -86,7 +76,7 @@ impl CoreState {
         ensures some { IfSome result (λ us. HasEntry self.now view slot us.now) }
         ensures none { IsNone result ↔ ((us : List ℕ) → HasEntry self.now view slot us → ⊥) }
     {
-        match self.views.get(view as usize) {
+        match self.machine.views.get(view as usize) {
             Some(view) => match view.slots.get(slot) {
                 Some(id) => view.units.get(*id),
                 None => None,
@@ -100,120 +90,7 @@ impl CoreState {
 pub fn enabled(state: &CoreState, event: &Event) -> bool
     ensures { IsTrue result ↔ Enabled state.now event.now }
 {
-    let views = state.views.as_slice();
-    match event {
-        Event::Make { size, agents } => play::may_make(views, *size, *agents),
-        Event::Split { view, give } => play::may_split(views, *view, *give),
-        Event::Join { view, other } => play::may_join(views, *view, *other),
-        Event::LoadCounter { view, counter: _ } => play::is_live(views, *view),
-        Event::Claim {
-            view,
-            counter,
-            at,
-            want,
-        } => play::may_claim(views, *view, *counter, *at, *want),
-        Event::StoreWord { view, at, word: _ } => play::may_store_word(views, *view, *at),
-        Event::StoreLength { view, id, length } => {
-            play::may_store_length(views, *view, *id, *length)
-        }
-        Event::Birth { view, id, form } => play::may_bear(
-            state.size,
-            state.agents,
-            state.words.as_slice(),
-            views,
-            *view,
-            *id,
-            *form,
-        ),
-        Event::LoadHeader {
-            view,
-            id,
-            length,
-            learn,
-        } => play::may_load_header(
-            state.size,
-            state.agents,
-            state.words.as_slice(),
-            views,
-            *view,
-            *id,
-            *length,
-            learn.as_slice(),
-        ),
-        Event::LoadWord { view, at, learn } => play::may_load_word(
-            state.size,
-            state.agents,
-            state.words.as_slice(),
-            views,
-            *view,
-            *at,
-            learn.as_slice(),
-        ),
-        Event::Flatten {
-            view,
-            id,
-            old,
-            new,
-            learn,
-        } => moves::may_flatten(
-            state.size,
-            state.agents,
-            state.words.as_slice(),
-            views,
-            *view,
-            *id,
-            *old,
-            *new,
-            learn.as_slice(),
-        ),
-        Event::Thin {
-            view,
-            id,
-            old,
-            target,
-            learn,
-        } => moves::may_thin(
-            state.size,
-            state.agents,
-            state.words.as_slice(),
-            views,
-            *view,
-            *id,
-            *old,
-            *target,
-            learn.as_slice(),
-        ),
-        Event::LoadSlot {
-            view,
-            slot,
-            entry,
-            learn,
-        } => slots::may_load_slot(
-            state.size,
-            state.agents,
-            state.words.as_slice(),
-            views,
-            *view,
-            *slot,
-            entry,
-            learn.as_slice(),
-        ),
-        Event::TakeSlot {
-            view,
-            slot,
-            id,
-            learn,
-        } => slots::may_take_slot(
-            state.size,
-            state.agents,
-            state.words.as_slice(),
-            views,
-            *view,
-            *slot,
-            *id,
-            learn.as_slice(),
-        ),
-    }
+    state.machine.enabled(event)
 }
 
 /// Makes the event, and answers the word that it found. `NotEnabled` comes exactly where the
@@ -228,15 +105,7 @@ pub fn apply(state: &mut CoreState, event: &Event) -> Result<u64, Refusal>
     ensures units { KeepsUnits state.old state.new }
     ensures born { IfOk result (λ _. BornBy event.now state.new) }
 {
-    let alloc = *state.words.allocator();
-    play::step(
-        alloc,
-        &mut state.size,
-        &mut state.agents,
-        &mut state.words,
-        &mut state.views,
-        event,
-    )
+    state.machine.apply(event)
 }
 
 /// What holds of every list of events, however long and of however many agents, in which each
