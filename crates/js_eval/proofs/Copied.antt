@@ -1,6 +1,6 @@
 -- What a value that was read leaves in the ledger.
 use Rattle.std.proofs.Common.{◌≡◌, ℕ, zero, suc, ◌<◌, length, slice_index_or, List, [], ◌∷◌, Some, refl, ap, ◌∙◌, arith}
-use Rattle.js_store.specs.State.{State, IsKnown, Has, text as units_of}
+use Rattle.js_store.specs.State.{State, Has, text as units_of}
 use Rattle.js_store.proofs.Laws.{grows_refl, step_refl, known_has}
 use Rattle.js_texts.specs.Texts.{AllKnown, texts as texts_seen}
 use Rattle.eval_values.specs.declared.value.Value.{Value}

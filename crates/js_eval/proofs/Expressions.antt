@@ -1,5 +1,5 @@
 -- One lemma for each kind of expression, and for its early end.
-use Rattle.std.proofs.Common.{arith, ◌≡◌, ℕ, List, [], ◌∷◌, ◌++◌, refl, ap, ◌∙◌, sym, subst, ◌<◌, ◌+◌, length, get_or, drop, Bool, true, false, if◌then◌else◌, Option, Some, None, option_map, Vec, Global, Result, Ok, Err}
+use Rattle.std.proofs.Common.{arith, ◌≡◌, ℕ, List, [], ◌∷◌, refl, ap, ◌∙◌, sym, subst, ◌<◌, ◌+◌, length, get_or, drop, Bool, true, false, if◌then◌else◌, Option, Some, None, option_map, Vec, Global, Result, Ok, Err}
 use Rattle.js_store.specs.State.{State, Grows}
 use Rattle.js_store.specs.Faults.{Step}
 use Rattle.js_store.specs.declared.faults.StoreFault.TheVariants.{Memory}

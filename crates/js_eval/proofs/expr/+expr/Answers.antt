@@ -1,4 +1,4 @@
-use Rattle.std.proofs.Common.{Ok, Err, refl, sym, ◌∙◌, subst, unwrap_or, List, []}
+use Rattle.std.proofs.Common.{Ok, Err, refl, sym, ◌∙◌, subst, unwrap_or, List}
 use Rattle.std.proofs.lemmas.Result.{err_from_is_err_and}
 use Rattle.std.proofs.Math.ListN.{drop_of_length-le}
 use Rattle.js_store.specs.declared.faults.StoreFault.TheVariants.{Memory}

@@ -1,4 +1,4 @@
-use Rattle.std.proofs.Common.{arith, ◌≡◌, ◌∙◌, ap, sym}
+use Rattle.std.proofs.Common.{arith, ◌∙◌, ap}
 use Rattle.eval_scopes.specs.Bindings.{all_but_first}
 use Rattle.eval_scopes.specs.Seen.{frames_of}
 use Rattle.eval_scopes.proofs.Stacked.{left_one}

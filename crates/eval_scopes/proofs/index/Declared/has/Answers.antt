@@ -1,4 +1,4 @@
-use Rattle.std.proofs.Common.{arith, ◌≡◌, List, ℕ, false, ap, length, subst, sym, ◌∙◌}
+use Rattle.std.proofs.Common.{arith, ◌≡◌, List, ℕ, false, subst, sym, ◌∙◌}
 use Rattle.eval_scopes.specs.Bindings.{is_among}
 use Rattle.eval_scopes.proofs.Indexes.{none_among}
 use Rattle.eval_scopes.proofs.index.Declared.has.Goals as goal

@@ -1,4 +1,4 @@
-use Rattle.std.proofs.Common.{◌≡◌, List, ℕ, false, ap, length, min, refl, subst, sym, ◌∙◌}
+use Rattle.std.proofs.Common.{◌≡◌, List, ℕ, false, length, min, refl, subst, sym, ◌∙◌}
 use Rattle.eval_scopes.specs.Bindings.{is_among}
 use Rattle.eval_scopes.specs.Index.{few, NoneAmong}
 use Rattle.eval_scopes.proofs.Indexes.{decided, start_at, no_start_at, none_among}
