@@ -109,7 +109,7 @@ all_uses a b name fs ms n order g i u = record {
   within_words = omega (arith, u, lent_settles a name (index_in a name) fs ms order);
 }
 
--- a refusal that is want of memory alone says nothing of the store
+-- a refusal that is out of memory alone says nothing of the store
 pub none_told : {T : Type 0} (r : Result T StoreFault) → IfErr r (λ f. f ≡ Memory) → full_fault_of r ≡ None
 none_told (Ok x) h = refl
 none_told (Err f) h = ap full_only h
