@@ -63,7 +63,7 @@ def cases_there(name, folder):
     """How many cases a program's `stdout` tells of, less those that take too long; nothing where it tells of none."""
     *lines, last = lines_of(folder, "stdout") or [""]
     total, counts = TOTAL.fullmatch(last), dict(line.rsplit(" ", 1) for line in lines if " " in line)
-    return int(total[1]) - sum(int(counts[it]) for it in LONG.get(name, ())) if total else None
+    return int(total[1]) - sum(int(counts.get(it, 0)) for it in LONG.get(name, ())) if total else None
 
 
 def runs(root):
