@@ -19,7 +19,7 @@ import stress
 LINE = "heap_race: heap_rule heap_table heap_text heap_intern plain_store js_store\n"
 PROCESSORS = ["0", "0,1", "0-3"]
 # So many rounds are played by one run, which compiles the program first.
-ROUNDS = 200
+ROUNDS = 10
 
 
 def main():
