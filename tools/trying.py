@@ -10,7 +10,7 @@ import time
 import proving
 
 # So many runs are at work at a time. Each has so many seconds.
-AT_A_TIME, SECONDS = 4, 160
+AT_A_TIME, SECONDS = 4, 600
 # The programs that run cases, and in how many parts, since one takes long. The `args` of each names the files in its `data`; it may tell of
 # each file in a line, and tells at last of all.
 CASES, TOTAL = {"jsstr_cases": 3, "jssched_cases": 2}, re.compile(r"(\d+) cases, (?:\d+ runs, )?\d+ differ")
