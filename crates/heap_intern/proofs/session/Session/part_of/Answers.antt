@@ -14,7 +14,8 @@ use Rattle.heap_intern.specs.Sessions.{state_by}
 use Rattle.heap_intern.proofs.Calls.{cut_err, cut_ok}
 use Rattle.heap_intern.proofs.States.{settled_test, step_at, test_settled, text_is}
 use Rattle.heap_intern.proofs.Lately.{kept_by}
-use Rattle.heap_intern.proofs.strings.SessionStrings.slice.Goals as goal
+use Rattle.heap_intern.proofs.OneUnit.{singles_by}
+use Rattle.heap_intern.proofs.session.Session.part_of.Goals as goal
 
 pub slice-requires-clause-settled : goal.slice-requires-clause-settled
 slice-requires-clause-settled c = test_settled c.args.self.now.text.reader.agent.seat.me.0 c.args.s.id c.requires.settled
@@ -50,3 +51,6 @@ invariant_of-self-clause-last_kept c = let s = c.args.self.now in let v : View =
 
 pub invariant_of-self-clause-older_kept : goal.invariant_of-self-clause-older_kept
 invariant_of-self-clause-older_kept c = let s = c.args.self.now in let v : View = s.text.reader.agent.seat.me.0 in let w : View = c.slice.new.self.reader.agent.seat.me.0 in kept_by v w (c.slice.ensures.continues.known) s.older s.older_kept
+
+pub invariant_of-self-clause-singles_kept : goal.invariant_of-self-clause-singles_kept
+invariant_of-self-clause-singles_kept c = let s = c.args.self.now in let v : View = s.text.reader.agent.seat.me.0 in let w : View = c.slice.new.self.reader.agent.seat.me.0 in singles_by v w (c.slice.ensures.continues.known) s.singles.ids s.singles_kept

@@ -12,7 +12,8 @@ use Rattle.heap_intern.specs.Sound.{limit_high}
 use Rattle.heap_intern.proofs.Calls.{flat_is, never_slots, step_refused, step_used, told_here}
 use Rattle.heap_intern.proofs.States.{history_continues, settled_test, step_at}
 use Rattle.heap_intern.proofs.Lately.{kept_by}
-use Rattle.heap_intern.proofs.strings.SessionStrings.from_units.Goals as goal
+use Rattle.heap_intern.proofs.OneUnit.{singles_by}
+use Rattle.heap_intern.proofs.session.Session.flat_of.Goals as goal
 
 pub make_flat-requires : goal.make_flat-requires
 make_flat-requires c = let a = limit_high c.args.self.now.limit in let b = c.requires in record { short = omega arith }
@@ -46,3 +47,6 @@ invariant_of-self-clause-last_kept c = let s = c.args.self.now in let v : View =
 
 pub invariant_of-self-clause-older_kept : goal.invariant_of-self-clause-older_kept
 invariant_of-self-clause-older_kept c = let s = c.args.self.now in let v : View = s.text.reader.agent.seat.me.0 in let w : View = c.make_flat.new.self.reader.agent.seat.me.0 in kept_by v w (c.make_flat.ensures.continues.known) s.older s.older_kept
+
+pub invariant_of-self-clause-singles_kept : goal.invariant_of-self-clause-singles_kept
+invariant_of-self-clause-singles_kept c = let s = c.args.self.now in let v : View = s.text.reader.agent.seat.me.0 in let w : View = c.make_flat.new.self.reader.agent.seat.me.0 in singles_by v w (c.make_flat.ensures.continues.known) s.singles.ids s.singles_kept
