@@ -1,9 +1,9 @@
 use Rattle.std.proofs.Common.{rules, ◌≡◌, ◌++◌, ◌*◌, ℕ, List, codes, sym, ap, ◌∙◌}
 use Rattle.std.specs.String.{string_bytes}
-use Rattle.run_generate.specs.Draws.{after}
-use Rattle.run_generate.specs.Texts.{drawn_line}
-use Rattle.run_generate.proofs.Rounds.{after_none, each_none, lines_more, rounds_more}
-use Rattle.run_generate.proofs.texts.script.Goals as goal
+use Rattle.run_sources.specs.Draws.{after}
+use Rattle.run_sources.specs.Texts.{drawn_line}
+use Rattle.run_sources.proofs.Rounds.{after_none, each_none, lines_more, rounds_more}
+use Rattle.run_sources.proofs.texts.script.Goals as goal
 
 pub loop-line-init : goal.loop-line-init
 loop-line-init c =

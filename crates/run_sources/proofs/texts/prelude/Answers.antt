@@ -1,10 +1,10 @@
 use Rattle.std.proofs.Common.{rules, ◌≡◌, ◌++◌, ℕ, List, sym, ap, ◌∙◌, arith}
 use Rattle.std.specs.String.{string_bytes}
-use Rattle.run_generate.specs.Draws.{each}
-use Rattle.run_generate.specs.Lines.{all_line, word_line}
-use Rattle.run_generate.specs.Texts.{before, word}
-use Rattle.run_generate.proofs.Rounds.{before_after, before_none, each_none, words_more}
-use Rattle.run_generate.proofs.texts.prelude.Goals as goal
+use Rattle.run_sources.specs.Draws.{each}
+use Rattle.run_sources.specs.Lines.{all_line, word_line}
+use Rattle.run_sources.specs.Texts.{before, word}
+use Rattle.run_sources.proofs.Rounds.{before_after, before_none, each_none, words_more}
+use Rattle.run_sources.proofs.texts.prelude.Goals as goal
 
 pub loop-i-init : goal.loop-i-init
 loop-i-init c =

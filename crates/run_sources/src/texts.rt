@@ -2,8 +2,8 @@
 ghost use Rattle.std.specs.Prelude.{◌≡◌, IfOk, OnOk, map};
 ghost use Rattle.std.specs.List.{All};
 ghost use Rattle.std.specs.String.{string_bytes};
-ghost use Rattle.run_generate.specs.Draws.{after, next};
-ghost use Rattle.run_generate.specs.Texts.{IsSmall, before, drawn_line, generated, named_for, prelude, script, word, word_length};
+ghost use Rattle.run_sources.specs.Draws.{after, next};
+ghost use Rattle.run_sources.specs.Texts.{IsSmall, before, drawn_line, generated, named_for, prelude, script, word, word_length};
 
 use crate::draws::Draws;
 use crate::lines::{ALL_LINE, line, print_line, script_name, word_line};

@@ -1,9 +1,9 @@
 -- The texts that are made from a number: a prelude and 32 scripts. All that is drawn is drawn in the order of the text, from the number as the first state.
 use Rattle.std.specs.Prelude.{◌+◌, ◌*◌, ◌≤◌, ◌++◌, ℕ, zero, suc, List, [], ◌∷◌, codes, length}
 use Rattle.std.specs.String.{string_bytes}
-use Rattle.run_generate.specs.Draws.{after, draw, each, listed, next}
-use Rattle.run_generate.specs.Lines.{all_line, digits, line, print_line, word_line}
-use Rattle.run_generate.specs.declared.texts.Text.{Text}
+use Rattle.run_sources.specs.Draws.{after, draw, each, listed, next}
+use Rattle.run_sources.specs.Lines.{all_line, digits, line, print_line, word_line}
+use Rattle.run_sources.specs.declared.texts.Text.{Text}
 
 -- a word, drawn from state x on: 6 to 25 letters
 abbrev pub word_length : ℕ → ℕ

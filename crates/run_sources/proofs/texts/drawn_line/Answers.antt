@@ -1,7 +1,7 @@
 use Rattle.std.proofs.Common.{◌∙◌}
 use Rattle.std.proofs.lemmas.Result.{IfOk-weaker}
-use Rattle.run_generate.proofs.Rounds.{drawn_is, four_is}
-use Rattle.run_generate.proofs.texts.drawn_line.Goals as goal
+use Rattle.run_sources.proofs.Rounds.{drawn_is, four_is}
+use Rattle.run_sources.proofs.texts.drawn_line.Goals as goal
 
 pub returns-clause-text : goal.returns-clause-text
 returns-clause-text c =

@@ -1,8 +1,8 @@
 use Rattle.std.proofs.Common.{◌≡◌, ◌++◌, ◌*◌, codes}
 use Rattle.std.specs.String.{string_bytes}
-use Rattle.run_generate.specs.Draws.{after, each}
-use Rattle.run_generate.specs.Texts.{drawn_line}
-use Rattle.run_generate.proofs.texts.script.Given as goal
+use Rattle.run_sources.specs.Draws.{after, each}
+use Rattle.run_sources.specs.Texts.{drawn_line}
+use Rattle.run_sources.proofs.texts.script.Given as goal
 
 abbrev pub invariant-loop-line : goal.invariant-loop-line
 invariant-loop-line l = record {

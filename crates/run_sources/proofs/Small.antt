@@ -6,9 +6,9 @@ use Rattle.std.proofs.lemmas.List.{length-append}
 use Rattle.std.proofs.lemmas.List.Elements.{All-nil, All-push}
 use Rattle.std.proofs.lemmas.Nat.{mod_below}
 use Rattle.std.proofs.Math.Nat.{div-le_self}
-use Rattle.run_generate.specs.Draws.{after, draw, each, listed, next}
-use Rattle.run_generate.specs.Lines.{all_line, find_line, line, pad_line, print_line, repeat_line, replace_line, split_line, symbol_line, word_line}
-use Rattle.run_generate.specs.Texts.{IsSmall, before, drawn_line, generated, letter, named_script, prelude, script, word, word_length}
+use Rattle.run_sources.specs.Draws.{after, draw, each, listed, next}
+use Rattle.run_sources.specs.Lines.{all_line, find_line, line, pad_line, print_line, repeat_line, replace_line, split_line, symbol_line, word_line}
+use Rattle.run_sources.specs.Texts.{IsSmall, before, drawn_line, generated, letter, named_script, prelude, script, word, word_length}
 
 -- two texts behind one another
 joined : (m n : ℕ) (s t : List ℕ) → length s ≤ m → length t ≤ n → length (s ++ t) ≤ m + n

@@ -1,6 +1,6 @@
 // Numbers that are drawn one after the other.
 ghost use Rattle.std.specs.Prelude.{◌≡◌, ◌<◌};
-ghost use Rattle.run_generate.specs.Draws.{draw, next};
+ghost use Rattle.run_sources.specs.Draws.{draw, next};
 
 /// What draws numbers: its state.
 #[derive(Drop)]

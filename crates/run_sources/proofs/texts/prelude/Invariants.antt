@@ -1,9 +1,9 @@
 use Rattle.std.proofs.Common.{◌≡◌}
 use Rattle.std.specs.String.{string_bytes}
-use Rattle.run_generate.specs.Draws.{each}
-use Rattle.run_generate.specs.Lines.{word_line}
-use Rattle.run_generate.specs.Texts.{before, word}
-use Rattle.run_generate.proofs.texts.prelude.Given as goal
+use Rattle.run_sources.specs.Draws.{each}
+use Rattle.run_sources.specs.Lines.{word_line}
+use Rattle.run_sources.specs.Texts.{before, word}
+use Rattle.run_sources.proofs.texts.prelude.Given as goal
 
 abbrev pub invariant-loop-i : goal.invariant-loop-i
 invariant-loop-i l = record {

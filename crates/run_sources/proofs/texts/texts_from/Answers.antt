@@ -1,10 +1,10 @@
 use Rattle.std.proofs.Common.{rules, ◌≡◌, ◌++◌, ◌∷◌, [], ap, arith, codes, sym, ◌∙◌}
-use Rattle.run_generate.specs.Draws.{listed}
-use Rattle.run_generate.specs.Texts.{Named, before, named_script, prelude}
-use Rattle.run_generate.specs.declared.texts.Text.{Text}
-use Rattle.run_generate.proofs.Rounds.{after_none, first_text, next_text, rounds_more}
-use Rattle.run_generate.proofs.Small.{generated_small}
-use Rattle.run_generate.proofs.texts.texts_from.Goals as goal
+use Rattle.run_sources.specs.Draws.{listed}
+use Rattle.run_sources.specs.Texts.{Named, before, named_script, prelude}
+use Rattle.run_sources.specs.declared.texts.Text.{Text}
+use Rattle.run_sources.proofs.Rounds.{after_none, first_text, next_text, rounds_more}
+use Rattle.run_sources.proofs.Small.{generated_small}
+use Rattle.run_sources.proofs.texts.texts_from.Goals as goal
 
 pub loop-j-init : goal.loop-j-init
 loop-j-init c =

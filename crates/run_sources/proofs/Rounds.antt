@@ -1,9 +1,9 @@
 -- What one more round of a loop makes of the texts and of the state.
 use Rattle.std.proofs.Common.{◌≡◌, ◌+◌, ◌*◌, ◌++◌, ℕ, zero, suc, List, [], ◌∷◌, refl, ap, ap₂, sym, ◌∙◌, append_assoc, codes, map, mul-add, arith}
-use Rattle.run_generate.specs.Draws.{after, draw, each, listed, next}
-use Rattle.run_generate.specs.Lines.{digits, line, word_line}
-use Rattle.run_generate.specs.Texts.{Named, before, drawn_line, letter, named_for, named_script, prelude, script, word, word_length}
-use Rattle.run_generate.specs.declared.texts.Text.{Text}
+use Rattle.run_sources.specs.Draws.{after, draw, each, listed, next}
+use Rattle.run_sources.specs.Lines.{digits, line, word_line}
+use Rattle.run_sources.specs.Texts.{Named, before, drawn_line, letter, named_for, named_script, prelude, script, word, word_length}
+use Rattle.run_sources.specs.declared.texts.Text.{Text}
 use Rattle.std.specs.String.{string_bytes}
 use Rattle.std.proofs.lemmas.List.{map-append}
 

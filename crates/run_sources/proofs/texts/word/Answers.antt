@@ -1,9 +1,9 @@
 use Rattle.std.proofs.Common.{rules, ◌≡◌, ◌+◌, ◌++◌, ◌∷◌, [], sym, ◌∙◌}
 use Rattle.std.specs.String.{string_bytes}
-use Rattle.run_generate.specs.Draws.{draw, next}
-use Rattle.run_generate.specs.Texts.{letter}
-use Rattle.run_generate.proofs.Rounds.{after_none, each_none, letters_more, state_more}
-use Rattle.run_generate.proofs.texts.word.Goals as goal
+use Rattle.run_sources.specs.Draws.{draw, next}
+use Rattle.run_sources.specs.Texts.{letter}
+use Rattle.run_sources.proofs.Rounds.{after_none, each_none, letters_more, state_more}
+use Rattle.run_sources.proofs.texts.word.Goals as goal
 
 pub loop-letter-init : goal.loop-letter-init
 loop-letter-init c =

@@ -1,6 +1,6 @@
 use Rattle.std.proofs.Common.{◌+◌, ◌*◌, ◌/◌, ◌%◌, ℕ, ap}
-use Rattle.run_generate.specs.Draws.{draw, next}
-use Rattle.run_generate.proofs.draws.Draws.draw.Goals as goal
+use Rattle.run_sources.specs.Draws.{draw, next}
+use Rattle.run_sources.proofs.draws.Draws.draw.Goals as goal
 
 pub returns-clause-value : goal.returns-clause-value
 unfolding draw next

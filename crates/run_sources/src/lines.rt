@@ -1,7 +1,7 @@
 // The lines of the texts.
 ghost use Rattle.std.specs.Prelude.{◌≡◌, ◌<◌, ◌^◌, ◌++◌, IfOk, codes};
 ghost use Rattle.std.specs.String.{string_bytes};
-ghost use Rattle.run_generate.specs.Lines.{digits, line, print_line, word_line};
+ghost use Rattle.run_sources.specs.Lines.{digits, line, print_line, word_line};
 
 use std::alloc::{AllocError, Global};
 

@@ -1,8 +1,8 @@
 use Rattle.std.proofs.Common.{◌≡◌}
 use Rattle.std.specs.String.{string_bytes}
-use Rattle.run_generate.specs.Draws.{after, each, next}
-use Rattle.run_generate.specs.Texts.{letter}
-use Rattle.run_generate.proofs.texts.word.Given as goal
+use Rattle.run_sources.specs.Draws.{after, each, next}
+use Rattle.run_sources.specs.Texts.{letter}
+use Rattle.run_sources.proofs.texts.word.Given as goal
 
 abbrev pub invariant-loop-letter : goal.invariant-loop-letter
 invariant-loop-letter l = record {

@@ -1,7 +1,7 @@
 use Rattle.std.proofs.Common.{◌≡◌, ◌∷◌, ◌*◌, codes, map}
-use Rattle.run_generate.specs.Draws.{after, listed}
-use Rattle.run_generate.specs.Texts.{before, named_for, named_script, prelude}
-use Rattle.run_generate.proofs.texts.texts_from.Given as goal
+use Rattle.run_sources.specs.Draws.{after, listed}
+use Rattle.run_sources.specs.Texts.{before, named_for, named_script, prelude}
+use Rattle.run_sources.proofs.texts.texts_from.Given as goal
 
 abbrev pub invariant-loop-j : goal.invariant-loop-j
 invariant-loop-j l = record {
