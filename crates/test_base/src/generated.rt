@@ -1,11 +1,12 @@
 // The texts that are made from a number: they are those of their definition, they are scripts, and run
 // over the plain store they print what they are to print.
+use crate::rows::{Table, check};
 use eval_tree::{Names, Script};
 use js_eval::{End, Env, Lines, eval};
 use js_parse::{Role, parse};
 use js_store::Limit;
 use plain_store::PlainStore;
-use run_generate::{Text, texts_from};
+use run_sources::{Text, texts_from};
 use std::alloc::Global;
 use std::test::Fail;
 
@@ -56,28 +57,28 @@ fn are_scripts(alloc: Global, texts: &[Text]) -> bool {
     true
 }
 
-// For each number the hash of the texts, as tools/generate.py makes them from their definition.
-const HASHES: &str = "0 5553035527745553387\n\
-1 17118300623476764231\n\
-2 14866787690798004636\n\
-65535 12283845579934114847\n\
-1000000007 10710817700796845018\n\
-4294967295 465868579974317113";
+// For each number the hash of the texts, as tools/generate.py makes them from their definition, and that
+// they are scripts.
+const HASHES: &str = "0 -> 5553035527745553387 true
+1 -> 17118300623476764231 true
+2 -> 14866787690798004636 true
+65535 -> 12283845579934114847 true
+1000000007 -> 10710817700796845018 true
+4294967295 -> 465868579974317113 true";
+
+struct Hashes;
+
+impl Table for Hashes {
+    fn told(alloc: Global, given: &str) -> Result<String, Fail> {
+        let texts = texts_from(alloc, given.parse::<u32>()?)?;
+        let hash = hash(texts.as_slice());
+        Ok(format!(in alloc; "{hash} {}", are_scripts(alloc, texts.as_slice()))?)
+    }
+}
 
 #[test]
 fn texts_are_scripts(rt: HostRuntime) -> Result<(), Fail> {
-    let alloc = rt.alloc();
-    for row in HASHES.lines() {
-        let (number, want) = row.split_once(' ').ok_or("a row without a blank")?;
-        let texts = texts_from(alloc, number.parse::<u32>()?)?;
-        assert_eq!(rt;
-            hash(texts.as_slice()),
-            want.parse::<u64>()?,
-            "from {number}"
-        );
-        assert!(rt; are_scripts(alloc, texts.as_slice()), "from {number}");
-    }
-    Ok(())
+    check::<Hashes>(&rt, rt.alloc(), HASHES)
 }
 
 #[test]

@@ -1,6 +1,6 @@
 use Rattle.std.proofs.Common.{◌≡◌, length}
 use Rattle.js_store.specs.State.{IsKnown, IsSettled, text}
-use Rattle.bench_store.proofs.measures.read.Given as goal
+use Rattle.bench_heap.proofs.over_stores.read.Given as goal
 
 abbrev pub invariant-loop-i : goal.invariant-loop-i
 invariant-loop-i g l =

@@ -1,6 +1,5 @@
-use Rattle.std.proofs.Common.{◌≡◌, length}
-use Rattle.js_store.specs.State.{IsKnown, IsSettled, text}
-use Rattle.bench_store.proofs.measures.blocks.Given as goal
+use Rattle.js_store.specs.State.{IsKnown, IsSettled}
+use Rattle.bench_heap.proofs.over_stores.seek.Given as goal
 
 abbrev pub invariant-loop-turn : goal.invariant-loop-turn
 invariant-loop-turn g l =
@@ -9,5 +8,6 @@ invariant-loop-turn g l =
     record {
       known : IsKnown (state l.store) (number l.s);
       settled : IsSettled (state l.store) (number l.s);
-      units : length (text (state l.store) (number l.s)) ≡ 1000000;
+      absent_known : IsKnown (state l.store) (number l.absent);
+      absent_settled : IsSettled (state l.store) (number l.absent);
     }

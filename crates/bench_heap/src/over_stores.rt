@@ -2,6 +2,7 @@
 ghost use Rattle.std.specs.Prelude.{◌≡◌, ◌<◌, ◌≤◌, length, IfOk};
 ghost use Rattle.js_store.specs.State.{IsKnown, IsSettled, text};
 
+use crate::measures::Refusal;
 use js_methods::repeat;
 use js_number::Num;
 use js_search::index_of;
@@ -10,7 +11,7 @@ use std::alloc::Global;
 
 /// What is done as often as the count says.
 #[derive(Clone, Copy)]
-pub enum Measure {
+pub enum StoreMeasure {
     /// A unit of a string of 1,000,000 is read.
     Read,
     /// The same by blocks of 250 units.
@@ -31,9 +32,6 @@ pub enum Measure {
     Repeat,
 }
 
-/// The store has no room for so many strings, or there is no memory.
-pub struct Refusal;
-
 // The lists of a table, and the units of the long string.
 const LISTS: u32 = 50_000;
 
@@ -45,25 +43,25 @@ const BLOCK: u32 = 250;
 pub fn run_on<S: Strings>(
     alloc: Global,
     store: &mut S,
-    what: Measure,
+    what: StoreMeasure,
     count: u32,
 ) -> Result<u64, Refusal> {
     match what {
-        Measure::Read => read(alloc, store, count),
-        Measure::Blocks => blocks(alloc, store, count),
-        Measure::Seek => seek(alloc, store, count),
-        Measure::Make => {
+        StoreMeasure::Read => read(alloc, store, count),
+        StoreMeasure::Blocks => blocks(alloc, store, count),
+        StoreMeasure::Seek => seek(alloc, store, count),
+        StoreMeasure::Make => {
             intern_all(store, LISTS, LISTS)?;
             make_all(store, count)
         }
-        Measure::Known => {
+        StoreMeasure::Known => {
             intern_all(store, LISTS, LISTS)?;
             intern_all(store, count, LISTS)
         }
-        Measure::New => intern_all(store, count, u32::MAX),
-        Measure::Keys => keys(store, count, false),
-        Measure::Forty => keys(store, count, true),
-        Measure::Repeat => repeat_unit(store, count),
+        StoreMeasure::New => intern_all(store, count, u32::MAX),
+        StoreMeasure::Keys => keys(store, count, false),
+        StoreMeasure::Forty => keys(store, count, true),
+        StoreMeasure::Repeat => repeat_unit(store, count),
     }
 }
 

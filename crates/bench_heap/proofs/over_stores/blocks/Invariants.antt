@@ -1,5 +1,6 @@
-use Rattle.js_store.specs.State.{IsKnown, IsSettled}
-use Rattle.bench_store.proofs.measures.seek.Given as goal
+use Rattle.std.proofs.Common.{◌≡◌, length}
+use Rattle.js_store.specs.State.{IsKnown, IsSettled, text}
+use Rattle.bench_heap.proofs.over_stores.blocks.Given as goal
 
 abbrev pub invariant-loop-turn : goal.invariant-loop-turn
 invariant-loop-turn g l =
@@ -8,6 +9,5 @@ invariant-loop-turn g l =
     record {
       known : IsKnown (state l.store) (number l.s);
       settled : IsSettled (state l.store) (number l.s);
-      absent_known : IsKnown (state l.store) (number l.absent);
-      absent_settled : IsSettled (state l.store) (number l.absent);
+      units : length (text (state l.store) (number l.s)) ≡ 1000000;
     }

@@ -1,5 +1,6 @@
 // The two stores, with room for what a measure makes.
-use crate::measures::{Measure, Refusal, run_on};
+use crate::measures::Refusal;
+use crate::over_stores::{StoreMeasure, run_on};
 use heap_intern::Session;
 use heap_rule::HeapSize;
 use heap_table::Heap;
@@ -24,7 +25,7 @@ const SIZE: HeapSize = HeapSize {
 };
 
 /// Does what is measured, over that store, so many times.
-pub fn run(alloc: Global, kept: Kept, what: Measure, count: u32) -> Result<u64, Refusal> {
+pub fn run_over(alloc: Global, kept: Kept, what: StoreMeasure, count: u32) -> Result<u64, Refusal> {
     match kept {
         Kept::Plain => {
             let mut store = PlainStore::new(alloc, Limit::Bits64);
