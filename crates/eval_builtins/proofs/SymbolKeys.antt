@@ -13,15 +13,17 @@ use Rattle.js_store.specs.declared.faults.StoreFault.{StoreFault}
 use Rattle.js_store.specs.declared.faults.StoreFault.TheVariants.{Full, Memory}
 use Rattle.js_store.specs.declared.faults.FullReport.TheVariants.{Ids, Words, Slots}
 use Rattle.js_store.proofs.Laws.{has_text, has_known, known_has, step_refl, text_still, settle_words_most}
-use Rattle.eval_values.specs.declared.value.Value.{Value}
-use Rattle.eval_values.specs.declared.value.Value.TheVariants.{Text, Symbol}
+use Rattle.js_item.specs.declared.item.Item.{Item}
+use Rattle.js_item.specs.declared.item.Item.TheVariants.{Text, Symbol}
 use Rattle.eval_values.specs.declared.value.Kind.TheVariants.{TypeError}
 use Rattle.eval_values.specs.declared.value.Stop.{Stop}
 use Rattle.eval_values.specs.declared.value.Stop.TheVariants.{Threw, Store}
-use Rattle.eval_values.specs.Outcome.{gives, throwing, text, symbol}
+use Rattle.js_item.specs.Contents.{text, symbol}
+use Rattle.eval_values.specs.Outcome.{gives, throwing}
 use Rattle.eval_values.specs.Need.{Row, reads, ids_in, words_in, row_ids, row_words}
 use Rattle.eval_values.specs.Conversions.{to_string, text_units, string_units}
-use Rattle.eval_values.specs.Seen.{seen, IsFine}
+use Rattle.js_item.specs.Seen.{seen}
+use Rattle.js_item.specs.Fine.{IsFine}
 use Rattle.eval_values.specs.Stops.{stop_of}
 use Rattle.eval_values.specs.Ran.{NextShut}
 use Rattle.eval_values.specs.Does.{Does, GivesText}
@@ -76,14 +78,14 @@ module _ {F R : Type 0} (name : R → ℕ) where
   }
 
   -- a key as a string, and then its symbol
-  pub symbol_does : (a b c : State F) (v : Value R) (w : R) (r : Result (Value R) Stop) → length (units_of b (name w)) ≤ text_units (seen a name v) + 40 → GivesText name a b (Ok w) (to_string a.limit (seen a name v)) → ((t : ℕ) → length (units_of b (name w)) ≤ t + 40 → Does name b c r (registered t (units_of b (name w)))) → Does name a c r (symbol_for a.limit (seen a name v))
+  pub symbol_does : (a b c : State F) (v : Item R) (w : R) (r : Result (Item R) Stop) → length (units_of b (name w)) ≤ text_units (seen a name v) + 40 → GivesText name a b (Ok w) (to_string a.limit (seen a name v)) → ((t : ℕ) → length (units_of b (name w)) ≤ t + 40 → Does name b c r (registered t (units_of b (name w)))) → Does name a c r (symbol_for a.limit (seen a name v))
   symbol_does a b c v w r l d f = text_converts name (reads (string_units (seen a name v))) a b c w r (to_string a.limit (seen a name v)) (λ k. registered (text_units (seen a name v)) k) d (f (text_units (seen a name v)) l)
 
-  pub symbol_ends : (a b : State F) (v : Value R) (n : Stop) → GivesText name a b (Err n) (to_string a.limit (seen a name v)) → Does name a b (Err n) (symbol_for a.limit (seen a name v))
+  pub symbol_ends : (a b : State F) (v : Item R) (n : Stop) → GivesText name a b (Err n) (to_string a.limit (seen a name v)) → Does name a b (Err n) (symbol_for a.limit (seen a name v))
   symbol_ends a b v n d = text_fails name (reads (string_units (seen a name v))) a b n (to_string a.limit (seen a name v)) (λ k. registered (text_units (seen a name v)) k) d
 
   -- the length of a key that was told, and then what is shown
-  pub shown_after : (a b c : State F) (s : R) (r : Result (Value R) Stop) → Step a b None 0 0 → b.history ≡ a.history → IsKnown a (name s) → Does name b c r (shown_out b.limit (units_of b (name s))) → Does name a c r (shown_out a.limit (units_of a (name s)))
+  pub shown_after : (a b c : State F) (s : R) (r : Result (Item R) Stop) → Step a b None 0 0 → b.history ≡ a.history → IsKnown a (name s) → Does name b c r (shown_out b.limit (units_of b (name s))) → Does name a c r (shown_out a.limit (units_of a (name s)))
   shown_after a b c s r x g k z =
       let one = subst (λ (q : ℕ). Does name b c r (shown_out q (units_of b (name s)))) x.grows.limit z in
       let two = subst (λ (q : List ℕ). Does name b c r (shown_out a.limit q)) (text_still x.grows (name s) k) one in
