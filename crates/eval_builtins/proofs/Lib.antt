@@ -1,5 +1,4 @@
 mod Numbers
 mod Quoted
-mod SymbolKeys
+mod Keys
 mod UriCalls
-mod Objects

@@ -6,4 +6,3 @@ mod Made
 mod Replacements
 mod Elements
 mod Taken
-pub mod Lookups

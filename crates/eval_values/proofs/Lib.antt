@@ -9,5 +9,3 @@ mod Orders
 pub mod TextArguments
 pub mod Limited
 pub mod Copied
-mod Objects
-pub mod Converts

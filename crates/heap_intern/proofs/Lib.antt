@@ -3,5 +3,4 @@ pub mod Rows
 pub mod Calls
 pub mod Shares
 pub mod Lately
-pub mod OneUnit
 pub mod Whole

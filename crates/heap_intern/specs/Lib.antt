@@ -1,4 +1,3 @@
-pub mod Settled
 pub mod Sessions
 pub mod Faults
 pub mod Counted
@@ -7,4 +6,3 @@ pub mod Whole
 pub mod Ranges
 pub mod Sound
 pub mod Lately
-pub mod Singles

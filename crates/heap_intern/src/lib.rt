@@ -7,13 +7,11 @@
 #![tactic(auto)]
 
 mod counted;
-mod cutting;
 mod faults;
 mod kept;
 mod laws;
 mod session;
 mod sharing;
-mod singles;
 mod strings;
 mod words;
 

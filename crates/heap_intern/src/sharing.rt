@@ -11,7 +11,6 @@ ghost use Rattle.heap_intern.specs.Shares.{BelongsAs, IsJoined, IsWhole, MayJoin
 
 use crate::kept::Kept;
 use crate::session::Session;
-use crate::singles::Singles;
 use heap_read::Reader;
 use heap_string_table::count_interned;
 use heap_table::{Agent, Heap};
@@ -30,7 +29,6 @@ impl<'h> Session<'h> {
             limit,
             last: Kept::none(),
             older: Kept::none(),
-            singles: Singles::none(),
         }
     }
 
@@ -53,7 +51,6 @@ impl<'h> Session<'h> {
             limit: self.limit,
             last: Kept::none(),
             older: Kept::none(),
-            singles: Singles::none(),
         }
     }
 

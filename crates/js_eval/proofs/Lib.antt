@@ -11,6 +11,4 @@ mod Statements
 mod Scripts
 mod Applied
 mod Leaves
-mod Paying
-mod Making
 mod Expressions

@@ -9,7 +9,6 @@ mod ending;
 mod env;
 mod expr;
 mod literals;
-mod object;
 mod operators;
 mod script;
 

@@ -8,12 +8,10 @@
 mod fault;
 mod grammar;
 mod laws;
-mod misplaced;
 mod name_fault;
 mod name_set;
 mod name_walk;
 mod parser;
-mod proto_key;
 
 pub use eval_tree::{Names, Script};
 pub use fault::{ParseFault, Role};

@@ -1,4 +1,3 @@
-pub mod Tables
 pub mod Terminals
 pub mod Grammar
 pub mod Reading

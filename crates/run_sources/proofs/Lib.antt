@@ -1,4 +1,2 @@
-mod Rounds
-mod Small
 mod Turns
 mod Stages

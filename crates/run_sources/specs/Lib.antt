@@ -1,6 +1,3 @@
-pub mod Draws
-pub mod Lines
-pub mod Texts
 pub mod Program
 pub mod Reading
 pub mod Spelling
