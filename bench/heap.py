@@ -3,8 +3,8 @@
 making the whole heap; ropes and slices, each as a ratio with what it is to be at most; and a session of it beside the
 plain store, through the trait that both meet.
 
-Usage: bench/heap.py [flat | ropes | stores]. With a word only that part is measured. Build the programs first: rt run in
-crates/bench_heap and in crates/bench_store. It belongs to no gate: run it on a machine that does nothing else. Each
+Usage: bench/heap.py [flat | ropes | stores]. With a word only that part is measured. Build the program first: rt run in
+crates/bench_heap. It belongs to no gate: run it on a machine that does nothing else. Each
 figure is the difference of two medians of many runs, of a large count and of a small one, so that start-up isn't counted.
 """
 
@@ -25,7 +25,6 @@ MEASURES = [
     ("index", "a unit of a list read", 1_000, 20_001_000),
 ]
 WORDS = 4_194_304
-STORES = os.path.join(ROOT, "crates", "bench_store", "out", "bench_store")
 # the word for the program, what one turn is, the small count and the large one
 OVER_STORES = [
     ("read", "a unit of a string of 1,000,000 read", 1_000, 20_001_000),
@@ -58,11 +57,11 @@ TEN_TIMES = [
 
 
 def spent(word, count, runs=RUNS):
-    return seconds([PROGRAM, word, str(count)], runs, 0)
+    return seconds([PROGRAM, "text", word, str(count)], runs, 0)
 
 
 def turn(word, small, large):
-    """The time of one turn of bench_heap, in seconds."""
+    """The time of one turn, in seconds."""
     return (spent(word, large) - spent(word, small)) / (large - small)
 
 
@@ -104,8 +103,8 @@ def over_stores():
     took = {}
     for word, what, small, large in OVER_STORES:
         for store in ["plain", "heap"]:
-            few = seconds([STORES, store, word, str(small)], RUNS, 0)
-            many = seconds([STORES, store, word, str(large)], RUNS, 0)
+            few = seconds([PROGRAM, store, word, str(small)], RUNS, 0)
+            many = seconds([PROGRAM, store, word, str(large)], RUNS, 0)
             took[word, store] = (many - few) / (large - small) * 1e9
         told(what, took[word, "plain"], took[word, "heap"])
     for word, less, what in INTERNINGS:
@@ -120,9 +119,8 @@ PARTS = {"flat": flat, "ropes": ropes, "stores": over_stores}
 
 
 def main():
-    for program, crate in [(PROGRAM, "bench_heap"), (STORES, "bench_store")]:
-        if not os.access(program, os.X_OK):
-            sys.exit(f"the program isn't built: run rt run in crates/{crate}")
+    if not os.access(PROGRAM, os.X_OK):
+        sys.exit("the program isn't built: run rt run in crates/bench_heap")
     parts = sys.argv[1:] or list(PARTS)
     if not set(parts) <= set(PARTS):
         sys.exit(f"a part is one of {', '.join(PARTS)}")

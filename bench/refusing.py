@@ -33,7 +33,7 @@ Row = collections.namedtuple("Row", "words prelude scripts texts")
 SHARED = {"p.js": "let s = 'abcdefgh'.concat('ijklmnop');\n", **{f"{it}.js": "print(s.indexOf('p'), s);\n" for it in "abcdefgh"}}
 PAIR = "print(Symbol.for('k' + 'ey') === Symbol.for('key'));\n"
 URI = "let s = 'a b/\\u00e9\\ud83d\\ude00?';\nfor (let i = 0; i < 3; i++) {\n  print(encodeURIComponent(s), encodeURI(s));\n  s = s + i;\n}\nprint(decodeURIComponent('%F0%9F%98%80x'), decodeURI('%41%2F'));\n"
-OBJECTS = "let o = { name: 'apple', count: 3, tags: { ripe: true } };\no.note = 'red' + o.name;\nprint(o.name.padEnd(8) + o['count'], o.note, o.tags.ripe);\nprint(JSON.stringify(o));\nprint(JSON.stringify(JSON.parse(JSON.stringify(o))));\n"
+OBJECTS = "let o = { name: 'apple', count: 3, tags: { ripe: true }, parts: 'a,b'.split(',') };\nlet p = { 2: 'two', b: o, a: 'red' + o.name, 1: 'one' };\nprint(o.name.padEnd(8) + o['count'], p.a, o.tags.ripe, p.b.parts[1], p.q);\nprint(Object.keys(p).join(), p + '');\nprint(JSON.stringify(p));\n"
 METHODS = "let s = 'a,b;c d'.repeat(9);\nfor (let i = 0; i < 4; i++) {\n  print(s.split(',').join(';').padStart(80, 'xy').trim().slice(i, 40), s.replaceAll(';', '[$&]').length);\n  s = String(JSON.stringify(s.split(';'))) + String.fromCharCode(65 + i, 8364);\n}\nprint(s.toWellFormed().lastIndexOf('b'), s < s.concat('!', i0));\n".replace("i0", "true")
 ROWS = {
     "report": Row([], "", ["report.js"], {}),

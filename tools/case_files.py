@@ -90,7 +90,7 @@ def block(lines):
 
 
 def cases(path):
-    """Each case of a file, with the number of its first line. A line that is no case is told by SystemExit."""
+    """Each case of a file that runs scripts, with the number of its first line. A line that is no case is told by SystemExit."""
     try:
         with open(path, encoding="utf-8", newline="\n") as file:
             lines = file.read().split("\n")
@@ -107,7 +107,9 @@ def cases(path):
                 while not re.fullmatch(r"-- status \d+", lines[number]):
                     number += 1
                 number += 1
-                yield first + 1, block(lines[first + 1:number])
+                # (a schedule is no script)
+                if not line.startswith("== play: "):
+                    yield first + 1, block(lines[first + 1:number])
             else:
                 yield first + 1, one_line(line)
         except (Malformed, IndexError, ValueError):

@@ -11,13 +11,17 @@ import reading
 ESCAPED = ["'%41b%20'", "'%2f%3F%25x'", "'%C3%A9%f0%9f%98%80'", "'a%E2%82%AC'", "'%23%26'", "'%00%7f'", "'%zz'", "'%C3%41'", "'%'"]
 TEXTS = ["''", "'a'", "'abc'", "\"it's\"", "'abab'", "' \\t a b\\uFEFF'", "'\\u{1F600}x'", "'\\ud800'", "'$&$1$$'", "'a,b,,c'", "'é\\x41'", "'k'", "'12'", "','"]
 NUMBERS = ["0", "1", "2", "3", "5", "17", "4294967296", "9007199254740991", "NaN", "Infinity"]
-ODD = ["undefined", "null", "true", "false", "NaN", "''", "0", "'0'", "Symbol.for('k')", "'a,b'.split(',')", "gone", "(-1)"]
+ODD = ["undefined", "{ toString: 1 }", "null", "true", "false", "NaN", "''", "0", "'0'", "Symbol.for('k')", "'a,b'.split(',')", "gone", "(-1)"]
 # Words that are names here and something else at another place, or near a word that is none.
 NAMES = ["a", "b", "s", "n", "list", "at", "length", "of", "let1", "$", "_", "keyFor", "slice", "x1", "async", "get", "i", "j", "k"]
 OPERATORS = ["===", "!==", "<", ">", "<=", ">="]
 KINDS = ["text", "number", "truth", "list", "symbol"]
+# An object is made, read and put together less often than the rest.
+ANY = KINDS * 3 + ["object"] * 2
+KEYS = ["a", "b", "k", "length", "class", "description", "at", "$", "let", "toString", "valueOf"]
+SPELLED_KEYS = ["'a'", "'b c'", "''", "'\\u{1F600}'", "'01'", "'-1'", "0", "1", "2", "10", "4294967294", "4294967295", "'4294967294'", "'1'", "'toString'"]
 # What is put into a text to damage it.
-PIECES = reading.MARKS + ["let", "const", "if", "else", "for", "print", "String", "Symbol", "JSON", "encodeURI", "decodeURIComponent", "var", "length", "at", "i", "a", "'", "\"", "\\", "0", "1.5", "'b'", "1000001",
+PIECES = reading.MARKS + ["let", "const", "if", "else", "for", "print", "String", "Symbol", "JSON", "Object", "encodeURI", "decodeURIComponent", "var", "length", "keys", "__proto__", "a: 1", "{ a: 1 }", "at", "i", "a", "'", "\"", "\\", "0", "1.5", "'b'", "1000001",
                           "\n", "/*", "//", "#", "\u00e9", "'use strict'", "undefined", "eval"]
 
 
@@ -44,7 +48,8 @@ class Maker:
             return name
         if room <= 0 or self.rng.random() < 0.35:
             return {"text": lambda: self.rng.choice(TEXTS), "number": lambda: self.rng.choice(NUMBERS), "truth": lambda: self.rng.choice(["true", "false"]),
-                    "list": lambda: "'a,b,c'.split(',')", "symbol": lambda: f"Symbol.for({self.rng.choice(TEXTS)})"}[kind]()
+                    "list": lambda: "'a,b,c'.split(',')", "object": lambda: self.rng.choice(["{}", "{ a: 1, b: 'x' }", "{ b: 'y', 2: 1, 0: 'z' }"]),
+                    "symbol": lambda: f"Symbol.for({self.rng.choice(TEXTS)})"}[kind]()
         if self.rng.random() < 0.08:
             return f"({self.value(self.rng.choice(KINDS), room - 2)} ? {self.value(kind, room - 2)} : {self.value(kind, room - 2)})"
         return getattr(self, kind)(room - 1)
@@ -65,12 +70,13 @@ class Maker:
         return self.value("number" if kind == "n" else "text", room)
 
     def text(self, room):
-        anything = self.rng.choice(KINDS[:4] * 5 + KINDS)
+        anything = self.rng.choice(KINDS[:4] * 5 + KINDS + ["object"])
         return self.one_of(lambda: self.call("text", room), lambda: self.call("text", room),
                            lambda: f"{self.value('text', room)} + {self.value(anything, room)}", lambda: f"{self.asked('list', room)}[{self.value('number', room)}]",
                            lambda: f"{self.asked('text', room)}[{self.value('number', room)}]", lambda: f"String({self.value(anything, room)})",
                            lambda: f"JSON.stringify({self.value(anything, room)})", lambda: f"{self.asked('symbol', room)}.description",
                            lambda: f"Symbol.keyFor({self.value('symbol', room)})", lambda: f"{self.asked('list', room)}.join({self.value('text', room)})",
+                           lambda: self.member(room), lambda: f"Object.keys({self.value('object', room)}).join()", lambda: f"JSON.stringify({self.value('object', room)})",
                            lambda: self.uri_call(anything, room), lambda: f"String.fromCharCode({self.value('number', room)}, 98)", lambda: f"String.fromCodePoint({self.rng.choice(['65', '128512'] * 9 + ['1114112'])})")
 
     def uri_call(self, kind, room):
@@ -85,7 +91,7 @@ class Maker:
                            lambda: f"({self.value('number', room)} - {self.value('truth', room)})")
 
     def truth(self, room):
-        kind = self.rng.choice(KINDS)
+        kind = self.rng.choice(ANY)
         return self.one_of(lambda: f"({self.value(kind, room)} {self.rng.choice(OPERATORS[:2])} {self.value(kind, room)})",
                            lambda: f"({self.value('number', room)} {self.rng.choice(OPERATORS)} {self.value('number', room)})",
                            lambda: f"({self.value('text', room)} {self.rng.choice(OPERATORS)} {self.value('text', room)})",
@@ -93,7 +99,21 @@ class Maker:
                            lambda: f"!{self.asked(kind, room)}", lambda: self.call("truth", room))
 
     def list(self, room):
-        return self.call("list", room)
+        return self.call("list", room) if self.rng.random() < 0.8 else f"Object.keys({self.value('object', room)})"
+
+    def object(self, room):
+        """An object of some members, now and then with a key once more, or with one that stands for what each object has."""
+        members = []
+        for _ in range(self.rng.randrange(5)):
+            key = self.rng.choice((KEYS[:7] * 6 + KEYS) if self.rng.random() < 0.6 else SPELLED_KEYS)
+            members.append(f"{key}: {self.value(self.rng.choice(ANY), room - 1)}")
+        return f"{{ {', '.join(members)} }}"
+
+    def member(self, room):
+        """A member of an object by its name or by its key, of which any value may come."""
+        of, key = self.asked("object", room), self.rng.choice(KEYS[:7] * 6 + KEYS)
+        return self.one_of(lambda: f"{of}.{key}", lambda: f"{of}.{key}", lambda: f"{of}['{key}']", lambda: f"{of}[{self.value(self.rng.choice(ANY), room - 1)}]",
+                           lambda: f"{of}[{self.rng.choice(SPELLED_KEYS)}]", lambda: f"{self.asked(self.rng.choice(ANY), room)}.{key}" if self.rng.random() < 0.1 else f"{of}.a")
 
     def symbol(self, room):
         return f"Symbol.for({self.value('text', room)})"
@@ -118,14 +138,14 @@ class Maker:
         return made
 
     def declared(self, word):
-        kind, free = self.rng.choice(KINDS), [it for it in NAMES if it not in self.scopes[0]]
+        kind, free = self.rng.choice(ANY), [it for it in NAMES if it not in self.scopes[0]]
         name = self.rng.choice(free if self.rng.random() > 0.01 and free else NAMES)
         value = self.kept(kind)
         self.scopes[0][name] = (kind, word == "let")
         return f"let {name};" if word == "let" and self.rng.random() < 0.1 else f"{word} {name} = {value};"
 
     def assigned(self):
-        kind = self.rng.choice(KINDS)
+        kind = self.rng.choice(ANY)
         name = self.known(kind, assigned=True)
         if self.rng.random() < 0.04:
             name = self.known(kind) or self.rng.choice(NAMES)

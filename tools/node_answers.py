@@ -13,26 +13,48 @@ import reading
 
 LEVELS = (("||",), ("&&",), ("===", "!=="), ("<", ">", "<=", ">="), ("+", "-"))
 
+# What each object has of the standard's own, which the profile leaves out.
+INHERITED = """constructor hasOwnProperty isPrototypeOf propertyIsEnumerable toLocaleString toString valueOf __proto__ __defineGetter__ __defineSetter__
+__lookupGetter__ __lookupSetter__""".split()
+
 NODE = r"""
 const vm = require('vm');
-const { scripts, numbers, leftOut } = JSON.parse(require('fs').readFileSync(0, 'utf8'));
+const { scripts, numbers, leftOut, inherited } = JSON.parse(require('fs').readFileSync(0, 'utf8'));
 class Unsupported extends Error { constructor(at) { super(); this.name = `unsupported at ${at}`; } }
 const isList = Array.isArray, isNothing = (v) => v === undefined || v === null;
-const isLeftOut = (v) => typeof v === 'string' || isList(v);
+const isObject = (v) => typeof v === 'object' && v !== null && !isList(v);
+const ownText = (v) => isObject(v) && Object.hasOwn(v, 'toString');
+// what becomes a string before it becomes a number; an object whose own toString is no function is a TypeError before that
+const isLeftOut = (v) => typeof v === 'string' || isList(v) || isObject(v) && !ownText(v);
 // a value that ends the script once it is made a number
 const asNumber = (at, v) => isLeftOut(v) ? { [Symbol.toPrimitive]() { throw new Unsupported(at); } } : v;
 const lawful = (at, v) => { if (typeof v === 'number' && Math.abs(v) > Number.MAX_SAFE_INTEGER && Number.isFinite(v)) throw new Unsupported(at); return v; };
-const text = (v) => isList(v) ? String(v) : v;
+const text = (v) => isList(v) || isObject(v) ? String(v) : v;
+// a member by its key: what every object has of the standard's own is left out
+const member = (at, v, key) => {
+  if (Object.hasOwn(v, key)) return v[key];
+  if (inherited.includes(key)) throw new Unsupported(at);
+  return undefined;
+};
+// how deep an object nests, itself counted, and its members at all levels; no object changes once it is made
+const sizes = new WeakMap();
+const sized = (o) => {
+  const below = Object.values(o).filter(isObject).map((v) => sizes.get(v));
+  const size = { deep: 1 + Math.max(0, ...below.map((it) => it.deep)), many: Object.keys(o).length + below.reduce((sum, it) => sum + it.many, 0) };
+  sizes.set(o, size);
+  return size;
+};
 const order = { '<': (a, b) => a < b, '>': (a, b) => a > b, '<=': (a, b) => a <= b, '>=': (a, b) => a >= b };
 const profile = {
   binary(op, at, a, b) {
     if (op === '+') return lawful(at, a + b);
     if (op === '===' || op === '!==') {
-      if (isList(a) && isList(b)) throw new Unsupported(at);
+      if (isList(a) && isList(b) || isObject(a) && isObject(b)) throw new Unsupported(at);
       return (a === b) === (op === '===');
     }
     if (typeof a === 'symbol' || typeof b === 'symbol') throw new TypeError();
     if (op === '-') {
+      if (ownText(a) || ownText(b)) throw new TypeError();
       if (isLeftOut(a) || isLeftOut(b)) throw new Unsupported(at);
       return lawful(at, a - b);
     }
@@ -43,8 +65,24 @@ const profile = {
   minus(at, a) { if (isLeftOut(a)) throw new Unsupported(at); return -a; },
   index(at, v, i) {
     if (isNothing(v)) throw new TypeError();
+    if (isObject(v)) return typeof i === 'symbol' ? undefined : member(at, v, String(i));
     if (typeof i !== 'number') throw new Unsupported(at);
     return v[i];
+  },
+  member(at, v, key) {
+    if (isNothing(v)) throw new TypeError();
+    if (!isObject(v)) throw new Unsupported(at);
+    return member(at, v, key);
+  },
+  object(at, o) {
+    const { deep, many } = sized(o);
+    if (deep > 200 || many > 65536) throw new Unsupported(at);
+    return o;
+  },
+  keys(at, args) {
+    if (isNothing(args[0])) throw new TypeError();
+    if (!isObject(args[0])) throw new Unsupported(at);
+    return Object.keys(args[0]);
   },
   call(at, v, method, list) {
     if (isNothing(v)) throw new TypeError();
@@ -163,18 +201,34 @@ class Rewriter:
         self.take()
         return ", ".join(written)
 
+    def members(self):
+        """What stands in the braces of an object, without them; a key is written so that none means anything else to node."""
+        written = []
+        while self.front() != "}":
+            token, _ = self.tokens[self.here], (self.take(), self.take())
+            key = f"'{token.spelling}'" if token.kind == "word" else token.spelling
+            written.append(f"[{key}]: {self.expression()}")
+            if self.front() == ",":
+                self.take()
+        self.take()
+        return ", ".join(written)
+
     def primary(self):
         if self.front() == "(":
             return f"({self.arguments()})"
         at, word = self.place(), self.take()
         if word in methods.URI_FUNCTIONS:
             return f"{word}({self.arguments()})"
-        if word not in ("String", "Symbol", "JSON"):
+        if word == "{":
+            return f"Proxy.object({at}, {{{self.members()}}})"
+        if word not in ("String", "Symbol", "JSON", "Object"):
             return word
         if self.front() == "(":
             return f"String({self.arguments()})"
         self.take()
         member = self.take()
+        if word == "Object":
+            return f"Proxy.keys({at}, [{self.arguments()}])"
         if word == "String":
             return f"Proxy.codes({at}, '{member}', [{self.arguments()}])"
         return f"{word}.{member}({self.arguments()})"
@@ -189,7 +243,10 @@ class Rewriter:
             else:
                 self.take()
                 at, word = self.place(), self.take()
-                of = f"({of}.{word})" if word in ("length", "description") else f"Proxy.call({at}, {of}, '{word}', () => [{self.arguments()}])"
+                if self.front() == "(":
+                    of = f"Proxy.call({at}, {of}, '{word}', () => [{self.arguments()}])"
+                else:
+                    of = f"({of}.{word})" if word in ("length", "description") else f"Proxy.member({at}, {of}, '{word}')"
         return of
 
 
@@ -198,5 +255,5 @@ def answers(scripts):
     sys.setrecursionlimit(100000)
     kept = sorted(reading.NO_NAMES)
     given = [{"text": Rewriter(it.decode("utf-8")).script(), "kept": kept} for it in scripts]
-    ran = run_node(NODE, {"scripts": given, "numbers": methods.NUMBERS, "leftOut": methods.LEFT_OUT})
+    ran = run_node(NODE, {"scripts": given, "numbers": methods.NUMBERS, "leftOut": methods.LEFT_OUT, "inherited": INHERITED})
     return [(out.encode("utf-8"), error if not error or error.startswith("unsupported at ") else f"uncaught {error}") for out, error in ran]

@@ -36,7 +36,7 @@ Equal     = Compare { ( '===' | '!==' ) Compare }
 Compare   = Sum { ( '<' | '>' | '<=' | '>=' ) Sum }
 Sum       = Unary { ( '+' | '-' ) Unary }
 Unary     = < ( '-' | '!' ) Unary > | Post
-Post      = Primary { '.' ( 'length' | 'description' ) | '.' Method Args | < '[' Expr ']' > }
+Post      = Primary { '.' Method Args | '.' Word | < '[' Expr ']' > }
 Args      = < '(' [ Expr { ',' Expr } ] ')' >
 Primary   = Text | Number | Name | 'undefined' | 'null' | 'true' | 'false' | 'NaN' | 'Infinity'
           | Test
@@ -45,6 +45,9 @@ Primary   = Text | Number | Name | 'undefined' | 'null' | 'true' | 'false' | 'Na
           | 'Symbol' '.' 'for' Args | 'Symbol' '.' 'keyFor' Args
           | 'JSON' '.' 'stringify' Test
           | 'encodeURI' Args | 'encodeURIComponent' Args | 'decodeURI' Args | 'decodeURIComponent' Args
+          | 'Object' '.' 'keys' Args
+          | < '{' [ Member { ',' Member } ] '}' >
+Member    = ( Word | Text | Number ) ':' Expr
 """
 
 NAMES_OF_METHODS = frozenset(it.name for it in methods.METHODS)
@@ -168,12 +171,12 @@ def kinds(token):
         return ("Number",) + (("Zero",) if value == 0 else ()) + (("Bound",) if value <= MOST_TURNS else ())
     if token.kind == "mark":
         return (f"'{token.spelling}'",) + (("Increment",) if token.spelling == "++" and not token.fresh else ())
-    return (f"'{token.spelling}'",) + (("Name",) if is_name(token) else ()) + (("Method",) if token.spelling in NAMES_OF_METHODS else ())
+    return (f"'{token.spelling}'", "Word") + (("Name",) if is_name(token) else ()) + (("Method",) if token.spelling in NAMES_OF_METHODS else ())
 
 
 # ---- The grammar
 
-KINDS = frozenset(["Text", "UseStrict", "Number", "Zero", "Bound", "Increment", "Name", "Method", "Same"])
+KINDS = frozenset(["Text", "UseStrict", "Number", "Zero", "Bound", "Increment", "Word", "Name", "Method", "Same"])
 ENDLESS = 1 << 30
 
 
@@ -329,6 +332,10 @@ def check_grammar(found, length, has_print):
             raise Refused("unexpected", length)
         return
     begins, _ = reader(ENDLESS, has_print).first_wrong(found[:number + 1])
+    before = found[number - 1]
+    if begins == number > 1 and found[number].spelling == "(" and before.kind == "word" and found[number - 2].spelling == ".":
+        # What has the place of a method, and is none.
+        raise Refused("not in profile", before.at)
     words = "too deep" if begins > number else "not in profile" if found[number].kind == "word" else "unexpected"
     raise Refused(words, found[number].at)
 
@@ -339,18 +346,42 @@ def check_grammar(found, length, has_print):
 Scope = collections.namedtuple("Scope", "around names loop")
 
 
+def is_key(before, token, behind):
+    """Whether a token is the key of a member: no label and no branch of a choice has a brace or comma before it and a colon behind it."""
+    return token.kind != "mark" and before in ("{", ",") and behind == ":"
+
+
+UNIT = re.compile(r"\\u\{([0-9A-Fa-f]+)\}|\\u(....)|\\x(..)|\\(\r\n|[\s\S])|([\s\S])")
+
+
+def is_proto(token):
+    """Whether the key is `__proto__`, which no object can have; none of its letters is written by an escape of one letter but by itself."""
+    if token.kind != "text":
+        return token.spelling == "__proto__"
+    read = ""
+    for braces, four, two, itself, plain in UNIT.findall(token.spelling[1:-1]):
+        code = braces or four or two
+        read += chr(int(code, 16)) if code else "" if itself and itself[0] in LINE_ENDS else "?" if itself in tuple("nrtbfv0") else itself + plain
+    return read == "__proto__"
+
+
 def check_names(found, outer):
-    """Refuses the first name that is declared twice in a block, or that is assigned where it is a loop's own."""
+    """Refuses the first name that is declared twice in a block, or that is assigned where it is a loop's own, or the key `__proto__`."""
     top = Scope(None, set(), None)
-    here, faults, uses, loop = top, [], [], None
+    here, faults, uses, loop, braces = top, [], [], None, []
     for number, token in enumerate(found):
         before = found[number - 1].spelling if number else ""
         behind = found[number + 1].spelling if number + 1 < len(found) else ""
         if token.spelling == "{":
-            # The brace of a `for` stands behind its header, which has named its loop.
-            here, loop = Scope(here, set(), loop), None
+            # A block begins where a statement may; else it is an object.
+            braces.append(before in ("", ";", "{", "}", ")", "else"))
+            if braces[-1]:
+                # The brace of a `for` stands behind its header, which has named its loop.
+                here, loop = Scope(here, set(), loop), None
         elif token.spelling == "}":
-            here = here.around
+            here = here.around if braces.pop() else here
+        elif is_key(before, token, behind):
+            faults += [("not in profile", token.at)] * is_proto(token)
         elif token.kind == "word" and before in ("let", "const"):
             if number > 1 and found[number - 2].spelling == "(":
                 loop = token.spelling
@@ -391,7 +422,7 @@ def declared_at_top(data):
     found, open_ones, names = tokens(data.decode("utf-8")), 0, set()
     for before, token in zip(found, found[1:]):
         open_ones += {"{": 1, "(": 1, "}": -1, ")": -1}.get(before.spelling, 0)
-        if before.spelling in ("let", "const") and open_ones == 0:
+        if before.spelling in ("let", "const") and token.kind == "word" and open_ones == 0:
             names.add(token.spelling)
     return names
 

@@ -42,7 +42,7 @@ pub enum Measure {
     Readers,
 }
 
-/// The heap has no room for so many strings, or there is no memory for it.
+/// The heap or the store has no room for so many strings, or there is no memory for it.
 pub struct Refusal;
 
 /// Does it, and answers how many were made, the sum of the units that were read, or the length of

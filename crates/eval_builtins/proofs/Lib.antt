@@ -1,4 +1,5 @@
 mod Numbers
 mod Quoted
-mod Keys
+mod SymbolKeys
 mod UriCalls
+mod Objects

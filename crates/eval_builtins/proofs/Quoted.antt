@@ -6,14 +6,14 @@ use Rattle.js_units.specs.Text.{is_lead, is_trail, pair_value, points, utf16_of}
 use Rattle.js_json.specs.Quoting.{is_escaped, unicode_escape, escaped, letter_of, quoted_point, body, quoted, list_rest, list_text}
 use Rattle.js_store.specs.State.{State, IsKnown, text}
 use Rattle.js_store.proofs.Laws.{known_has, step_refl}
-use Rattle.eval_values.specs.declared.value.Value.{Value}
-use Rattle.eval_values.specs.declared.value.Value.TheVariants.{Text}
+use Rattle.js_item.specs.declared.item.Item.{Item}
+use Rattle.js_item.specs.declared.item.Item.TheVariants.{Text}
 use Rattle.eval_values.specs.declared.value.Stop.{Stop}
 use Rattle.eval_values.specs.Outcome.{gives}
-use Rattle.eval_values.specs.Outcome.{text as text_value}
+use Rattle.js_item.specs.Contents.{text as text_value}
 use Rattle.eval_values.specs.Conversions.{to_string, list_units}
 use Rattle.eval_builtins.specs.Quoting.{as_text}
-use Rattle.eval_values.specs.Seen.{seen}
+use Rattle.js_item.specs.Seen.{seen}
 use Rattle.eval_values.specs.Does.{Does, GivesText}
 use Rattle.eval_values.proofs.Compose.{ran_of_text}
 use Rattle.eval_values.proofs.TextArguments.{text_then, text_stops}
@@ -51,7 +51,7 @@ pub list_most : (us : List (List ℕ)) → length (list_text us) ≤ 2 + 3 * len
 list_most [] = omega arith
 list_most (u ∷ us) = omega (arith, length-append (quoted u) (list_rest us), quoted_most u, rest_most us)
 
-module _ {F R : Type 0} (name : R → ℕ) (a b : State F) (v : Value R) where
+module _ {F R : Type 0} (name : R → ℕ) (a b : State F) (v : Item R) where
   pub own_text : (r : R) → IsKnown b (name r) → GivesText name a b (Ok r) (to_string a.limit (seen a name v)) → Does name a b (Ok (Text r)) (as_text a.limit (seen a name v))
   own_text r k d =
       text_then name a b b r (Ok (Text r)) (to_string a.limit (seen a name v)) (λ u. gives (text_value u) 0 0) d

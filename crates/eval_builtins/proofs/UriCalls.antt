@@ -13,17 +13,17 @@ use Rattle.js_uri.specs.Outcome.{Outcome}
 use Rattle.js_uri.specs.Answers.{HasOutcome, IsWithin, IsThrown, full_part, outcome_words}
 use Rattle.js_uri.specs.declared.faults.UriFault.{UriFault}
 use Rattle.js_uri.specs.declared.faults.UriFault.TheVariants as fault
-use Rattle.eval_values.specs.declared.value.Value.{Value}
-use Rattle.eval_values.specs.declared.value.Value.TheVariants.{Text}
+use Rattle.js_item.specs.declared.item.Item.{Item}
+use Rattle.js_item.specs.declared.item.Item.TheVariants.{Text}
 use Rattle.eval_values.specs.declared.value.Stop.{Stop}
 use Rattle.eval_values.specs.Outcome.{gives, throws, ledger_of}
-use Rattle.eval_values.specs.Outcome.{text as text_value}
+use Rattle.js_item.specs.Contents.{text as text_value}
 use Rattle.eval_values.specs.declared.value.Kind.TheVariants.{RangeError}
 use Rattle.eval_values.specs.Need.{reads, row_ids, row_words, ids_in, words_in}
 use Rattle.eval_values.specs.Conversions.{to_string, text_units, string_units}
 use Rattle.eval_values.specs.Limited.{limited}
 use Rattle.eval_values.specs.Ran.{Cut}
-use Rattle.eval_values.specs.Seen.{seen}
+use Rattle.js_item.specs.Seen.{seen}
 use Rattle.eval_values.specs.Does.{Does, GivesText}
 use Rattle.eval_values.proofs.Compose.{cut_of_full, ran_of_step}
 use Rattle.eval_values.proofs.Limited.{within_given, within_thrown}
@@ -68,11 +68,11 @@ module _ {F R : Type 0} (name : R → ℕ) (a b : State F) (limit t : ℕ) where
 
 module _ {F R : Type 0} (name : R → ℕ) (f : List ℕ → Outcome) where
   -- a value as a string, and then what the function makes of it
-  pub uri_does : (a b c : State F) (v : Value R) (s : R) (r : Result (Value R) Stop) → b.limit ≡ a.limit → settle_words (b.settled (name s)) (length (text b (name s))) ≤ wide_words (text_units (seen a name v)) → GivesText name a b (Ok s) (to_string a.limit (seen a name v)) → ((t : ℕ) → settling b (name s) ≤ wide_words t → Does name b c r (uri_value b.limit t (f (text b (name s))))) → Does name a c r (uri_call f a.limit (seen a name v))
+  pub uri_does : (a b c : State F) (v : Item R) (s : R) (r : Result (Item R) Stop) → b.limit ≡ a.limit → settle_words (b.settled (name s)) (length (text b (name s))) ≤ wide_words (text_units (seen a name v)) → GivesText name a b (Ok s) (to_string a.limit (seen a name v)) → ((t : ℕ) → settling b (name s) ≤ wide_words t → Does name b c r (uri_value b.limit t (f (text b (name s))))) → Does name a c r (uri_call f a.limit (seen a name v))
   uri_does a b c v s r e l d g =
       let t = text_units (seen a name v) in
       text_converts name (reads (string_units (seen a name v))) a b c s r (to_string a.limit (seen a name v)) (λ us. uri_value a.limit t (f us)) d
       (subst (λ (m : ℕ). Does name b c r (uri_value m t (f (text b (name s))))) e (g t l))
 
-  pub uri_ends : (a b : State F) (v : Value R) (n : Stop) → GivesText name a b (Err n) (to_string a.limit (seen a name v)) → Does name a b (Err n) (uri_call f a.limit (seen a name v))
+  pub uri_ends : (a b : State F) (v : Item R) (n : Stop) → GivesText name a b (Err n) (to_string a.limit (seen a name v)) → Does name a b (Err n) (uri_call f a.limit (seen a name v))
   uri_ends a b v n d = text_fails name (reads (string_units (seen a name v))) a b n (to_string a.limit (seen a name v)) (λ us. uri_value a.limit (text_units (seen a name v)) (f us)) d

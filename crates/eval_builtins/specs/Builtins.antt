@@ -1,17 +1,19 @@
 -- Built-in functions (ECMA-262, "The String Constructor", "Properties of the String Constructor", "Properties of the Symbol
--- Constructor", "JSON.stringify", "URI Handling Functions").
+-- Constructor", "JSON.stringify", "Object.keys", "URI Handling Functions").
 use Rattle.std.specs.Prelude.{ℕ, List}
 use Rattle.eval_tree.specs.declared.tree.Builtin.{Builtin}
-use Rattle.eval_tree.specs.declared.tree.Builtin.TheVariants.{String, FromCharCode, FromCodePoint, SymbolFor, KeyFor, Stringify, EncodeUri, EncodeUriComponent, DecodeUri, DecodeUriComponent}
+use Rattle.eval_tree.specs.declared.tree.Builtin.TheVariants.{String, FromCharCode, FromCodePoint, SymbolFor, KeyFor, Stringify, EncodeUri, EncodeUriComponent, DecodeUri, DecodeUriComponent, Keys}
 use Rattle.js_uri.specs.Encoding.{encoded}
 use Rattle.js_uri.specs.Decoding.{decoded}
 use Rattle.js_uri.specs.Sets.{component_keep, uri_keep, no_hold, uri_hold}
-use Rattle.eval_values.specs.Outcome.{Val, Out}
+use Rattle.js_item.specs.Seen.{Val}
+use Rattle.eval_values.specs.Outcome.{Out}
 use Rattle.eval_values.specs.Arguments.{first_of}
 use Rattle.eval_builtins.specs.Codes.{char_codes_call, code_points_call}
 use Rattle.eval_builtins.specs.Quoting.{stringify_call}
 use Rattle.eval_builtins.specs.Symbols.{string_call, symbol_for, key_for}
 use Rattle.eval_builtins.specs.Uris.{uri_call}
+use Rattle.eval_builtins.specs.Keys.{keys_call}
 
 -- a call of a built-in function, with all its arguments
 abbrev pub built : Builtin → ℕ → ℕ → List Val → Out Val
@@ -25,3 +27,4 @@ built EncodeUri at limit vs = uri_call (λ us. encoded us uri_keep) limit (first
 built EncodeUriComponent at limit vs = uri_call (λ us. encoded us component_keep) limit (first_of vs)
 built DecodeUri at limit vs = uri_call (λ us. decoded us uri_hold) limit (first_of vs)
 built DecodeUriComponent at limit vs = uri_call (λ us. decoded us no_hold) limit (first_of vs)
+built Keys at limit vs = keys_call at (first_of vs)

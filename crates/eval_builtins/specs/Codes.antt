@@ -4,7 +4,9 @@ use Rattle.js_number.specs.declared.Num.{Num}
 use Rattle.js_number.specs.Arith.{modulo}
 use Rattle.js_methods.specs.Building.{is_code_point, code_units_of}
 use Rattle.eval_values.specs.declared.value.Kind.TheVariants.{RangeError}
-use Rattle.eval_values.specs.Outcome.{Val, text, Out, gave, bind, each, free, needing, throwing, converts}
+use Rattle.js_item.specs.Seen.{Val}
+use Rattle.js_item.specs.Contents.{text}
+use Rattle.eval_values.specs.Outcome.{Out, gave, bind, each, free, needing, throwing, converts}
 use Rattle.eval_values.specs.Need.{Row, parts}
 use Rattle.eval_values.specs.Conversions.{to_number, all_units}
 

@@ -11,7 +11,8 @@ use Rattle.eval_builtins.specs.declared.codes.Codes.TheVariants.{CharCodes, Code
 use Rattle.std.specs.Prelude.{Result}
 use Rattle.std.proofs.Common.{Vec, Global}
 use Rattle.eval_values.specs.declared.value.Stop.{Stop}
-use Rattle.eval_values.specs.Outcome.{Val, Out, gave, free}
+use Rattle.js_item.specs.Seen.{Val}
+use Rattle.eval_values.specs.Outcome.{Out, gave, free}
 use Rattle.eval_builtins.specs.Codes.{point_out, from_numbers}
 use Rattle.eval_values.specs.Ran.{Did}
 
@@ -33,8 +34,8 @@ abbrev pub codes_call : Codes → ℕ → List Val → Out Val
 codes_call which at vs = from_numbers (taken_of which vs) (units_of which) at vs
 
 -- numbers that a function of the String constructor takes
-abbrev pub GivesNumber : {F : Type 0} → State F → Codes → Result Num Stop → Out Num → Type 0
-GivesNumber a which r o = Did a a (λ s n. n) (λ s n. IsFor which n) r o
+abbrev pub GivesNumber : {F : Type 0} → State F → State F → Codes → Result Num Stop → Out Num → Type 0
+GivesNumber a b which r o = Did a b (λ s n. n) (λ s n. IsFor which n) r o
 
-abbrev pub GivesNumbers : {F : Type 0} → State F → Codes → Result (Vec Num Global) Stop → Out (List Num) → Type 0
-GivesNumbers a which r o = Did a a (λ s v. v.items) (λ s v. Every (IsFor which) v.items) r o
+abbrev pub GivesNumbers : {F : Type 0} → State F → State F → Codes → Result (Vec Num Global) Stop → Out (List Num) → Type 0
+GivesNumbers a b which r o = Did a b (λ s v. v.items) (λ s v. Every (IsFor which) v.items) r o

@@ -1,9 +1,12 @@
 -- Values as JSON text.
-use Rattle.std.specs.Prelude.{ℕ, ◌+◌, List, length}
+use Rattle.std.specs.Prelude.{ℕ, suc, ◌+◌, List, length}
 use Rattle.js_number.specs.declared.Num.{Num}
 use Rattle.js_number.specs.declared.Num.TheVariants.{Int}
 use Rattle.js_json.specs.Quoting.{quoted, list_text}
-use Rattle.eval_values.specs.Outcome.{Val, undefined, null, bool, number, text, symbol, list, Out, bind, needing}
+use Rattle.js_object.specs.Json.{json_of}
+use Rattle.js_item.specs.Seen.{Val}
+use Rattle.js_item.specs.Contents.{Fields, no_fields, field, undefined, null, bool, number, text, symbol, list, object}
+use Rattle.eval_values.specs.Outcome.{Out, bind, needing}
 use Rattle.eval_values.specs.Need.{nothing, reads, parts}
 use Rattle.eval_values.specs.Conversions.{to_string, list_units}
 use Rattle.eval_values.specs.Limited.{bounded, limited}
@@ -21,6 +24,41 @@ as_text limit v = bind (to_string limit v) (λ u. needing nothing (text u))
 abbrev pub list_json : ℕ → List (List ℕ) → Out Val
 list_json limit us = bounded limit (λ n. parts (length us) (list_units us + n)) (list_text us)
 
+-- the units of the keys and of all strings of an object, at every level, and how many members it has and elements its arrays
+abbrev mutual
+  pub units_in : Val → ℕ
+  units_in undefined = 0
+  units_in null = 0
+  units_in (bool b) = 0
+  units_in (number n) = 0
+  units_in (text u) = length u
+  units_in (symbol k) = 0
+  units_in (list us) = list_units us
+  units_in (object fs) = field_units fs
+
+  pub field_units : Fields (List ℕ) → ℕ
+  field_units no_fields = 0
+  field_units (field key value rest) = length key + units_in value + field_units rest
+
+abbrev mutual
+  pub parts_in : Val → ℕ
+  parts_in undefined = 0
+  parts_in null = 0
+  parts_in (bool b) = 0
+  parts_in (number n) = 0
+  parts_in (text u) = 0
+  parts_in (symbol k) = 0
+  parts_in (list us) = length us
+  parts_in (object fs) = field_parts fs
+
+  pub field_parts : Fields (List ℕ) → ℕ
+  field_parts no_fields = 0
+  field_parts (field key value rest) = suc (parts_in value + field_parts rest)
+
+-- an object ("SerializeJSONObject")
+abbrev pub object_json : ℕ → Fields (List ℕ) → Out Val
+object_json limit fs = bounded limit (λ n. parts (field_parts fs) (field_units fs + n)) (json_of (λ u. u) fs)
+
 -- "JSON.stringify" of one value, without more arguments ("SerializeJSONProperty")
 abbrev pub stringify_call : ℕ → Val → Out Val
 stringify_call limit undefined = needing (reads 0) undefined
@@ -30,3 +68,4 @@ stringify_call limit (number n) = as_text limit (whole_or_null n)
 stringify_call limit (text u) = limited limit (length u) (quoted u)
 stringify_call limit (symbol k) = needing (reads 0) undefined
 stringify_call limit (list us) = list_json limit us
+stringify_call limit (object fs) = object_json limit fs

@@ -1,18 +1,13 @@
--- Symbols and `String` (ECMA-262, "String ( value )", "Symbol.for", "Symbol.keyFor", "Symbol.prototype.description").
+-- Symbols and `String` (ECMA-262, "String ( value )", "Symbol.for", "Symbol.keyFor").
 use Rattle.std.specs.Prelude.{ℕ, List, [], ◌∷◌, ◌++◌, length, codes}
 use Rattle.eval_values.specs.declared.value.Kind.TheVariants.{TypeError}
-use Rattle.eval_values.specs.Outcome.{Val, undefined, null, text, symbol, Out, gave, needing, throwing, converting}
-use Rattle.eval_values.specs.Need.{nothing, reads, ids_in, words_in}
+use Rattle.js_item.specs.Seen.{Val}
+use Rattle.js_item.specs.Contents.{text, symbol}
+use Rattle.eval_values.specs.Outcome.{Out, gave, needing, throwing, converting}
+use Rattle.eval_values.specs.Need.{reads, ids_in, words_in}
 use Rattle.eval_values.specs.Conversions.{to_string, text_units, string_units}
 use Rattle.eval_values.specs.Limited.{bounded}
 use Rattle.eval_builtins.specs.Quoting.{as_text}
-
--- the key of a symbol, and undefined of every other value that has members
-abbrev pub description_of : Val → Out Val
-description_of undefined = throwing nothing TypeError
-description_of null = throwing nothing TypeError
-description_of (symbol k) = needing nothing (text k)
-description_of _ = needing nothing undefined
 
 -- "SymbolDescriptiveString"
 abbrev pub shown_symbol : List ℕ → List ℕ

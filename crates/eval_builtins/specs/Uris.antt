@@ -2,7 +2,8 @@
 use Rattle.std.specs.Prelude.{ℕ, List, Ok, Err}
 use Rattle.js_uri.specs.Outcome.{Outcome}
 use Rattle.eval_values.specs.declared.value.Kind.TheVariants.{UriError}
-use Rattle.eval_values.specs.Outcome.{Val, Out, throwing, converting}
+use Rattle.js_item.specs.Seen.{Val}
+use Rattle.eval_values.specs.Outcome.{Out, throwing, converting}
 use Rattle.eval_values.specs.Need.{reads}
 use Rattle.eval_values.specs.Conversions.{to_string, text_units, string_units}
 use Rattle.eval_values.specs.Limited.{limited}

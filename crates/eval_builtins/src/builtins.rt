@@ -1,11 +1,14 @@
 // Which function a call means.
 ghost use Rattle.std.specs.Prelude.{IfOk};
 ghost use Rattle.js_store.specs.State.{Grows};
-ghost use Rattle.eval_values.specs.Seen.{seen, IsFine, all_seen, AllFine};
+ghost use Rattle.js_item.specs.Seen.{seen};
+ghost use Rattle.js_item.specs.Fine.{IsFine};
+ghost use Rattle.eval_values.specs.Seen.{all_seen, AllFine};
 ghost use Rattle.eval_values.specs.Does.{Does};
 ghost use Rattle.eval_builtins.specs.Builtins.{built};
 
 use crate::codes::{Codes, from_codes};
+use crate::keys::call_keys;
 use crate::quoting::call_stringify;
 use crate::symbols::{call_key_for, call_string_function, call_symbol_for};
 use crate::uris::{UriFunction, call_uri};
@@ -36,6 +39,7 @@ pub fn call_builtin<S: Strings>(
         Builtin::SymbolFor => call_symbol_for(alloc, store, args),
         Builtin::KeyFor => call_key_for(store, args),
         Builtin::Stringify => call_stringify(alloc, store, args),
+        Builtin::Keys => call_keys(alloc, store, at, args),
         Builtin::EncodeUri => call_uri(alloc, store, UriFunction::Encode, args),
         Builtin::EncodeUriComponent => call_uri(alloc, store, UriFunction::EncodeComponent, args),
         Builtin::DecodeUri => call_uri(alloc, store, UriFunction::Decode, args),

@@ -5,10 +5,12 @@ ghost use Rattle.js_number.specs.Places.{IsLawful};
 ghost use Rattle.js_number.specs.Arith.{modulo};
 ghost use Rattle.js_store.specs.State.{Grows};
 ghost use Rattle.js_methods.specs.Building.{is_code_point, code_units_of};
-ghost use Rattle.eval_values.specs.Outcome.{Val, each};
+ghost use Rattle.js_item.specs.Seen.{Val, seen};
+ghost use Rattle.eval_values.specs.Outcome.{each};
 ghost use Rattle.eval_builtins.specs.Codes.{point_out, number_out, made as made_out};
 ghost use Rattle.js_texts.specs.Texts.{Every};
-ghost use Rattle.eval_values.specs.Seen.{seen, IsFine, all_seen, AllFine};
+ghost use Rattle.js_item.specs.Fine.{IsFine};
+ghost use Rattle.eval_values.specs.Seen.{all_seen, AllFine};
 ghost use Rattle.eval_builtins.specs.Numbers.{IsFor};
 ghost use Rattle.eval_values.specs.Does.{Does};
 ghost use Rattle.eval_builtins.specs.Numbers.{taken_of, units_of, codes_call, GivesNumber, GivesNumbers};
@@ -49,17 +51,19 @@ pub(crate) fn from_codes<S: Strings>(
 // The arguments as numbers, from left to right.
 fn numbers<S: Strings>(
     alloc: Global,
-    store: &S,
+    store: &mut S,
     at: u32,
     which: Codes,
     args: &[Value<S::Ref>],
 ) -> Result<Vec<Num>, Stop>
-    requires { AllFine (S.state store.now) S.number args.now }
+    requires { AllFine (S.state store.old) S.number args.now }
+    ensures grows { Grows (S.state store.old) (S.state store.new) }
     ensures each { IfOk result (λ v. Every (IsFor which) v.items) }
     ensures count { IfOk result (λ v. length v.items ≡ length args.now) }
-    ensures did { GivesNumbers (S.state store.now) which result
-        (each (number_out (taken_of which (all_seen (S.state store.now) S.number args.now)) at
-        (all_seen (S.state store.now) S.number args.now)) (all_seen (S.state store.now) S.number args.now)) }
+    ensures same { IfOk result (λ _. S.state store.new ≡ S.state store.old) }
+    ensures did { GivesNumbers (S.state store.old) (S.state store.new) which result
+        (each (number_out (taken_of which (all_seen (S.state store.old) S.number args.now)) at
+        (all_seen (S.state store.old) S.number args.now)) (all_seen (S.state store.old) S.number args.now)) }
 {
     let mut numbers = Vec::new(alloc);
     for value in args {
@@ -70,11 +74,18 @@ fn numbers<S: Strings>(
 }
 
 // An argument as a number, where it is one that the function takes.
-fn number<S: Strings>(store: &S, at: u32, which: Codes, value: &Value<S::Ref>) -> Result<Num, Stop>
-    requires { IsFine (S.state store.now) S.number value.now }
+fn number<S: Strings>(
+    store: &mut S,
+    at: u32,
+    which: Codes,
+    value: &Value<S::Ref>,
+) -> Result<Num, Stop>
+    requires { IsFine (S.state store.old) S.number value.now }
+    ensures grows { Grows (S.state store.old) (S.state store.new) }
     ensures is_for { IfOk result (IsFor which) }
-    ensures did { (vs : List Val) → GivesNumber (S.state store.now) which result
-        (number_out (taken_of which vs) at vs (seen (S.state store.now) S.number value.now)) }
+    ensures same { IfOk result (λ _. S.state store.new ≡ S.state store.old) }
+    ensures did { (vs : List Val) → GivesNumber (S.state store.old) (S.state store.new) which result
+        (number_out (taken_of which vs) at vs (seen (S.state store.old) S.number value.now)) }
 {
     let n = number_of(store, at, value)?;
     match which {
@@ -85,8 +96,8 @@ fn number<S: Strings>(store: &S, at: u32, which: Codes, value: &Value<S::Ref>) -
 
 fn code_point<S: Strings>(_store: &S, n: Num) -> Result<Num, Stop>
     ensures is_for { IfOk result (IsFor Codes.CodePoints) }
-    ensures did { (vs : List Val) → GivesNumber (S.state _store.now) Codes.CodePoints result
-        (point_out vs n) }
+    ensures did { (vs : List Val) → GivesNumber (S.state _store.now) (S.state _store.now) Codes.CodePoints
+        result (point_out vs n) }
 {
     match n {
         Num::Int(k) if 0 <= k && k <= 0x10FFFF => Ok(n),

@@ -6,11 +6,14 @@ ghost use Rattle.js_json.specs.Quoting.{quoted};
 ghost use Rattle.js_texts.specs.Texts.{texts, AllKnown};
 ghost use Rattle.eval_values.specs.Arguments.{first_of};
 ghost use Rattle.eval_values.specs.Limited.{limited};
-ghost use Rattle.eval_builtins.specs.Quoting.{whole_or_null, as_text, list_json, stringify_call};
-ghost use Rattle.eval_values.specs.Seen.{seen, IsFine, all_seen, AllFine};
+ghost use Rattle.eval_builtins.specs.Quoting.{whole_or_null, as_text, list_json, object_json, stringify_call};
+ghost use Rattle.js_item.specs.Seen.{seen, says, fields_mapped};
+ghost use Rattle.js_item.specs.Fine.{IsFine, FineFields, Bounded, strings_of};
+ghost use Rattle.eval_values.specs.Seen.{all_seen, AllFine};
 ghost use Rattle.eval_values.specs.Does.{Does};
 
 use eval_values::{Stop, Value, to_text};
+use js_item::Object;
 use js_number::Num;
 use js_store::Strings;
 use std::alloc::Global;
@@ -51,6 +54,7 @@ fn stringify<S: Strings>(
         Value::Number(n) => give_number(alloc, store, *n),
         Value::Text(s) => give_quoted(alloc, store, *s),
         Value::List(list) => give_list(alloc, store, list),
+        Value::Object(object) => give_object(alloc, store, object),
     }
 }
 
@@ -109,5 +113,23 @@ fn give_list<S: Strings>(
         (list_json (S.state store.old).limit (texts (S.state store.old) S.number list.now)) }
 {
     let r = js_json::stringify_list(alloc, store, list)?;
+    Ok(Value::Text(r))
+}
+
+// An object, with what is in it.
+fn give_object<S: Strings>(
+    alloc: Global,
+    store: &mut S,
+    object: &Object<S::Ref>,
+) -> Result<Value<S::Ref>, Stop>
+    requires fine { FineFields (strings_of (S.state store.old)) S.number object.now }
+    requires bounded { Bounded object.now }
+    ensures grows { Grows (S.state store.old) (S.state store.new) }
+    ensures fine { IfOk result (λ v. IsFine (S.state store.new) S.number v) }
+    ensures did { Does S.number (S.state store.old) (S.state store.new) result
+        (object_json (S.state store.old).limit
+        (fields_mapped (says (S.state store.old) S.number) object.now)) }
+{
+    let r = js_object::stringify(alloc, store, object)?;
     Ok(Value::Text(r))
 }

@@ -1,5 +1,4 @@
-// Symbols and `String` (ECMA-262, "String ( value )", "Symbol.for", "Symbol.keyFor",
-// "Symbol.prototype.description").
+// Symbols and `String` (ECMA-262, "String ( value )", "Symbol.for", "Symbol.keyFor").
 ghost use Rattle.std.specs.Prelude.{◌≡◌, ◌+◌, ◌++◌, ◌≤◌, ℕ, [], length, IfOk, OnOk};
 ghost use Rattle.js_store.specs.State.{Has, Grows, IsKnown, text};
 ghost use Rattle.js_store.specs.Rows.{wide_words, flat_words};
@@ -7,11 +6,13 @@ ghost use Rattle.js_store.specs.Faults.{Step, NeverSlots};
 ghost use Rattle.js_texts.specs.Answers.{NeverThrows, full_of};
 ghost use Rattle.eval_values.specs.Arguments.{first_of};
 ghost use Rattle.eval_values.specs.Outcome.{needing};
-ghost use Rattle.eval_values.specs.Outcome;
+ghost use Rattle.js_item.specs.Contents;
 ghost use Rattle.eval_values.specs.Need.{reads};
-ghost use Rattle.eval_values.specs.Seen.{seen, IsFine, all_seen, AllFine};
+ghost use Rattle.js_item.specs.Seen.{seen};
+ghost use Rattle.js_item.specs.Fine.{IsFine};
+ghost use Rattle.eval_values.specs.Seen.{all_seen, AllFine};
 ghost use Rattle.eval_values.specs.Does.{Does};
-ghost use Rattle.eval_builtins.specs.Symbols.{description_of, shown_symbol, shown_out, string_call, registered, string_of as string_out, symbol_for as symbol_out, key_for as key_out};
+ghost use Rattle.eval_builtins.specs.Symbols.{shown_symbol, shown_out, string_call, registered, string_of as string_out, symbol_for as symbol_out, key_for as key_out};
 
 use crate::quoting::give_text;
 use eval_values::{Kind, Stop, Value, to_text};
@@ -20,20 +21,6 @@ use js_store::Strings;
 use js_texts::{MethodFault, read};
 use js_units::{NoMemory, Units};
 use std::alloc::Global;
-
-/// `.description` of a value.
-pub fn read_description<S: Strings>(store: &S, value: &Value<S::Ref>) -> Result<Value<S::Ref>, Stop>
-    requires { IsFine (S.state store.now) S.number value.now }
-    ensures fine { IfOk result (λ v. IsFine (S.state store.now) S.number v) }
-    ensures did { Does S.number (S.state store.now) (S.state store.now) result
-        (description_of (seen (S.state store.now) S.number value.now)) }
-{
-    match value {
-        Value::Undefined | Value::Null => Err(Stop::Threw(Kind::TypeError)),
-        Value::Symbol(key) => Ok(Value::Text(*key)),
-        Value::Bool(_) | Value::Number(_) | Value::Text(_) | Value::List(_) => Ok(Value::Undefined),
-    }
-}
 
 /// `String` with all its arguments.
 pub(crate) fn call_string_function<S: Strings>(
@@ -57,7 +44,7 @@ fn give_empty<S: Strings>(store: &mut S) -> Result<Value<S::Ref>, Stop>
     ensures grows { Grows (S.state store.old) (S.state store.new) }
     ensures fine { IfOk result (λ v. IsFine (S.state store.new) S.number v) }
     ensures did { Does S.number (S.state store.old) (S.state store.new) result
-        (needing (reads 0) (Outcome.text [])) }
+        (needing (reads 0) (Contents.text [])) }
 {
     let r = store.from_units(&[])?;
     Ok(Value::Text(r))
@@ -81,7 +68,8 @@ fn string_of<S: Strings>(
         | Value::Bool(_)
         | Value::Number(_)
         | Value::Text(_)
-        | Value::List(_) => give_text(alloc, store, value),
+        | Value::List(_)
+        | Value::Object(_) => give_text(alloc, store, value),
     }
 }
 
@@ -215,6 +203,7 @@ fn key_for<S: Strings>(store: &S, value: &Value<S::Ref>) -> Result<Value<S::Ref>
         | Value::Bool(_)
         | Value::Number(_)
         | Value::Text(_)
-        | Value::List(_) => Err(Stop::Threw(Kind::TypeError)),
+        | Value::List(_)
+        | Value::Object(_) => Err(Stop::Threw(Kind::TypeError)),
     }
 }

@@ -5,9 +5,9 @@ use Rattle.js_store.proofs.Laws.{settle_words_most}
 use Rattle.js_texts.specs.Texts.{texts, AllKnown, settle_most}
 use Rattle.js_texts.proofs.Lists.{texts_still}
 use Rattle.js_texts.specs.Use.{settling}
-use Rattle.eval_values.specs.declared.value.Value.{Value}
+use Rattle.js_item.specs.declared.item.Item.{Item}
 use Rattle.eval_values.specs.declared.value.Stop.{Stop}
-use Rattle.eval_values.specs.Outcome.{Val}
+use Rattle.js_item.specs.Seen.{Val}
 use Rattle.eval_values.specs.Need.{parts, parts_words}
 use Rattle.eval_values.specs.Conversions.{to_string, list_units, all_units, first_text_units}
 use Rattle.eval_values.specs.Arguments.{first_of, is_undefined}
@@ -25,7 +25,7 @@ module _ {F R : Type 0} (name : R → ℕ) where
   commas_fit a rs t k = omega (arith, k, some_most (length (texts a name rs)), settle_few a name rs)
 
   -- a separator that is given, as a string, and then the elements with it between two
-  pub join_does : (a b c : State F) (rs : List R) (vs : List Val) (w : R) (r : Result (Value R) Stop) → Grows a b → AllKnown a name rs → is_undefined (first_of vs) ≡ false → length (text b (name w)) ≤ first_text_units vs + 40 → GivesText name a b (Ok w) (to_string a.limit (first_of vs)) → ((t : ℕ) → list_units (texts b name rs) + length (text b (name w)) ≤ t + 40 → Does name b c r (joined_with b.limit t (texts b name rs) (text b (name w)))) → Does name a c r (join_call a.limit (texts a name rs) vs)
+  pub join_does : (a b c : State F) (rs : List R) (vs : List Val) (w : R) (r : Result (Item R) Stop) → Grows a b → AllKnown a name rs → is_undefined (first_of vs) ≡ false → length (text b (name w)) ≤ first_text_units vs + 40 → GivesText name a b (Ok w) (to_string a.limit (first_of vs)) → ((t : ℕ) → list_units (texts b name rs) + length (text b (name w)) ≤ t + 40 → Does name b c r (joined_with b.limit t (texts b name rs) (text b (name w)))) → Does name a c r (join_call a.limit (texts a name rs) vs)
   join_does a b c rs vs w r g k e l d f =
       let same : texts b name rs ≡ texts a name rs = texts_still name a b rs g k in
       let t : ℕ = list_units (texts a name rs) + first_text_units vs in

@@ -6,3 +6,4 @@ mod Made
 mod Replacements
 mod Elements
 mod Taken
+pub mod Lookups

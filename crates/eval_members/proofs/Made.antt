@@ -8,13 +8,13 @@ use Rattle.js_texts.specs.declared.faults.MethodFault.{MethodFault}
 use Rattle.js_texts.specs.declared.faults.MethodFault.TheVariants.{Store as MethodStore}
 use Rattle.js_texts.specs.declared.faults.MethodFault.TheVariants as method
 use Rattle.js_texts.specs.Use.{made_words}
-use Rattle.eval_values.specs.declared.value.Value.TheVariants.{Text}
+use Rattle.js_item.specs.declared.item.Item.TheVariants.{Text}
 use Rattle.eval_values.specs.declared.value.Kind.TheVariants.{RangeError}
 use Rattle.eval_values.specs.declared.value.Stop.TheVariants.{Threw}
 use Rattle.eval_values.specs.Outcome.{gives, throws, ledger_of}
 use Rattle.eval_values.specs.Stops.{stop_of}
 use Rattle.eval_values.specs.Need.{parts_ids, parts_words}
-use Rattle.eval_values.specs.Outcome.{text as text_value}
+use Rattle.js_item.specs.Contents.{text as text_value}
 use Rattle.eval_values.specs.Limited.{within}
 use Rattle.eval_values.specs.Ran.{Cut}
 use Rattle.eval_values.specs.Does.{Does}

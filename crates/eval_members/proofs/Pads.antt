@@ -10,11 +10,12 @@ use Rattle.js_store.specs.declared.faults.StoreFault.{StoreFault}
 use Rattle.js_texts.specs.declared.faults.Cause.{Cause}
 use Rattle.js_store.proofs.Laws.{text_still}
 use Rattle.js_methods.specs.Repeating.{is_count, repeat_of, IsCountFault, IsRepeatFault}
-use Rattle.eval_values.specs.declared.value.Value.{Value}
+use Rattle.js_item.specs.declared.item.Item.{Item}
 use Rattle.eval_values.specs.declared.value.Kind.TheVariants.{RangeError}
 use Rattle.eval_values.specs.declared.value.Stop.{Stop}
 use Rattle.eval_values.specs.declared.value.Stop.TheVariants.{Threw}
-use Rattle.eval_values.specs.Outcome.{Val, ledger_of}
+use Rattle.js_item.specs.Seen.{Val, seen}
+use Rattle.eval_values.specs.Outcome.{ledger_of}
 use Rattle.eval_values.specs.Conversions.{to_string, string_units}
 use Rattle.eval_values.specs.Limited.{within}
 use Rattle.eval_values.specs.Arguments.{is_undefined, second_of}
@@ -22,7 +23,8 @@ use Rattle.eval_values.proofs.Still.{values_still}
 use Rattle.eval_values.specs.Stops.{stop_of}
 use Rattle.eval_values.specs.Need.{pads, repeat_ids, repeat_words, pad_ids, pad_words}
 use Rattle.eval_members.specs.Padding.{repeated, filled, padded}
-use Rattle.eval_values.specs.Seen.{seen, IsFine, all_seen, AllFine}
+use Rattle.js_item.specs.Fine.{IsFine}
+use Rattle.eval_values.specs.Seen.{all_seen, AllFine}
 use Rattle.eval_values.specs.Ran.{Cut}
 use Rattle.eval_values.specs.Does.{Does, GivesText}
 use Rattle.eval_values.proofs.Compose.{cut_of_step, ran_of_step, did_before}
@@ -45,7 +47,7 @@ module _ {F : Type 0} {a b : State F} {i k : ℕ} (limit : ℕ) (u : List ℕ) (
 
 module _ {F R : Type 0} (name : R → ℕ) (a b c : State F) (pad : List ℕ → ℕ → List ℕ → List ℕ) (s : R) (m : ℕ) (f : Val) where
   -- a string that has as many units
-  pub pads_itself : (r : Result (Value R) Stop) → Step a b None 0 0 → b.history ≡ a.history → IsKnown a (name s) → m ≤ length (text a (name s)) → ((ids : ℕ) (words : ℕ → ℕ) → Does name b c r (within b.limit ids words (text b (name s)))) → Does name a c r (padded a.limit (pad (text a (name s))) (text a (name s)) m f)
+  pub pads_itself : (r : Result (Item R) Stop) → Step a b None 0 0 → b.history ≡ a.history → IsKnown a (name s) → m ≤ length (text a (name s)) → ((ids : ℕ) (words : ℕ → ℕ) → Does name b c r (within b.limit ids words (text b (name s)))) → Does name a c r (padded a.limit (pad (text a (name s))) (text a (name s)) m f)
   pads_itself r t h k l d =
       let has : nat_le m (length (text a (name s))) ≡ true = grind (arith, l) in
       let words : ℕ → ℕ = λ k. pad_words (length (text a (name s)) + string_units f) in
@@ -53,7 +55,7 @@ module _ {F R : Type 0} (name : R → ℕ) (a b c : State F) (pad : List ℕ →
       (subst (λ (q : ℕ × List ℕ). Does name b c r (within q.0 pad_ids words q.1)) (cc (t.grows.limit, text_still t.grows (name s) k)) (d pad_ids words)))
 
   -- a filler that is given, as a string
-  pub fills_text : (w : R) (r : Result (Value R) Stop) → Grows a b → IsKnown a (name s) → is_undefined f ≡ false → GivesText name a b (Ok w) (to_string a.limit f) → Does name b c r (within b.limit pad_ids (λ k. pad_words (length (text b (name s)) + length (text b (name w)))) (pad (text b (name s)) m (text b (name w)))) → Does name a c r (filled a.limit (pad (text a (name s))) (text a (name s)) m f)
+  pub fills_text : (w : R) (r : Result (Item R) Stop) → Grows a b → IsKnown a (name s) → is_undefined f ≡ false → GivesText name a b (Ok w) (to_string a.limit f) → Does name b c r (within b.limit pad_ids (λ k. pad_words (length (text b (name s)) + length (text b (name w)))) (pad (text b (name s)) m (text b (name w)))) → Does name a c r (filled a.limit (pad (text a (name s))) (text a (name s)) m f)
   fills_text w r g k e x d =
       rw e (text_converts name (pads (length (text a (name s)) + string_units f)) a b c w r (to_string a.limit f) (λ v. within a.limit pad_ids (λ k. pad_words (length (text a (name s)) + length v)) (pad (text a (name s)) m v)) x
       (subst (λ (q : ℕ × List ℕ). Does name b c r (within q.0 pad_ids (λ k. pad_words (length q.1 + length (text b (name w)))) (pad q.1 m (text b (name w))))) (cc (g.limit, text_still g (name s) k)) d))
@@ -62,7 +64,7 @@ module _ {F R : Type 0} (name : R → ℕ) (a b c : State F) (pad : List ℕ →
   fill_stops n e x = rw e (text_fails name (pads (length (text a (name s)) + string_units f)) a b n (to_string a.limit f) (λ v. within a.limit pad_ids (λ k. pad_words (length (text a (name s)) + length v)) (pad (text a (name s)) m v)) x)
 
 -- a string that has fewer units, where the filler is the second argument
-pub pads_more : {F R : Type 0} (name : R → ℕ) (a b c : State F) (pad : List ℕ → ℕ → List ℕ → List ℕ) (s : R) (m : ℕ) (vs : List (Value R)) (r : Result (Value R) Stop) → Step a b None 0 0 → b.history ≡ a.history → IsKnown a (name s) → AllFine a name vs → length (text a (name s)) < m → Does name b c r (filled b.limit (pad (text b (name s))) (text b (name s)) m (second_of (all_seen b name vs))) → Does name a c r (padded a.limit (pad (text a (name s))) (text a (name s)) m (second_of (all_seen a name vs)))
+pub pads_more : {F R : Type 0} (name : R → ℕ) (a b c : State F) (pad : List ℕ → ℕ → List ℕ → List ℕ) (s : R) (m : ℕ) (vs : List (Item R)) (r : Result (Item R) Stop) → Step a b None 0 0 → b.history ≡ a.history → IsKnown a (name s) → AllFine a name vs → length (text a (name s)) < m → Does name b c r (filled b.limit (pad (text b (name s))) (text b (name s)) m (second_of (all_seen b name vs))) → Does name a c r (padded a.limit (pad (text a (name s))) (text a (name s)) m (second_of (all_seen a name vs)))
 pads_more name a b c pad s m vs r t h k f l d =
     let lacks : nat_le m (length (text a (name s))) ≡ false = grind (arith, l) in
     let u = text a (name s) in

@@ -13,11 +13,13 @@ use Rattle.js_store.proofs.Laws.{known_has, text_still}
 use Rattle.js_texts.specs.Texts.{texts, AllKnown}
 use Rattle.js_replace.specs.Parts.{parts}
 use Rattle.js_replace.specs.Use.{copies}
-use Rattle.eval_values.specs.declared.value.Value.{Value}
-use Rattle.eval_values.specs.declared.value.Value.TheVariants as value
+use Rattle.js_item.specs.declared.item.Item.{Item}
+use Rattle.js_item.specs.declared.item.Item.TheVariants as value
 use Rattle.eval_values.specs.declared.value.Stop.{Stop}
 use Rattle.eval_values.specs.Stops.{stop_of}
-use Rattle.eval_values.specs.Outcome.{Val, list, ledger_of}
+use Rattle.js_item.specs.Seen.{Val}
+use Rattle.js_item.specs.Contents.{list}
+use Rattle.eval_values.specs.Outcome.{ledger_of}
 use Rattle.eval_values.specs.Need.{reads, some_parts, parts_ids, parts_words}
 use Rattle.eval_values.specs.Conversions.{list_units, to_string, all_units, first_text_units}
 use Rattle.eval_values.specs.Arguments.{first_of, is_undefined}
@@ -90,7 +92,7 @@ split_stops name t u sep most i k g p q (method.RangeError c) e s n = absurd e
 pub split_use : (t m n : ℕ) (v w : Bool) (us : List (List ℕ)) → m + n ≤ t + 40 → 4 * (settle_words v m + settle_words w n + copies us) ≤ t + 46 + list_units us + 12 * length us
 split_use t m n v w us h = omega (arith, h, settle_most_of v m, settle_most_of w n, copies_most us)
 
-module _ {F R : Type 0} (name : R → ℕ) (a b c : State F) (s w : R) (most : ℕ) (vs : List Val) (r : Result (Value R) Stop) (g : Grows a b) (k : IsKnown a (name s)) where
+module _ {F R : Type 0} (name : R → ℕ) (a b c : State F) (s w : R) (most : ℕ) (vs : List Val) (r : Result (Item R) Stop) (g : Grows a b) (k : IsKnown a (name s)) where
   -- a separator, and then the parts
   pub split_does : is_undefined (first_of vs) ≡ false → length (units_of b (name w)) ≤ first_text_units vs + 40 → GivesText name a b (Ok w) (to_string a.limit (first_of vs)) → ((t : ℕ) → length (units_of b (name s)) + length (units_of b (name w)) ≤ t + 40 → Does name b c r (split_into t (units_of b (name s)) most (Some (units_of b (name w))))) → Does name a c r (split_most a.limit (units_of a (name s)) vs most)
   split_does e h x d =

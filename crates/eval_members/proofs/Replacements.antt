@@ -2,18 +2,19 @@
 use Rattle.std.proofs.Common.{arith, ◌≡◌, ℕ, ◌+◌, ◌≤◌, List, length, subst, Result, Ok, Err}
 use Rattle.js_store.specs.State.{State, Grows, IsKnown, text}
 use Rattle.js_store.proofs.Laws.{text_still, grows_trans}
-use Rattle.eval_values.specs.declared.value.Value.{Value}
+use Rattle.js_item.specs.declared.item.Item.{Item}
 use Rattle.eval_values.specs.declared.value.Stop.{Stop}
-use Rattle.eval_values.specs.Outcome.{Val, converting}
+use Rattle.js_item.specs.Seen.{Val, seen}
+use Rattle.eval_values.specs.Outcome.{converting}
 use Rattle.eval_values.specs.Need.{reads}
 use Rattle.eval_values.specs.Conversions.{to_string, text_units}
 use Rattle.eval_members.specs.Replacing.{replacement, replace_call}
-use Rattle.eval_values.specs.Seen.{seen, IsFine}
+use Rattle.js_item.specs.Fine.{IsFine}
 use Rattle.eval_values.specs.Does.{Does, GivesText}
 use Rattle.eval_values.proofs.TextArguments.{text_converts, text_fails}
 use Rattle.eval_values.proofs.Still.{seen_still}
 
-module _ {F R : Type 0} (name : R → ℕ) (o m t : ℕ) (count : List ℕ → List ℕ → ℕ) (replaced : List ℕ → List ℕ → List ℕ → List ℕ) (a b c : State F) (s : R) (v w : Value R) where
+module _ {F R : Type 0} (name : R → ℕ) (o m t : ℕ) (count : List ℕ → List ℕ → ℕ) (replaced : List ℕ → List ℕ → List ℕ → List ℕ) (a b c : State F) (s : R) (v w : Item R) where
   pub searched_stops : (n : Stop) → GivesText name a b (Err n) (to_string a.limit (seen a name v)) → Does name a b (Err n) (replace_call a.limit o m t (count (text a (name s))) (replaced (text a (name s))) (seen a name v) (seen a name w))
   searched_stops n d = text_fails name (reads o) a b n (to_string a.limit (seen a name v)) (λ x. converting (reads m) (to_string a.limit (seen a name w)) (λ y. replacement a.limit t (count (text a (name s)) x) (replaced (text a (name s)) x y))) d
 
@@ -27,7 +28,7 @@ module _ {F R : Type 0} (name : R → ℕ) (o m t : ℕ) (count : List ℕ → L
         (text_fails name (reads m) b c n (to_string a.limit (seen a name w)) (λ y. replacement a.limit t (count (text a (name s)) (text b (name x))) (replaced (text a (name s)) (text b (name x)) y)) e')
 
     -- both as strings, and then the string with its matches replaced
-    pub replace_does : (z : State F) (y : R) (r : Result (Value R) Stop) → Grows b c → IsKnown a (name s) → IsKnown b (name x) → length (text b (name x)) ≤ text_units (seen a name v) + 40 → length (text c (name y)) ≤ text_units (seen b name w) + 40 → length (text a (name s)) + (text_units (seen a name v) + text_units (seen a name w)) ≤ t → GivesText name b c (Ok y) (to_string b.limit (seen b name w)) → ((u : ℕ) → length (text c (name s)) + (length (text c (name x)) + length (text c (name y))) ≤ u + 80 → Does name c z r (replacement c.limit u (count (text c (name s)) (text c (name x))) (replaced (text c (name s)) (text c (name x)) (text c (name y))))) → Does name a z r (replace_call a.limit o m t (count (text a (name s))) (replaced (text a (name s))) (seen a name v) (seen a name w))
+    pub replace_does : (z : State F) (y : R) (r : Result (Item R) Stop) → Grows b c → IsKnown a (name s) → IsKnown b (name x) → length (text b (name x)) ≤ text_units (seen a name v) + 40 → length (text c (name y)) ≤ text_units (seen b name w) + 40 → length (text a (name s)) + (text_units (seen a name v) + text_units (seen a name w)) ≤ t → GivesText name b c (Ok y) (to_string b.limit (seen b name w)) → ((u : ℕ) → length (text c (name s)) + (length (text c (name x)) + length (text c (name y))) ≤ u + 80 → Does name c z r (replacement c.limit u (count (text c (name s)) (text c (name x))) (replaced (text c (name s)) (text c (name x)) (text c (name y))))) → Does name a z r (replace_call a.limit o m t (count (text a (name s))) (replaced (text a (name s))) (seen a name v) (seen a name w))
     replace_does z y r h k l fits n' within e i =
         let same : seen b name w ≡ seen a name w = seen_still a b name g w f in
         let near : length (text c (name y)) ≤ text_units (seen a name w) + 40 = subst (λ (q : Val). length (text c (name y)) ≤ text_units q + 40) same n' in

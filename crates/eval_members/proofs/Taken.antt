@@ -5,8 +5,10 @@ use Rattle.eval_tree.specs.declared.tree.Method.{Method}
 use Rattle.js_store.specs.State.{State}
 use Rattle.js_texts.specs.Texts.{Every}
 use Rattle.eval_members.specs.Operands.{most_taken, operands}
-use Rattle.eval_values.specs.declared.value.Value.{Value}
-use Rattle.eval_values.specs.Seen.{seen, IsFine, all_seen, AllFine}
+use Rattle.js_item.specs.declared.item.Item.{Item}
+use Rattle.js_item.specs.Seen.{seen}
+use Rattle.js_item.specs.Fine.{IsFine}
+use Rattle.eval_values.specs.Seen.{all_seen, AllFine}
 
 pub all_taken : {A : Type 0} (n : ℕ) (xs : List A) → length xs ≤ n → xs ≡ take n xs
 all_taken zero [] l = refl
@@ -22,8 +24,8 @@ taken_every P zero xs h = tt
 taken_every P (suc n) [] h = tt
 taken_every P (suc n) (x ∷ xs) h = (h.0, taken_every P n xs h.1)
 
-pub seen_taken : {F R : Type 0} (s : State F) (name : R → ℕ) (m : Method) (vs : List (Value R)) → all_seen s name (operands m vs) ≡ operands m (all_seen s name vs)
+pub seen_taken : {F R : Type 0} (s : State F) (name : R → ℕ) (m : Method) (vs : List (Item R)) → all_seen s name (operands m vs) ≡ operands m (all_seen s name vs)
 seen_taken s name m vs = taken_map (λ v. seen s name v) m vs
 
-pub fine_taken : {F R : Type 0} (s : State F) (name : R → ℕ) (m : Method) (vs : List (Value R)) → AllFine s name vs → AllFine s name (operands m vs)
+pub fine_taken : {F R : Type 0} (s : State F) (name : R → ℕ) (m : Method) (vs : List (Item R)) → AllFine s name vs → AllFine s name (operands m vs)
 fine_taken s name m vs h = taken_every (λ v. IsFine s name v) (most_taken m (length vs)) vs h

@@ -9,11 +9,14 @@ use Rattle.js_replace.specs.Parts.{parts as parts_of}
 use Rattle.eval_tree.specs.declared.tree.Method.{Method}
 use Rattle.eval_tree.specs.declared.tree.Method.TheVariants.{At, Concat, Includes, IndexOf, Join, LastIndexOf, Slice}
 use Rattle.eval_values.specs.declared.value.Kind.TheVariants.{TypeError}
-use Rattle.eval_values.specs.Outcome.{Val, undefined, null, bool, number, text, symbol, list, Converted, Out, gave, converting, free, needing, throwing, refuses, converts}
+use Rattle.js_item.specs.Seen.{Val}
+use Rattle.js_item.specs.Contents.{undefined, null, bool, number, text, symbol, list, object}
+use Rattle.eval_values.specs.Outcome.{Converted, Out, gave, converting, free, needing, throwing, refuses, converts}
 use Rattle.eval_values.specs.Need.{reads, parts}
 use Rattle.eval_values.specs.Conversions.{to_string, list_units, string_units, all_units, first_text_units}
 use Rattle.eval_values.specs.Arguments.{first_of, is_undefined}
 use Rattle.eval_members.specs.Reading.{maybe_text}
+use Rattle.eval_members.specs.Properties.{indexed_object}
 use Rattle.eval_values.specs.Limited.{bounded}
 
 -- an index is a number
@@ -25,6 +28,7 @@ as_number (number n) = Some n
 as_number (text u) = None
 as_number (symbol k) = None
 as_number (list us) = None
+as_number (object fs) = None
 
 -- the one unit at an index, and the element at an index, counted from 0 (ECMA-262, "StringGetOwnProperty")
 abbrev pub unit_at : List ℕ → Num → Option (List ℕ)
@@ -60,14 +64,15 @@ indexed_other at None = refuses at
 indexed_other at (Some n) = element 0 undefined
 
 -- ECMA-262, "Property Accessors", by an index that was evaluated
-abbrev pub indexed : ℕ → Val → Val → Out Val
-indexed at undefined i = throwing (reads (string_units i)) TypeError
-indexed at null i = throwing (reads (string_units i)) TypeError
-indexed at (bool b) i = indexed_other at (as_number i)
-indexed at (number n) i = indexed_other at (as_number i)
-indexed at (text u) i = indexed_text at u (as_number i)
-indexed at (symbol k) i = indexed_other at (as_number i)
-indexed at (list us) i = indexed_list at us (as_number i)
+abbrev pub indexed : ℕ → ℕ → Val → Val → Out Val
+indexed at limit undefined i = throwing (reads (string_units i)) TypeError
+indexed at limit null i = throwing (reads (string_units i)) TypeError
+indexed at limit (bool b) i = indexed_other at (as_number i)
+indexed at limit (number n) i = indexed_other at (as_number i)
+indexed at limit (text u) i = indexed_text at u (as_number i)
+indexed at limit (symbol k) i = indexed_other at (as_number i)
+indexed at limit (list us) i = indexed_list at us (as_number i)
+indexed at limit (object fs) i = indexed_object at limit fs i
 
 -- the elements with a separator between two, of operands with t units
 abbrev pub joined_with : ℕ → ℕ → List (List ℕ) → List ℕ → Out Val

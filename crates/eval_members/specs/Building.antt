@@ -1,7 +1,8 @@
 -- Methods that make longer strings.
 use Rattle.std.specs.Prelude.{ℕ, ◌+◌, List, [], ◌∷◌, ◌++◌, length, nat_le, if◌then◌else◌}
 use Rattle.eval_values.specs.declared.value.Kind.TheVariants.{RangeError}
-use Rattle.eval_values.specs.Outcome.{Val, Out, gave, bind, converting, cost, throwing}
+use Rattle.js_item.specs.Seen.{Val}
+use Rattle.eval_values.specs.Outcome.{Out, gave, bind, converting, cost, throwing}
 use Rattle.eval_values.specs.Need.{nothing, joins}
 use Rattle.eval_values.specs.Conversions.{to_string}
 use Rattle.eval_values.specs.Limited.{bounded}

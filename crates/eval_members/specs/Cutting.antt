@@ -1,7 +1,8 @@
 -- Methods that give a part of a string, or the string with units replaced. The operands of a call have t units.
 use Rattle.std.specs.Prelude.{ℕ, List, Option}
 use Rattle.js_number.specs.declared.Num.{Num}
-use Rattle.eval_values.specs.Outcome.{Val, Converted, Out, converts}
+use Rattle.js_item.specs.Seen.{Val}
+use Rattle.eval_values.specs.Outcome.{Converted, Out, converts}
 use Rattle.eval_values.specs.Need.{reads}
 use Rattle.eval_values.specs.Limited.{limited}
 

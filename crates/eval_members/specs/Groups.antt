@@ -17,7 +17,8 @@ use Rattle.js_replace.specs.Matches.{matches}
 use Rattle.js_replace.specs.Replaced.{replaced_first, replaced_all}
 use Rattle.eval_members.specs.declared.replacing.Replace.{Replace}
 use Rattle.eval_members.specs.declared.replacing.Replace.TheVariants as replace
-use Rattle.eval_values.specs.Outcome.{Val, bool}
+use Rattle.js_item.specs.Seen.{Val}
+use Rattle.js_item.specs.Contents.{bool}
 use Rattle.eval_members.specs.Searching.{place_value}
 
 abbrev pub part_of : Cut → List ℕ → Num → Option Num → List ℕ

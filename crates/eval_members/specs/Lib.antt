@@ -5,6 +5,7 @@ pub mod Searching
 pub mod Building
 pub mod Padding
 pub mod Replacing
+pub mod Properties
 pub mod Arrays
 pub mod Members
 pub mod Groups

@@ -1,5 +1,5 @@
 -- Members and methods of values.
-use Rattle.std.specs.Prelude.{ℕ, ◌+◌, List, length, pos}
+use Rattle.std.specs.Prelude.{ℕ, ◌+◌, List, length, pos, codes}
 use Rattle.js_number.specs.declared.Num.TheVariants.{Int}
 use Rattle.js_units.specs.Text.{well}
 use Rattle.js_methods.specs.Cuts.{slice_of, substring_of, substr_of}
@@ -12,7 +12,9 @@ use Rattle.js_methods.specs.WellFormed.{all_paired}
 use Rattle.eval_tree.specs.declared.tree.Method.{Method}
 use Rattle.eval_tree.specs.declared.tree.Method.TheVariants.{At, CharAt, CharCodeAt, CodePointAt, Concat, EndsWith, Includes, IndexOf, IsWellFormed, Join, LastIndexOf, PadEnd, PadStart, Repeat, Replace, ReplaceAll, Slice, Split, StartsWith, Substr, Substring, ToWellFormed, Trim, TrimEnd, TrimStart}
 use Rattle.eval_values.specs.declared.value.Kind.TheVariants.{TypeError}
-use Rattle.eval_values.specs.Outcome.{Val, undefined, null, bool, number, text, symbol, list, Out, gave, free, number_of, needing, throwing}
+use Rattle.js_item.specs.Seen.{Val}
+use Rattle.js_item.specs.Contents.{undefined, null, bool, number, text, symbol, list, object}
+use Rattle.eval_values.specs.Outcome.{Out, gave, free, number_of, needing, throwing}
 use Rattle.eval_values.specs.Need.{nothing, reads}
 use Rattle.eval_values.specs.Conversions.{to_number, list_units, all_units, first_text_units}
 use Rattle.eval_values.specs.Arguments.{first_of, second_of, end_in}
@@ -24,6 +26,7 @@ use Rattle.eval_members.specs.Searching.{place_value, search_call}
 use Rattle.eval_members.specs.Building.{concat_call}
 use Rattle.eval_members.specs.Padding.{repeat_call, pad_call}
 use Rattle.eval_members.specs.Replacing.{two_text_units, replace_call}
+use Rattle.eval_members.specs.Properties.{plain_property}
 use Rattle.eval_members.specs.Arrays.{list_call, split_call}
 
 abbrev pub length_of : Val → Out Val
@@ -34,6 +37,18 @@ length_of (number n) = needing nothing undefined
 length_of (text u) = needing nothing (number (Int (pos (length u))))
 length_of (symbol k) = needing nothing undefined
 length_of (list us) = needing nothing (number_of (length us))
+length_of (object fs) = plain_property (codes "length") fs
+
+-- the key of a symbol ("Symbol.prototype.description")
+abbrev pub description_of : Val → Out Val
+description_of undefined = throwing nothing TypeError
+description_of null = throwing nothing TypeError
+description_of (bool b) = needing nothing undefined
+description_of (number n) = needing nothing undefined
+description_of (text u) = needing nothing undefined
+description_of (symbol k) = needing nothing (text k)
+description_of (list us) = needing nothing undefined
+description_of (object fs) = plain_property (codes "description") fs
 
 -- a value that has members (ECMA-262, "RequireObjectCoercible")
 abbrev pub present : Val → Out (Unit {0})

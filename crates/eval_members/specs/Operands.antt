@@ -1,7 +1,7 @@
 -- The arguments that a method takes: those that its definition names; further ones are ignored.
 use Rattle.std.specs.Prelude.{ℕ, List, length, take}
 use Rattle.eval_tree.specs.declared.tree.Method.{Method}
-use Rattle.eval_tree.specs.declared.tree.Method.TheVariants.{At, CharAt, CharCodeAt, CodePointAt, Concat, EndsWith, Includes, IndexOf, IsWellFormed, Join, LastIndexOf, PadEnd, PadStart, Repeat, Replace, ReplaceAll, Slice, Split, StartsWith, Substr, Substring, ToWellFormed, Trim, TrimEnd, TrimStart}
+use Rattle.eval_tree.specs.declared.tree.Method.TheVariants.{At, CharAt, CharCodeAt, CodePointAt, Concat, IsWellFormed, Join, Repeat, ToWellFormed, Trim, TrimEnd, TrimStart}
 
 -- how many of n arguments a method takes at most
 abbrev pub most_taken : Method → ℕ → ℕ

@@ -4,7 +4,8 @@ use Rattle.js_number.specs.declared.Num.{Num}
 use Rattle.js_number.specs.Arith.{length_of}
 use Rattle.js_methods.specs.Repeating.{is_count, repeat_of}
 use Rattle.eval_values.specs.declared.value.Kind.TheVariants.{RangeError}
-use Rattle.eval_values.specs.Outcome.{Val, Converted, Out, gave, converting, free, throwing, converts}
+use Rattle.js_item.specs.Seen.{Val}
+use Rattle.eval_values.specs.Outcome.{Converted, Out, gave, converting, free, throwing, converts}
 use Rattle.eval_values.specs.Conversions.{to_string, string_units}
 use Rattle.eval_values.specs.Arguments.{is_undefined}
 use Rattle.eval_values.specs.Need.{repeats, pads}

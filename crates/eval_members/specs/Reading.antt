@@ -3,7 +3,9 @@ use Rattle.std.specs.Prelude.{ℕ, ◌+◌, List, length, Option, Some, None, po
 use Rattle.js_number.specs.declared.Num.{Num}
 use Rattle.js_number.specs.declared.Num.TheVariants.{Int}
 use Rattle.js_methods.specs.Places.{at_of, char_at_of, char_code_of, code_point_of}
-use Rattle.eval_values.specs.Outcome.{Val, undefined, number, text, Converted, Out, needing, converts}
+use Rattle.js_item.specs.Seen.{Val}
+use Rattle.js_item.specs.Contents.{undefined, number, text}
+use Rattle.eval_values.specs.Outcome.{Converted, Out, needing, converts}
 use Rattle.eval_values.specs.Need.{reads}
 
 abbrev pub maybe_text : Option (List ℕ) → Val

@@ -1,7 +1,8 @@
 -- Methods that put a template in the place of matches. The operands of a call have o units as they are, m where the first one
 -- was converted, and t where both were.
 use Rattle.std.specs.Prelude.{ℕ, ◌+◌, List, [], ◌∷◌}
-use Rattle.eval_values.specs.Outcome.{Val, Out, converting}
+use Rattle.js_item.specs.Seen.{Val}
+use Rattle.eval_values.specs.Outcome.{Out, converting}
 use Rattle.eval_values.specs.Need.{reads, parts}
 use Rattle.eval_values.specs.Conversions.{to_string, text_units, first_text_units}
 use Rattle.eval_values.specs.Limited.{bounded}

@@ -3,7 +3,9 @@
 use Rattle.std.specs.Prelude.{ℕ, List, Option, Some, None, pos, negsuc}
 use Rattle.js_number.specs.declared.Num.{Num}
 use Rattle.js_number.specs.declared.Num.TheVariants.{Int}
-use Rattle.eval_values.specs.Outcome.{Val, number, Converted, Out, converting, needing, converts}
+use Rattle.js_item.specs.Seen.{Val}
+use Rattle.js_item.specs.Contents.{number}
+use Rattle.eval_values.specs.Outcome.{Converted, Out, converting, needing, converts}
 use Rattle.eval_values.specs.Need.{reads}
 use Rattle.eval_values.specs.Conversions.{to_string}
 

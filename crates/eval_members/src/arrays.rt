@@ -7,9 +7,12 @@ ghost use Rattle.js_texts.specs.Texts.{texts as texts_seen, AllKnown};
 ghost use Rattle.eval_values.specs.Conversions.{list_units};
 ghost use Rattle.eval_members.specs.Arrays.{as_number, indexed_text, indexed_list, indexed_other, indexed, joined_with, join_call, list_call};
 ghost use Rattle.eval_members.specs.Reading.{maybe_text};
-ghost use Rattle.eval_values.specs.Seen.{seen, IsFine, all_seen, AllFine};
+ghost use Rattle.js_item.specs.Seen.{seen};
+ghost use Rattle.js_item.specs.Fine.{IsFine};
+ghost use Rattle.eval_values.specs.Seen.{all_seen, AllFine};
 ghost use Rattle.eval_values.specs.Does.{Does};
 
+use crate::properties::read_indexed;
 use eval_tree::Method;
 use eval_values::{Kind, Stop, Value, first_is_missing, first_text, joined_by_commas};
 use js_number::Num;
@@ -18,6 +21,7 @@ use std::alloc::Global;
 
 /// The element of a value at an index that was evaluated; `at` is the byte offset of the bracket.
 pub fn read_index<S: Strings>(
+    alloc: Global,
     store: &mut S,
     at: u32,
     value: &Value<S::Ref>,
@@ -28,7 +32,7 @@ pub fn read_index<S: Strings>(
     ensures grows { Grows (S.state store.old) (S.state store.new) }
     ensures fine { IfOk result (λ v. IsFine (S.state store.new) S.number v) }
     ensures did { Does S.number (S.state store.old) (S.state store.new) result
-        (indexed at (seen (S.state store.old) S.number value.now)
+        (indexed at (S.state store.old).limit (seen (S.state store.old) S.number value.now)
         (seen (S.state store.old) S.number index.now)) }
 {
     let number = index_number(store, index);
@@ -37,6 +41,7 @@ pub fn read_index<S: Strings>(
         Value::Bool(_) | Value::Number(_) | Value::Symbol(_) => no_element(store, at, number),
         Value::Text(s) => unit(store, at, *s, number),
         Value::List(list) => element(store, at, list, number),
+        Value::Object(object) => read_indexed(alloc, store, at, object, index),
     }
 }
 
@@ -53,7 +58,8 @@ fn index_number<S: Strings>(_store: &S, index: &Value<S::Ref>) -> Option<Num>
         | Value::Bool(_)
         | Value::Text(_)
         | Value::Symbol(_)
-        | Value::List(_) => None,
+        | Value::List(_)
+        | Value::Object(_) => None,
     }
 }
 

@@ -3,7 +3,9 @@ ghost use Rattle.std.specs.Prelude.{ℕ, IfOk};
 ghost use Rattle.js_store.specs.State.{Grows, IsKnown, text};
 ghost use Rattle.eval_values.specs.Limited.{within};
 ghost use Rattle.eval_members.specs.Building.{joined_text, one_joined, concat_call};
-ghost use Rattle.eval_values.specs.Seen.{seen, IsFine, all_seen, AllFine};
+ghost use Rattle.js_item.specs.Seen.{seen};
+ghost use Rattle.js_item.specs.Fine.{IsFine};
+ghost use Rattle.eval_values.specs.Seen.{all_seen, AllFine};
 ghost use Rattle.eval_values.specs.Does.{Does, GivesText};
 
 use eval_values::{Kind, Stop, Value, to_text};

@@ -11,7 +11,8 @@ ghost use Rattle.eval_values.specs.Arguments.{first_of, second_of, end_in};
 ghost use Rattle.eval_values.specs.Limited.{limited};
 ghost use Rattle.eval_members.specs.Cutting.{cut_call};
 ghost use Rattle.eval_members.specs.Groups.{part_of, trimmed_of};
-ghost use Rattle.eval_values.specs.Seen.{IsFine, all_seen, AllFine};
+ghost use Rattle.js_item.specs.Fine.{IsFine};
+ghost use Rattle.eval_values.specs.Seen.{all_seen, AllFine};
 ghost use Rattle.eval_values.specs.Does.{Does};
 
 use eval_values::{Stop, Value, first_number, second_or_none};

@@ -1,6 +1,6 @@
 //! Members of values and the methods of strings and of arrays, as a script calls them with values as
 //! arguments (ECMA-262, "Properties of the String Prototype Object", "Property Accessors"), over any
-//! store of strings.
+//! store of strings. A read of a property of an object interns its key.
 //!
 //! What each call means stands in `specs/Members.antt`, a line for each method, and what it cites.
 #![tactic(auto)]
@@ -11,10 +11,12 @@ mod cutting;
 mod members;
 mod operands;
 mod padding;
+mod properties;
 mod reading;
 mod replacing;
 mod searching;
 mod splitting;
 
 pub use arrays::read_index;
-pub use members::{call, present, read_length};
+pub use members::{call, present, read_description, read_length};
+pub use properties::read_property;

@@ -3,11 +3,13 @@ ghost use Rattle.std.specs.Prelude.{ℕ, ◌+◌, ◌≤◌, length, IfOk};
 ghost use Rattle.js_store.specs.State.{Grows, IsKnown, text};
 ghost use Rattle.eval_values.specs.Outcome.{needing};
 ghost use Rattle.eval_values.specs.Need.{reads};
-ghost use Rattle.eval_values.specs.Outcome;
+ghost use Rattle.js_item.specs.Contents;
 ghost use Rattle.js_methods.specs.WellFormed.{all_paired};
 ghost use Rattle.eval_values.specs.Conversions.{all_units};
-ghost use Rattle.eval_members.specs.Members.{length_of, present as present_out, string_call, called};
-ghost use Rattle.eval_values.specs.Seen.{seen, IsFine, all_seen, AllFine};
+ghost use Rattle.eval_members.specs.Members.{length_of, description_of, present as present_out, string_call, called};
+ghost use Rattle.js_item.specs.Seen.{seen};
+ghost use Rattle.js_item.specs.Fine.{IsFine};
+ghost use Rattle.eval_values.specs.Seen.{all_seen, AllFine};
 ghost use Rattle.eval_values.specs.Ran.{Did};
 ghost use Rattle.eval_values.specs.Does.{Does};
 
@@ -16,6 +18,7 @@ use crate::building::call_concat;
 use crate::cutting::{Cut, Trim, call_cut, call_to_well_formed, call_trim};
 use crate::operands::operands;
 use crate::padding::{Pad, call_pad, call_repeat};
+use crate::properties::read_plain;
 use crate::reading::{call_at, call_char_at, call_char_code_at, call_code_point_at};
 use crate::replacing::{Replace, call_replace};
 use crate::searching::{Search, call_ends_with, call_search};
@@ -25,6 +28,13 @@ use eval_values::{Kind, Stop, Value, number_value};
 use js_number::Num;
 use js_store::Strings;
 use std::alloc::Global;
+
+// `length` and `description`.
+const LENGTH: [u16; 6] = [0x6C, 0x65, 0x6E, 0x67, 0x74, 0x68];
+
+const DESCRIPTION: [u16; 11] = [
+    0x64, 0x65, 0x73, 0x63, 0x72, 0x69, 0x70, 0x74, 0x69, 0x6F, 0x6E,
+];
 
 /// `.length` of a value.
 pub fn read_length<S: Strings>(store: &mut S, value: &Value<S::Ref>) -> Result<Value<S::Ref>, Stop>
@@ -42,6 +52,26 @@ pub fn read_length<S: Strings>(store: &mut S, value: &Value<S::Ref>) -> Result<V
             let len = store.len(*s);
             Ok(Value::Number(Num::Int(i64::from(len))))
         }
+        Value::Object(object) => read_plain(store, object, &LENGTH),
+    }
+}
+
+/// `.description` of a value.
+pub fn read_description<S: Strings>(
+    store: &mut S,
+    value: &Value<S::Ref>,
+) -> Result<Value<S::Ref>, Stop>
+    requires { IsFine (S.state store.old) S.number value.now }
+    ensures grows { Grows (S.state store.old) (S.state store.new) }
+    ensures fine { IfOk result (λ v. IsFine (S.state store.new) S.number v) }
+    ensures did { Does S.number (S.state store.old) (S.state store.new) result
+        (description_of (seen (S.state store.old) S.number value.now)) }
+{
+    match value {
+        Value::Undefined | Value::Null => Err(Stop::Threw(Kind::TypeError)),
+        Value::Symbol(key) => Ok(Value::Text(*key)),
+        Value::Object(object) => read_plain(store, object, &DESCRIPTION),
+        Value::Bool(_) | Value::Number(_) | Value::Text(_) | Value::List(_) => Ok(Value::Undefined),
     }
 }
 
@@ -52,8 +82,12 @@ pub fn present<S: Strings>(_store: &S, value: &Value<S::Ref>) -> Result<(), Stop
 {
     match value {
         Value::Undefined | Value::Null => Err(Stop::Threw(Kind::TypeError)),
-        Value::Bool(_) | Value::Number(_) | Value::Text(_) | Value::Symbol(_) | Value::List(_) =>
-            Ok(()),
+        Value::Bool(_)
+        | Value::Number(_)
+        | Value::Text(_)
+        | Value::Symbol(_)
+        | Value::List(_)
+        | Value::Object(_) => Ok(()),
     }
 }
 
@@ -78,9 +112,12 @@ pub fn call<S: Strings>(
     match value {
         Value::Text(s) => call_string(alloc, store, at, method, *s, args),
         Value::List(list) => call_list(alloc, store, at, method, list, args),
-        Value::Undefined | Value::Null | Value::Bool(_) | Value::Number(_) | Value::Symbol(_) => {
-            Err(Stop::Threw(Kind::TypeError))
-        }
+        Value::Undefined
+        | Value::Null
+        | Value::Bool(_)
+        | Value::Number(_)
+        | Value::Symbol(_)
+        | Value::Object(_) => Err(Stop::Threw(Kind::TypeError)),
     }
 }
 
@@ -138,7 +175,7 @@ fn call_is_well_formed<S: Strings>(store: &mut S, s: S::Ref) -> Result<Value<S::
     ensures fine { IfOk result (λ v. IsFine (S.state store.new) S.number v) }
     ensures did { (t : ℕ) → length (text (S.state store.old) (S.number s)) ≤ t → Does S.number
         (S.state store.old) (S.state store.new) result
-        (needing (reads t) (Outcome.bool (all_paired (text (S.state store.old) (S.number s))))) }
+        (needing (reads t) (Contents.bool (all_paired (text (S.state store.old) (S.number s))))) }
 {
     let holds = js_methods::is_well_formed(store, s)?;
     Ok(Value::Bool(holds))

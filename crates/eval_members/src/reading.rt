@@ -4,7 +4,8 @@ ghost use Rattle.js_store.specs.State.{Grows, IsKnown, text};
 ghost use Rattle.eval_values.specs.Conversions.{to_number, all_units};
 ghost use Rattle.eval_values.specs.Arguments.{first_of};
 ghost use Rattle.eval_members.specs.Reading.{at_call, char_at_call, char_code_call, code_point_call};
-ghost use Rattle.eval_values.specs.Seen.{IsFine, all_seen, AllFine};
+ghost use Rattle.js_item.specs.Fine.{IsFine};
+ghost use Rattle.eval_values.specs.Seen.{all_seen, AllFine};
 ghost use Rattle.eval_values.specs.Does.{Does};
 
 use eval_values::{Stop, Value, first_number};

@@ -8,7 +8,9 @@ ghost use Rattle.eval_values.specs.Conversions.{text_units, all_units, first_tex
 ghost use Rattle.eval_values.specs.Arguments.{first_of, second_of};
 ghost use Rattle.eval_members.specs.Replacing.{two_text_units, replacement, replace_call};
 ghost use Rattle.eval_members.specs.Groups.{replaced_of, match_count};
-ghost use Rattle.eval_values.specs.Seen.{seen, IsFine, all_seen, AllFine};
+ghost use Rattle.js_item.specs.Seen.{seen};
+ghost use Rattle.js_item.specs.Fine.{IsFine};
+ghost use Rattle.eval_values.specs.Seen.{all_seen, AllFine};
 ghost use Rattle.eval_values.specs.Does.{Does};
 
 use eval_values::{Stop, Value, to_text};

@@ -6,13 +6,16 @@ ghost use Rattle.js_store.specs.Rows.{wide_words};
 ghost use Rattle.js_store.specs.Faults.{Step, NeverSlots};
 ghost use Rattle.js_texts.specs.Answers.{method_fault_of, NeverThrows};
 ghost use Rattle.js_methods.specs.Searching.{ends_at};
-ghost use Rattle.eval_values.specs.Outcome;
+ghost use Rattle.js_item.specs.Contents;
+ghost use Rattle.js_item.specs.Views.{content};
 ghost use Rattle.eval_values.specs.Conversions.{to_number, all_units, first_text_units};
 ghost use Rattle.eval_values.specs.Arguments.{first_of, second_of, end_in};
 ghost use Rattle.eval_members.specs.Searching.{place_number, found, search_call};
 ghost use Rattle.eval_members.specs.Groups.{search_of};
 ghost use Rattle.eval_values.specs.Stops.{converted_of};
-ghost use Rattle.eval_values.specs.Seen.{seen, IsFine, all_seen, AllFine, LawfulEnd};
+ghost use Rattle.js_item.specs.Seen.{seen};
+ghost use Rattle.js_item.specs.Fine.{IsFine};
+ghost use Rattle.eval_values.specs.Seen.{all_seen, AllFine, LawfulEnd};
 ghost use Rattle.eval_values.specs.Does.{Does};
 
 use eval_values::{Refusal, Stop, Value, first_text, second_number, second_or_none};
@@ -111,7 +114,7 @@ fn searched<S: Strings>(
 
 // A place as a number, -1 where there is none.
 fn place_value<R>(place: Option<u32>) -> Value<R>
-    ensures value { result ≡ Value.Number (place_number place) }
+    ensures value { content result ≡ Contents.number (place_number place) }
     ensures lawful { IsLawful (place_number place) }
 {
     match place {
@@ -138,7 +141,7 @@ pub fn call_ends_with<S: Strings>(
         + all_units (all_seen (S.state store.old) S.number args.now))
         (length (text (S.state store.old) (S.number s))
         + first_text_units (all_seen (S.state store.old) S.number args.now))
-        (λ x e. Outcome.bool (ends_at (text (S.state store.old) (S.number s)) x e))
+        (λ x e. Contents.bool (ends_at (text (S.state store.old) (S.number s)) x e))
         (first_of (all_seen (S.state store.old) S.number args.now))
         (end_in at (second_of (all_seen (S.state store.old) S.number args.now)))) }
 {
@@ -161,7 +164,7 @@ fn find_end<S: Strings>(
     ensures did { (t : ℕ) → length (text (S.state store.old) (S.number s))
         + length (text (S.state store.old) (S.number w)) ≤ t + 40 → Does S.number (S.state store.old)
         (S.state store.new) result
-        (found t (λ e. Outcome.bool
+        (found t (λ e. Contents.bool
         (ends_at (text (S.state store.old) (S.number s)) (text (S.state store.old) (S.number w)) e))
         (converted_of end)) }
 {

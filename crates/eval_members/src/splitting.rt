@@ -4,7 +4,8 @@ ghost use Rattle.js_number.specs.Places.{IsLawful};
 ghost use Rattle.js_store.specs.State.{Grows, IsKnown, text};
 ghost use Rattle.eval_values.specs.Arguments.{second_of, end_in};
 ghost use Rattle.eval_members.specs.Arrays.{most_parts as most_of, split_into, split_most as split_out, split_call};
-ghost use Rattle.eval_values.specs.Seen.{IsFine, all_seen, AllFine};
+ghost use Rattle.js_item.specs.Fine.{IsFine};
+ghost use Rattle.eval_values.specs.Seen.{all_seen, AllFine};
 ghost use Rattle.eval_values.specs.Does.{Does};
 
 use eval_values::{Stop, Value, first_is_missing, first_text, second_or_none};

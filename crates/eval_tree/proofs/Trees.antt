@@ -6,10 +6,10 @@ use Rattle.eval_tree.specs.declared.tree.Expr.{Expr, fold-roll-Expr}
 use Rattle.eval_tree.specs.declared.tree.Link.{Link, fold-Link, fold_out-Link}
 use Rattle.eval_tree.specs.declared.tree.PostStep.{PostStep, fold-roll-PostStep, fold_out-PostStep}
 use Rattle.eval_tree.specs.declared.tree.Expr.TheOpen.{Expr-F, PostStep-F}
-use Rattle.eval_tree.specs.declared.tree.Expr.TheViews.{Chain, rolls-Chain, Cond, rolls-Cond, Unary, rolls-Unary, Post, rolls-Post, Builtin as BuiltinCall, rolls-Builtin}
+use Rattle.eval_tree.specs.declared.tree.Expr.TheViews.{Chain, rolls-Chain, Cond, rolls-Cond, Unary, rolls-Unary, Post, rolls-Post, Builtin as BuiltinCall, rolls-Builtin, Object, rolls-Object}
 use Rattle.eval_tree.specs.declared.tree.Expr.TheViews.{Call, rolls-Call, out-PostStep}
 use denote.Hole.Carrier.{out}
-use Rattle.eval_tree.specs.declared.tree.PostStep.TheVariants.{Index}
+use Rattle.eval_tree.specs.declared.tree.PostStep.TheVariants.{Index, Property}
 use Rattle.eval_tree.specs.declared.tree.Stmt.{fold-roll-Stmt, fold_out-Stmt}
 use Rattle.eval_tree.specs.declared.tree.Stmt.TheOpen.{Stmt-F}
 use Rattle.eval_tree.specs.declared.tree.Stmt.TheViews.{out-Stmt, For, rolls-For, If, rolls-If, Block as Inner, rolls-Block}
@@ -17,7 +17,7 @@ use Rattle.eval_tree.specs.declared.tree.Stmt.TheVariants.{Let, Const, Assign, A
 use Rattle.eval_tree.specs.declared.tree.Arm.{Arm, fold_out-Arm}
 use Rattle.eval_tree.specs.declared.tree.Block.{Block, fold_out-Block}
 use Rattle.eval_tree.specs.Tree.{StmtTree, ArmTree, BlockTree, block, let_line, const_line, assign, append, print, if_line, for_line, block_of, arms, init_tree, stmt_layer, arm_layer, block_layer, stmt_tree, stmts_tree, arm_tree, block_tree}
-use Rattle.eval_tree.specs.Tree.{ExprTree, StepTree, LinkTree, chain, conditional, unary, post, builtin, of_call, of_index, links, expr_layer, step_layer, link_layer, expr_tree, step_tree, link_tree, links_tree, steps_tree, exprs_tree}
+use Rattle.eval_tree.specs.Tree.{ExprTree, StepTree, LinkTree, chain, conditional, unary, post, builtin, object, of_call, of_index, of_property, links, expr_layer, step_layer, link_layer, expr_tree, step_tree, link_tree, links_tree, steps_tree, exprs_tree, entries_tree}
 
 link_is : (l : Link) → fold-Link ExprTree StepTree LinkTree expr_layer step_layer link_layer l ≡ link_tree l
 link_is l = fold_out-Link ExprTree StepTree LinkTree expr_layer step_layer link_layer l
@@ -50,6 +50,15 @@ tree_of_call at method args =
 pub tree_of_index : (at : ℕ) (index : Expr) → step_tree (Index at index) ≡ of_index at (expr_tree index)
 unfolding out-PostStep out
 tree_of_index at index = fold_out-PostStep ExprTree StepTree LinkTree expr_layer step_layer link_layer (Index at index)
+
+pub tree_of_property : (at : ℕ) (key : List ℕ) → step_tree (Property at key) ≡ of_property at key
+unfolding out-PostStep out
+tree_of_property at key = fold_out-PostStep ExprTree StepTree LinkTree expr_layer step_layer link_layer (Property at key)
+
+pub tree_of_object : (at : ℕ) (members : Vec (List ℕ × Expr) Global) → expr_tree (Object at members) ≡ object at (entries_tree members.items)
+tree_of_object at members =
+    ap expr_tree (sym (rolls-Object at members))
+    ∙ fold-roll-Expr ExprTree StepTree LinkTree expr_layer step_layer link_layer (Expr-F.Object at members)
 
 pub tree_of_builtin : (at : ℕ) (which : Builtin) (args : Vec Expr Global) → expr_tree (BuiltinCall at which args) ≡ builtin at which (exprs_tree args.items)
 tree_of_builtin at which args =

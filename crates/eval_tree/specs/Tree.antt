@@ -29,6 +29,7 @@ mutual
     conditional : (test yes no : ExprTree) → ExprTree
     post : (of : ExprTree) (steps : Steps) → ExprTree
     builtin : (at : ℕ) (which : Builtin) (args : Exprs) → ExprTree
+    object : (at : ℕ) (members : Entries) → ExprTree
 
   pub data Links : Type 0 where
     no_links : Links
@@ -40,10 +41,16 @@ mutual
     description_step : (rest : Steps) → Steps
     call_step : (at : ℕ) (method : Method) (args : Exprs) (rest : Steps) → Steps
     index_step : (at : ℕ) (index : ExprTree) (rest : Steps) → Steps
+    property_step : (at : ℕ) (key : List ℕ) (rest : Steps) → Steps
 
   pub data Exprs : Type 0 where
     no_exprs : Exprs
     expr : (first : ExprTree) (rest : Exprs) → Exprs
+
+  -- the members of an object literal
+  pub data Entries : Type 0 where
+    no_entries : Entries
+    entry : (key : List ℕ) (value : ExprTree) (rest : Entries) → Entries
 
 -- a link, and a step, as plain values
 pub record LinkTree : Type 0 where
@@ -56,6 +63,7 @@ pub data StepTree : Type 0 where
   of_description : StepTree
   of_call : (at : ℕ) (method : Method) (args : Exprs) → StepTree
   of_index : (at : ℕ) (index : ExprTree) → StepTree
+  of_property : (at : ℕ) (key : List ℕ) → StepTree
 
 abbrev pub links : List LinkTree → Links
 links [] = no_links
@@ -66,6 +74,7 @@ with_step of_length rest = length_step rest
 with_step of_description rest = description_step rest
 with_step (of_call at method args) rest = call_step at method args rest
 with_step (of_index at index) rest = index_step at index rest
+with_step (of_property at key) rest = property_step at key rest
 
 abbrev pub steps : List StepTree → Steps
 steps [] = no_steps
@@ -74,6 +83,10 @@ steps (s ∷ ss) = with_step s (steps ss)
 abbrev pub exprs : List ExprTree → Exprs
 exprs [] = no_exprs
 exprs (t ∷ ts) = expr t (exprs ts)
+
+abbrev pub entries : List (List ℕ × ExprTree) → Entries
+entries [] = no_entries
+entries (m ∷ ms) = entry m.0 m.1 (entries ms)
 
 -- the tree of an expression, layer by layer
 abbrev pub expr_layer : Expr-F ExprTree StepTree LinkTree → ExprTree
@@ -90,12 +103,14 @@ expr_layer (Expr-F.Chain first rest) = chain first.value (links rest.items)
 expr_layer (Expr-F.Cond test then other) = conditional test.value then.value other.value
 expr_layer (Expr-F.Post of ss) = post of.value (steps ss.items)
 expr_layer (Expr-F.Builtin at which args) = builtin at which (exprs args.items)
+expr_layer (Expr-F.Object at members) = object at (entries members.items)
 
 abbrev pub step_layer : PostStep-F ExprTree StepTree LinkTree → StepTree
 step_layer PostStep-F.Length = of_length
 step_layer PostStep-F.Description = of_description
 step_layer (PostStep-F.Call at method args) = of_call at method (exprs args.items)
 step_layer (PostStep-F.Index at index) = of_index at index
+step_layer (PostStep-F.Property at key) = of_property at key
 
 abbrev pub link_layer : Link-F ExprTree StepTree LinkTree → LinkTree
 link_layer l = record { at = l.at; op = l.op; right = l.right }
@@ -117,6 +132,13 @@ steps_tree ss = steps (map step_tree ss)
 
 abbrev pub exprs_tree : List Expr → Exprs
 exprs_tree es = exprs (map expr_tree es)
+
+-- a member as a plain value, and the members of an object literal
+abbrev pub entry_tree : List ℕ × Expr → List ℕ × ExprTree
+entry_tree m = (m.0, expr_tree m.1)
+
+abbrev pub entries_tree : List (List ℕ × Expr) → Entries
+entries_tree ms = entries (map entry_tree ms)
 
 abbrev pub init_tree : Option Expr → Option ExprTree
 init_tree None = None

@@ -8,10 +8,11 @@ use std::marker::Model;
 
 /// A script: its literals, its statements, and the names that it declares at its top.
 ///
-/// `literals` has one entry for each string token, in the order of the text, without the
-/// directive. In the whole tree an `at` is a byte offset in the file: that of the operator, of the
-/// method's word, of the `[`, of the first word of a built-in call, or of the name that is declared or
-/// assigned; of an `Append` that of its `+=`, and `name_at` that of its name.
+/// `literals` has one entry for each string token that is no key of an object literal, in the order of
+/// the text, without the directive. In the whole tree an `at` is a byte offset in the file: that of the
+/// operator, of the word after a point, of the `[`, of the first word of a built-in call, of the `{` of an
+/// object literal, or of the name that is declared or assigned; of an `Append` that of its `+=`, and
+/// `name_at` that of its name.
 #[derive(Drop)]
 pub struct Script {
     pub literals: Vec<Units>,
@@ -124,6 +125,11 @@ pub enum Expr {
         which: Builtin,
         args: Vec<Expr>,
     },
+    /// An object literal: the units of each key and the value's expression, in the order of the text.
+    Object {
+        at: u32,
+        members: Vec<(Units, Expr)>,
+    },
 }
 
 /// An operator of a chain with its right side. The links of one level group from the left.
@@ -149,6 +155,11 @@ pub enum PostStep {
     Index {
         at: u32,
         index: Expr,
+    },
+    /// A read of a property by its name, of which `key` has the units; `at` is the place of the word.
+    Property {
+        at: u32,
+        key: Units,
     },
 }
 
@@ -198,8 +209,9 @@ pub enum Method {
 }
 
 /// A built-in function that is called by its name: `String`, `String.fromCharCode`,
-/// `String.fromCodePoint`, `Symbol.for`, `Symbol.keyFor`, `JSON.stringify` with its one argument, and
-/// the URI handling functions `encodeURI`, `encodeURIComponent`, `decodeURI`, `decodeURIComponent`.
+/// `String.fromCodePoint`, `Symbol.for`, `Symbol.keyFor`, `JSON.stringify` with its one argument, the
+/// URI handling functions `encodeURI`, `encodeURIComponent`, `decodeURI`, `decodeURIComponent`, and
+/// `Object.keys`.
 #[derive(Clone, Copy, Debug, PartialEq, Eq)]
 pub enum Builtin {
     String,
@@ -212,6 +224,7 @@ pub enum Builtin {
     EncodeUriComponent,
     DecodeUri,
     DecodeUriComponent,
+    Keys,
 }
 
 /// A name. Contracts see it as the list of its bytes. Its key, a number that most names have alone,

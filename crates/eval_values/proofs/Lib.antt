@@ -9,3 +9,5 @@ mod Orders
 pub mod TextArguments
 pub mod Limited
 pub mod Copied
+mod Objects
+pub mod Converts

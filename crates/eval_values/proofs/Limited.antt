@@ -7,12 +7,14 @@ use Rattle.js_store.proofs.Laws.{has_text, has_known}
 use Rattle.js_store.specs.declared.faults.StoreFault.{StoreFault}
 use Rattle.eval_values.specs.declared.value.Stop.TheVariants.{Threw}
 use Rattle.eval_values.specs.Stops.{stop_of}
-use Rattle.eval_values.specs.Outcome.{Val, ledger_of, gives, throws, text}
+use Rattle.js_item.specs.Seen.{Val}
+use Rattle.eval_values.specs.Outcome.{ledger_of, gives, throws}
+use Rattle.js_item.specs.Contents.{text}
 use Rattle.eval_values.specs.declared.value.Kind.TheVariants.{RangeError}
 use Rattle.js_texts.specs.declared.faults.MethodFault.{MethodFault}
 use Rattle.js_texts.specs.declared.faults.MethodFault.TheVariants.{Store as MethodStore}
 use Rattle.js_texts.specs.declared.faults.MethodFault.TheVariants as method
-use Rattle.eval_values.specs.declared.value.Value.TheVariants.{Text}
+use Rattle.js_item.specs.declared.item.Item.TheVariants.{Text}
 use Rattle.eval_values.specs.Limited.{within}
 use Rattle.std.specs.Prelude.{nat_le, if◌then◌else◌, true, false, length}
 use Rattle.eval_values.specs.Ran.{Cut}

@@ -9,15 +9,16 @@ use Rattle.js_store.specs.Rows.{wide_words}
 use Rattle.js_store.specs.Faults.{Step, NeverSlots}
 use Rattle.js_store.specs.declared.faults.StoreFault.{StoreFault}
 use Rattle.js_store.proofs.Laws.{text_still, step_after}
-use Rattle.eval_values.specs.declared.value.Value.{Value}
+use Rattle.js_item.specs.declared.item.Item.{Item}
 use Rattle.eval_values.specs.declared.value.Stop.{Stop}
 use Rattle.eval_values.specs.declared.value.Stop.TheVariants.{Store}
-use Rattle.eval_values.specs.Outcome.{Val, gave, free, cost, converting}
+use Rattle.js_item.specs.Seen.{Val, seen}
+use Rattle.eval_values.specs.Outcome.{gave, free, cost, converting}
 use Rattle.eval_values.specs.Need.{reads, row_ids, row_words}
 use Rattle.eval_values.specs.Conversions.{text_units, string_units}
 use Rattle.eval_values.specs.Operators.{primitive}
 use Rattle.eval_values.specs.Comparing.{compared, order_primitives, order_out}
-use Rattle.eval_values.specs.Seen.{seen, IsFine}
+use Rattle.js_item.specs.Fine.{IsFine}
 use Rattle.eval_values.specs.Does.{Does, Tells}
 use Rattle.eval_values.proofs.Compose.{did_convert, did_fail, cut_of_step, ran_of_step}
 use Rattle.eval_values.proofs.Still.{seen_still}
@@ -55,8 +56,8 @@ module _ {F : Type 0} (a b c : State F) (m n : ℕ) (k : IsKnown a m) (l : IsKno
   texts_order r e = told (Some (units_cmp (text a m) (text a n))) (Some r) (ap Some (e ∙ cc (text_still s.grows m k, text_still s.grows n l)))
 
 -- both sides as primitive values, and then their order
-module _ {F R : Type 0} (name : R → ℕ) (a b : State F) (at : ℕ) (v w : Value R) where
-  pub order_does : (c d : State F) (x y : Value R) (r : Result (Option Ordering) Stop) → Grows a b → Grows b c → IsFine a name w → IsFine b name x → Does name a b (Ok x) (primitive a.limit (seen a name v)) → Does name b c (Ok y) (primitive b.limit (seen b name w)) → Tells c d r (order_primitives at (seen c name x) (seen c name y)) → Tells a d r (order_out at a.limit (seen a name v) (seen a name w))
+module _ {F R : Type 0} (name : R → ℕ) (a b : State F) (at : ℕ) (v w : Item R) where
+  pub order_does : (c d : State F) (x y : Item R) (r : Result (Option Ordering) Stop) → Grows a b → Grows b c → IsFine a name w → IsFine b name x → Does name a b (Ok x) (primitive a.limit (seen a name v)) → Does name b c (Ok y) (primitive b.limit (seen b name w)) → Tells c d r (order_primitives at (seen c name x) (seen c name y)) → Tells a d r (order_out at a.limit (seen a name v) (seen a name w))
   order_does c d x y r g h f k e e' z =
       let last : Tells c d r (order_primitives at (seen b name x) (seen c name y)) = subst (λ (q : Val). Tells c d r (order_primitives at q (seen c name y))) (seen_still b c name h x k) z in
       did_convert (reads (string_units (seen a name v) + string_units (seen a name w))) a b d (λ s q. seen s name q) (λ s q. IsFine s name q) (λ s q. q) (λ s q. Unit {0}) x r (primitive a.limit (seen a name v)) (λ p. converting (reads (text_units (seen a name v) + string_units (seen a name w))) (primitive a.limit (seen a name w)) (λ q. order_primitives at p q)) e
@@ -65,7 +66,7 @@ module _ {F R : Type 0} (name : R → ℕ) (a b : State F) (at : ℕ) (v w : Val
   pub first_ends : (n : Stop) → Does name a b (Err n) (primitive a.limit (seen a name v)) → Tells {A = Option Ordering} a b (Err n) (order_out at a.limit (seen a name v) (seen a name w))
   first_ends n e = did_fail (reads (string_units (seen a name v) + string_units (seen a name w))) a b (λ s q. seen s name q) (λ s q. IsFine s name q) (λ s q. q) (λ s q. Unit {0}) n (primitive a.limit (seen a name v)) (λ p. converting (reads (text_units (seen a name v) + string_units (seen a name w))) (primitive a.limit (seen a name w)) (λ q. order_primitives at p q)) e
 
-  pub second_ends : (c : State F) (x : Value R) (n : Stop) → Grows a b → IsFine a name w → Does name a b (Ok x) (primitive a.limit (seen a name v)) → Does name b c (Err n) (primitive b.limit (seen b name w)) → Tells {A = Option Ordering} a c (Err n) (order_out at a.limit (seen a name v) (seen a name w))
+  pub second_ends : (c : State F) (x : Item R) (n : Stop) → Grows a b → IsFine a name w → Does name a b (Ok x) (primitive a.limit (seen a name v)) → Does name b c (Err n) (primitive b.limit (seen b name w)) → Tells {A = Option Ordering} a c (Err n) (order_out at a.limit (seen a name v) (seen a name w))
   second_ends c x n g f e e' =
       did_convert (reads (string_units (seen a name v) + string_units (seen a name w))) a b c (λ s q. seen s name q) (λ s q. IsFine s name q) (λ s q. q) (λ s q. Unit {0}) x (Err n) (primitive a.limit (seen a name v)) (λ p. converting (reads (text_units (seen a name v) + string_units (seen a name w))) (primitive a.limit (seen a name w)) (λ q. order_primitives at p q)) e
       (did_fail (reads (text_units (seen a name v) + string_units (seen a name w))) b c (λ s q. seen s name q) (λ s q. IsFine s name q) (λ s q. q) (λ s q. Unit {0}) n (primitive a.limit (seen a name w)) (λ q. order_primitives at (seen b name x) q) (meant name a b c w (Err n) g f e'))

@@ -1,7 +1,9 @@
 -- The arguments of a call, and their conversions.
 use Rattle.std.specs.Prelude.{ℕ, List, [], ◌∷◌, Option, Some, None, Bool, true, false}
 use Rattle.js_number.specs.declared.Num.{Num}
-use Rattle.eval_values.specs.Outcome.{Val, undefined, null, bool, number, text, symbol, list, Converted, into, fails}
+use Rattle.js_item.specs.Seen.{Val}
+use Rattle.js_item.specs.Contents.{undefined, null, bool, number, text, symbol, list, object}
+use Rattle.eval_values.specs.Outcome.{Converted, into, fails}
 use Rattle.eval_values.specs.Conversions.{to_number, text_units}
 
 -- the argument at a place; a missing one is undefined
@@ -34,3 +36,4 @@ end_in at (number n) = some_number (to_number at (number n))
 end_in at (text u) = some_number (to_number at (text u))
 end_in at (symbol k) = some_number (to_number at (symbol k))
 end_in at (list us) = some_number (to_number at (list us))
+end_in at (object fs) = some_number (to_number at (object fs))

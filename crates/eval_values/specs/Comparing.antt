@@ -5,7 +5,9 @@ use Rattle.std.specs.declared.cmp.Ordering.TheVariants.{Less, Equal, Greater}
 use Rattle.js_number.specs.declared.Num.{Num}
 use Rattle.js_number.specs.Arith.{below}
 use Rattle.js_search.specs.Order.{units_cmp}
-use Rattle.eval_values.specs.Outcome.{Val, undefined, null, bool, number, text, symbol, list, Out, gave, free, cost, converts, converting, refuses}
+use Rattle.js_item.specs.Seen.{Val}
+use Rattle.js_item.specs.Contents.{undefined, null, bool, number, text, symbol, list, object}
+use Rattle.eval_values.specs.Outcome.{Out, gave, free, cost, converts, converting, refuses}
 use Rattle.eval_values.specs.Need.{nothing, reads}
 use Rattle.eval_values.specs.Conversions.{to_number, text_units, string_units}
 use Rattle.eval_values.specs.Operators.{paired, primitive}
@@ -61,8 +63,25 @@ same_as_text u _ = gave false free
 
 -- two arrays are left out of the profile
 abbrev pub same_as_list : ℕ → Val → Out Bool
+same_as_list at undefined = gave false free
+same_as_list at null = gave false free
+same_as_list at (bool b) = gave false free
+same_as_list at (number n) = gave false free
+same_as_list at (text u) = gave false free
+same_as_list at (symbol k) = gave false free
 same_as_list at (list us) = refuses at
-same_as_list at _ = gave false free
+same_as_list at (object fs) = gave false free
+
+-- and so are two objects
+abbrev pub same_as_object : ℕ → Val → Out Bool
+same_as_object at undefined = gave false free
+same_as_object at null = gave false free
+same_as_object at (bool b) = gave false free
+same_as_object at (number n) = gave false free
+same_as_object at (text u) = gave false free
+same_as_object at (symbol k) = gave false free
+same_as_object at (list us) = gave false free
+same_as_object at (object fs) = refuses at
 
 -- "IsStrictlyEqual"; values of different types are unequal
 abbrev pub same_out : ℕ → Val → Val → Out Bool
@@ -73,6 +92,7 @@ same_out at (number m) w = gave (is_number_too m w) free
 same_out at (text u) w = same_as_text u w
 same_out at (symbol k) w = gave (is_symbol_too k w) free
 same_out at (list us) w = same_as_list at w
+same_out at (object fs) w = same_as_object at w
 
 -- the order of two primitive values. Where both are strings it is that of their units. Else both become numbers: a symbol
 -- throws, whatever its side, before a string ends the script
@@ -87,7 +107,7 @@ abbrev pub order_primitives : ℕ → Val → Val → Out (Option Ordering)
 order_primitives at (text u) w = order_text at u w
 order_primitives at v w = order_numbers at v w
 
--- arrays become strings before anything else, from left to right
+-- arrays and objects become strings before anything else, from left to right
 abbrev pub order_out : ℕ → ℕ → Val → Val → Out (Option Ordering)
 order_out at limit v w =
     converting (reads (string_units v + string_units w)) (primitive limit v) (λ x.

@@ -3,21 +3,23 @@ use Rattle.std.specs.Prelude.{ℕ, ◌+◌, List, [], ◌∷◌, Result}
 use Rattle.std.proofs.Common.{Vec, Global}
 use Rattle.js_store.specs.State.{State, IsKnown, text as units_of}
 use Rattle.js_store.specs.Rows.{wide_words}
-use Rattle.eval_values.specs.declared.value.Value.{Value}
+use Rattle.js_item.specs.declared.item.Item.{Item}
 use Rattle.eval_values.specs.declared.value.Stop.{Stop}
-use Rattle.eval_values.specs.Outcome.{Val, Out}
+use Rattle.js_item.specs.Seen.{Val, seen}
+use Rattle.eval_values.specs.Outcome.{Out}
 use Rattle.eval_values.specs.Conversions.{text_units}
 use Rattle.js_texts.specs.Texts.{texts as texts_seen, AllKnown}
-use Rattle.eval_values.specs.Seen.{seen, IsFine, all_seen, AllFine}
+use Rattle.js_item.specs.Fine.{IsFine}
+use Rattle.eval_values.specs.Seen.{all_seen, AllFine}
 use Rattle.eval_values.specs.Ran.{Did}
 
-abbrev pub Does : {F R : Type 0} → (R → ℕ) → State F → State F → Result (Value R) Stop → Out Val → Type 0
+abbrev pub Does : {F R : Type 0} → (R → ℕ) → State F → State F → Result (Item R) Stop → Out Val → Type 0
 Does name a b r o = Did a b (λ s v. seen s name v) (λ s v. IsFine s name v) r o
 
 abbrev pub GivesText : {F R : Type 0} → (R → ℕ) → State F → State F → Result R Stop → Out (List ℕ) → Type 0
 GivesText name a b r o = Did a b (λ s v. units_of s (name v)) (λ s v. IsKnown s (name v)) r o
 
-abbrev pub GivesAll : {F R : Type 0} → (R → ℕ) → State F → State F → Result (Vec (Value R) Global) Stop → Out (List Val) → Type 0
+abbrev pub GivesAll : {F R : Type 0} → (R → ℕ) → State F → State F → Result (Vec (Item R) Global) Stop → Out (List Val) → Type 0
 GivesAll name a b r o = Did a b (λ s v. all_seen s name v.items) (λ s v. AllFine s name v.items) r o
 
 abbrev pub GivesTexts : {F R : Type 0} → (R → ℕ) → State F → State F → Result (Vec R Global) Stop → Out (List (List ℕ)) → Type 0

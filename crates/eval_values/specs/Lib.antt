@@ -4,7 +4,6 @@ pub mod Conversions
 pub mod Operators
 pub mod Comparing
 pub mod Arguments
-pub mod Copies
 pub mod Seen
 pub mod Ran
 pub mod Does

@@ -1,7 +1,9 @@
 -- Strings that may be longer than a string may be. The operands of a call have t units.
 use Rattle.std.specs.Prelude.{ℕ, ◌+◌, List, length, nat_le, if◌then◌else◌}
 use Rattle.eval_values.specs.declared.value.Kind.TheVariants.{RangeError}
-use Rattle.eval_values.specs.Outcome.{Val, text, Out, gives, throws, needing, throwing}
+use Rattle.js_item.specs.Seen.{Val}
+use Rattle.js_item.specs.Contents.{text}
+use Rattle.eval_values.specs.Outcome.{Out, gives, throws, needing, throwing}
 use Rattle.eval_values.specs.Need.{Row, reads}
 
 -- a string, unless it is longer than a string may be; it needs so many ids, and words by the units of the result, of which

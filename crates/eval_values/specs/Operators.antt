@@ -3,7 +3,9 @@ use Rattle.std.specs.Prelude.{ℕ, ◌+◌, List, ◌++◌, length, Option, Some
 use Rattle.js_number.specs.declared.Num.{Num}
 use Rattle.js_number.specs.Arith.{sum, difference, negative}
 use Rattle.eval_values.specs.declared.value.Kind.TheVariants.{RangeError}
-use Rattle.eval_values.specs.Outcome.{Val, undefined, null, bool, number, text, symbol, list, Converted, into, fails, threw, unsupported, Out, gave, free, bind, needing, throwing, refuses, converts}
+use Rattle.js_item.specs.Seen.{Val}
+use Rattle.js_item.specs.Contents.{undefined, null, bool, number, text, symbol, list, object}
+use Rattle.eval_values.specs.Outcome.{Converted, into, fails, threw, unsupported, Out, gave, free, bind, needing, throwing, refuses, converts}
 use Rattle.eval_values.specs.Need.{nothing, joins}
 use Rattle.eval_values.specs.Conversions.{to_string, to_number, to_boolean, is_text}
 
@@ -41,7 +43,7 @@ joined limit u w =
 abbrev pub joined_strings : ℕ → Val → Val → Out Val
 joined_strings limit v w = bind (to_string limit v) (λ u. bind (to_string limit w) (λ x. joined limit u x))
 
--- the primitive value of a value: an array becomes its string (ECMA-262, "ToPrimitive")
+-- the primitive value of a value: an array or an object becomes its string (ECMA-262, "ToPrimitive")
 abbrev pub primitive : ℕ → Val → Out Val
 primitive limit undefined = gave undefined free
 primitive limit null = gave null free
@@ -50,6 +52,7 @@ primitive limit (number n) = gave (number n) free
 primitive limit (text u) = gave (text u) free
 primitive limit (symbol k) = gave (symbol k) free
 primitive limit (list us) = bind (to_string limit (list us)) (λ u. gave (text u) free)
+primitive limit (object fs) = bind (to_string limit (object fs)) (λ u. gave (text u) free)
 
 -- the sum of two primitive values, of which a string makes both strings
 abbrev pub added : Bool → ℕ → ℕ → Val → Val → Out Val
@@ -59,7 +62,7 @@ added false at limit v w = sum_in at v w
 abbrev pub plus_primitives : ℕ → ℕ → Val → Val → Out Val
 plus_primitives at limit v w = added (is_text v || is_text w) at limit v w
 
--- arrays become strings before anything else; what ends early has needed its conversions alone
+-- arrays and objects become strings before anything else; what ends early has needed its conversions alone
 abbrev pub plus : ℕ → ℕ → Val → Val → Out Val
 plus at limit v w =
     bind (primitive limit v) (λ x. bind (primitive limit w) (λ y. plus_primitives at limit x y))

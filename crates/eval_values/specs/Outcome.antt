@@ -1,20 +1,13 @@
 -- What an evaluation comes to: a value, or what ended the script, beside a ledger of what it interned, made and needs.
-use Rattle.std.specs.Prelude.{ℕ, ◌+◌, List, [], ◌∷◌, ◌++◌, Bool, nat_le, if◌then◌else◌, pos}
-use Rattle.js_number.specs.declared.Num.{Num}
+-- The values of the profile are those of `js_item` (ECMA-262, "ECMAScript Language Types"): a string is its list of units, a
+-- symbol, which is always a registered one, its key, an array, whose elements are all strings, the list of these, and an object
+-- the list of its members.
+use Rattle.std.specs.Prelude.{ℕ, ◌+◌, List, [], ◌∷◌, ◌++◌, nat_le, if◌then◌else◌, pos}
 use Rattle.js_number.specs.declared.Num.TheVariants.{Int}
+use Rattle.js_item.specs.Contents.{undefined, null, bool, number, text, symbol, list, object}
+use Rattle.js_item.specs.Seen.{Val}
 use Rattle.eval_values.specs.declared.value.Kind.{Kind}
 use Rattle.eval_values.specs.Need.{Row, ids_in, words_in}
-
--- the language values of the profile, where a string is its list of units, a symbol, which is always a registered one, its
--- key, and an array, whose elements are all strings, the list of these (ECMA-262, "ECMAScript Language Types")
-pub data Val : Type 0 where
-  undefined : Val
-  null : Val
-  bool : Bool → Val
-  number : Num → Val
-  text : List ℕ → Val
-  symbol : List ℕ → Val
-  list : List (List ℕ) → Val
 
 -- `interned`: the lists that were interned, in order; `texts`: the strings that expressions gave;
 -- `ids`, `words`: what the evaluation needs of a store at most
@@ -67,10 +60,16 @@ abbrev pub each : {X A : Type 0} → (X → Out A) → List X → Out (List A)
 each f [] = gave [] free
 each f (x ∷ xs) = bind (f x) (λ a. mapped (λ ys. a ∷ ys) (each f xs))
 
+-- the strings that a value is or that it has as elements
 abbrev pub texts_of : Val → List (List ℕ)
+texts_of undefined = []
+texts_of null = []
+texts_of (bool b) = []
+texts_of (number n) = []
 texts_of (text u) = u ∷ []
+texts_of (symbol k) = []
 texts_of (list us) = us
-texts_of _ = []
+texts_of (object fs) = []
 
 -- a number as it is written, or a count of elements; no text spells one past the range, and no array has as many
 abbrev pub number_of : ℕ → Val

@@ -1,15 +1,18 @@
 // The arguments of a call, and their conversions. A missing argument is undefined, and further
 // ones are ignored.
-ghost use Rattle.std.specs.Prelude.{◌≡◌, ◌+◌, ◌≤◌, length, IfOk};
+ghost use Rattle.std.specs.Prelude.{◌≡◌, ◌+◌, ◌≤◌, length, IfOk, None};
 ghost use Rattle.js_number.specs.Places.{IsLawful};
 ghost use Rattle.js_store.specs.State.{Grows, IsKnown, text};
+ghost use Rattle.js_store.specs.Faults.{Step};
 ghost use Rattle.eval_values.specs.Conversions.{to_number, to_string, first_text_units};
 ghost use Rattle.eval_values.specs.Arguments.{first_of, second_of, is_undefined, end_in, second_units};
 ghost use Rattle.eval_values.specs.Stops.{converted_of};
-ghost use Rattle.eval_values.specs.Seen.{seen, IsFine, all_seen, AllFine, LawfulEnd};
+ghost use Rattle.js_item.specs.Seen.{seen};
+ghost use Rattle.js_item.specs.Fine.{IsFine};
+ghost use Rattle.eval_values.specs.Seen.{all_seen, AllFine, LawfulEnd};
 ghost use Rattle.eval_values.specs.Does.{GivesText};
 
-use crate::conversions::{number_of, to_text};
+use crate::conversions::{number_of, object_refusal, to_text};
 use crate::value::{Kind, Refusal, Stop, Value};
 use js_number::Num;
 use js_store::Strings;
@@ -87,16 +90,24 @@ fn is_missing<S: Strings>(_store: &S, value: &Value<S::Ref>) -> bool
         | Value::Number(_)
         | Value::Text(_)
         | Value::Symbol(_)
-        | Value::List(_) => false,
+        | Value::List(_)
+        | Value::Object(_) => false,
     }
 }
 
 /// ToNumber of the first argument, of a call at the byte offset `at`.
-pub fn first_number<S: Strings>(store: &S, at: u32, args: &[Value<S::Ref>]) -> Result<Num, Refusal>
-    requires { AllFine (S.state store.now) S.number args.now }
+pub fn first_number<S: Strings>(
+    store: &mut S,
+    at: u32,
+    args: &[Value<S::Ref>],
+) -> Result<Num, Refusal>
+    requires { AllFine (S.state store.old) S.number args.now }
     ensures value { converted_of result ≡ to_number at
-        (first_of (all_seen (S.state store.now) S.number args.now)) }
+        (first_of (all_seen (S.state store.old) S.number args.now)) }
     ensures lawful { IfOk result IsLawful }
+    ensures same { IfOk result (λ _. S.state store.new ≡ S.state store.old) }
+    ensures step { Step (S.state store.old) (S.state store.new) None 0 0 }
+    ensures history { (S.state store.new).history ≡ (S.state store.old).history }
 {
     match args {
         [first, ..] => number_of(store, at, first),
@@ -105,11 +116,18 @@ pub fn first_number<S: Strings>(store: &S, at: u32, args: &[Value<S::Ref>]) -> R
 }
 
 /// ToNumber of the second argument, of a call at the byte offset `at`.
-pub fn second_number<S: Strings>(store: &S, at: u32, args: &[Value<S::Ref>]) -> Result<Num, Refusal>
-    requires { AllFine (S.state store.now) S.number args.now }
+pub fn second_number<S: Strings>(
+    store: &mut S,
+    at: u32,
+    args: &[Value<S::Ref>],
+) -> Result<Num, Refusal>
+    requires { AllFine (S.state store.old) S.number args.now }
     ensures value { converted_of result ≡ to_number at
-        (second_of (all_seen (S.state store.now) S.number args.now)) }
+        (second_of (all_seen (S.state store.old) S.number args.now)) }
     ensures lawful { IfOk result IsLawful }
+    ensures same { IfOk result (λ _. S.state store.new ≡ S.state store.old) }
+    ensures step { Step (S.state store.old) (S.state store.new) None 0 0 }
+    ensures history { (S.state store.new).history ≡ (S.state store.old).history }
 {
     match args {
         [_, second, ..] => number_of(store, at, second),
@@ -119,14 +137,17 @@ pub fn second_number<S: Strings>(store: &S, at: u32, args: &[Value<S::Ref>]) -> 
 
 /// ToNumber of the second argument, of a call at the byte offset `at`, where undefined is no number.
 pub fn second_or_none<S: Strings>(
-    store: &S,
+    store: &mut S,
     at: u32,
     args: &[Value<S::Ref>],
 ) -> Result<Option<Num>, Refusal>
-    requires { AllFine (S.state store.now) S.number args.now }
+    requires { AllFine (S.state store.old) S.number args.now }
     ensures value { converted_of result ≡ end_in at
-        (second_of (all_seen (S.state store.now) S.number args.now)) }
+        (second_of (all_seen (S.state store.old) S.number args.now)) }
     ensures lawful { IfOk result LawfulEnd }
+    ensures same { IfOk result (λ _. S.state store.new ≡ S.state store.old) }
+    ensures step { Step (S.state store.old) (S.state store.new) None 0 0 }
+    ensures history { (S.state store.new).history ≡ (S.state store.old).history }
 {
     match args {
         [_, second, ..] => number_or_none(store, at, second),
@@ -135,13 +156,16 @@ pub fn second_or_none<S: Strings>(
 }
 
 fn number_or_none<S: Strings>(
-    _store: &S,
+    store: &mut S,
     at: u32,
     value: &Value<S::Ref>,
 ) -> Result<Option<Num>, Refusal>
-    requires { IsFine (S.state _store.now) S.number value.now }
-    ensures value { converted_of result ≡ end_in at (seen (S.state _store.now) S.number value.now) }
+    requires { IsFine (S.state store.old) S.number value.now }
+    ensures value { converted_of result ≡ end_in at (seen (S.state store.old) S.number value.now) }
     ensures lawful { IfOk result LawfulEnd }
+    ensures same { IfOk result (λ _. S.state store.new ≡ S.state store.old) }
+    ensures step { Step (S.state store.old) (S.state store.new) None 0 0 }
+    ensures history { (S.state store.new).history ≡ (S.state store.old).history }
 {
     match value {
         Value::Undefined => Ok(None),
@@ -151,5 +175,6 @@ fn number_or_none<S: Strings>(
         Value::Number(n) => Ok(Some(*n)),
         Value::Text(_) | Value::List(_) => Err(Refusal::Unsupported { at }),
         Value::Symbol(_) => Err(Refusal::Threw(Kind::TypeError)),
+        Value::Object(object) => Err(object_refusal(store, at, object)),
     }
 }

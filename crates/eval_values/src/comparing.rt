@@ -7,8 +7,10 @@ ghost use Rattle.js_store.specs.Rows.{wide_words};
 ghost use Rattle.js_store.specs.Faults.{Step, fault_of, NeverSlots};
 ghost use Rattle.eval_values.specs.Outcome.{gave, free};
 ghost use Rattle.eval_values.specs.Comparing;
-ghost use Rattle.eval_values.specs.Comparing.{compared, same_out, same_as_text, same_as_list, order_out, order_primitives, order_numbers, order_text, number_order};
-ghost use Rattle.eval_values.specs.Seen.{seen, IsFine, IsKey};
+ghost use Rattle.eval_values.specs.Comparing.{compared, same_out, same_as_text, same_as_list, same_as_object, order_out, order_primitives, order_numbers, order_text, number_order};
+ghost use Rattle.js_item.specs.Seen.{seen};
+ghost use Rattle.js_item.specs.Fine.{IsFine};
+ghost use Rattle.eval_values.specs.Seen.{IsKey};
 ghost use Rattle.eval_values.specs.Does.{Tells};
 
 use crate::operators::{to_primitive, two_numbers};
@@ -39,6 +41,7 @@ pub fn is_same<S: Strings>(
         Value::Text(s) => is_text_too(store, *s, right),
         Value::Symbol(s) => is_symbol_too(store, *s, right),
         Value::List(_) => is_list_too(store, at, right),
+        Value::Object(_) => is_object_too(store, at, right),
     }
 }
 
@@ -52,7 +55,8 @@ fn is_undefined_too<S: Strings>(_store: &S, value: &Value<S::Ref>) -> bool
         | Value::Number(_)
         | Value::Text(_)
         | Value::Symbol(_)
-        | Value::List(_) => false,
+        | Value::List(_)
+        | Value::Object(_) => false,
     }
 }
 
@@ -66,7 +70,8 @@ fn is_null_too<S: Strings>(_store: &S, value: &Value<S::Ref>) -> bool
         | Value::Number(_)
         | Value::Text(_)
         | Value::Symbol(_)
-        | Value::List(_) => false,
+        | Value::List(_)
+        | Value::Object(_) => false,
     }
 }
 
@@ -80,7 +85,8 @@ fn is_bool_too<S: Strings>(_store: &S, b: bool, value: &Value<S::Ref>) -> bool
         | Value::Number(_)
         | Value::Text(_)
         | Value::Symbol(_)
-        | Value::List(_) => false,
+        | Value::List(_)
+        | Value::Object(_) => false,
     }
 }
 
@@ -102,7 +108,8 @@ fn is_number_too<S: Strings>(_store: &S, n: Num, value: &Value<S::Ref>) -> bool
         | Value::Bool(_)
         | Value::Text(_)
         | Value::Symbol(_)
-        | Value::List(_) => false,
+        | Value::List(_)
+        | Value::Object(_) => false,
     }
 }
 
@@ -129,7 +136,8 @@ fn is_text_too<S: Strings>(store: &mut S, s: S::Ref, value: &Value<S::Ref>) -> R
         | Value::Bool(_)
         | Value::Number(_)
         | Value::Symbol(_)
-        | Value::List(_) => Ok(false),
+        | Value::List(_)
+        | Value::Object(_) => Ok(false),
     }
 }
 
@@ -153,7 +161,8 @@ fn is_symbol_too<S: Strings>(
         | Value::Bool(_)
         | Value::Number(_)
         | Value::Text(_)
-        | Value::List(_) => Ok(false),
+        | Value::List(_)
+        | Value::Object(_) => Ok(false),
     }
 }
 
@@ -168,7 +177,24 @@ fn is_list_too<S: Strings>(_store: &S, at: u32, value: &Value<S::Ref>) -> Result
         | Value::Bool(_)
         | Value::Number(_)
         | Value::Text(_)
-        | Value::Symbol(_) => Ok(false),
+        | Value::Symbol(_)
+        | Value::Object(_) => Ok(false),
+    }
+}
+
+fn is_object_too<S: Strings>(_store: &S, at: u32, value: &Value<S::Ref>) -> Result<bool, Stop>
+    ensures { Tells (S.state _store.now) (S.state _store.now) result
+        (same_as_object at (seen (S.state _store.now) S.number value.now)) }
+{
+    match value {
+        Value::Object(_) => Err(Stop::Unsupported { at }),
+        Value::Undefined
+        | Value::Null
+        | Value::Bool(_)
+        | Value::Number(_)
+        | Value::Text(_)
+        | Value::Symbol(_)
+        | Value::List(_) => Ok(false),
     }
 }
 
@@ -216,8 +242,8 @@ fn order_of(a: Num, b: Num) -> Option<Ordering>
     }
 }
 
-/// The order of two values, of which arrays become strings first; none where one is NaN. Two strings
-/// are settled.
+/// The order of two values, of which arrays and objects become strings first; none where one is NaN.
+/// Two strings are settled.
 pub fn compare<S: Strings>(
     alloc: Global,
     store: &mut S,
@@ -256,7 +282,8 @@ fn compare_primitives<S: Strings>(
         | Value::Bool(_)
         | Value::Number(_)
         | Value::Symbol(_)
-        | Value::List(_) => compare_numbers(store, at, left, right),
+        | Value::List(_)
+        | Value::Object(_) => compare_numbers(store, at, left, right),
     }
 }
 
@@ -281,7 +308,8 @@ fn compare_text<S: Strings>(
         | Value::Bool(_)
         | Value::Number(_)
         | Value::Symbol(_)
-        | Value::List(_) => compare_numbers(store, at, &Value::Text(s), right),
+        | Value::List(_)
+        | Value::Object(_) => compare_numbers(store, at, &Value::Text(s), right),
     }
 }
 
@@ -300,16 +328,17 @@ fn compare_texts<S: Strings>(store: &mut S, a: S::Ref, b: S::Ref) -> Result<Opti
 
 // Both sides as numbers, where a symbol on the right goes before a string on the left.
 fn compare_numbers<S: Strings>(
-    store: &S,
+    store: &mut S,
     at: u32,
     left: &Value<S::Ref>,
     right: &Value<S::Ref>,
 ) -> Result<Option<Ordering>, Stop>
-    requires left { IsFine (S.state store.now) S.number left.now }
-    requires right { IsFine (S.state store.now) S.number right.now }
-    ensures { Tells (S.state store.now) (S.state store.now) result
-        (order_numbers at (seen (S.state store.now) S.number left.now)
-        (seen (S.state store.now) S.number right.now)) }
+    requires left { IsFine (S.state store.old) S.number left.now }
+    requires right { IsFine (S.state store.old) S.number right.now }
+    ensures grows { Grows (S.state store.old) (S.state store.new) }
+    ensures did { Tells (S.state store.old) (S.state store.new) result
+        (order_numbers at (seen (S.state store.old) S.number left.now)
+        (seen (S.state store.old) S.number right.now)) }
 {
     let (m, n) = two_numbers(store, at, left, right)?;
     Ok(order_of(m, n))

@@ -1,5 +1,5 @@
 // Conversions of values (ECMA-262, "Type Conversion").
-ghost use Rattle.std.specs.Prelude.{◌≡◌, ◌+◌, ◌≤◌, [], length, IfOk};
+ghost use Rattle.std.specs.Prelude.{◌≡◌, ◌+◌, ◌≤◌, [], length, IfOk, None};
 ghost use Rattle.js_number.specs.Places.{IsLawful};
 ghost use Rattle.js_number.specs.Arith.{text_of};
 ghost use Rattle.js_store.specs.State.{Has, Grows, IsKnown, IsSettled, text};
@@ -7,15 +7,19 @@ ghost use Rattle.js_store.specs.Faults.{Step, NeverSlots};
 ghost use Rattle.js_texts.specs.Answers.{ThrowsLong, full_of};
 ghost use Rattle.js_texts.specs.Use.{made_words};
 ghost use Rattle.js_store.specs.Rows.{wide_words, settle_words};
-ghost use Rattle.eval_values.specs.Outcome.{each};
-ghost use Rattle.eval_values.specs.Conversions.{spelled, to_string, is_text, to_number, to_boolean, number_truth, list_string, comma_joined, text_units};
+ghost use Rattle.js_item.specs.Contents;
+ghost use Rattle.eval_values.specs.Outcome.{each, fails};
+ghost use Rattle.eval_values.specs.Conversions.{spelled, to_string, is_text, to_number, to_boolean, number_truth, list_string, object_string, own_to_string, comma_joined, text_units};
 ghost use Rattle.js_texts.specs.Texts.{texts as texts_seen, AllKnown, settle_most};
-ghost use Rattle.eval_values.specs.Stops.{converted_of};
-ghost use Rattle.eval_values.specs.Seen.{seen, IsFine, all_seen, AllFine};
+ghost use Rattle.eval_values.specs.Stops.{converted_of, ending_of};
+ghost use Rattle.js_item.specs.Seen.{seen, says, fields_mapped};
+ghost use Rattle.js_item.specs.Fine.{IsFine, FineFields, strings_of};
+ghost use Rattle.eval_values.specs.Seen.{all_seen, AllFine};
 ghost use Rattle.eval_values.specs.Does.{GivesText, GivesTexts, string_words};
 
 use crate::lists::push;
 use crate::value::{Kind, Refusal, Stop, Value};
+use js_item::Object;
 use js_number::{Num, append_text};
 use js_store::{StoreFault, Strings};
 use js_texts::MethodFault;
@@ -50,6 +54,7 @@ pub fn to_text<S: Strings>(
         Value::Text(s) => Ok(*s),
         Value::Symbol(_) => Err(Stop::Threw(Kind::TypeError)),
         Value::List(list) => list_text(alloc, store, list),
+        Value::Object(object) => object_text(alloc, store, object),
     }
 }
 
@@ -66,6 +71,38 @@ fn list_text<S: Strings>(alloc: Global, store: &mut S, list: &[S::Ref]) -> Resul
         (list_string (S.state store.old).limit (texts_seen (S.state store.old) S.number list.now)) }
 {
     Ok(joined_by_commas(alloc, store, list)?)
+}
+
+// ToString of an object, whose own `toString` would be no function.
+fn object_text<S: Strings>(
+    alloc: Global,
+    store: &mut S,
+    object: &Object<S::Ref>,
+) -> Result<S::Ref, Stop>
+    requires { FineFields (strings_of (S.state store.old)) S.number object.now }
+    ensures grows { Grows (S.state store.old) (S.state store.new) }
+    ensures known { IfOk result (λ r. IsKnown (S.state store.new) (S.number r)) }
+    ensures short { IfOk result (λ r. length (text (S.state store.new) (S.number r)) ≤ 40) }
+    ensures settled { IfOk result (λ r. IsSettled (S.state store.new) (S.number r)) }
+    ensures did { GivesText S.number (S.state store.old) (S.state store.new) result
+        (object_string (fields_mapped (says (S.state store.old) S.number) object.now)) }
+{
+    if has_to_string(store, object) {
+        Err(Stop::Threw(Kind::TypeError))
+    } else {
+        word(alloc, store, "[object Object]")
+    }
+}
+
+// Whether an object has an own property `toString`.
+fn has_to_string<S: Strings>(store: &mut S, object: &Object<S::Ref>) -> bool
+    requires { FineFields (strings_of (S.state store.old)) S.number object.now }
+    ensures value { result ≡ own_to_string
+        (fields_mapped (says (S.state store.old) S.number) object.now) }
+    ensures step { Step (S.state store.old) (S.state store.new) None 0 0 }
+    ensures history { (S.state store.new).history ≡ (S.state store.old).history }
+{
+    object.has(store, &[0x74, 0x6F, 0x53, 0x74, 0x72, 0x69, 0x6E, 0x67])
 }
 
 /// The strings joined by commas.
@@ -132,22 +169,25 @@ fn spell<S: Strings>(store: &mut S, units: &[u16]) -> Result<S::Ref, Stop>
     Ok(store.from_units(units)?)
 }
 
-/// Whether a value is a string or an array, whose primitive value is one.
+/// Whether a value is a string, or an array or an object, whose primitive value is one.
 pub fn is_string<S: Strings>(_store: &S, value: &Value<S::Ref>) -> bool
     ensures { result ≡ is_text (seen (S.state _store.now) S.number value.now) }
 {
     match value {
-        Value::Text(_) | Value::List(_) => true,
+        Value::Text(_) | Value::List(_) | Value::Object(_) => true,
         Value::Undefined | Value::Null | Value::Bool(_) | Value::Number(_) | Value::Symbol(_) =>
             false,
     }
 }
 
-/// ToNumber of a value, in an operation at the byte offset `at`.
-pub fn number_of<S: Strings>(_store: &S, at: u32, value: &Value<S::Ref>) -> Result<Num, Refusal>
-    requires { IsFine (S.state _store.now) S.number value.now }
-    ensures value { converted_of result ≡ to_number at (seen (S.state _store.now) S.number value.now) }
+/// ToNumber of a value, in an operation at the byte offset `at`. Of an object it reads the keys.
+pub fn number_of<S: Strings>(store: &mut S, at: u32, value: &Value<S::Ref>) -> Result<Num, Refusal>
+    requires { IsFine (S.state store.old) S.number value.now }
+    ensures value { converted_of result ≡ to_number at (seen (S.state store.old) S.number value.now) }
     ensures lawful { IfOk result IsLawful }
+    ensures same { IfOk result (λ _. S.state store.new ≡ S.state store.old) }
+    ensures step { Step (S.state store.old) (S.state store.new) None 0 0 }
+    ensures history { (S.state store.new).history ≡ (S.state store.old).history }
 {
     match value {
         Value::Undefined => Ok(Num::NaN),
@@ -157,6 +197,22 @@ pub fn number_of<S: Strings>(_store: &S, at: u32, value: &Value<S::Ref>) -> Resu
         Value::Number(n) => Ok(*n),
         Value::Text(_) | Value::List(_) => Err(Refusal::Unsupported { at }),
         Value::Symbol(_) => Err(Refusal::Threw(Kind::TypeError)),
+        Value::Object(object) => Err(object_refusal(store, at, object)),
+    }
+}
+
+// Why an object becomes no number.
+pub(crate) fn object_refusal<S: Strings>(store: &mut S, at: u32, object: &Object<S::Ref>) -> Refusal
+    requires { FineFields (strings_of (S.state store.old)) S.number object.now }
+    ensures value { fails (ending_of result) ≡ to_number at
+        (Contents.object (fields_mapped (says (S.state store.old) S.number) object.now)) }
+    ensures step { Step (S.state store.old) (S.state store.new) None 0 0 }
+    ensures history { (S.state store.new).history ≡ (S.state store.old).history }
+{
+    if has_to_string(store, object) {
+        Refusal::Threw(Kind::TypeError)
+    } else {
+        Refusal::Unsupported { at }
     }
 }
 
@@ -172,7 +228,7 @@ pub fn truth<S: Strings>(store: &mut S, value: &Value<S::Ref>) -> bool
         Value::Bool(b) => *b,
         Value::Number(n) => is_nonzero(*n),
         Value::Text(s) => store.len(*s) != 0,
-        Value::Symbol(_) | Value::List(_) => true,
+        Value::Symbol(_) | Value::List(_) | Value::Object(_) => true,
     }
 }
 

@@ -1,13 +1,15 @@
 // Operators on values (ECMA-262, "Additive Operators" and "Unary Operators").
-ghost use Rattle.std.specs.Prelude.{◌≡◌, ◌≤◌, ◌+◌, ◌||◌, length, IfOk, IfSome};
+ghost use Rattle.std.specs.Prelude.{◌≡◌, ◌≤◌, ◌+◌, ◌||◌, length, IfOk, IfSome, None};
 ghost use Rattle.js_number.specs.Places.{IsLawful};
 ghost use Rattle.js_store.specs.State.{Grows, IsKnown, text};
-ghost use Rattle.eval_values.specs.Outcome;
+ghost use Rattle.js_store.specs.Faults.{Step};
+ghost use Rattle.js_item.specs.Contents;
 ghost use Rattle.eval_values.specs.Outcome.{gave, bind, free};
 ghost use Rattle.eval_values.specs.Conversions.{is_text, to_number, to_string};
 ghost use Rattle.eval_values.specs.Operators.{counted, sum_in, paired, difference_in, negative_in, joined, joined_strings, primitive, plus as sum_out, plus_primitives as primitive_sum, unary_out};
 ghost use Rattle.eval_values.specs.Stops.{converted_of};
-ghost use Rattle.eval_values.specs.Seen.{seen, IsFine};
+ghost use Rattle.js_item.specs.Seen.{seen};
+ghost use Rattle.js_item.specs.Fine.{IsFine};
 ghost use Rattle.eval_values.specs.Does.{Does};
 
 use crate::conversions::{is_string, number_of, to_text, truth};
@@ -16,7 +18,7 @@ use js_number::Num;
 use js_store::{ConcatFault, Strings};
 use std::alloc::Global;
 
-/// `+` at the byte offset `at`, before which arrays become strings ("Addition Operator").
+/// `+` at the byte offset `at`, before which arrays and objects become strings ("Addition Operator").
 pub fn plus<S: Strings>(
     alloc: Global,
     store: &mut S,
@@ -37,7 +39,7 @@ pub fn plus<S: Strings>(
     plus_primitives(alloc, store, at, &first, &second)
 }
 
-/// The primitive value of a value, which is no array.
+/// The primitive value of a value, which is no array and no object.
 pub fn to_primitive<S: Strings>(
     alloc: Global,
     store: &mut S,
@@ -56,7 +58,7 @@ pub fn to_primitive<S: Strings>(
         Value::Number(n) => Ok(Value::Number(*n)),
         Value::Text(s) => Ok(Value::Text(*s)),
         Value::Symbol(s) => Ok(Value::Symbol(*s)),
-        Value::List(_) => text_value(alloc, store, value),
+        Value::List(_) | Value::Object(_) => text_value(alloc, store, value),
     }
 }
 
@@ -71,7 +73,7 @@ fn text_value<S: Strings>(
     ensures fine { IfOk result (λ v. IsFine (S.state store.new) S.number v) }
     ensures did { Does S.number (S.state store.old) (S.state store.new) result
         (bind (to_string (S.state store.old).limit (seen (S.state store.old) S.number value.now))
-        (λ u. gave (Outcome.text u) free)) }
+        (λ u. gave (Contents.text u) free)) }
 {
     let text = to_text(alloc, store, value)?;
     Ok(Value::Text(text))
@@ -120,10 +122,12 @@ pub fn apply_unary<S: Strings>(
     }
 }
 
-fn negate<S: Strings>(store: &S, at: u32, value: &Value<S::Ref>) -> Result<Value<S::Ref>, Stop>
-    requires { IsFine (S.state store.now) S.number value.now }
-    ensures { Does S.number (S.state store.now) (S.state store.now) result
-        (negative_in at (seen (S.state store.now) S.number value.now)) }
+fn negate<S: Strings>(store: &mut S, at: u32, value: &Value<S::Ref>) -> Result<Value<S::Ref>, Stop>
+    requires { IsFine (S.state store.old) S.number value.now }
+    ensures grows { Grows (S.state store.old) (S.state store.new) }
+    ensures fine { IfOk result (λ v. IsFine (S.state store.new) S.number v) }
+    ensures did { Does S.number (S.state store.old) (S.state store.new) result
+        (negative_in at (seen (S.state store.old) S.number value.now)) }
 {
     let n = number_of(store, at, value)?;
     Ok(Value::Number(n.neg()))
@@ -148,16 +152,18 @@ fn count<S: Strings>(_store: &S, at: u32, n: Option<Num>) -> Result<Value<S::Ref
 }
 
 fn add<S: Strings>(
-    store: &S,
+    store: &mut S,
     at: u32,
     left: &Value<S::Ref>,
     right: &Value<S::Ref>,
 ) -> Result<Value<S::Ref>, Stop>
-    requires left { IsFine (S.state store.now) S.number left.now }
-    requires right { IsFine (S.state store.now) S.number right.now }
-    ensures { Does S.number (S.state store.now) (S.state store.now) result
-        (sum_in at (seen (S.state store.now) S.number left.now)
-        (seen (S.state store.now) S.number right.now)) }
+    requires left { IsFine (S.state store.old) S.number left.now }
+    requires right { IsFine (S.state store.old) S.number right.now }
+    ensures grows { Grows (S.state store.old) (S.state store.new) }
+    ensures fine { IfOk result (λ v. IsFine (S.state store.new) S.number v) }
+    ensures did { Does S.number (S.state store.old) (S.state store.new) result
+        (sum_in at (seen (S.state store.old) S.number left.now)
+        (seen (S.state store.old) S.number right.now)) }
 {
     let m = number_of(store, at, left)?;
     let n = number_of(store, at, right)?;
@@ -166,16 +172,18 @@ fn add<S: Strings>(
 
 /// `-` at the byte offset `at` ("Subtraction Operator").
 pub fn subtract<S: Strings>(
-    store: &S,
+    store: &mut S,
     at: u32,
     left: &Value<S::Ref>,
     right: &Value<S::Ref>,
 ) -> Result<Value<S::Ref>, Stop>
-    requires left { IsFine (S.state store.now) S.number left.now }
-    requires right { IsFine (S.state store.now) S.number right.now }
-    ensures { Does S.number (S.state store.now) (S.state store.now) result
-        (difference_in at (seen (S.state store.now) S.number left.now)
-        (seen (S.state store.now) S.number right.now)) }
+    requires left { IsFine (S.state store.old) S.number left.now }
+    requires right { IsFine (S.state store.old) S.number right.now }
+    ensures grows { Grows (S.state store.old) (S.state store.new) }
+    ensures fine { IfOk result (λ v. IsFine (S.state store.new) S.number v) }
+    ensures did { Does S.number (S.state store.old) (S.state store.new) result
+        (difference_in at (seen (S.state store.old) S.number left.now)
+        (seen (S.state store.old) S.number right.now)) }
 {
     let (m, n) = two_numbers(store, at, left, right)?;
     count(store, at, m.sub(n))
@@ -183,16 +191,19 @@ pub fn subtract<S: Strings>(
 
 // ToNumber of both sides. One that throws goes before one that is left out, whatever its side.
 pub fn two_numbers<S: Strings>(
-    store: &S,
+    store: &mut S,
     at: u32,
     left: &Value<S::Ref>,
     right: &Value<S::Ref>,
 ) -> Result<(Num, Num), Refusal>
-    requires left { IsFine (S.state store.now) S.number left.now }
-    requires right { IsFine (S.state store.now) S.number right.now }
-    ensures value { converted_of result ≡ paired (to_number at (seen (S.state store.now) S.number left.now))
-        (to_number at (seen (S.state store.now) S.number right.now)) }
+    requires left { IsFine (S.state store.old) S.number left.now }
+    requires right { IsFine (S.state store.old) S.number right.now }
+    ensures value { converted_of result ≡ paired (to_number at (seen (S.state store.old) S.number left.now))
+        (to_number at (seen (S.state store.old) S.number right.now)) }
     ensures lawful { IfOk result (λ p. IsLawful p.0 × IsLawful p.1) }
+    ensures same { IfOk result (λ _. S.state store.new ≡ S.state store.old) }
+    ensures step { Step (S.state store.old) (S.state store.new) None 0 0 }
+    ensures history { (S.state store.new).history ≡ (S.state store.old).history }
 {
     match number_of(store, at, left) {
         Ok(m) => match number_of(store, at, right) {

@@ -1,13 +1,11 @@
 // Values, and what ends an evaluation.
-ghost use Rattle.std.specs.Prelude.{◌≡◌, IfOk};
-ghost use Rattle.eval_values.specs.Copies.{content};
 ghost use Rattle.eval_values.specs.Seen.{IsWritten};
 
+use js_item::Item;
 use js_number::Num;
 use js_store::StoreFault;
 use js_texts::MethodFault;
 use js_units::NoMemory;
-use std::alloc::Global;
 
 /// A kind of error that a script throws (ECMA-262, "Native Error Types Used in This Standard").
 #[derive(Clone, Copy, Debug, PartialEq, Eq)]
@@ -21,33 +19,7 @@ pub enum Kind {
 /// A value (ECMA-262, "ECMAScript Language Types"), where strings are references into a store. A
 /// symbol is the interned string of its key. An array is the list of its elements, which are all
 /// strings.
-#[derive(Debug, Drop)]
-pub enum Value<R> {
-    Undefined,
-    Null,
-    Bool(bool),
-    Number(Num),
-    Text(R),
-    Symbol(R),
-    List(Vec<R>),
-}
-
-impl<R: Copy> Value<R> {
-    /// The same value once more.
-    pub fn copy(&self, alloc: Global) -> Result<Value<R>, NoMemory>
-        ensures { IfOk result (λ value. content value ≡ content self.now) }
-    {
-        Ok(match self {
-            Value::Undefined => Value::Undefined,
-            Value::Null => Value::Null,
-            Value::Bool(b) => Value::Bool(*b),
-            Value::Number(n) => Value::Number(*n),
-            Value::Text(s) => Value::Text(*s),
-            Value::Symbol(s) => Value::Symbol(*s),
-            Value::List(list) => Value::List(copied(alloc, list)?),
-        })
-    }
-}
+pub type Value<R> = Item<R>;
 
 /// The value of a number as a script writes it, or of a count of elements.
 pub fn number_value<R>(value: u64) -> Value<R>
@@ -57,16 +29,6 @@ pub fn number_value<R>(value: u64) -> Value<R>
         Value::Number(Num::Int(value as i64))
     } else {
         Value::Undefined
-    }
-}
-
-fn copied<R: Copy>(alloc: Global, list: &[R]) -> Result<Vec<R>, NoMemory>
-    ensures { IfOk result (λ copy. copy.items ≡ list.now) }
-{
-    let mut copy = Vec::new(alloc);
-    match copy.extend_from_slice(list) {
-        Ok(()) => Ok(copy),
-        Err(_) => Err(NoMemory),
     }
 }
 

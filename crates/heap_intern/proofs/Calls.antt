@@ -19,7 +19,6 @@ use Rattle.std.specs.FinMap.{get}
 use Rattle.heap_string_table.specs.declared.faults.TableFull.{TableFull}
 use Rattle.heap_string_table.specs.declared.faults.TableFull.TheVariants as table
 use Rattle.heap_string_table.specs.Answers.{HasLeft, IsPlan, IsRefused, Plan}
-use Rattle.heap_string_table.specs.Answers as slots
 use Rattle.heap_string_table.specs.Goes.{Goes}
 use Rattle.js_header.specs.declared.form.Form.{Form}
 use Rattle.heap_rule.specs.Forms.{IsLater}
@@ -37,7 +36,8 @@ use Rattle.heap_text.specs.Texts.{IsSpared, Told, Uses}
 use Rattle.js_units.specs.Lanes as texts
 use Rattle.heap_intern.specs.Counted.{FoundFree}
 use Rattle.heap_intern.specs.Faults.{fault_in_join, fault_in_table, fault_in_text}
-use Rattle.heap_intern.specs.Sessions.{is_settled, state_by}
+use Rattle.heap_intern.specs.Sessions.{state_by}
+use Rattle.heap_intern.specs.Settled.{is_settled}
 use Rattle.heap_intern.proofs.Rows.{cut_ids_one, cut_words_copy, few_words, join_ids_one, join_words_copy, wide_same, words_most}
 use Rattle.heap_intern.proofs.States.{grows_continues, grows_goes, step_most, step_reads, test_settled}
 

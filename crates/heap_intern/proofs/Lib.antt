@@ -3,4 +3,5 @@ pub mod Rows
 pub mod Calls
 pub mod Shares
 pub mod Lately
+pub mod OneUnit
 pub mod Whole

@@ -26,7 +26,8 @@ use Rattle.heap_table.specs.Known.{KeepsKnown}
 use Rattle.heap_read.specs.Reads.{Continues, Reads}
 use Rattle.heap_string_table.specs.Goes.{Goes, Looks}
 use Rattle.heap_string_table.proofs.Visiting.{shut_kept}
-use Rattle.heap_intern.specs.Sessions.{is_settled, state_by}
+use Rattle.heap_intern.specs.Sessions.{state_by}
+use Rattle.heap_intern.specs.Settled.{is_settled}
 
 -- the test of a settled string
 test_of : (f : Form) → (IsCons f → ⊥) → IsTrue (is_settled (Some f))

@@ -1,3 +1,4 @@
+pub mod Settled
 pub mod Sessions
 pub mod Faults
 pub mod Counted
@@ -6,3 +7,4 @@ pub mod Whole
 pub mod Ranges
 pub mod Sound
 pub mod Lately
+pub mod Singles

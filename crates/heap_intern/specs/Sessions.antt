@@ -1,9 +1,7 @@
 -- A session as a store of strings: what its agent knows and has, by the agent's view.
-use Rattle.std.specs.Prelude.{ℕ, Bool, true, false, Option, Some, None}
+use Rattle.std.specs.Prelude.{ℕ, true}
 use Rattle.std.specs.FinMap.{get}
 use Rattle.atomic_table.specs.Seated.{TableId}
-use Rattle.js_header.specs.declared.form.Form.{Form}
-use Rattle.js_header.specs.declared.form.Form.TheVariants.{Unborn, Flat, Cons, Sliced, Thin}
 use Rattle.js_store.specs.Limits.{limit_units}
 use Rattle.js_store.specs.State.{State}
 use Rattle.heap_rule.specs.declared.view.View.{View}
@@ -12,6 +10,7 @@ use Rattle.heap_rule.specs.SlotTests.{shut}
 use Rattle.heap_rule.specs.Views.{history}
 use Rattle.heap_table.specs.declared.heap.Heap.{Heap}
 use Rattle.heap_table.specs.Agents.{view_of}
+use Rattle.heap_intern.specs.Settled.{is_settled}
 use Rattle.heap_intern.specs.declared.session.Session.{Session}
 
 -- what every call of a store keeps of a session: the table of its heap, its share, the heap's number of agents, and the history at its split
@@ -20,15 +19,6 @@ pub record SessionFrame : Type 0 where
   pub share : ℕ
   pub agents : ℕ
   pub seen : Calls
-
--- the form was seen, and is no Cons
-abbrev pub is_settled : Option Form → Bool
-is_settled None = false
-is_settled (Some Unborn) = true
-is_settled (Some (Flat wide start fixed)) = true
-is_settled (Some (Cons wide left right)) = false
-is_settled (Some (Sliced wide parent offset)) = true
-is_settled (Some (Thin target)) = true
 
 -- A list is shut where every slot is known to be used by a string that differs.
 abbrev pub state_by : View → ℕ → TableId → State SessionFrame

@@ -7,11 +7,13 @@
 #![tactic(auto)]
 
 mod counted;
+mod cutting;
 mod faults;
 mod kept;
 mod laws;
 mod session;
 mod sharing;
+mod singles;
 mod strings;
 mod words;
 

@@ -3,8 +3,10 @@ ghost use Rattle.std.specs.Prelude.{◌≡◌};
 ghost use Rattle.js_store.specs.Limits.{limit_units};
 ghost use Rattle.heap_table.specs.Agents.{view_of};
 ghost use Rattle.heap_intern.specs.Lately.{IsKept};
+ghost use Rattle.heap_intern.specs.Singles.{AreSingles};
 
 use crate::kept::Kept;
+use crate::singles::Singles;
 use heap_text::Text;
 use js_store::Limit;
 
@@ -12,14 +14,17 @@ use js_store::Limit;
 /// one thread at a time and can be moved to another.
 ///
 /// It keeps a word of each of the two strings that it read last, so that a run of reads
-/// costs few loads.
+/// costs few loads, and the strings of single units below 256 that it made, so that such a string
+/// takes an id and a content word once.
 #[derive(Drop)]
 pub struct Session<'h> {
     pub(crate) text: Text<'h>,
     pub(crate) limit: Limit,
     pub(crate) last: Kept,
     pub(crate) older: Kept,
+    pub(crate) singles: Singles,
     ghost one_limit: { text.limit ≡ limit_units limit },
     ghost last_kept: { IsKept (view_of text.reader.agent) last },
     ghost older_kept: { IsKept (view_of text.reader.agent) older },
+    ghost singles_kept: { AreSingles (view_of text.reader.agent) singles.ids },
 }

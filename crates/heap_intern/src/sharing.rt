@@ -11,6 +11,7 @@ ghost use Rattle.heap_intern.specs.Shares.{BelongsAs, IsJoined, IsWhole, MayJoin
 
 use crate::kept::Kept;
 use crate::session::Session;
+use crate::singles::Singles;
 use heap_read::Reader;
 use heap_string_table::count_interned;
 use heap_table::{Agent, Heap};
@@ -29,6 +30,7 @@ impl<'h> Session<'h> {
             limit,
             last: Kept::none(),
             older: Kept::none(),
+            singles: Singles::none(),
         }
     }
 
@@ -51,6 +53,7 @@ impl<'h> Session<'h> {
             limit: self.limit,
             last: Kept::none(),
             older: Kept::none(),
+            singles: Singles::none(),
         }
     }
 

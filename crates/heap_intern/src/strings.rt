@@ -28,10 +28,10 @@ impl<'h> Strings for Session<'h> {
     ghost state = { λ s. state_in s };
 
     fn from_units(&mut self, units: &[u16]) -> Result<JsStr, StoreFault> {
-        match self.text.make_flat(units) {
-            Ok(s) => Ok(s),
-            Err(full) => Err(text_fault(full)),
+        if units.len() == 1 {
+            return self.one_of(units);
         }
+        self.flat_of(units)
     }
 
     fn len(&mut self, s: JsStr) -> u32 {
@@ -50,6 +50,9 @@ impl<'h> Strings for Session<'h> {
             return unit;
         }
         if let Some(unit) = self.older.get(s, i) {
+            return unit;
+        }
+        if let Some(unit) = self.singles.unit_of(s) {
             return unit;
         }
         self.unit_by_loads(s, i)
@@ -73,10 +76,10 @@ impl<'h> Strings for Session<'h> {
     }
 
     fn slice(&mut self, s: JsStr, from: u32, to: u32) -> Result<JsStr, StoreFault> {
-        match self.text.slice(s, from, to) {
-            Ok(part) => Ok(part),
-            Err(full) => Err(text_fault(full)),
+        if to - from == 1 {
+            return self.one_part(s, from, to);
         }
+        self.part_of(s, from, to)
     }
 
     /// As of every store. The header of `s` then forwards to the answer, unless it is a fixed Flat,

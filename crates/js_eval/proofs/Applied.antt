@@ -5,11 +5,13 @@ use Rattle.js_number.specs.Arith.{sum, difference, below}
 use Rattle.js_number.specs.Places.{IsLawful}
 use Rattle.eval_tree.specs.declared.tree.Op.TheVariants.{Plus, Minus, Less}
 use Rattle.js_store.specs.State.{State}
-use Rattle.eval_values.specs.declared.value.Value.{Value}
-use Rattle.eval_values.specs.declared.value.Value.TheVariants as value
+use Rattle.js_item.specs.declared.item.Item.{Item}
+use Rattle.js_item.specs.declared.item.Item.TheVariants as value
 use Rattle.eval_values.specs.declared.value.Stop.{Stop}
-use Rattle.eval_values.specs.Outcome.{Out, gave, free, bool, number}
-use Rattle.eval_values.specs.Seen.{seen, IsFine}
+use Rattle.eval_values.specs.Outcome.{Out, gave, free}
+use Rattle.js_item.specs.Contents.{bool, number}
+use Rattle.js_item.specs.Seen.{seen}
+use Rattle.js_item.specs.Fine.{IsFine}
 use Rattle.eval_values.specs.Does.{Does, Tells}
 use Rattle.eval_values.specs.Comparing.{order_by, is_less}
 use Rattle.eval_values.proofs.Compose.{did_bind, did_stop, ran_free}
@@ -18,12 +20,12 @@ use Rattle.js_eval.specs.Expression.{truth_of, operated}
 module _ {F R A : Type 0} (name : R → ℕ) (a b : State F) (holds : A → Bool) (o : Out A) where
   pub truth_does : (x : A) (t : Bool) → t ≡ holds x → Tells a b (Ok x) o → Does name a b (Ok (value.Bool t)) (truth_of holds o)
   truth_does x t e d =
-      did_bind {W = Value R} a b b (λ s v. v) (λ s v. Unit {0}) (λ s v. seen s name v) (λ s v. IsFine s name v) x (Ok (value.Bool t)) o (λ y. gave (bool (holds y)) free) d
+      did_bind {W = Item R} a b b (λ s v. v) (λ s v. Unit {0}) (λ s v. seen s name v) (λ s v. IsFine s name v) x (Ok (value.Bool t)) o (λ y. gave (bool (holds y)) free) d
       (record { is = cc e; good = tt; ran = ran_free b })
 
   pub truth_stops : (n : Stop) → Tells a b (Err n) o → Does name a b (Err n) (truth_of holds o)
   truth_stops n d =
-      did_stop {V = A} {W = Value R} a b (λ s v. v) (λ s v. Unit {0}) (λ s v. seen s name v) (λ s v. IsFine s name v) n o (λ y. gave (bool (holds y)) free) d
+      did_stop {V = A} {W = Item R} a b (λ s v. v) (λ s v. Unit {0}) (λ s v. seen s name v) (λ s v. IsFine s name v) n o (λ y. gave (bool (holds y)) free) d
 
 -- the short way of two numbers
 less_of : (p q : Option Bool) (b : Bool) → p ≡ Some b → is_less (order_by p q) ≡ b

@@ -3,10 +3,11 @@ use Rattle.std.proofs.Common.{◌≡◌, ℕ, zero, suc, ◌<◌, length, slice_
 use Rattle.js_store.specs.State.{State, Has, text as units_of}
 use Rattle.js_store.proofs.Laws.{grows_refl, step_refl, known_has}
 use Rattle.js_texts.specs.Texts.{AllKnown, texts as texts_seen}
-use Rattle.eval_values.specs.declared.value.Value.{Value}
-use Rattle.eval_values.specs.declared.value.Value.TheVariants.{Undefined, Null, Bool, Number, Text, Symbol, List as Listed}
+use Rattle.js_item.specs.declared.item.Item.{Item}
+use Rattle.js_item.specs.declared.item.Item.TheVariants.{Undefined, Null, Bool, Number, Text, Symbol, List as Listed, Object}
 use Rattle.eval_values.specs.Outcome.{texts_of}
-use Rattle.eval_values.specs.Seen.{seen, IsFine}
+use Rattle.js_item.specs.Seen.{seen}
+use Rattle.js_item.specs.Fine.{IsFine}
 use Rattle.eval_values.specs.Ran.{Ran}
 use Rattle.eval_values.proofs.Compose.{ran_free, ran_of_text}
 
@@ -27,7 +28,7 @@ module _ {F R : Type 0} (s : State F) (name : R → ℕ) where
   }
 
   -- reading a value gives its strings, which are known, and needs nothing
-  pub ran_seen : (v : Value R) → IsFine s name v → Ran s s (record { interned = []; texts = texts_of (seen s name v); ids = 0; words = 0 })
+  pub ran_seen : (v : Item R) → IsFine s name v → Ran s s (record { interned = []; texts = texts_of (seen s name v); ids = 0; words = 0 })
   ran_seen Undefined h = ran_free s
   ran_seen Null h = ran_free s
   ran_seen (Bool b) h = ran_free s
@@ -35,3 +36,4 @@ module _ {F R : Type 0} (s : State F) (name : R → ℕ) where
   ran_seen (Text r) h = ran_of_text 0 0 (units_of s (name r)) (name r) (known_has s (name r) h) (step_refl s) refl (omega arith) (omega arith)
   ran_seen (Symbol r) h = ran_free s
   ran_seen (Listed v) h = ran_texts v.items h
+  ran_seen (Object fs) h = ran_free s

@@ -8,7 +8,8 @@ use Rattle.js_store.specs.declared.faults.StoreFault.{StoreFault}
 use Rattle.js_store.proofs.Laws.{step_refl}
 use Rattle.eval_values.specs.declared.value.Stop.{Stop}
 use Rattle.eval_values.specs.declared.value.Stop.TheVariants.{Threw, Unsupported, Store}
-use Rattle.eval_values.specs.Outcome.{Val, Ledger, both, Out, gave, ended, threw, unsupported, after, bind, converting, cost, ledger_of}
+use Rattle.js_item.specs.Seen.{Val}
+use Rattle.eval_values.specs.Outcome.{Ledger, both, Out, gave, ended, threw, unsupported, after, bind, converting, cost, ledger_of}
 use Rattle.eval_values.specs.Need.{Row, ids_in, words_in}
 use Rattle.eval_values.specs.Ran.{Ran, Cut, Did}
 use Rattle.eval_values.proofs.Compose.{did_after, cut_after, cut_more, ran_both, ran_free, ran_of_step}

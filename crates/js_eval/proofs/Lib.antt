@@ -11,4 +11,6 @@ mod Statements
 mod Scripts
 mod Applied
 mod Leaves
+mod Paying
+mod Making
 mod Expressions

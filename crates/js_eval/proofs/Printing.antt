@@ -7,10 +7,11 @@ use Rattle.js_store.specs.declared.faults.StoreFault.{StoreFault}
 use Rattle.eval_tree.specs.Tree.{Exprs, print}
 use Rattle.js_texts.specs.Texts.{AllKnown, texts as texts_seen, full_only, settle_most}
 use Rattle.js_print.specs.Printing.{line}
-use Rattle.eval_values.specs.declared.value.Value.{Value}
+use Rattle.js_item.specs.declared.item.Item.{Item}
 use Rattle.eval_values.specs.declared.value.Stop.{Stop}
 use Rattle.eval_values.specs.declared.value.Stop.TheVariants.{Store}
-use Rattle.eval_values.specs.Outcome.{Val, free, gave, each, cost}
+use Rattle.js_item.specs.Seen.{Val}
+use Rattle.eval_values.specs.Outcome.{free, gave, each, cost}
 use Rattle.eval_values.specs.Need.{parts, parts_ids, parts_words}
 use Rattle.eval_values.specs.Conversions.{to_string, all_text_units}
 use Rattle.eval_values.specs.Seen.{all_seen, AllFine}
@@ -59,7 +60,7 @@ module _ {F : Type 0} (a b : State F) (x y : List ℕ) (bs : Bindings Val) (us :
       }
 
 module _ {F R : Type 0} (name : R → ℕ) where
-  module _ (a b : State F) (x : List ℕ) (vs : List (Value R)) (bs : Bindings Val) where
+  module _ (a b : State F) (x : List ℕ) (vs : List (Item R)) (bs : Bindings Val) where
     -- the texts of values, and then their line
     pub values_went : (c : State F) (y : List ℕ) (us : Vec R Global) → GivesTexts name a b (Ok us) (each (to_string a.limit) (all_seen a name vs)) → Step b c None 0 (settle_most b name us.items) → c.history ≡ b.history → settle_most b name us.items ≤ string_words (all_seen a name vs) → y ≡ x ++ line (texts_seen b name us.items) → Went a c x y (Ok tt) bs (on_value (line_out a.limit (all_seen a name vs)) bs (λ l. printed l bs))
     values_went c y us d s h k e =
@@ -77,13 +78,13 @@ module _ {F R : Type 0} (name : R → ℕ) where
 
   -- the arguments of a `print`, and then their line
   module _ (a b : State F) (x : List ℕ) (es : Exprs) (k : Context R) (g : Grows a b) (h : ContextFine a name k) where
-    pub print_went : (c : State F) (y : List ℕ) (vs : Vec (Value R) Global) (r : Result (Unit {0}) Stop) → Grows a c → GivesAll name a b (Ok vs) (exprs_out es (scope_of a name k)) → ((bs : Bindings Val) → Went b c x y r bs (on_value (line_out b.limit (all_seen b name vs.items)) bs (λ l. printed l bs))) → Went a c x y r (context_bindings c name k) (stmt_flow (print es) (scope_of a name k))
+    pub print_went : (c : State F) (y : List ℕ) (vs : Vec (Item R) Global) (r : Result (Unit {0}) Stop) → Grows a c → GivesAll name a b (Ok vs) (exprs_out es (scope_of a name k)) → ((bs : Bindings Val) → Went b c x y r bs (on_value (line_out b.limit (all_seen b name vs.items)) bs (λ l. printed l bs))) → Went a c x y r (context_bindings c name k) (stmt_flow (print es) (scope_of a name k))
     print_went c y vs r i d w =
         let bs : Bindings Val = context_bindings a name k in
         let same : Went b c x y r bs (on_value (line_out a.limit (all_seen b name vs.items)) bs (λ l. printed l bs)) = subst (λ (q : ℕ). Went b c x y r bs (on_value (line_out q (all_seen b name vs.items)) bs (λ l. printed l bs))) g.limit (w bs) in
         subst (λ (cs : Bindings Val). Went a c x y r cs (stmt_flow (print es) (scope_of a name k))) (sym (context_bindings_still a c name i k h))
-        (bind_went a b c x y (λ o (v : Vec (Value R) Global). all_seen o name v.items) (λ o (v : Vec (Value R) Global). AllFine o name v.items) vs r bs bs (exprs_out es (scope_of a name k)) (λ ws. line_out a.limit ws) (λ l. printed l bs) d same)
+        (bind_went a b c x y (λ o (v : Vec (Item R) Global). all_seen o name v.items) (λ o (v : Vec (Item R) Global). AllFine o name v.items) vs r bs bs (exprs_out es (scope_of a name k)) (λ ws. line_out a.limit ws) (λ l. printed l bs) d same)
 
     pub print_halt : (n : Stop) → GivesAll name a b (Err n) (exprs_out es (scope_of a name k)) → Went a b x x (Err n) (context_bindings b name k) (stmt_flow (print es) (scope_of a name k))
     print_halt n d =
-        bind_halts {V = Vec (Value R) Global} a b x (λ o (v : Vec (Value R) Global). all_seen o name v.items) (λ o (v : Vec (Value R) Global). AllFine o name v.items) n (context_bindings a name k) (context_bindings b name k) (exprs_out es (scope_of a name k)) (λ ws. line_out a.limit ws) (λ l. printed l (context_bindings a name k)) (context_bindings_still a b name g k h) d
+        bind_halts {V = Vec (Item R) Global} a b x (λ o (v : Vec (Item R) Global). all_seen o name v.items) (λ o (v : Vec (Item R) Global). AllFine o name v.items) n (context_bindings a name k) (context_bindings b name k) (exprs_out es (scope_of a name k)) (λ ws. line_out a.limit ws) (λ l. printed l (context_bindings a name k)) (context_bindings_still a b name g k h) d

@@ -11,13 +11,15 @@ use Rattle.std.specs.Prelude.{pos}
 use Rattle.eval_tree.specs.Tree.{ArmTree, ExprTree, BlockTree, expr_tree, stmt_tree, stmts_tree, block_tree, arm_tree, arms}
 use Rattle.eval_tree.proofs.Trees.{block_is, arm_is}
 use Rattle.js_texts.proofs.Lists.{drop_at}
-use Rattle.eval_values.specs.declared.value.Value.{Value}
+use Rattle.js_item.specs.declared.item.Item.{Item}
 use Rattle.eval_values.specs.declared.value.Stop.{Stop}
 use Rattle.eval_values.specs.declared.value.Stop.TheVariants.{Threw, Unsupported, Store}
-use Rattle.eval_values.specs.Outcome.{Val, Ledger, Out, gave, ended, threw, unsupported, bind, number}
+use Rattle.js_item.specs.Seen.{Val, seen}
+use Rattle.eval_values.specs.Outcome.{Ledger, Out, gave, ended, threw, unsupported, bind}
+use Rattle.js_item.specs.Contents.{number}
 use Rattle.eval_values.specs.Conversions.{to_boolean}
 use Rattle.eval_values.specs.Operators.{plus}
-use Rattle.eval_values.specs.Seen.{seen, IsFine}
+use Rattle.js_item.specs.Fine.{IsFine}
 use Rattle.eval_values.specs.Ran.{Ran}
 use Rattle.eval_values.specs.Does.{Does, Tells}
 use Rattle.eval_values.proofs.Compose.{did_bind, did_stop}
@@ -43,23 +45,23 @@ ran_then r s h = record {
 
 module _ {F R : Type 0} (name : R → ℕ) where
   -- a value, and then what is done with it in the same scope
-  pub then_went : (a b c : State F) (x : List ℕ) (k : Context R) (v : Value R) (r : Result (Unit {0}) Stop) (cs : Bindings Val) (o : Out Val) (go : Scope → Val → Flow) → Grows a b → ContextFine a name k → Does name a b (Ok v) o → Went b c x x r cs (go (scope_of b name k) (seen b name v)) → Went a c x x r cs (on_value o (context_bindings a name k) (λ w. go (scope_of a name k) w))
+  pub then_went : (a b c : State F) (x : List ℕ) (k : Context R) (v : Item R) (r : Result (Unit {0}) Stop) (cs : Bindings Val) (o : Out Val) (go : Scope → Val → Flow) → Grows a b → ContextFine a name k → Does name a b (Ok v) o → Went b c x x r cs (go (scope_of b name k) (seen b name v)) → Went a c x x r cs (on_value o (context_bindings a name k) (λ w. go (scope_of a name k) w))
   then_went a b c x k v r cs o go g h d w =
       value_went a b c x x (λ s q. seen s name q) (λ s q. IsFine s name q) v r (context_bindings a name k) cs o (λ q. go (scope_of a name k) q) d
       (subst (λ (s : Scope). Went b c x x r cs (go s (seen b name v))) (scope_still a b name g k h) w)
 
   pub then_halts : (a b : State F) (x : List ℕ) (k : Context R) (n : Stop) (o : Out Val) (go : Val → Flow) → Grows a b → ContextFine a name k → Does name a b (Err n) o → Went a b x x (Err n) (context_bindings b name k) (on_value o (context_bindings a name k) go)
-  then_halts a b x k n o go g h d = value_halts {V = Value R} a b x (λ s q. seen s name q) (λ s q. IsFine s name q) n (context_bindings a name k) (context_bindings b name k) o go (context_bindings_still a b name g k h) d
+  then_halts a b x k n o go g h d = value_halts {V = Item R} a b x (λ s q. seen s name q) (λ s q. IsFine s name q) n (context_bindings a name k) (context_bindings b name k) o go (context_bindings_still a b name g k h) d
 
   -- what a name means, then an expression, and then their sum
-  pub sum_does : (a b c : State F) (at : ℕ) (x : List ℕ) (e : ExprTree) (k : Context R) (v w : Value R) (r : Result (Value R) Stop) → Grows a b → IsFine a name v → Does name a a (Ok v) (read_out (meant (context_bindings a name k) x)) → Does name a b (Ok w) (expr_out e (scope_of a name k)) → Does name b c r (plus at b.limit (seen b name v) (seen b name w)) → Does name a c r (sum_of_both at x e (scope_of a name k))
+  pub sum_does : (a b c : State F) (at : ℕ) (x : List ℕ) (e : ExprTree) (k : Context R) (v w : Item R) (r : Result (Item R) Stop) → Grows a b → IsFine a name v → Does name a a (Ok v) (read_out (meant (context_bindings a name k) x)) → Does name a b (Ok w) (expr_out e (scope_of a name k)) → Does name b c r (plus at b.limit (seen b name v) (seen b name w)) → Does name a c r (sum_of_both at x e (scope_of a name k))
   sum_does a b c at x e k v w r g f d d' z =
       let one : Does name b c r (plus at a.limit (seen b name v) (seen b name w)) = subst (λ (q : ℕ). Does name b c r (plus at q (seen b name v) (seen b name w))) g.limit z in
       let two : Does name b c r (plus at a.limit (seen a name v) (seen b name w)) = subst (λ (q : Val). Does name b c r (plus at a.limit q (seen b name w))) (seen_still a b name g v f) one in
       did_bind a a c (λ s q. seen s name q) (λ s q. IsFine s name q) (λ s q. seen s name q) (λ s q. IsFine s name q) v r (read_out (meant (context_bindings a name k) x)) (λ p. bind (expr_out e (scope_of a name k)) (λ q. plus at a.limit p q)) d
       (did_bind a b c (λ s q. seen s name q) (λ s q. IsFine s name q) (λ s q. seen s name q) (λ s q. IsFine s name q) w r (expr_out e (scope_of a name k)) (λ q. plus at a.limit (seen a name v) q) d' two)
 
-  pub sum_stops : (a b : State F) (at : ℕ) (x : List ℕ) (e : ExprTree) (k : Context R) (v : Value R) (n : Stop) → Does name a a (Ok v) (read_out (meant (context_bindings a name k) x)) → Does name a b (Err n) (expr_out e (scope_of a name k)) → Does name a b (Err n) (sum_of_both at x e (scope_of a name k))
+  pub sum_stops : (a b : State F) (at : ℕ) (x : List ℕ) (e : ExprTree) (k : Context R) (v : Item R) (n : Stop) → Does name a a (Ok v) (read_out (meant (context_bindings a name k) x)) → Does name a b (Err n) (expr_out e (scope_of a name k)) → Does name a b (Err n) (sum_of_both at x e (scope_of a name k))
   sum_stops a b at x e k v n d d' =
       did_bind a a b (λ s q. seen s name q) (λ s q. IsFine s name q) (λ s q. seen s name q) (λ s q. IsFine s name q) v (Err n) (read_out (meant (context_bindings a name k) x)) (λ p. bind (expr_out e (scope_of a name k)) (λ q. plus at a.limit p q)) d
       (did_stop a b (λ s q. seen s name q) (λ s q. IsFine s name q) (λ s q. seen s name q) (λ s q. IsFine s name q) n (expr_out e (scope_of a name k)) (λ q. plus at a.limit (seen a name v) q) d')
@@ -68,7 +70,7 @@ module _ {F R : Type 0} (name : R → ℕ) where
   sum_unread a b at x e k n d = did_stop a b (λ s q. seen s name q) (λ s q. IsFine s name q) (λ s q. seen s name q) (λ s q. IsFine s name q) n (read_out (meant (context_bindings a name k) x)) (λ p. bind (expr_out e (scope_of a name k)) (λ q. plus at a.limit p q)) d
 
   -- a test, of whose value the truth is told
-  pub test_holds : (a b c : State F) (v : Value R) (t : Bool) (o : Out Val) → t ≡ to_boolean (seen b name v) → Step b c None 0 0 → c.history ≡ b.history → Does name a b (Ok v) o → Tells a c (Ok t) (told to_boolean o)
+  pub test_holds : (a b c : State F) (v : Item R) (t : Bool) (o : Out Val) → t ≡ to_boolean (seen b name v) → Step b c None 0 0 → c.history ≡ b.history → Does name a b (Ok v) o → Tells a c (Ok t) (told to_boolean o)
   test_holds a b c v t (gave x l) e s h d = record {
     is = e ∙ ap to_boolean d.is;
     good = tt;

@@ -5,29 +5,29 @@ use Rattle.js_store.proofs.Laws.{known_still, text_still}
 use Rattle.js_texts.proofs.Lists.{every_map, map_same}
 use Rattle.eval_scopes.specs.Bindings.{Bound, Frame, Bindings}
 use Rattle.eval_scopes.specs.Seen.{bindings_of}
-use Rattle.eval_values.specs.declared.value.Value.{Value}
-use Rattle.eval_values.specs.Seen.{IsFine}
+use Rattle.js_item.specs.declared.item.Item.{Item}
+use Rattle.js_item.specs.Fine.{IsFine}
 use Rattle.eval_values.proofs.Still.{seen_still, fine_still}
 use Rattle.js_eval.specs.declared.context.Context.{Context}
 use Rattle.js_eval.specs.Seen.{bound_seen, bounds_seen, frame_seen, bindings_seen, BoundsFine, BindingsFine, ContextFine, context_bindings, scope_of}
 
 module _ {F R : Type 0} (a b : State F) (name : R → ℕ) (g : Grows a b) where
-  bound_still : (e : Bound (Value R)) → IsFine a name e.value → bound_seen b name e ≡ bound_seen a name e
+  bound_still : (e : Bound (Item R)) → IsFine a name e.value → bound_seen b name e ≡ bound_seen a name e
   bound_still e h = cc (seen_still a b name g e.value h)
 
-  pub bounds_still : (bs : List (Bound (Value R))) → BoundsFine a name bs → bounds_seen b name bs ≡ bounds_seen a name bs
+  pub bounds_still : (bs : List (Bound (Item R))) → BoundsFine a name bs → bounds_seen b name bs ≡ bounds_seen a name bs
   bounds_still bs h = map_same bound_still bs h
 
-  pub bounds_fine_still : (bs : List (Bound (Value R))) → BoundsFine a name bs → BoundsFine b name bs
+  pub bounds_fine_still : (bs : List (Bound (Item R))) → BoundsFine a name bs → BoundsFine b name bs
   bounds_fine_still bs h = every_map (λ e k. fine_still a b name g e.value k) bs h
 
-  frame_still : (f : Frame (Value R)) → BoundsFine a name f.bound → frame_seen b name f ≡ frame_seen a name f
+  frame_still : (f : Frame (Item R)) → BoundsFine a name f.bound → frame_seen b name f ≡ frame_seen a name f
   frame_still f h = cc (bounds_still f.bound h)
 
-  pub bindings_still : (bs : Bindings (Value R)) → BindingsFine a name bs → bindings_seen b name bs ≡ bindings_seen a name bs
+  pub bindings_still : (bs : Bindings (Item R)) → BindingsFine a name bs → bindings_seen b name bs ≡ bindings_seen a name bs
   bindings_still bs h = cc (map_same frame_still bs.blocks h.blocks, bounds_still bs.top h.top)
 
-  pub bindings_fine_still : (bs : Bindings (Value R)) → BindingsFine a name bs → BindingsFine b name bs
+  pub bindings_fine_still : (bs : Bindings (Item R)) → BindingsFine a name bs → BindingsFine b name bs
   bindings_fine_still bs h = record {
     blocks = every_map (λ f k. bounds_fine_still f.bound k) bs.blocks h.blocks;
     top = bounds_fine_still bs.top h.top;

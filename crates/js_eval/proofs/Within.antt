@@ -4,8 +4,8 @@ use Rattle.std.proofs.lemmas.List.{reverse-append}
 use Rattle.js_store.specs.State.{State}
 use Rattle.js_texts.specs.Texts.{Every}
 use Rattle.js_texts.proofs.Lists.{every_get}
-use Rattle.eval_values.specs.declared.value.Value.{Value}
-use Rattle.eval_values.specs.Seen.{IsFine}
+use Rattle.js_item.specs.declared.item.Item.{Item}
+use Rattle.js_item.specs.Fine.{IsFine}
 use Rattle.eval_scopes.specs.declared.scope.Scope.{Scope}
 use Rattle.eval_scopes.specs.declared.scope.Place.{Place}
 use Rattle.eval_scopes.specs.declared.scope.Place.TheVariants.{Top, Block}
@@ -32,29 +32,29 @@ every_reversed P [] h = tt
 every_reversed {A} P (x ∷ xs) h = subst (λ (q : List A). Every P q) (sym (reverse-append (x ∷ []) xs)) (every_joined P (reverse xs) (x ∷ []) (every_reversed P xs h.1) (h.0, tt))
 
 module _ {F R : Type 0} (s : State F) (name : R → ℕ) where
-  got_fine : (fs : List (Frame (Value R))) (k i : ℕ) (b : Bound (Value R)) → Every (λ f. BoundsFine s name f.bound) fs → Some b ≡ got (slice_get fs k) i → IsFine s name b.value
+  got_fine : (fs : List (Frame (Item R))) (k i : ℕ) (b : Bound (Item R)) → Every (λ f. BoundsFine s name f.bound) fs → Some b ≡ got (slice_get fs k) i → IsFine s name b.value
   got_fine [] k i b h e = cc
   got_fine (f ∷ fs) zero i b h e = every_get (λ c. IsFine s name c.value) f.bound i b h.0 (sym e)
   got_fine (f ∷ fs) (suc k) i b h e = got_fine fs k i b h.1 e
 
-  pub place_fine : (scope : Scope (Value R)) (p : Place) (b : Bound (Value R)) → BindingsFine s name (bindings_of scope) → Some b ≡ bound_at scope p → IsFine s name b.value
+  pub place_fine : (scope : Scope (Item R)) (p : Place) (b : Bound (Item R)) → BindingsFine s name (bindings_of scope) → Some b ≡ bound_at scope p → IsFine s name b.value
   place_fine scope (Top i) b h e = every_get (λ c. IsFine s name c.value) (bounds_of scope.env) i b h.top (sym e)
-  place_fine scope (Block k i) b h e = got_fine (map frame_of scope.blocks) k i b (every_unreversed (λ (f : Frame (Value R)). BoundsFine s name f.bound) (map frame_of scope.blocks) h.blocks) e
+  place_fine scope (Block k i) b h e = got_fine (map frame_of scope.blocks) k i b (every_unreversed (λ (f : Frame (Item R)). BoundsFine s name f.bound) (map frame_of scope.blocks) h.blocks) e
 
-  put_fine : (bs : List (Bound (Value R))) (i : ℕ) (v : Value R) → IsFine s name v → BoundsFine s name bs → BoundsFine s name (put bs i v)
+  put_fine : (bs : List (Bound (Item R))) (i : ℕ) (v : Item R) → IsFine s name v → BoundsFine s name bs → BoundsFine s name (put bs i v)
   put_fine [] i v f h = tt
   put_fine (b ∷ bs) zero v f h = (f, h.1)
   put_fine (b ∷ bs) (suc i) v f h = (h.0, put_fine bs i v f h.1)
 
-  put_in_fine : (fs : List (Frame (Value R))) (k i : ℕ) (v : Value R) → IsFine s name v → Every (λ f. BoundsFine s name f.bound) fs → Every (λ f. BoundsFine s name f.bound) (put_in fs k i v)
+  put_in_fine : (fs : List (Frame (Item R))) (k i : ℕ) (v : Item R) → IsFine s name v → Every (λ f. BoundsFine s name f.bound) fs → Every (λ f. BoundsFine s name f.bound) (put_in fs k i v)
   put_in_fine [] k i v f h = tt
   put_in_fine (g ∷ fs) zero i v f h = (put_fine g.bound i v f h.0, h.1)
   put_in_fine (g ∷ fs) (suc k) i v f h = (h.0, put_in_fine fs k i v f h.1)
 
   -- another value at a place
-  pub put_at_fine : (scope : Scope (Value R)) (p : Place) (v : Value R) → IsFine s name v → BindingsFine s name (bindings_of scope) → BindingsFine s name (put_at scope p v)
+  pub put_at_fine : (scope : Scope (Item R)) (p : Place) (v : Item R) → IsFine s name v → BindingsFine s name (bindings_of scope) → BindingsFine s name (put_at scope p v)
   put_at_fine scope (Top i) v f h = record { blocks = h.blocks; top = put_fine (bounds_of scope.env) i v f h.top }
   put_at_fine scope (Block k i) v f h =
-      let P : Frame (Value R) → Type 0 = λ g. BoundsFine s name g.bound in
-      let fs : List (Frame (Value R)) = map frame_of scope.blocks in
+      let P : Frame (Item R) → Type 0 = λ g. BoundsFine s name g.bound in
+      let fs : List (Frame (Item R)) = map frame_of scope.blocks in
       record { blocks = every_reversed P (put_in fs k i v) (put_in_fine fs k i v f (every_unreversed P fs h.blocks)); top = h.top }

@@ -7,7 +7,8 @@ use Rattle.js_store.specs.declared.faults.StoreFault.{StoreFault}
 use Rattle.js_store.specs.declared.faults.StoreFault.TheVariants as store
 use Rattle.js_eval.specs.declared.ending.End.{End}
 use Rattle.js_eval.specs.declared.ending.End.TheVariants.{Done, Threw, Unsupported, Full, Memory}
-use Rattle.eval_values.specs.Outcome.{Val, Out, gave, ended, threw, unsupported}
+use Rattle.js_item.specs.Seen.{Val}
+use Rattle.eval_values.specs.Outcome.{Out, gave, ended, threw, unsupported}
 use Rattle.eval_scopes.specs.Bindings.{Bound}
 use Rattle.js_texts.specs.Texts.{full_only}
 use Rattle.js_eval.specs.Script as meant

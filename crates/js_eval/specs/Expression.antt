@@ -5,19 +5,22 @@ use Rattle.eval_tree.specs.declared.tree.Op.{Op}
 use Rattle.eval_tree.specs.declared.tree.Op.TheVariants.{Or, And, Same, NotSame, Less, Greater, LessEq, GreaterEq, Plus, Minus}
 use Rattle.eval_tree.specs.declared.tree.Method.{Method}
 use Rattle.eval_tree.specs.Tree as tree
-use Rattle.eval_tree.specs.Tree.{ExprTree, Links, no_links, link, Steps, no_steps, length_step, description_step, call_step, index_step, Exprs, no_exprs, expr, LinkTree, StepTree, of_length, of_description, of_call, of_index}
+use Rattle.eval_tree.specs.Tree.{ExprTree, Links, no_links, link, Steps, no_steps, length_step, description_step, call_step, index_step, property_step, Exprs, no_exprs, expr, Entries, no_entries, entry, LinkTree, StepTree, of_length, of_description, of_call, of_index, of_property}
 use Rattle.eval_scopes.specs.Bindings.{Bound, Bindings, meant}
 use Rattle.eval_values.specs.declared.value.Kind.TheVariants.{ReferenceError}
-use Rattle.eval_values.specs.Outcome.{Val, undefined, null, bool, number, Out, gave, bind, mapped, free, number_of, needing, throwing}
+use Rattle.js_item.specs.Seen.{Val}
+use Rattle.js_item.specs.Contents.{Fields, no_fields, undefined, null, bool, number}
+use Rattle.eval_values.specs.Outcome.{Out, gave, after, bind, mapped, free, number_of, needing, throwing}
 use Rattle.eval_values.specs.Need.{nothing}
 use Rattle.eval_values.specs.Conversions.{to_boolean}
 use Rattle.eval_values.specs.Operators.{plus, difference_in, unary_out}
 use Rattle.eval_values.specs.Comparing.{same_out, order_out, is_less, is_greater, is_at_most, is_at_least}
 use Rattle.eval_members.specs.Reading.{maybe_text}
-use Rattle.eval_members.specs.Members.{length_of, present, called}
+use Rattle.eval_members.specs.Members.{length_of, description_of, present, called}
 use Rattle.eval_members.specs.Arrays.{indexed}
-use Rattle.eval_builtins.specs.Symbols.{description_of}
+use Rattle.eval_members.specs.Properties.{property_of}
 use Rattle.eval_builtins.specs.Builtins.{built}
+use Rattle.js_eval.specs.Initializers.{literal_cost, key_interned, with_property, object_out}
 
 -- the literals, what names mean, and the greatest length of a string
 pub record Scope : Type 0 where
@@ -71,6 +74,7 @@ abbrev mutual
   expr_out (tree.conditional test first second) s = bind (expr_out test s) (λ v. if to_boolean v then expr_out first s else expr_out second s)
   expr_out (tree.post of steps) s = bind (expr_out of s) (λ v. steps_out steps s v)
   expr_out (tree.builtin at which args) s = bind (exprs_out args s) (λ vs. built which at s.limit vs)
+  expr_out (tree.object at members) s = after (literal_cost members) (bind (entries_out members s no_fields) (λ fs. object_out at fs))
 
   -- the links of a chain, from the value on their left
   pub links_out : Links → Scope → Val → Out Val
@@ -83,7 +87,13 @@ abbrev mutual
   steps_out (length_step rest) s v = bind (length_of v) (λ x. steps_out rest s x)
   steps_out (description_step rest) s v = bind (description_of v) (λ x. steps_out rest s x)
   steps_out (call_step at method args rest) s v = bind (bind (present v) (λ _. bind (exprs_out args s) (λ ws. called method at s.limit v ws))) (λ x. steps_out rest s x)
-  steps_out (index_step at index rest) s v = bind (bind (expr_out index s) (λ i. indexed at v i)) (λ x. steps_out rest s x)
+  steps_out (index_step at index rest) s v = bind (bind (expr_out index s) (λ i. indexed at s.limit v i)) (λ x. steps_out rest s x)
+  steps_out (property_step at key rest) s v = bind (property_of at s.limit key v) (λ x. steps_out rest s x)
+
+  -- the members of an object literal from left to right, behind those of an object ("PropertyDefinitionEvaluation")
+  pub entries_out : Entries → Scope → Fields (List ℕ) → Out (Fields (List ℕ))
+  entries_out no_entries s fs = gave fs free
+  entries_out (entry key value rest) s fs = bind (key_interned s.limit key) (λ k. bind (expr_out value s) (λ v. entries_out rest s (with_property k v fs)))
 
   -- expressions from left to right
   pub exprs_out : Exprs → Scope → Out (List Val)
@@ -98,10 +108,11 @@ abbrev pub call_out : ℕ → Method → Exprs → Scope → Val → Out Val
 call_out at method args s v = bind (present v) (λ _. bind (exprs_out args s) (λ ws. called method at s.limit v ws))
 
 abbrev pub index_out : ℕ → ExprTree → Scope → Val → Out Val
-index_out at index s v = bind (expr_out index s) (λ i. indexed at v i)
+index_out at index s v = bind (expr_out index s) (λ i. indexed at s.limit v i)
 
 abbrev pub step_out : StepTree → Scope → Val → Out Val
 step_out of_length s v = length_of v
 step_out of_description s v = description_of v
 step_out (of_call at method args) s v = call_out at method args s v
 step_out (of_index at index) s v = index_out at index s v
+step_out (of_property at key) s v = property_of at s.limit key v

@@ -5,7 +5,8 @@ use Rattle.js_store.specs.State.{State}
 use Rattle.eval_values.specs.declared.value.Stop.{Stop}
 use Rattle.eval_values.specs.declared.value.Stop.TheVariants.{Threw, Unsupported, Store}
 use Rattle.eval_scopes.specs.Bindings.{Bound, Bindings}
-use Rattle.eval_values.specs.Outcome.{Val, Out, gave, ended}
+use Rattle.js_item.specs.Seen.{Val}
+use Rattle.eval_values.specs.Outcome.{Out, gave, ended}
 use Rattle.js_eval.specs.Script.{Flow}
 use Rattle.eval_values.specs.Ran.{Did}
 

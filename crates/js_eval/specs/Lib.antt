@@ -1,4 +1,6 @@
+pub mod Initializers
 pub mod Expression
+pub mod Paid
 pub mod Script
 pub mod Seen
 pub mod Flows

@@ -2,7 +2,8 @@
 ghost use Rattle.std.specs.Prelude.{◌≡◌, ◌∷◌, IfOk, IfErr, IfSome, OnOk, MatchOption, Some, None, option_map, List, ℕ};
 ghost use Rattle.eval_scopes.specs.Bindings.{meant, declared, entered, turned, outer};
 ghost use Rattle.eval_scopes.specs.Seen.{Within, IsPlace};
-ghost use Rattle.eval_values.specs.Seen.{seen, IsFine};
+ghost use Rattle.js_item.specs.Seen.{seen};
+ghost use Rattle.js_item.specs.Fine.{IsFine};
 ghost use Rattle.eval_values.specs.Does.{Does};
 ghost use Rattle.js_eval.specs.Expression.{read_out};
 ghost use Rattle.js_eval.specs.Script.{assigned, declares};
@@ -44,7 +45,6 @@ pub fn look_up<'a, S: Strings>(
 
 /// The value of a name, as its own. A string or a number takes no memory.
 pub fn read<S: Strings>(
-    alloc: Global,
     store: &S,
     context: &Context<S::Ref>,
     name: &Name,
@@ -55,14 +55,13 @@ pub fn read<S: Strings>(
         (read_out (meant (context_bindings (S.state store.now) S.number context.now) name.now)) }
 {
     match context.scope.place_of(name) {
-        Some(place) => read_at(alloc, store, context, place),
+        Some(place) => read_at(store, context, place),
         None => Err(Stop::Threw(Kind::ReferenceError)),
     }
 }
 
 /// The value at the place of a name.
 pub fn read_at<S: Strings>(
-    alloc: Global,
     _store: &S,
     context: &Context<S::Ref>,
     place: Place,
@@ -74,7 +73,7 @@ pub fn read_at<S: Strings>(
         (S.state _store.now) result (read_out (meant (context_bindings
         (S.state _store.now) S.number context.now) n)) }
 {
-    Ok(context.scope.at(place).value.copy(alloc)?)
+    Ok(context.scope.at(place).value.copy()?)
 }
 
 /// Another value for a name that has one and is no constant.

@@ -17,11 +17,15 @@ pub struct Env<R> {
 }
 
 impl<R> Model for Env<R> {
+    ghost use Rattle.std.specs.Coded.{codes};
     ghost use Rattle.std.specs.Prelude.{List};
     ghost use Rattle.eval_scopes.specs.declared.env.Binding.{Binding};
-    ghost use Rattle.eval_values.specs.declared.value.Value.{Value as ValueOf};
+    ghost use Rattle.js_item.specs.Codes.{fields_code};
+    ghost use Rattle.js_item.specs.declared.item.Item.{Item};
 
-    ghost Value = { List (Binding (ValueOf R)) };
+    ghost Value = { List (Binding (Item R)) };
+
+    ghost coded = { Prim.hlevel (codes, fields_code R.code) };
 
     ghost view = { λ e. e.top };
 }
@@ -48,7 +52,7 @@ impl<R: Drop> Env<R> {
             top.push(Binding {
                 name: binding.name.copy()?,
                 constant: binding.constant,
-                value: binding.value.copy(self.alloc)?,
+                value: binding.value.copy()?,
             })?;
         }
         Ok(Env {

@@ -4,21 +4,28 @@ ghost use Rattle.eval_scopes.specs.Bindings.{meant};
 ghost use Rattle.eval_values.specs.Outcome.{bind};
 ghost use Rattle.js_store.specs.State.{Grows};
 ghost use Rattle.eval_tree.specs.Tree as tree;
-ghost use Rattle.eval_tree.specs.Tree.{variable, expr_tree, link_tree, links_tree, step_tree, steps_tree, exprs_tree};
+ghost use Rattle.eval_tree.specs.Tree.{variable, expr_tree, link_tree, links_tree, step_tree, steps_tree, exprs_tree, entries_tree};
+ghost use Rattle.js_eval.specs.Paid.{entry_paid, entries_paid, Makes};
 ghost use Rattle.js_eval.specs.Expression.{read_out, expr_out, links_out, link_out, steps_out, step_out, exprs_out};
-ghost use Rattle.eval_values.specs.Seen.{seen, all_seen, IsFine, AllFine};
+ghost use Rattle.js_item.specs.Contents.{no_fields};
+ghost use Rattle.js_item.specs.Seen.{seen, says, fields_mapped};
+ghost use Rattle.eval_values.specs.Seen.{all_seen, AllFine};
+ghost use Rattle.js_item.specs.Fine.{IsFine, FineFields, strings_of};
 ghost use Rattle.js_eval.specs.Seen.{ContextFine, context_bindings, scope_of};
 ghost use Rattle.eval_values.specs.Does.{Does, GivesAll};
 
 use crate::context::{Context, look_up, read};
 use crate::literals::read_literal;
+use crate::object::{bounded, intern_key, put};
 use crate::operators::{apply, is_decided, is_true};
-use eval_builtins::{call_builtin, read_description};
-use eval_members::{call, present, read_index, read_length};
+use eval_builtins::call_builtin;
+use eval_members::{call, present, read_description, read_index, read_length, read_property};
 use eval_tree::{Builtin, Expr, Link, Name, PostStep};
 use eval_values::{Kind, Stop, Value, apply_unary, number_value, push};
+use js_item::Object;
 use js_number::Num;
 use js_store::Strings;
+use js_units::Units;
 use std::alloc::Global;
 
 /// The value of an expression.
@@ -39,7 +46,7 @@ pub fn expr<S: Strings>(
     match e {
         Expr::Literal { number } => Ok(read_literal(store, context, *number)),
         Expr::Number { value } => Ok(number_value(*value)),
-        Expr::Variable { name } => read(alloc, store, context, name),
+        Expr::Variable { name } => read(store, context, name),
         Expr::Undefined => Ok(Value::Undefined),
         Expr::Null => Ok(Value::Null),
         Expr::Bool { value } => Ok(Value::Bool(*value)),
@@ -50,6 +57,7 @@ pub fn expr<S: Strings>(
         Expr::Cond { test, yes, no } => conditional(alloc, store, context, test, yes, no),
         Expr::Post { of, steps: rest } => post(alloc, store, context, rest, of),
         Expr::Builtin { at, which, args } => builtin(alloc, store, context, *at, *which, args),
+        Expr::Object { at, members } => object_literal(alloc, store, context, *at, members),
     }
 }
 
@@ -93,7 +101,7 @@ fn chain<S: Strings>(
         (scope_of (S.state store.old) S.number context.now)) }
 {
     let value = expr(alloc, store, context, first)?;
-    links(alloc, store, context, value, rest)
+    links(alloc, store, context, rest, value)
 }
 
 // The one of two expressions that a test chooses.
@@ -143,7 +151,7 @@ fn post<S: Strings>(
         Some(name) => steps_of_name(alloc, store, context, name, rest),
         None => {
             let value = expr(alloc, store, context, of)?;
-            steps(alloc, store, context, &value, rest)
+            steps(alloc, store, context, rest, &value)
         }
     }
 }
@@ -170,14 +178,81 @@ fn builtin<S: Strings>(
     call_builtin(alloc, store, at, which, &values)
 }
 
+// An object literal.
+#[cycle(expr)]
+fn object_literal<S: Strings>(
+    alloc: Global,
+    store: &mut S,
+    context: &Context<S::Ref>,
+    at: u32,
+    members: &[(Units, Expr)],
+) -> Result<Value<S::Ref>, Stop>
+    requires { ContextFine (S.state store.old) S.number context.now }
+    ensures grows { Grows (S.state store.old) (S.state store.new) }
+    ensures context { ContextFine (S.state store.new) S.number context.now }
+    ensures fine { IfOk result (λ v. IsFine (S.state store.new) S.number v) }
+    ensures did { Does S.number (S.state store.old) (S.state store.new) result
+        (expr_out (tree.object at (entries_tree members.now))
+        (scope_of (S.state store.old) S.number context.now)) }
+{
+    let object = members_of(alloc, store, context, members)?;
+    bounded(store, at, object)
+}
+
+// The members of an object literal, from left to right.
+#[cycle(expr)]
+fn members_of<S: Strings>(
+    alloc: Global,
+    store: &mut S,
+    context: &Context<S::Ref>,
+    members: &[(Units, Expr)],
+) -> Result<Object<S::Ref>, Stop>
+    requires { ContextFine (S.state store.old) S.number context.now }
+    ensures grows { Grows (S.state store.old) (S.state store.new) }
+    ensures context { ContextFine (S.state store.new) S.number context.now }
+    ensures fine { IfOk result (λ o. FineFields (strings_of (S.state store.new)) S.number o) }
+    ensures did { Makes S.number (S.state store.old) (S.state store.new) result
+        (entries_paid (entries_tree members.now)
+        (scope_of (S.state store.old) S.number context.now) no_fields) }
+{
+    let mut object = Object::new(alloc);
+    for member in members {
+        object = with_member(alloc, store, context, member, object)?;
+    }
+    Ok(object)
+}
+
+#[cycle(expr)]
+fn with_member<S: Strings>(
+    alloc: Global,
+    store: &mut S,
+    context: &Context<S::Ref>,
+    member: &(Units, Expr),
+    object: Object<S::Ref>,
+) -> Result<Object<S::Ref>, Stop>
+    requires context { ContextFine (S.state store.old) S.number context.now }
+    requires object { FineFields (strings_of (S.state store.old)) S.number object }
+    ensures grows { Grows (S.state store.old) (S.state store.new) }
+    ensures context { ContextFine (S.state store.new) S.number context.now }
+    ensures fine { IfOk result (λ o. FineFields (strings_of (S.state store.new)) S.number o) }
+    ensures did { Makes S.number (S.state store.old) (S.state store.new) result
+        (entry_paid member.now.0 (expr_tree member.now.1)
+        (scope_of (S.state store.old) S.number context.now)
+        (fields_mapped (says (S.state store.old) S.number) object)) }
+{
+    let key = intern_key(store, context, member.0.as_slice())?;
+    let value = expr(alloc, store, context, &member.1)?;
+    put(store, object, key, value)
+}
+
 // The links of a chain, from the value on their left.
 #[cycle(expr)]
 fn links<S: Strings>(
     alloc: Global,
     store: &mut S,
     context: &Context<S::Ref>,
-    first: Value<S::Ref>,
     rest: &[Link],
+    first: Value<S::Ref>,
 ) -> Result<Value<S::Ref>, Stop>
     requires context { ContextFine (S.state store.old) S.number context.now }
     requires first { IsFine (S.state store.old) S.number first }
@@ -190,7 +265,7 @@ fn links<S: Strings>(
 {
     let mut value = first;
     for link in rest {
-        value = one_link(alloc, store, context, value, link)?;
+        value = one_link(alloc, store, context, link, value)?;
     }
     Ok(value)
 }
@@ -200,8 +275,8 @@ fn one_link<S: Strings>(
     alloc: Global,
     store: &mut S,
     context: &Context<S::Ref>,
-    left: Value<S::Ref>,
     link: &Link,
+    left: Value<S::Ref>,
 ) -> Result<Value<S::Ref>, Stop>
     requires context { ContextFine (S.state store.old) S.number context.now }
     requires left { IsFine (S.state store.old) S.number left }
@@ -247,7 +322,7 @@ fn steps_of_name<S: Strings>(
         (λ v. steps_out (steps_tree rest.now) (scope_of (S.state store.old) S.number context.now) v)) }
 {
     match look_up(store, context, name) {
-        Some(value) => steps(alloc, store, context, value, rest),
+        Some(value) => steps(alloc, store, context, rest, value),
         None => Err(Stop::Threw(Kind::ReferenceError)),
     }
 }
@@ -258,8 +333,8 @@ fn steps<S: Strings>(
     alloc: Global,
     store: &mut S,
     context: &Context<S::Ref>,
-    first: &Value<S::Ref>,
     rest: &[PostStep],
+    first: &Value<S::Ref>,
 ) -> Result<Value<S::Ref>, Stop>
     requires context { ContextFine (S.state store.old) S.number context.now }
     requires first { IsFine (S.state store.old) S.number first.now }
@@ -273,12 +348,12 @@ fn steps<S: Strings>(
     let mut value: Option<Value<S::Ref>> = None;
     for step in rest {
         let of = latest(store, &value, first);
-        let next = one_step(alloc, store, context, of, step)?;
+        let next = one_step(alloc, store, context, step, of)?;
         value = Some(next);
     }
     match value {
         Some(last) => Ok(last),
-        None => Ok(first.copy(alloc)?),
+        None => Ok(first.copy()?),
     }
 }
 
@@ -303,8 +378,8 @@ fn one_step<S: Strings>(
     alloc: Global,
     store: &mut S,
     context: &Context<S::Ref>,
-    value: &Value<S::Ref>,
     step: &PostStep,
+    value: &Value<S::Ref>,
 ) -> Result<Value<S::Ref>, Stop>
     requires context { ContextFine (S.state store.old) S.number context.now }
     requires value { IsFine (S.state store.old) S.number value.now }
@@ -318,6 +393,9 @@ fn one_step<S: Strings>(
     match step {
         PostStep::Length => read_length(store, value),
         PostStep::Description => read_description(store, value),
+        PostStep::Property { at, key } => {
+            read_property(alloc, store, *at, value, key.as_slice())
+        }
         PostStep::Call { at, method, args } => {
             present(store, value)?;
             let values = exprs(alloc, store, context, args)?;
@@ -325,7 +403,7 @@ fn one_step<S: Strings>(
         }
         PostStep::Index { at, index } => {
             let index = expr(alloc, store, context, index)?;
-            read_index(store, *at, value, &index)
+            read_index(alloc, store, *at, value, &index)
         }
     }
 }

@@ -9,6 +9,7 @@ mod ending;
 mod env;
 mod expr;
 mod literals;
+mod object;
 mod operators;
 mod script;
 

@@ -5,8 +5,9 @@ ghost use Rattle.js_store.specs.State.{Grows};
 ghost use Rattle.js_store.specs.Faults.{Step};
 ghost use Rattle.eval_values.specs.Comparing.{is_less as less_in, is_greater as greater_in, is_at_most as at_most_in, is_at_least as at_least_in};
 ghost use Rattle.eval_values.specs.Conversions.{to_boolean};
-ghost use Rattle.eval_values.specs.Outcome.{number};
-ghost use Rattle.eval_values.specs.Seen.{seen, IsFine};
+ghost use Rattle.js_item.specs.Contents.{number};
+ghost use Rattle.js_item.specs.Seen.{seen};
+ghost use Rattle.js_item.specs.Fine.{IsFine};
 ghost use Rattle.eval_values.specs.Does.{Does};
 ghost use Rattle.js_eval.specs.Expression.{decides, operated};
 ghost use Rattle.js_eval.specs.Seen.{ContextFine};
@@ -155,14 +156,16 @@ fn of_numbers<S: Strings>(
             | Value::Bool(_)
             | Value::Text(_)
             | Value::Symbol(_)
-            | Value::List(_) => None,
+            | Value::List(_)
+            | Value::Object(_) => None,
         },
         Value::Undefined
         | Value::Null
         | Value::Bool(_)
         | Value::Text(_)
         | Value::Symbol(_)
-        | Value::List(_) => None,
+        | Value::List(_)
+        | Value::Object(_) => None,
     }
 }
 

@@ -6,8 +6,10 @@ ghost use Rattle.eval_tree.specs.Tree.{expr_tree, exprs_tree, init_tree, stmt_tr
 ghost use Rattle.std.specs.Prelude.{map};
 ghost use Rattle.eval_scopes.specs.Bindings.{Bindings};
 ghost use Rattle.eval_scopes.specs.Seen.{Within, IsPlace, bounds_of};
-ghost use Rattle.eval_values.specs.Outcome.{Val, number};
-ghost use Rattle.eval_values.specs.Seen.{seen, all_seen, IsFine, AllFine};
+ghost use Rattle.js_item.specs.Seen.{Val, seen};
+ghost use Rattle.js_item.specs.Contents.{number};
+ghost use Rattle.eval_values.specs.Seen.{all_seen, AllFine};
+ghost use Rattle.js_item.specs.Fine.{IsFine};
 ghost use Rattle.eval_values.specs.Does.{Does, Tells};
 ghost use Rattle.eval_values.specs.Conversions.{to_boolean};
 ghost use Rattle.js_eval.specs.Script.{on_value, printed, init_out, sum_of_both, line_out, stmt_flow, stmts_flow, block_flow, arms_flow, turn_flow, turns as turns_flow, meaning};
@@ -424,7 +426,7 @@ fn sum_with<S: Strings>(
         (S.state store.new) result
         (sum_of_both at n (expr_tree value.now) (scope_of (S.state store.old) S.number context.now)) }
 {
-    let left = read_at(alloc, store, context, place)?;
+    let left = read_at(store, context, place)?;
     let right = expr(alloc, store, context, value)?;
     plus(alloc, store, at, &left, &right)
 }

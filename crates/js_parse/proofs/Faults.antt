@@ -16,12 +16,12 @@ abbrev pub In : NameFault → List NameFault → Type 0
 In f [] = ⊥
 In f (g ∷ gs) = (f ≡ g) ⊎ In f gs
 
-in_left : (f : NameFault) (xs ys : List NameFault) → In f xs → In f (xs ++ ys)
+pub in_left : (f : NameFault) (xs ys : List NameFault) → In f xs → In f (xs ++ ys)
 in_left f [] ys h = absurd h
 in_left f (x ∷ xs) ys (inl e) = inl e
 in_left f (x ∷ xs) ys (inr h) = inr (in_left f xs ys h)
 
-in_right : (f : NameFault) (xs ys : List NameFault) → In f ys → In f (xs ++ ys)
+pub in_right : (f : NameFault) (xs ys : List NameFault) → In f ys → In f (xs ++ ys)
 in_right f [] ys h = h
 in_right f (x ∷ xs) ys h = inr (in_right f xs ys h)
 
@@ -29,7 +29,7 @@ on_left : (f : NameFault) (x : NameFault) (xs ys : List NameFault) → In f xs �
 on_left f x xs ys (inl h) = inl (inr h)
 on_left f x xs ys (inr h) = inr h
 
-apart : (f : NameFault) (xs ys : List NameFault) → In f (xs ++ ys) → In f xs ⊎ In f ys
+pub apart : (f : NameFault) (xs ys : List NameFault) → In f (xs ++ ys) → In f xs ⊎ In f ys
 apart f [] ys h = inr h
 apart f (x ∷ xs) ys (inl e) = inl (inl e)
 apart f (x ∷ xs) ys (inr h) = on_left f x xs ys (apart f xs ys h)

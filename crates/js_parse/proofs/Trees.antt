@@ -1,7 +1,7 @@
 -- What the tree of an `if` and of an arm is.
-use Rattle.std.proofs.Common.{◌≡◌, ap, sym, ◌∙◌, refl, List, [], ◌∷◌, map, Vec, Global}
+use Rattle.std.proofs.Common.{◌≡◌, ap, sym, ◌∙◌, map, Vec, Global}
 use Rattle.eval_tree.specs.declared.tree.Stmt.{fold-roll-Stmt}
-use Rattle.eval_tree.specs.declared.tree.Arm.{Arm, fold-Arm, fold_out-Arm}
+use Rattle.eval_tree.specs.declared.tree.Arm.{Arm, fold_out-Arm}
 use Rattle.eval_tree.specs.declared.tree.Block.{Block}
 use Rattle.eval_tree.specs.declared.tree.Stmt.TheOpen.{Stmt-F}
 use Rattle.eval_tree.specs.declared.tree.Stmt.TheViews.{If, rolls-If}

@@ -1,5 +1,5 @@
 -- One walk after the other.
-use Rattle.std.proofs.Common.{◌≡◌, ℕ, ◌+◌, ◌<◌, Bool, not, cond, true, false, List, [], ◌∷◌, ◌++◌, length, get_or, drop, map, refl, sym, ap, ◌∙◌, subst, Option, None, Result, IfOk, Vec, Global}
+use Rattle.std.proofs.Common.{◌≡◌, ℕ, ◌+◌, ◌<◌, Bool, not, cond, true, false, List, [], ◌∷◌, ◌++◌, length, get_or, drop, map, refl, sym, ap, ◌∙◌, subst, Option, Result, IfOk, Vec, Global}
 use Rattle.eval_tree.specs.declared.tree.Stmt.{Stmt}
 use Rattle.eval_tree.specs.declared.tree.Arm.{Arm}
 use Rattle.eval_tree.specs.declared.tree.Block.{Block}
@@ -9,10 +9,8 @@ use Rattle.js_parse.specs.Names.{NameFault}
 use Rattle.eval_tree.specs.Tree as tree
 use Rattle.eval_tree.specs.Tree.{StmtTree, BlockTree, Stmts, Arms, block_of, arms, stmts_tree, stmt_tree, arm_tree, block_tree, tree_of}
 use Rattle.js_parse.specs.declared.name_fault.NameFault.{NameFault as Told}
-use Rattle.js_parse.specs.FirstFault.{TellsFirst}
-use Rattle.js_parse.specs.NameFaults.{NameTest, nobody, is_in, marked, all_marked, offer, offers, declared_again, with_own, faults_in, faults_inside, faults_in_arms, faults_among}
+use Rattle.js_parse.specs.NameFaults.{NameTest, nobody, is_in, marked, all_marked, offer, offers, declared_again, with_own, faults_in, faults_inside, faults_in_arms, faults_among, faults_of}
 use Rattle.js_parse.specs.NameWalk.{found_of, Walks}
-use Rattle.js_parse.proofs.First.{tells_first}
 use Rattle.js_parse.proofs.Marks.{drop_is, left_again}
 use Rattle.js_parse.proofs.Trees.{arm_body, tree_of_if}
 use mathlib.Core.Path.{fun_ext}
@@ -83,14 +81,14 @@ is_marked : (b : Bool) → cond b true false ≡ b
 is_marked true = refl
 is_marked false = refl
 
-pub first_found : {E : Type 0} (outer : List (List ℕ)) (script : Script) (body : List Stmt) (names : List (List ℕ)) (loops new before fresh : NameTest) (r : Result (Option Told) E) → body ≡ script.body.items → names ≡ outer → loops ≡ nobody → fresh ≡ nobody → before ≡ all_marked true names fresh → IfOk r (Walks loops new None (faults_among (stmts_tree body) loops before)) → IfOk r (TellsFirst outer (tree_of script))
-first_found outer script body names loops new before fresh r e d l f b h =
+pub first_found : {E : Type 0} (outer : List (List ℕ)) (script : Script) (body : List Stmt) (names : List (List ℕ)) (loops new before fresh : NameTest) (first : Option Told) (r : Result (Option Told) E) → body ≡ script.body.items → names ≡ outer → loops ≡ nobody → fresh ≡ nobody → before ≡ all_marked true names fresh → IfOk r (Walks loops new first (faults_among (stmts_tree body) loops before))
+    → IfOk r (λ found. found_of found ≡ offers (found_of first) (faults_of outer (tree_of script)))
+first_found outer script body names loops new before fresh first r e d l f b h =
     let top : NameTest = all_marked false script.top nobody in
     let inner : loops ≡ top = l ∙ fun_ext (λ q. sym (none_marked (is_in script.top q))) in
     let declared : before ≡ is_in outer = b ∙ (ap (λ t. all_marked true names t) f ∙ (ap (λ ns. all_marked true ns nobody) d ∙ fun_ext (λ q. is_marked (is_in outer q)))) in
-    IfOk-weaker r (Walks loops new None (faults_among (stmts_tree body) loops before)) (TellsFirst outer (tree_of script))
-    (λ found w. tells_first outer (tree_of script) found
-    (w.finds
-    ∙ (ap (λ (ss : List Stmt). offers None (faults_among (stmts_tree ss) loops before)) e
-    ∙ (ap (λ (t : NameTest). offers None (faults_among (stmts_tree script.body.items) t before)) inner
-    ∙ ap (λ (t : NameTest). offers None (faults_among (stmts_tree script.body.items) top t)) declared)))) h
+    IfOk-weaker r (Walks loops new first (faults_among (stmts_tree body) loops before)) (λ found. found_of found ≡ offers (found_of first) (faults_of outer (tree_of script)))
+    (λ found w. w.finds
+    ∙ (ap (λ (ss : List Stmt). offers (found_of first) (faults_among (stmts_tree ss) loops before)) e
+    ∙ (ap (λ (t : NameTest). offers (found_of first) (faults_among (stmts_tree script.body.items) t before)) inner
+    ∙ ap (λ (t : NameTest). offers (found_of first) (faults_among (stmts_tree script.body.items) top t)) declared))) h

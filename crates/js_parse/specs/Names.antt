@@ -21,10 +21,11 @@ pub data IsLoopName (x : List ℕ) : List Scope → Type 0 where
   outside : (names : List (List ℕ)) (rest : List Scope) → (IsAmong x names → ⊥) → IsLoopName x rest → IsLoopName x (Declaring names ∷ rest)
   around : (y : List ℕ) (rest : List Scope) → (x ≡ y → ⊥) → IsLoopName x rest → IsLoopName x (Looping y ∷ rest)
 
--- a fault, with the offset of the name
+-- a fault, with the offset of the name or of the key
 pub data NameFault : Type 0 where
   Duplicate : ℕ → NameFault
   LoopName : ℕ → NameFault
+  ProtoKey : ℕ → NameFault
 
 mutual
   -- within these scopes, a statement has the fault

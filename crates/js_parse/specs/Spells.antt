@@ -1,20 +1,21 @@
 -- Which bytes spell which script, and which are refused.
-use Rattle.std.specs.Prelude.{◌≡◌, ℕ, List, [], ◌∷◌, length, Bool, true, false, if◌then◌else◌, Result, Ok, Err}
+use Rattle.std.specs.Prelude.{◌≡◌, ℕ, ◌-◌, List, [], ◌∷◌, length, take, drop, Bool, true, false, if◌then◌else◌, Option, Some, None, Result, Ok, Err}
 use Rattle.js_lex.specs.declared.token.LexFault.{LexFault}
 use Rattle.js_lex.specs.Tokens.{LexFaultOf}
-use Rattle.parse_laws.specs.Reader.{Kind, Wrong, TooDeep}
+use Rattle.parse_laws.specs.Reader.{Kind, Wrong, TooDeep, is_some}
 use Rattle.parse_laws.specs.Refused.{IsRefused}
 use Rattle.parse_syntax.specs.declared.token.Token.{Token}
-use Rattle.parse_syntax.specs.Terminals.{is_word, place}
+use Rattle.parse_syntax.specs.Tables.{Tables}
+use Rattle.parse_syntax.specs.Terminals.{is_word, place, point, opening}
 use Rattle.eval_tree.specs.Tree.{Tree, StmtTree, stmts}
 use Rattle.parse_syntax.specs.Grammar.{Statements, own_names, most}
-use Rattle.js_parse.specs.Names.{NameFault, Duplicate, LoopName, HasFault}
+use Rattle.js_parse.specs.Names.{NameFault, Duplicate, LoopName, ProtoKey}
 use Rattle.parse_tokens.specs.Tokens.{Reads}
 use Rattle.js_parse.specs.declared.fault.Role.{Role}
 use Rattle.js_parse.specs.declared.fault.Role.TheVariants as role
 use Rattle.js_parse.specs.declared.fault.ParseFault.{ParseFault}
 use Rattle.js_parse.specs.declared.fault.ParseFault.TheVariants as fault
-use Rattle.js_parse.specs.FirstFault.{IsFirstFault}
+use Rattle.js_parse.specs.FirstFault.{HasNameFault, IsFirstFault}
 
 -- a prelude has no print
 abbrev pub prints : Role → Bool
@@ -24,35 +25,54 @@ prints role.Main = true
 -- the bytes are of the grammar, and give this tree
 pub record Parses (r : Role) (bytes : List ℕ) (script : Tree) : Type 0 where
   pub tokens : List Token
-  pub names : List (List ℕ)
+  pub tables : Tables
   pub statements : List StmtTree
-  pub reads : Reads bytes tokens script.literals names
-  pub parsed : Statements names (prints r) most tokens statements
+  pub reads : Reads bytes tokens script.literals tables.names tables.keys
+  pub parsed : Statements tables (prints r) most tokens statements
   pub body : script.body ≡ stmts statements
   pub top : script.top ≡ own_names statements
 
 -- the bytes spell the script in this role, after a prelude that declares the outer names
 pub record Spells (r : Role) (outer : List (List ℕ)) (bytes : List ℕ) (script : Tree) : Type 0 where
   pub parses : Parses r bytes script
-  pub innocent : (f : NameFault) → HasFault outer script f → ⊥
+  pub innocent : (f : NameFault) → HasNameFault outer parses.tables parses.tokens script f → ⊥
 
--- the fault at the first token of the rest, or at the end of the text
-abbrev pub misplaced : Kind → List Token → ℕ → ParseFault
-misplaced Wrong [] end = fault.Unexpected end
-misplaced Wrong (t ∷ rest) end = if is_word t then fault.NotInProfile (place t) else fault.Unexpected (place t)
-misplaced TooDeep [] end = fault.TooDeep end
-misplaced TooDeep (t ∷ rest) end = fault.TooDeep (place t)
+-- the tokens before the rest
+abbrev pub front_of : List Token → List Token → List Token
+front_of tokens rest = take (length tokens - length rest) tokens
+
+-- of a point and a word the place of the word
+abbrev pub pointed : List Token → Option ℕ
+pointed (p ∷ t ∷ []) = if is_some (point p) then (if is_word t then Some (place t) else None) else None
+pointed _ = None
+
+-- the word behind a point that ends the front, where ( follows. Where it is a method, ( is never wrong
+abbrev pub called : List Token → Token → Option ℕ
+called front t = if is_some (opening t) then pointed (drop (length front - 2) front) else None
+
+-- a token can't stand there: a word that is called so is at fault in its place
+abbrev pub misplaced_at : Option ℕ → Token → ParseFault
+misplaced_at (Some at) t = fault.NotInProfile at
+misplaced_at None t = if is_word t then fault.NotInProfile (place t) else fault.Unexpected (place t)
+
+-- the fault at the first token of the rest behind the front, or at the end of the text
+abbrev pub misplaced : Kind → List Token → List Token → ℕ → ParseFault
+misplaced Wrong front [] end = fault.Unexpected end
+misplaced Wrong front (t ∷ rest) end = misplaced_at (called front t) t
+misplaced TooDeep front [] end = fault.TooDeep end
+misplaced TooDeep front (t ∷ rest) end = fault.TooDeep (place t)
 
 abbrev pub misnamed : NameFault → ParseFault
 misnamed (Duplicate at) = fault.Duplicate at
 misnamed (LoopName at) = fault.LoopName at
+misnamed (ProtoKey at) = fault.NotInProfile at
 
 -- the bytes spell no script, for this reason: the first lexical fault; where there is none, the place from which on the
--- tokens begin no script; where they are one, the first fault of its names
+-- tokens begin no script; where they are one, the first fault of its names and keys
 pub data Refused (r : Role) (outer : List (List ℕ)) (bytes : List ℕ) : ParseFault → Type 0 where
   lexical : (f : LexFault) → LexFaultOf bytes f → Refused r outer bytes (fault.Lex f)
-  grammatical : (tokens : List Token) (literals names : List (List ℕ)) (kind : Kind) (rest : List Token) → Reads bytes tokens literals names → IsRefused (Statements names (prints r)) most tokens kind rest → Refused r outer bytes (misplaced kind rest (length bytes))
-  of_names : (script : Tree) (f : NameFault) → Parses r bytes script → IsFirstFault outer script f → Refused r outer bytes (misnamed f)
+  grammatical : (tokens : List Token) (literals : List (List ℕ)) (tables : Tables) (kind : Kind) (rest : List Token) → Reads bytes tokens literals tables.names tables.keys → IsRefused (Statements tables (prints r)) most tokens kind rest → Refused r outer bytes (misplaced kind (front_of tokens rest) rest (length bytes))
+  of_names : (script : Tree) (f : NameFault) (p : Parses r bytes script) → IsFirstFault outer p.tables p.tokens script f → Refused r outer bytes (misnamed f)
 
 -- x, or out of memory
 abbrev pub IsOrMemory : {X A : Type 0} → (X → A) → Result X ParseFault → A → Type 0

@@ -1,5 +1,5 @@
 -- How faults of tokens and of the grammar are told. No public contract cites this file.
-use Rattle.std.specs.Prelude.{◌≡◌, ◌⊎◌, ℕ, List}
+use Rattle.std.specs.Prelude.{◌≡◌, ◌⊎◌, ℕ, List, Option, None}
 use Rattle.js_lex.specs.declared.token.LexFault.{LexFault}
 use Rattle.js_lex.specs.declared.token.LexFault.TheVariants as lexical
 use Rattle.parse_laws.specs.Reader.{Wrong, TooDeep}
@@ -8,16 +8,25 @@ use Rattle.parse_look.specs.declared.fault.Fault.TheVariants as grammatical
 use Rattle.js_parse.specs.declared.fault.Role.{Role}
 use Rattle.js_parse.specs.declared.fault.ParseFault.{ParseFault}
 use Rattle.js_parse.specs.declared.fault.ParseFault.TheVariants as fault
-use Rattle.js_parse.specs.Spells.{Refused, misplaced}
+use Rattle.parse_syntax.specs.declared.token.Token.{Token}
+use Rattle.eval_tree.specs.Tree.{Tree}
+use Rattle.js_parse.specs.Names.{NameFault}
+use Rattle.js_parse.specs.NameFaults.{offers, proto_faults}
+use Rattle.js_parse.specs.Spells.{Parses, Refused, front_of, misplaced}
 
 abbrev pub lex_fault : LexFault → ParseFault
 lex_fault lexical.Memory = fault.Memory
 lex_fault f = fault.Lex f
 
-abbrev pub grammar_fault : Fault → ℕ → ParseFault
-grammar_fault grammatical.Memory end = fault.Memory
-grammar_fault (grammatical.Wrong rest) end = misplaced Wrong rest.now end
-grammar_fault (grammatical.TooDeep rest) end = misplaced TooDeep rest.now end
+abbrev pub grammar_fault : Fault → List Token → ℕ → ParseFault
+grammar_fault grammatical.Memory tokens end = fault.Memory
+grammar_fault (grammatical.Wrong rest) tokens end = misplaced Wrong (front_of tokens rest.now) rest.now end
+grammar_fault (grammatical.TooDeep rest) tokens end = misplaced TooDeep (front_of tokens rest.now) rest.now end
+
+-- the bytes are of the grammar and give this tree, and this is the first key that is __proto__
+pub record ParsesWith (role : Role) (bytes : List ℕ) (script : Tree) (found : Option NameFault) : Type 0 where
+  pub parses : Parses role bytes script
+  pub finds : found ≡ offers None (proto_faults parses.tables parses.tokens)
 
 -- whatever names the prelude declares, the bytes are refused so, unless memory ran out
 abbrev pub IsRefusal : Role → List ℕ → ParseFault → Type 0

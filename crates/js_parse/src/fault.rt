@@ -20,7 +20,8 @@ pub enum ParseFault {
     Lex(LexFault),
     /// The token can't stand there; at the end of the text, its length.
     Unexpected { at: u32 },
-    /// The token can't stand there and is a word.
+    /// The token can't stand there and is a word; or a word behind a point that is no method, before a `(`;
+    /// or a key of an object literal that is `__proto__`.
     NotInProfile { at: u32 },
     /// The token could stand there, but for the limit on nesting.
     TooDeep { at: u32 },

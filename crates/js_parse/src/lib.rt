@@ -8,10 +8,12 @@
 mod fault;
 mod grammar;
 mod laws;
+mod misplaced;
 mod name_fault;
 mod name_set;
 mod name_walk;
 mod parser;
+mod proto_key;
 
 pub use eval_tree::{Names, Script};
 pub use fault::{ParseFault, Role};

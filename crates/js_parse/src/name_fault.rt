@@ -5,21 +5,24 @@ ghost use Rattle.js_parse.specs.FirstFault.{fault_of};
 ghost use Rattle.js_parse.specs.NameFaults as reading;
 ghost use Rattle.js_parse.specs.NameWalk.{found_of};
 
-/// A fault of a script's names, with the byte offset of the name.
+/// A fault of a script's names or keys, with the byte offset of the name or key.
 #[derive(Clone, Copy, Debug, PartialEq, Eq)]
 pub enum NameFault {
     /// A name that is declared a second time in its block, or at the top where the prelude declares it.
     Duplicate { at: u32 },
     /// The name of a `for` that is assigned in its body.
     LoopName { at: u32 },
+    /// A key of an object literal that is `__proto__`.
+    ProtoKey { at: u32 },
 }
 
 fn rank(fault: NameFault) -> u64
     ensures { result ≡ definition.rank (fault_of fault) }
 {
     match fault {
-        NameFault::Duplicate { at } => 2 * at as u64,
-        NameFault::LoopName { at } => 2 * at as u64 + 1,
+        NameFault::Duplicate { at } => 3 * at as u64,
+        NameFault::LoopName { at } => 3 * at as u64 + 1,
+        NameFault::ProtoKey { at } => 3 * at as u64 + 2,
     }
 }
 

@@ -1,8 +1,7 @@
 // The walk over the statements of a script.
 ghost use Rattle.std.specs.Prelude.{◌≡◌, true, IfOk, OnOk, map};
 ghost use Rattle.eval_tree.specs.Tree.{tree_of, stmt_tree, stmts_tree, block_tree, arm_tree, arms as arms_tree};
-ghost use Rattle.js_parse.specs.FirstFault.{TellsFirst};
-ghost use Rattle.js_parse.specs.NameFaults.{offers, assigned_at, again_at, declared_again, with_own, marked, faults_in, faults_inside, faults_in_arms, faults_among};
+ghost use Rattle.js_parse.specs.NameFaults.{offers, assigned_at, again_at, declared_again, with_own, marked, faults_in, faults_inside, faults_in_arms, faults_among, faults_of};
 ghost use Rattle.js_parse.specs.NameWalk.{has, found_of, Walks};
 
 use crate::name_fault::{NameFault, offer};
@@ -163,19 +162,20 @@ fn among<'a>(
     Ok(first)
 }
 
-/// The first fault of the names of a script, after a prelude that declares the `outer` names, if its
-/// names have a fault.
+/// The first of a fault and those of the names of a script, after a prelude that declares the `outer` names.
 ///
 /// Its time grows with the number of names times its logarithm, however they are nested.
 pub fn first_fault(
     alloc: Global,
     outer: &Names,
     script: &Script,
+    first: Option<NameFault>,
 ) -> Result<Option<NameFault>, NoMemory>
-    ensures { IfOk result (TellsFirst outer.now (tree_of script.now)) }
+    ensures { IfOk result (λ found. found_of found
+        ≡ offers (found_of first) (faults_of outer.now (tree_of script.now))) }
 {
     let mut before = NameSet::new(alloc);
     before.insert_all(outer.as_slice())?;
     let mut loops = NameSet::new(alloc);
-    among(alloc, &mut loops, before, &script.body, None)
+    among(alloc, &mut loops, before, &script.body, first)
 }

@@ -18,6 +18,7 @@ fn name_fault(fault: NameFault) -> ParseFault
     match fault {
         NameFault::Duplicate { at } => ParseFault::Duplicate { at },
         NameFault::LoopName { at } => ParseFault::LoopName { at },
+        NameFault::ProtoKey { at } => ParseFault::NotInProfile { at },
     }
 }
 
@@ -27,8 +28,8 @@ fn read(alloc: Global, bytes: &[u8], role: Role, outer: &Names) -> Result<Script
     ensures spells { IfOk result (λ script. Spells role outer.now bytes.now (tree_of script)) }
     ensures refused { IfErr result (IsTold role outer.now bytes.now) }
 {
-    let script = grammatical(alloc, bytes, role)?;
-    match first_fault(alloc, outer, &script)? {
+    let (script, found) = grammatical(alloc, bytes, role)?;
+    match first_fault(alloc, outer, &script, found)? {
         None => Ok(script),
         Some(fault) => Err(name_fault(fault)),
     }
@@ -37,7 +38,7 @@ fn read(alloc: Global, bytes: &[u8], role: Role, outer: &Names) -> Result<Script
 /// The script that the bytes spell, in a role and after a prelude that declares the `outer` names.
 ///
 /// Of several faults the first lexical one is told; where there is none, the one grammatical fault; where
-/// there is none of these, the fault of names with the least offset. A lexical fault is never out of memory.
+/// there is none of these, the fault of names and keys with the least offset. A lexical fault is never out of memory.
 pub fn parse(alloc: Global, bytes: &[u8], role: Role, outer: &Names) -> Result<Script, ParseFault>
     requires short { length bytes.now ≤ 1_048_576 }
     ensures spells { IfOk result (λ script. Spells role outer.now bytes.now (tree_of script)) }

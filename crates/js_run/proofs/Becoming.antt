@@ -3,8 +3,8 @@ use Rattle.std.proofs.Common.{◌≡◌, ◌≤◌, ℕ, zero, suc, List, [], �
 use Rattle.std.proofs.lemmas.List.{length-append, length-map}
 use Rattle.heap_rule.specs.Layout.{IsLawful}
 use Rattle.heap_table.specs.MayMake.{MayMake}
-use Rattle.run_generate.specs.Draws.{listed}
-use Rattle.run_generate.specs.Texts.{Named, generated, named_script}
+use Rattle.run_sources.specs.Draws.{listed}
+use Rattle.run_sources.specs.Texts.{Named, generated, named_script}
 use Rattle.js_io.specs.FilesState.{FilesState}
 use Rattle.js_eval.specs.declared.ending.End.{End}
 use Rattle.js_eval.specs.declared.ending.End.TheVariants.{Done, Threw, Unsupported, Full, Memory}

@@ -1,6 +1,6 @@
 -- What is told of files against what was read of them, and the scripts that texts spell.
 use Rattle.std.proofs.Common.{◌≡◌, ℕ, ◌≤◌, List, [], ◌∷◌, ◌++◌, length, Option, None, Some, refl, sym, ap, ap₂, ◌∙◌, subst, arith}
-use Rattle.run_generate.specs.Texts.{Named}
+use Rattle.run_sources.specs.Texts.{Named}
 use Rattle.js_io.specs.FilesState.{Tells, IsTooLarge}
 use Rattle.js_io.specs.declared.files.TheConstants.{FILE_MAX}
 use Rattle.js_parse.specs.declared.fault.Role.{Role}

@@ -1,6 +1,6 @@
 -- Each status and why it comes, from the outcome.
 use Rattle.std.proofs.Common.{◌≡◌, ◌⊎◌, inl, inr, ℕ, ◌≤◌, ◌<◌, List, Option, None, Some, refl, sym, ap, ◌∙◌, subst, arith}
-use Rattle.run_generate.specs.Texts.{Named}
+use Rattle.run_sources.specs.Texts.{Named}
 use Rattle.js_io.specs.Counts.{next_count}
 use Rattle.js_io.specs.FilesState.{FilesState}
 use Rattle.eval_tree.specs.Tree.{Tree}

@@ -2,7 +2,7 @@
 -- too large a file.
 use Rattle.std.specs.Prelude.{◌≡◌, ℕ, List, Option, None, Some, map, option_map}
 use Rattle.js_io.specs.FilesState.{FilesState}
-use Rattle.run_generate.specs.Texts.{Named}
+use Rattle.run_sources.specs.Texts.{Named}
 use Rattle.eval_tree.specs.Tree.{Tree}
 use Rattle.run_command.specs.Words.{Request, request_of}
 use Rattle.run_sources.specs.Program.{Name, Program, in_order}

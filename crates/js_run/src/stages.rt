@@ -1,7 +1,7 @@
 // What becomes of lawful words, one stage after the other.
 ghost use Rattle.std.specs.Prelude.{◌≡◌, ◌≤◌, None, length, map};
 ghost use Rattle.heap_table.specs.MayMake.{MayMake};
-ghost use Rattle.run_generate.specs.Texts.{generated};
+ghost use Rattle.run_sources.specs.Texts.{generated};
 ghost use Rattle.js_io.specs.SinkState.{SinkState};
 ghost use Rattle.run_command.specs.Words.{IsInRange, Request, made_from, request_for, files as named_files};
 ghost use Rattle.run_sources.specs.Answers.{AreShort, names_for, sources_for, trees_for};
@@ -19,9 +19,8 @@ use crate::telling::{tell_ran, tell_stop};
 use heap_rule::HeapSize;
 use js_io::{Files, Gate, Sink};
 use run_command::{Plan, Source};
-use run_generate::texts_from;
 use run_program::{Ran, Setup, run_program};
-use run_sources::{Scripts, Sources, Stop, made_sources, parse_sources, read_sources};
+use run_sources::{Scripts, Sources, Stop, made_sources, parse_sources, read_sources, texts_from};
 use std::alloc::Global;
 use std::thread::Threads;
 

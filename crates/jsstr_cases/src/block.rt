@@ -1,6 +1,6 @@
 // A case that is a block of lines.
 
-use crate::case::{Case, Ending, Fault, Way};
+use crate::case::{Case, Ending, FILE, Fault, PLAYER, RUNNER, SCHEDULE, Way};
 use crate::line::words;
 use crate::spelling::bytes_of;
 use js_io::MemFiles;
@@ -57,6 +57,7 @@ fn alone(head: &str) -> Result<Part, Fault> {
     match head {
         "words" => Ok(Part::Words),
         "cut" => Ok(Part::Way(Way::Cut)),
+        "ends" => Ok(Part::Way(Way::Ends)),
         "held" => Ok(Part::Way(Way::Held)),
         "out" => Ok(Part::Out),
         "err" => Ok(Part::Err),
@@ -79,13 +80,18 @@ pub(crate) struct Block {
 }
 
 impl Block {
-    /// The block that begins on this line.
-    pub(crate) fn new(alloc: Global, line: usize) -> Result<Self, Fault> {
+    /// The block that begins on this line, of a schedule or of scripts.
+    pub(crate) fn new(alloc: Global, line: usize, is_schedule: bool) -> Result<Self, Fault> {
+        let (program, file) = if is_schedule {
+            (PLAYER, SCHEDULE)
+        } else {
+            (RUNNER, FILE)
+        };
         Ok(Block {
             case: Case {
                 line,
                 files: MemFiles::new(alloc),
-                words: words(alloc)?,
+                words: words(alloc, program, file)?,
                 way: Way::Once,
                 wanted: Vec::new(alloc),
             },

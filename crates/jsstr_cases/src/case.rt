@@ -8,8 +8,15 @@ use std::alloc::{AllocError, AllocFailed};
 use std::error::Error;
 use std::fmt;
 
-/// The file that a case runs where it names no other.
+/// The file that a case runs where it names no other, and the schedule that it plays.
 pub(crate) const FILE: &str = "a.js";
+
+pub(crate) const SCHEDULE: &str = "a.sched";
+
+/// The programs that have the words.
+pub(crate) const RUNNER: &str = "jsstr";
+
+pub(crate) const PLAYER: &str = "jssched";
 
 /// The status, and what both sinks took.
 #[derive(Drop)]
@@ -44,8 +51,10 @@ pub(crate) enum Way {
     Once,
     /// With each number of this range as the word at a place.
     Each { place: usize, first: u32, last: u32 },
-    /// And then with each sink cut before each byte, and behind the last one.
+    /// And then with each sink cut before each byte, and behind the last one, by each number of bytes a write.
     Cut,
+    /// The same, where a write takes all that there is room for.
+    Ends,
     /// With a gate that holds the first script until the second one has entered.
     Held,
 }

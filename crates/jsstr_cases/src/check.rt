@@ -4,7 +4,7 @@ use crate::case::{Case, Way};
 use crate::cut::check_cut;
 use crate::gate::HoldsFirst;
 use crate::reading::{BadLine, cases_of};
-use crate::run::{AMPLE, run, run_on_a_heap};
+use crate::run::{AMPLE, ROOM, run, run_on_a_heap};
 use crate::tally::Tally;
 use crate::telling::tell;
 use anyhow::{Context, Error, Result, anyhow};
@@ -84,6 +84,7 @@ where
         Way::Once => check_once(rt, name, case),
         Way::Each { place, first, last } => check_each(rt, name, case, place, first, last),
         Way::Held => check_held(rt, name, case),
+        Way::Ends => Ok(check_once(rt, name, case)?.and(check_cut(rt, name, case, ROOM)?)),
         Way::Cut => {
             let mut tally = check_once(rt, name, case)?;
             for most in [1, 2, 3, 7] {

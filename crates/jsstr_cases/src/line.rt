@@ -1,6 +1,6 @@
 // The case of one line.
 
-use crate::case::{Case, Ending, FILE, Fault, Way};
+use crate::case::{Case, Ending, FILE, Fault, RUNNER, Way};
 use crate::spelling::{bytes_of, text_of};
 use js_io::MemFiles;
 use std::alloc::Global;
@@ -21,17 +21,17 @@ pub(crate) fn case_of(alloc: Global, line: usize, text: &str) -> Result<Case, Fa
     Ok(Case {
         line,
         files,
-        words: words(alloc)?,
+        words: words(alloc, RUNNER, FILE)?,
         way: Way::Once,
         wanted,
     })
 }
 
-/// The words that run the one file.
-pub(crate) fn words(alloc: Global) -> Result<Vec<String>, Fault> {
+/// The words that have the program take the one file.
+pub(crate) fn words(alloc: Global, program: &str, file: &str) -> Result<Vec<String>, Fault> {
     let mut words = Vec::new(alloc);
-    words.push(String::from_str(alloc, "jsstr")?)?;
-    words.push(String::from_str(alloc, FILE)?)?;
+    words.push(String::from_str(alloc, program)?)?;
+    words.push(String::from_str(alloc, file)?)?;
     Ok(words)
 }
 

@@ -53,7 +53,7 @@
 //!
 //! Its sections come in this order: `-- file NAME`, none or more; `-- fail N`, where the read of this
 //! number is to fail, counted from 0; `-- words WORD ..`, the words behind the program's name, with one
-//! blank between two (`-- words` alone: none; `-- no words`: not even that name); `-- cut` or `-- held`,
+//! blank between two (`-- words` alone: none; `-- no words`: not even that name); `-- cut`, `-- ends` or `-- held`,
 //! where the case is run so; `-- out` and `-- err` (left out: nothing); and the status. The lines below
 //! `file`, `out` and `err` are their bytes, each with its line feed; `-- fill SIZE` behind those of a file
 //! adds line feeds until it has so many bytes. With `@` before the section's name (`-- @file a.js`,
@@ -66,6 +66,11 @@
 //! wanted then follows: the first bytes, and the status 7 where files were run.
 //! With `-- held` a gate holds the first script until the second has entered, and the case differs where
 //! its turns run out.
+//!
+//! With `-- ends` the case is run again with sinks that take so many bytes alone, in one write.
+//!
+//! A block whose head is `== play: NAME` plays a schedule: its words are those of `jssched` and not of
+//! `jsstr`, and where it has none, `a.sched`.
 //!
 //! A word `FIRST..LAST` stands for each number from FIRST to LAST: the case is run once with each,
 //! and counts as so many. Where one of several endings may come, all but the last one end with

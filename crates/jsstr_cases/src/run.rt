@@ -1,6 +1,7 @@
 // A run of the program, on a heap and with sinks that suit a case.
 
-use crate::case::{Ending, Fault};
+use crate::case::{Ending, Fault, PLAYER};
+use heap_schedule::run_schedule;
 use js_io::{FreeGate, Gate, MemFiles, MemSink};
 use js_run::run_words;
 use std::alloc::Global;
@@ -48,16 +49,59 @@ where
     let most = room.most.max(1);
     let mut out = MemSink::new(alloc, most, room.out)?;
     let mut err = MemSink::new(alloc, most, room.err)?;
-    let status = run_words(rt, alloc, words, files, &mut out, &mut err, gate);
+    let status = if are_of_player(words) {
+        played(alloc, words, files, &mut out, &mut err)
+    } else {
+        ran(rt, words, files, &mut out, &mut err, gate)
+    };
     Ok(Ending {
-        status: status.code,
+        status,
         out: out.taken().to_vec(alloc)?,
         err: err.taken().to_vec(alloc)?,
     })
 }
 
-// Whether no word is an option.
+// The status with which the player of schedules ends.
+fn played(
+    alloc: Global,
+    words: &[String],
+    files: &mut MemFiles,
+    out: &mut MemSink,
+    err: &mut MemSink,
+) -> u8 {
+    run_schedule(alloc, words, files, out, err).code
+}
+
+// The status with which the program of scripts ends.
+fn ran<R, G>(
+    rt: &R,
+    words: &[String],
+    files: &mut MemFiles,
+    out: &mut MemSink,
+    err: &mut MemSink,
+    gate: &G,
+) -> u8
+where
+    R: AllocGlobal + Sync + Threads,
+    G: Gate + Sync,
+{
+    let status = run_words(rt, rt.alloc(), words, files, out, err, gate);
+    status.code
+}
+
+// Whether the words are those of the player of schedules.
+fn are_of_player(words: &[String]) -> bool {
+    match words.first() {
+        Some(name) => name.as_str() == PLAYER,
+        None => false,
+    }
+}
+
+// Whether scripts are run, and no word is an option.
 fn has_names_alone(words: &[String]) -> bool {
+    if are_of_player(words) {
+        return false;
+    }
     for word in words {
         if word.starts_with('-') {
             return false;

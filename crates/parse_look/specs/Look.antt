@@ -9,7 +9,7 @@ use Rattle.parse_syntax.specs.declared.token.Word.TheVariants as word
 use Rattle.eval_tree.specs.declared.tree.Op.{Op}
 use Rattle.eval_tree.specs.declared.tree.Builtin.{Builtin}
 use Rattle.eval_tree.specs.declared.tree.Builtin.TheVariants as builtin
-use Rattle.parse_syntax.specs.Terminals.{Ident, or_op, and_op, equal_op, compare_op, sum_op, else_word, if_word, string_word, symbol_word, json_word, uri_function, point, from_word, symbol_function, stringify_word, directive, let_word, const_word, print_word, for_word, opening, closing, close_bracket, open_brace, close_brace, comma, semicolon, colon, question, less, assign_mark, increment, nought}
+use Rattle.parse_syntax.specs.Terminals.{Ident, or_op, and_op, equal_op, compare_op, sum_op, else_word, if_word, string_word, symbol_word, json_word, object_word, uri_function, point, from_word, symbol_function, stringify_word, keys_word, directive, let_word, const_word, print_word, for_word, opening, closing, close_bracket, open_brace, close_brace, comma, semicolon, colon, question, less, assign_mark, increment, nought}
 use Rattle.parse_syntax.specs.Grammar.{pair_of}
 use Rattle.parse_look.specs.declared.look.Level.{Level}
 use Rattle.parse_look.specs.declared.look.Level.TheVariants as level
@@ -56,13 +56,15 @@ ident at n = record { at = at; number = n }
 -- what a primary of several tokens begins with
 abbrev pub opener_of : Token → Option Opener
 opener_of (token.Mark at mark.OpenParen l) = Some opener.Paren
-opener_of (token.Word at word.String) = Some opener.Builtin
-opener_of (token.Word at word.Symbol) = Some opener.Builtin
-opener_of (token.Word at word.Json) = Some opener.Builtin
-opener_of (token.Word at word.EncodeUri) = Some opener.Builtin
-opener_of (token.Word at word.EncodeUriComponent) = Some opener.Builtin
-opener_of (token.Word at word.DecodeUri) = Some opener.Builtin
-opener_of (token.Word at word.DecodeUriComponent) = Some opener.Builtin
+opener_of (token.Word at word.String number) = Some opener.Builtin
+opener_of (token.Word at word.Symbol number) = Some opener.Builtin
+opener_of (token.Word at word.Json number) = Some opener.Builtin
+opener_of (token.Word at word.Object number) = Some opener.Builtin
+opener_of (token.Mark at mark.OpenBrace l) = Some opener.Literal
+opener_of (token.Word at word.EncodeUri number) = Some opener.Builtin
+opener_of (token.Word at word.EncodeUriComponent number) = Some opener.Builtin
+opener_of (token.Word at word.DecodeUri number) = Some opener.Builtin
+opener_of (token.Word at word.DecodeUriComponent number) = Some opener.Builtin
 opener_of _ = None
 
 abbrev pub openers : List Token → Option Opener
@@ -80,5 +82,8 @@ read_symbol_called = and_then second_of (one_of point) (one_of symbol_function)
 abbrev pub read_json_called : Reader Token Builtin
 read_json_called = and_then second_of (one_of point) (one_of stringify_word)
 
+abbrev pub read_object_called : Reader Token Builtin
+read_object_called = and_then second_of (one_of point) (one_of keys_word)
+
 abbrev pub read_called : Reader Token (ℕ × Builtin)
-read_called = choose (heads string_word) (and_then pair_of (one_of string_word) read_string_called) (choose (heads symbol_word) (and_then pair_of (one_of symbol_word) read_symbol_called) (choose (heads json_word) (and_then pair_of (one_of json_word) read_json_called) (one_of uri_function)))
+read_called = choose (heads string_word) (and_then pair_of (one_of string_word) read_string_called) (choose (heads symbol_word) (and_then pair_of (one_of symbol_word) read_symbol_called) (choose (heads json_word) (and_then pair_of (one_of json_word) read_json_called) (choose (heads object_word) (and_then pair_of (one_of object_word) read_object_called) (one_of uri_function))))

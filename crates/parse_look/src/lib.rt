@@ -4,9 +4,11 @@
 
 mod fault;
 mod look;
+mod object;
 
 pub use fault::{Fault, refused, too_deep};
 pub use look::{
     Fixed, Ident, Level, Opener, assign_op, begins_step, behind, called, else_if, goes_on, header,
-    letters, member, method, name, next, next_opener, open_bracket, operator, sign, simple, take,
+    member, name, next, next_opener, open_bracket, operator, sign, simple, take,
 };
+pub use object::{key, letters, method, open_literal, property, property_word};

@@ -1,19 +1,21 @@
 // Looks at the next token.
-ghost use Rattle.std.specs.Prelude.{◌≡◌, [], ◌∷◌, ℕ, MatchOption, None, Some, IfOk, IfErr, false, true, get_or};
+ghost use Rattle.std.specs.Prelude.{◌≡◌, [], ◌∷◌, ℕ, MatchOption, None, Some, IfOk, IfErr, false, true};
 ghost use Rattle.parse_laws.specs.Reader.{Got, one_of, heads, heads_two};
 ghost use Rattle.eval_tree.specs.Tree.{expr_tree, step_tree};
+ghost use Rattle.parse_syntax.specs.Tables.{tables_of};
 ghost use Rattle.parse_syntax.specs.Terminals as terminals;
 ghost use Rattle.parse_syntax.specs.Terminals.{Ident, when};
 ghost use Rattle.parse_syntax.specs.declared.token.Token.TheVariants as token;
 ghost use Rattle.parse_syntax.specs.Reading.{step_mark, goes_on, read_header};
-ghost use Rattle.parse_look.specs.Look.{terminal, operators, openers, read_string_called, read_symbol_called, read_json_called, read_called, ident};
+ghost use Rattle.parse_look.specs.Look.{terminal, operators, openers, read_string_called, read_symbol_called, read_json_called, read_object_called, read_called, ident};
 ghost use Rattle.parse_look.specs.Gives.{Gives};
 
 use crate::fault::{Fault, refused};
-use eval_tree::{Builtin, Expr, Method, Name, Op, PostStep};
+use crate::object::letters;
+use eval_tree::{Builtin, Expr, Op, PostStep};
 use js_lex::Mark;
 use js_units::NoMemory;
-use parse_syntax::{Property, Token, Word};
+use parse_syntax::{Property, Tables, Token, Word};
 use std::alloc::Global;
 
 /// A word or mark that is nothing but itself.
@@ -85,7 +87,7 @@ fn is_mark(fixed: Fixed, mark: Mark, after_line: bool) -> bool
 }
 
 fn is_word(fixed: Fixed, word: Word) -> bool
-    ensures { (at : ℕ) → terminal fixed (token.Word at word) ≡ when result tt }
+    ensures { (at number : ℕ) → terminal fixed (token.Word at word number) ≡ when result tt }
 {
     match (fixed, word) {
         (Fixed::Let, Word::Let) => true,
@@ -216,16 +218,6 @@ pub fn operator(level: Level, tokens: &[Token]) -> Option<((u32, Op), &[Token])>
     }
 }
 
-/// The letters of a name by its number.
-pub fn letters(alloc: Global, names: &[Name], number: u32) -> Result<Name, NoMemory>
-    ensures { IfOk result (λ name. name ≡ get_or names.now number []) }
-{
-    match names.get(number as usize) {
-        Some(name) => name.copy(),
-        None => Ok(Name::new(Vec::new(alloc))),
-    }
-}
-
 fn constant(word: Word) -> Option<Expr>
     ensures { MatchOption result (terminals.constant word ≡ None)
         (λ found. terminals.constant word ≡ Some (expr_tree found)) }
@@ -244,20 +236,22 @@ fn constant(word: Word) -> Option<Expr>
 /// A token that is an expression alone.
 pub fn simple<'a>(
     alloc: Global,
-    names: &[Name],
+    tables: &Tables,
     tokens: &'a [Token],
 ) -> Result<Option<(Expr, &'a [Token])>, NoMemory>
-    ensures { IfOk result (λ found. MatchOption found (heads (terminals.simple names.now) tokens.now ≡ false)
-        (λ one. one_of (terminals.simple names.now) tokens.now ≡ Got (expr_tree one.0) one.1.now)) }
+    ensures { IfOk result (λ found.
+        MatchOption found (heads (terminals.simple (tables_of tables.now)) tokens.now ≡ false)
+        (λ one. one_of (terminals.simple (tables_of tables.now)) tokens.now
+        ≡ Got (expr_tree one.0) one.1.now)) }
 {
     let Some((token, rest)) = next(tokens) else {
         return Ok(None);
     };
     match token {
-        Token::Text { literal, .. } => Ok(Some((Expr::Literal { number: literal }, rest))),
+        Token::Text { number, .. } => Ok(Some((Expr::Literal { number }, rest))),
         Token::Number { value, .. } => Ok(Some((Expr::Number { value }, rest))),
         Token::Name { number, .. } => {
-            let name = letters(alloc, names, number)?;
+            let name = letters(alloc, tables, number)?;
             Ok(Some((Expr::Variable { name }, rest)))
         }
         Token::Word { word, .. } => match constant(word) {
@@ -273,6 +267,7 @@ pub fn simple<'a>(
 pub enum Opener {
     Paren,
     Builtin,
+    Literal,
 }
 
 pub fn next_opener(tokens: &[Token]) -> Option<Opener>
@@ -290,10 +285,20 @@ pub fn next_opener(tokens: &[Token]) -> Option<Opener>
         ) => Some(Opener::Paren),
         Some(
             (
+                Token::Mark {
+                    mark: Mark::OpenBrace,
+                    ..
+                },
+                _,
+            ),
+        ) => Some(Opener::Literal),
+        Some(
+            (
                 Token::Word {
                     word: Word::String
                     | Word::Symbol
                     | Word::Json
+                    | Word::Object
                     | Word::EncodeUri
                     | Word::EncodeUriComponent
                     | Word::DecodeUri
@@ -351,26 +356,6 @@ pub fn member(tokens: &[Token]) -> Option<(PostStep, &[Token])>
                 rest,
             ),
         ) => { Some((PostStep::Description, rest)) }
-        _ => None,
-    }
-}
-
-/// A method with its offset.
-pub fn method(tokens: &[Token]) -> Option<((u32, Method), &[Token])>
-    ensures { MatchOption result (heads terminals.method tokens.now ≡ false)
-        (λ found. one_of terminals.method tokens.now ≡ Got (found.0.0, found.0.1) found.1.now) }
-{
-    match next(tokens) {
-        Some(
-            (
-                Token::Name {
-                    at,
-                    property: Property::Method(method),
-                    ..
-                },
-                rest,
-            ),
-        ) => { Some(((at, method), rest)) }
         _ => None,
     }
 }
@@ -446,6 +431,23 @@ fn json_function(tokens: &[Token]) -> Result<(Builtin, &[Token]), Fault<'_>>
     }
 }
 
+fn object_function(tokens: &[Token]) -> Result<(Builtin, &[Token]), Fault<'_>>
+    ensures { Gives (λ found. found.0) (λ found. found.1.now) result (one_of terminals.keys_word tokens.now) }
+{
+    match next(tokens) {
+        Some(
+            (
+                Token::Name {
+                    property: Property::Keys,
+                    ..
+                },
+                rest,
+            ),
+        ) => { Ok((Builtin::Keys, rest)) }
+        _ => Err(refused(tokens)),
+    }
+}
+
 // String, and perhaps a point and a function of it.
 fn string_called(tokens: &[Token]) -> Result<(Builtin, &[Token]), Fault<'_>>
     ensures { Gives (λ found. found.0) (λ found. found.1.now) result (read_string_called tokens.now) }
@@ -470,12 +472,19 @@ fn json_called(tokens: &[Token]) -> Result<(Builtin, &[Token]), Fault<'_>>
     json_function(rest)
 }
 
+fn object_called(tokens: &[Token]) -> Result<(Builtin, &[Token]), Fault<'_>>
+    ensures { Gives (λ found. found.0) (λ found. found.1.now) result (read_object_called tokens.now) }
+{
+    let rest = take(tokens, Fixed::Point)?;
+    object_function(rest)
+}
+
 // A URI handling function.
 fn uri_function(tokens: &[Token]) -> Result<((u32, Builtin), &[Token]), Fault<'_>>
     ensures { Gives (λ found. (found.0.0, found.0.1)) (λ found. found.1.now) result
         (one_of terminals.uri_function tokens.now) }
 {
-    let Some((Token::Word { at, word }, rest)) = next(tokens) else {
+    let Some((Token::Word { at, word, .. }, rest)) = next(tokens) else {
         return Err(refused(tokens));
     };
     match word {
@@ -489,7 +498,7 @@ fn uri_function(tokens: &[Token]) -> Result<((u32, Builtin), &[Token]), Fault<'_
 
 /// The built-in function that is called, with the offset of its first word: `String`,
 /// `String . fromCharCode`, `String . fromCodePoint`, `Symbol . for`, `Symbol . keyFor`, `JSON . stringify`,
-/// or a URI handling function.
+/// `Object . keys`, or a URI handling function.
 pub fn called(tokens: &[Token]) -> Result<((u32, Builtin), &[Token]), Fault<'_>>
     ensures { Gives (λ found. (found.0.0, found.0.1)) (λ found. found.1.now) result (read_called tokens.now) }
 {
@@ -499,6 +508,7 @@ pub fn called(tokens: &[Token]) -> Result<((u32, Builtin), &[Token]), Fault<'_>>
                 Token::Word {
                     at,
                     word: Word::String,
+                    ..
                 },
                 rest,
             ),
@@ -511,6 +521,7 @@ pub fn called(tokens: &[Token]) -> Result<((u32, Builtin), &[Token]), Fault<'_>>
                 Token::Word {
                     at,
                     word: Word::Symbol,
+                    ..
                 },
                 rest,
             ),
@@ -523,11 +534,25 @@ pub fn called(tokens: &[Token]) -> Result<((u32, Builtin), &[Token]), Fault<'_>>
                 Token::Word {
                     at,
                     word: Word::Json,
+                    ..
                 },
                 rest,
             ),
         ) => {
             let (which, rest) = json_called(rest)?;
+            Ok(((at, which), rest))
+        }
+        Some(
+            (
+                Token::Word {
+                    at,
+                    word: Word::Object,
+                    ..
+                },
+                rest,
+            ),
+        ) => {
+            let (which, rest) = object_called(rest)?;
             Ok(((at, which), rest))
         }
         _ => uri_function(tokens),

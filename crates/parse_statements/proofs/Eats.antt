@@ -1,5 +1,5 @@
 -- What the parser's loops read is something.
-use Rattle.std.proofs.Common.{ℕ, zero, suc, List}
+use Rattle.std.proofs.Common.{ℕ, zero, suc}
 use Rattle.parse_laws.specs.Lang.{Lang, Never, second_of}
 use Rattle.parse_laws.specs.Reader.{Answer, Kind, wrong, and_then, one_of}
 use Rattle.parse_laws.proofs.Local.{IsEating}
@@ -7,6 +7,7 @@ use Rattle.parse_laws.proofs.Part.{Rooms, same_room, same_end, eats_by}
 use Rattle.parse_laws.proofs.Heads.{begins_length}
 use Rattle.parse_laws.proofs.Loops.{then_eats}
 use Rattle.parse_syntax.specs.declared.token.Token.{Token}
+use Rattle.parse_syntax.specs.Tables.{Tables}
 use Rattle.eval_tree.specs.Tree.{ExprTree}
 use Rattle.parse_syntax.specs.Terminals.{comma}
 use Rattle.parse_syntax.specs.Grammar.{Which, Whole, Operand, link_of, within_room}
@@ -21,45 +22,45 @@ use Rattle.parse_statements.specs.At.{has_room, inner, step_at, operand_at}
 abbrev pub Any : Kind → Type 0
 Any k = Unit {0}
 
-module _ (names : List (List ℕ)) where
-  inner_eats : (n : ℕ) → IsEating (inner names n Whole)
+module _ (tables : Tables) where
+  pub inner_eats : (n : ℕ) → IsEating (inner tables n Whole)
   inner_eats zero = record { less = λ s x rest e. let q : Answer Token ExprTree = wrong s in cc }
-  inner_eats (suc n) = let l = same_expressions names Any n in eats_by l.whole.lawful (λ ts x h. begins_length begins_unary ts (l.starts.by ts x h))
+  inner_eats (suc n) = let l = same_expressions tables Any n in eats_by l.whole.lawful (λ ts x h. begins_length begins_unary ts (l.starts.by ts x h))
 
-  pub item_eats : (n : ℕ) → IsEating (and_then second_of (one_of comma) (inner names n Whole))
-  item_eats n = then_eats second_of comma (inner names n Whole) (inner_eats n)
+  pub item_eats : (n : ℕ) → IsEating (and_then second_of (one_of comma) (inner tables n Whole))
+  item_eats n = then_eats second_of comma (inner tables n Whole) (inner_eats n)
 
   -- what an expression and an operand are where one more is open
   abbrev below : ℕ → Which → Lang Token ExprTree
   below zero w = Never
-  below (suc n) w = within_room names n w
+  below (suc n) w = within_room tables n w
 
-  here : (n : ℕ) → Inner Any (has_room n) (below n Whole) (below n Operand) (within_room names n Whole) (within_room names n Operand) (inner names n Whole) (inner names n Operand) (inner names n Whole) (inner names n Operand)
-  here zero = lowest names Any wrong wrong
-  here (suc n) = inner_levels names Any n n (same_expressions names Any n)
+  here : (n : ℕ) → Inner Any (has_room n) (below n Whole) (below n Operand) (within_room tables n Whole) (within_room tables n Operand) (inner tables n Whole) (inner tables n Operand) (inner tables n Whole) (inner tables n Operand)
+  here zero = lowest tables Any wrong wrong
+  here (suc n) = inner_levels tables Any n n (same_expressions tables Any n)
 
   rooms : (n : ℕ) → Rooms Any (has_room n) (has_room n)
   rooms zero = same_end
   rooms (suc n) = same_room
 
   module _ (n : ℕ) where
-    pub step_eats : IsEating (step_at names n)
+    pub step_eats : IsEating (step_at tables n)
     unfolding step_at
-    step_eats = eats_by (step_part Any names (has_room n) (has_room n) (rooms n) (below n Whole) (below n Operand) (within_room names n Whole) (within_room names n Operand) (inner names n Whole) (inner names n Operand) (inner names n Whole) (inner names n Operand) (here n)).lawful
-        (λ ts x h. begins_length is_step ts ((step_starts Any names (has_room n) (has_room n) (rooms n) (below n Whole) (below n Operand) (within_room names n Whole) (within_room names n Operand) (inner names n Whole) (inner names n Operand) (inner names n Whole) (inner names n Operand) (here n)).by ts x h))
+    step_eats = eats_by (step_part Any tables (has_room n) (has_room n) (rooms n) (below n Whole) (below n Operand) (within_room tables n Whole) (within_room tables n Operand) (inner tables n Whole) (inner tables n Operand) (inner tables n Whole) (inner tables n Operand) (here n)).lawful
+        (λ ts x h. begins_length is_step ts ((step_starts Any tables (has_room n) (has_room n) (rooms n) (below n Whole) (below n Operand) (within_room tables n Whole) (within_room tables n Operand) (inner tables n Whole) (inner tables n Operand) (inner tables n Whole) (inner tables n Operand) (here n)).by ts x h))
 
-    operand_eats : (level : Level) → IsEating (operand_at names n level)
+    operand_eats : (level : Level) → IsEating (operand_at tables n level)
     unfolding operand_at
-    operand_eats level.Sum = eats_by (unary_part Any names (has_room n) (has_room n) (rooms n) (below n Whole) (below n Operand) (within_room names n Whole) (within_room names n Operand) (inner names n Whole) (inner names n Operand) (inner names n Whole) (inner names n Operand) (here n)).lawful
-        (λ ts x h. begins_length begins_unary ts ((unary_starts Any names (has_room n) (has_room n) (rooms n) (below n Whole) (below n Operand) (within_room names n Whole) (within_room names n Operand) (inner names n Whole) (inner names n Operand) (inner names n Whole) (inner names n Operand) (here n)).by ts x h))
-    operand_eats level.Compare = eats_by (sum_part Any names (has_room n) (has_room n) (rooms n) (below n Whole) (below n Operand) (within_room names n Whole) (within_room names n Operand) (inner names n Whole) (inner names n Operand) (inner names n Whole) (inner names n Operand) (here n)).lawful
-        (λ ts x h. begins_length begins_unary ts ((sum_starts Any names (has_room n) (has_room n) (rooms n) (below n Whole) (below n Operand) (within_room names n Whole) (within_room names n Operand) (inner names n Whole) (inner names n Operand) (inner names n Whole) (inner names n Operand) (here n)).by ts x h))
-    operand_eats level.Equal = eats_by (comparison_part Any names (has_room n) (has_room n) (rooms n) (below n Whole) (below n Operand) (within_room names n Whole) (within_room names n Operand) (inner names n Whole) (inner names n Operand) (inner names n Whole) (inner names n Operand) (here n)).lawful
-        (λ ts x h. begins_length begins_unary ts ((comparison_starts Any names (has_room n) (has_room n) (rooms n) (below n Whole) (below n Operand) (within_room names n Whole) (within_room names n Operand) (inner names n Whole) (inner names n Operand) (inner names n Whole) (inner names n Operand) (here n)).by ts x h))
-    operand_eats level.And = eats_by (equality_part Any names (has_room n) (has_room n) (rooms n) (below n Whole) (below n Operand) (within_room names n Whole) (within_room names n Operand) (inner names n Whole) (inner names n Operand) (inner names n Whole) (inner names n Operand) (here n)).lawful
-        (λ ts x h. begins_length begins_unary ts ((equality_starts Any names (has_room n) (has_room n) (rooms n) (below n Whole) (below n Operand) (within_room names n Whole) (within_room names n Operand) (inner names n Whole) (inner names n Operand) (inner names n Whole) (inner names n Operand) (here n)).by ts x h))
-    operand_eats level.Or = eats_by (conjunction_part Any names (has_room n) (has_room n) (rooms n) (below n Whole) (below n Operand) (within_room names n Whole) (within_room names n Operand) (inner names n Whole) (inner names n Operand) (inner names n Whole) (inner names n Operand) (here n)).lawful
-        (λ ts x h. begins_length begins_unary ts ((conjunction_starts Any names (has_room n) (has_room n) (rooms n) (below n Whole) (below n Operand) (within_room names n Whole) (within_room names n Operand) (inner names n Whole) (inner names n Operand) (inner names n Whole) (inner names n Operand) (here n)).by ts x h))
+    operand_eats level.Sum = eats_by (unary_part Any tables (has_room n) (has_room n) (rooms n) (below n Whole) (below n Operand) (within_room tables n Whole) (within_room tables n Operand) (inner tables n Whole) (inner tables n Operand) (inner tables n Whole) (inner tables n Operand) (here n)).lawful
+        (λ ts x h. begins_length begins_unary ts ((unary_starts Any tables (has_room n) (has_room n) (rooms n) (below n Whole) (below n Operand) (within_room tables n Whole) (within_room tables n Operand) (inner tables n Whole) (inner tables n Operand) (inner tables n Whole) (inner tables n Operand) (here n)).by ts x h))
+    operand_eats level.Compare = eats_by (sum_part Any tables (has_room n) (has_room n) (rooms n) (below n Whole) (below n Operand) (within_room tables n Whole) (within_room tables n Operand) (inner tables n Whole) (inner tables n Operand) (inner tables n Whole) (inner tables n Operand) (here n)).lawful
+        (λ ts x h. begins_length begins_unary ts ((sum_starts Any tables (has_room n) (has_room n) (rooms n) (below n Whole) (below n Operand) (within_room tables n Whole) (within_room tables n Operand) (inner tables n Whole) (inner tables n Operand) (inner tables n Whole) (inner tables n Operand) (here n)).by ts x h))
+    operand_eats level.Equal = eats_by (comparison_part Any tables (has_room n) (has_room n) (rooms n) (below n Whole) (below n Operand) (within_room tables n Whole) (within_room tables n Operand) (inner tables n Whole) (inner tables n Operand) (inner tables n Whole) (inner tables n Operand) (here n)).lawful
+        (λ ts x h. begins_length begins_unary ts ((comparison_starts Any tables (has_room n) (has_room n) (rooms n) (below n Whole) (below n Operand) (within_room tables n Whole) (within_room tables n Operand) (inner tables n Whole) (inner tables n Operand) (inner tables n Whole) (inner tables n Operand) (here n)).by ts x h))
+    operand_eats level.And = eats_by (equality_part Any tables (has_room n) (has_room n) (rooms n) (below n Whole) (below n Operand) (within_room tables n Whole) (within_room tables n Operand) (inner tables n Whole) (inner tables n Operand) (inner tables n Whole) (inner tables n Operand) (here n)).lawful
+        (λ ts x h. begins_length begins_unary ts ((equality_starts Any tables (has_room n) (has_room n) (rooms n) (below n Whole) (below n Operand) (within_room tables n Whole) (within_room tables n Operand) (inner tables n Whole) (inner tables n Operand) (inner tables n Whole) (inner tables n Operand) (here n)).by ts x h))
+    operand_eats level.Or = eats_by (conjunction_part Any tables (has_room n) (has_room n) (rooms n) (below n Whole) (below n Operand) (within_room tables n Whole) (within_room tables n Operand) (inner tables n Whole) (inner tables n Operand) (inner tables n Whole) (inner tables n Operand) (here n)).lawful
+        (λ ts x h. begins_length begins_unary ts ((conjunction_starts Any tables (has_room n) (has_room n) (rooms n) (below n Whole) (below n Operand) (within_room tables n Whole) (within_room tables n Operand) (inner tables n Whole) (inner tables n Operand) (inner tables n Whole) (inner tables n Operand) (here n)).by ts x h))
 
-    pub link_eats : (level : Level) → IsEating (and_then link_of (one_of (operators level)) (operand_at names n level))
-    link_eats level = then_eats link_of (operators level) (operand_at names n level) (operand_eats level)
+    pub link_eats : (level : Level) → IsEating (and_then link_of (one_of (operators level)) (operand_at tables n level))
+    link_eats level = then_eats link_of (operators level) (operand_at tables n level) (operand_eats level)

@@ -2,6 +2,7 @@ pub mod Rooms
 pub mod Eats
 pub mod Turns
 pub mod Parts
+pub mod Members
 pub mod OwnNames
 pub mod Lines
 pub mod Lists

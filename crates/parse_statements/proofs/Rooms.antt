@@ -5,6 +5,7 @@ use Rattle.parse_laws.specs.Lang.{first_of, second_of}
 use Rattle.parse_laws.specs.Reader.{Answer, Got, Bad, Wrong, Reader, ◌>>=◌, wrong, too_deep, and_then, map_by, take_or, one_of, choose, opens, heads, is_some}
 use Rattle.parse_laws.proofs.Part.{then_strict}
 use Rattle.parse_syntax.specs.declared.token.Token.{Token}
+use Rattle.parse_syntax.specs.Tables.{Tables}
 use Rattle.parse_syntax.specs.declared.token.Token.TheVariants as token
 use Rattle.parse_syntax.specs.declared.token.Word.TheVariants as word
 use Rattle.parse_syntax.specs.declared.token.Property.TheVariants as property
@@ -13,14 +14,14 @@ use Rattle.eval_tree.specs.declared.tree.Builtin.{Builtin}
 use Rattle.eval_tree.specs.declared.tree.Builtin.TheVariants as builtin
 use Rattle.eval_tree.specs.Tree as tree
 use Rattle.eval_tree.specs.Tree.{ExprTree, StepTree}
-use Rattle.parse_syntax.specs.Terminals.{member_word, method, opening, closing, open_bracket, close_bracket, point, question, colon, sign, simple, string_word, symbol_word, json_word, uri_function, from_word, symbol_function, stringify_word}
-use Rattle.parse_syntax.specs.Grammar.{Whole, Operand, pair_of, single_of, plain_string, builtin_of, uri_of, call_of, index_of, unary_of, branches_of, cond_of}
-use Rattle.parse_syntax.specs.Reading.{read_within, read_parens, read_args, read_index, read_uri}
+use Rattle.parse_syntax.specs.Terminals.{member_word, property_word, method, key, opening, closing, open_bracket, close_bracket, open_literal, point, question, colon, sign, simple, string_word, symbol_word, json_word, object_word, uri_function, from_word, symbol_function, stringify_word, keys_word}
+use Rattle.parse_syntax.specs.Grammar.{Whole, Operand, pair_of, single_of, plain_string, builtin_of, uri_of, object_of, method_of, index_of, unary_of, branches_of, cond_of}
+use Rattle.parse_syntax.specs.Reading.{read_within, read_parens, read_args, read_index, read_members, read_literal, read_method_args, read_word}
 use Rattle.parse_look.specs.declared.look.Level.TheVariants as level
 use Rattle.parse_look.specs.declared.look.Opener.{Opener}
 use Rattle.parse_look.specs.declared.look.Opener.TheVariants as opener
 use Rattle.parse_look.specs.Look.{openers, read_string_called, read_called}
-use Rattle.parse_statements.specs.At.{has_room, inner, parens_at, args_at, given_at, builtin_at, primary_at, member_at, step_at, post_at, unary_at, chain_at, branches_at, expression_at}
+use Rattle.parse_statements.specs.At.{has_room, inner, parens_at, args_at, given_at, builtin_at, entry_at, members_at, literal_at, primary_at, member_at, step_at, post_at, unary_at, chain_at, branches_at, expression_at}
 
 -- answers
 
@@ -71,28 +72,38 @@ no_opening (_ ∷ s) o = refl
 
 no_string : (s : List Token) → openers s ≡ None → heads string_word s ≡ false
 no_string [] o = refl
-no_string (token.Word at word.String ∷ s) o = cc
+no_string (token.Word at word.String number ∷ s) o = cc
 no_string (_ ∷ s) o = refl
 
 no_symbol : (s : List Token) → openers s ≡ None → heads symbol_word s ≡ false
 no_symbol [] o = refl
-no_symbol (token.Word at word.Symbol ∷ s) o = cc
+no_symbol (token.Word at word.Symbol number ∷ s) o = cc
 no_symbol (_ ∷ s) o = refl
 
 no_json : (s : List Token) → openers s ≡ None → heads json_word s ≡ false
 no_json [] o = refl
-no_json (token.Word at word.Json ∷ s) o = cc
+no_json (token.Word at word.Json number ∷ s) o = cc
 no_json (_ ∷ s) o = refl
 
 no_uri : (s : List Token) → openers s ≡ None → heads uri_function s ≡ false
 no_uri [] o = refl
-no_uri (token.Word at word.EncodeUri ∷ s) o = cc
-no_uri (token.Word at word.EncodeUriComponent ∷ s) o = cc
-no_uri (token.Word at word.DecodeUri ∷ s) o = cc
-no_uri (token.Word at word.DecodeUriComponent ∷ s) o = cc
+no_uri (token.Word at word.EncodeUri number ∷ s) o = cc
+no_uri (token.Word at word.EncodeUriComponent number ∷ s) o = cc
+no_uri (token.Word at word.DecodeUri number ∷ s) o = cc
+no_uri (token.Word at word.DecodeUriComponent number ∷ s) o = cc
 no_uri (_ ∷ s) o = refl
 
--- the functions of String and Symbol have any number of arguments
+no_object : (s : List Token) → openers s ≡ None → heads object_word s ≡ false
+no_object [] o = refl
+no_object (token.Word at word.Object number ∷ s) o = cc
+no_object (_ ∷ s) o = refl
+
+no_literal : (s : List Token) → openers s ≡ None → heads open_literal s ≡ false
+no_literal [] o = refl
+no_literal (token.Mark at mark.OpenBrace l ∷ s) o = cc
+no_literal (_ ∷ s) o = refl
+
+-- the functions of String, Symbol and Object have any number of arguments
 
 from_plain : (s r : List Token) (w : Builtin) → one_of from_word s ≡ Got w r → w ≡ builtin.Stringify → ⊥
 from_plain [] r w e = cc
@@ -102,62 +113,67 @@ from_plain (_ ∷ s) r w e = cc
 
 symbol_plain : (s r : List Token) (w : Builtin) → one_of symbol_function s ≡ Got w r → w ≡ builtin.Stringify → ⊥
 symbol_plain [] r w e = cc
-symbol_plain (token.Word at word.For ∷ s) r w e = λ h. let q : builtin.SymbolFor ≡ w = cc in let z : builtin.SymbolFor ≡ builtin.Stringify = q ∙ h in cc
+symbol_plain (token.Word at word.For number ∷ s) r w e = λ h. let q : builtin.SymbolFor ≡ w = cc in let z : builtin.SymbolFor ≡ builtin.Stringify = q ∙ h in cc
 symbol_plain (token.Name at n property.KeyFor ∷ s) r w e = λ h. let q : builtin.KeyFor ≡ w = cc in let z : builtin.KeyFor ≡ builtin.Stringify = q ∙ h in cc
 symbol_plain (_ ∷ s) r w e = cc
+
+keys_plain : (s r : List Token) (w : Builtin) → one_of keys_word s ≡ Got w r → w ≡ builtin.Stringify → ⊥
+keys_plain [] r w e = cc
+keys_plain (token.Name at n property.Keys ∷ s) r w e = λ h. let q : builtin.Keys ≡ w = cc in let z : builtin.Keys ≡ builtin.Stringify = q ∙ h in cc
+keys_plain (_ ∷ s) r w e = cc
 
 json_one : (s r : List Token) (w : Builtin) → one_of stringify_word s ≡ Got w r → w ≡ builtin.Stringify
 json_one [] r w e = cc
 json_one (token.Name at n property.Stringify ∷ s) r w e = let q : builtin.Stringify ≡ w = cc in sym q
 json_one (_ ∷ s) r w e = cc
 
-module _ (names : List (List ℕ)) where
-  whole_is : (n : ℕ) → read_within names n Whole ≡ expression_at names n
+module _ (tables : Tables) where
+  whole_is : (n : ℕ) → read_within tables n Whole ≡ expression_at tables n
   unfolding expression_at
   whole_is zero = refl
   whole_is (suc n) = refl
 
-  operand_is : (n : ℕ) → read_within names n Operand ≡ unary_at names n
+  operand_is : (n : ℕ) → read_within tables n Operand ≡ unary_at tables n
   unfolding unary_at
   operand_is zero = refl
   operand_is (suc n) = refl
 
-  pub inner_whole : (n : ℕ) → 0 < n → inner names n Whole ≡ expression_at names (n - 1)
+  pub inner_whole : (n : ℕ) → 0 < n → inner tables n Whole ≡ expression_at tables (n - 1)
   inner_whole zero h = absurd (omega arith)
-  inner_whole (suc n) h = subst (λ m. read_within names n Whole ≡ expression_at names m) (sym (less_one n)) (whole_is n)
+  inner_whole (suc n) h = subst (λ m. read_within tables n Whole ≡ expression_at tables m) (sym (less_one n)) (whole_is n)
 
-  pub inner_operand : (n : ℕ) → 0 < n → inner names n Operand ≡ unary_at names (n - 1)
+  pub inner_operand : (n : ℕ) → 0 < n → inner tables n Operand ≡ unary_at tables (n - 1)
   inner_operand zero h = absurd (omega arith)
-  inner_operand (suc n) h = subst (λ m. read_within names n Operand ≡ unary_at names m) (sym (less_one n)) (operand_is n)
+  inner_operand (suc n) h = subst (λ m. read_within tables n Operand ≡ unary_at tables m) (sym (less_one n)) (operand_is n)
 
-  pub parens_is : (n : ℕ) (s : List Token) → 0 < n → parens_at names n s ≡ (one_of opening s >>= λ _ r. expression_at names (n - 1) r >>= λ x r. one_of closing r >>= λ _ r. Got x r)
+  pub parens_is : (n : ℕ) (s : List Token) → 0 < n → parens_at tables n s ≡ (one_of opening s >>= λ _ r. expression_at tables (n - 1) r >>= λ x r. one_of closing r >>= λ _ r. Got x r)
   unfolding parens_at
-  parens_is n s h = word_then opening (and_then first_of (inner names n Whole) (one_of closing)) s ∙ ap (λ q. one_of opening s >>= λ _ r. q r >>= λ x r. one_of closing r >>= λ _ r. Got x r) (inner_whole n h)
+  parens_is n s h = word_then opening (and_then first_of (inner tables n Whole) (one_of closing)) s ∙ ap (λ q. one_of opening s >>= λ _ r. q r >>= λ x r. one_of closing r >>= λ _ r. Got x r) (inner_whole n h)
 
   -- built-in functions
 
-  pub given_args : (n : ℕ) (w : Builtin) (s : List Token) → (w ≡ builtin.Stringify → ⊥) → given_at names n w s ≡ args_at names n s
+  pub given_args : (n : ℕ) (w : Builtin) (s : List Token) → (w ≡ builtin.Stringify → ⊥) → given_at tables n w s ≡ args_at tables n s
   unfolding given_at args_at
   given_args n builtin.Stringify s h = absurd (h refl)
   given_args n _ s h = refl
 
-  pub given_one : (n : ℕ) (w : Builtin) (s : List Token) → w ≡ builtin.Stringify → given_at names n w s ≡ (parens_at names n s >>= λ x r. Got (x ∷ []) r)
+  pub given_one : (n : ℕ) (w : Builtin) (s : List Token) → w ≡ builtin.Stringify → given_at tables n w s ≡ (parens_at tables n s >>= λ x r. Got (x ∷ []) r)
   unfolding given_at parens_at
   given_one n w s h = rw h refl
 
   -- what is called, with its arguments
   abbrev calling : ℕ → ℕ → Builtin → List Token → Answer Token ExprTree
-  calling n at w r = given_at names n w r >>= λ ts r'. Got (builtin_of at (w, ts)) r'
+  calling n at w r = given_at tables n w r >>= λ ts r'. Got (builtin_of at (w, ts)) r'
 
-  plain_call : (n at : ℕ) (s : List Token) → (map_by plain_string (read_args (inner names n Whole)) s >>= λ p r. Got (builtin_of at p) r) ≡ calling n at builtin.String s
+  plain_call : (n at : ℕ) (s : List Token) → (map_by plain_string (read_args (inner tables n Whole)) s >>= λ p r. Got (builtin_of at p) r) ≡ calling n at builtin.String s
   unfolding given_at
-  plain_call n at s = bind_bind (read_args (inner names n Whole) s) (λ ts r. Got (plain_string ts) r) (λ p r. Got (builtin_of at p) r)
+  plain_call n at s = bind_bind (read_args (inner tables n Whole) s) (λ ts r. Got (plain_string ts) r) (λ p r. Got (builtin_of at p) r)
 
   -- a function behind a point, where its arguments are read by a
-  function_call : (n at : ℕ) (v : Token → Option Builtin) (a : Reader Token (List ExprTree)) (r : List Token) → ((w : Builtin) (r' : List Token) → one_of v r ≡ Got w r' → a r' ≡ given_at names n w r') → (and_then pair_of (one_of v) a r >>= λ p r. Got (builtin_of at p) r) ≡ (one_of v r >>= λ w r'. calling n at w r')
+  function_call : (n at : ℕ) (v : Token → Option Builtin) (a : Reader Token (List ExprTree)) (r : List Token) → ((w : Builtin) (r' : List Token) → one_of v r ≡ Got w r' → a r' ≡ given_at tables n w r') → (and_then pair_of (one_of v) a r >>= λ p r. Got (builtin_of at p) r) ≡ (one_of v r >>= λ w r'. calling n at w r')
   function_call n at v a r h = go (one_of v r) refl
     where
-      args : (w : Builtin) (r' : List Token) → a r' ≡ given_at names n w r' → ((a r' >>= λ ts r''. Got (pair_of w ts) r'') >>= λ p r. Got (builtin_of at p) r) ≡ calling n at w r'
+      args : (w : Builtin) (r' : List Token) → a r' ≡ given_at tables n w r' → ((a r' >>= λ ts r''. Got (pair_of w ts) r'') >>= λ p r. Got (builtin_of at p) r) ≡ calling n at w r'
       args w r' e = bind_bind (a r') (λ ts r''. Got (pair_of w ts) r'') (λ p r. Got (builtin_of at p) r) ∙ ap (λ q. q >>= λ ts r''. Got (builtin_of at (w, ts)) r'') e
 
       go : (b : Answer Token Builtin) → one_of v r ≡ b → ((b >>= λ w r'. a r' >>= λ ts r''. Got (pair_of w ts) r'') >>= λ p r. Got (builtin_of at p) r) ≡ (b >>= λ w r'. calling n at w r')
@@ -167,24 +183,24 @@ module _ (names : List (List ℕ)) where
   behind : {A : Type 0} (s : List Token) (q : Reader Token A) (g : A → List Token → Answer Token ExprTree) → (and_then second_of (one_of point) q s >>= g) ≡ (one_of point s >>= λ _ r. q r >>= g)
   behind s q g = ap (λ a. a >>= g) (word_then point q s) ∙ bind_bind (one_of point s) (λ _ r. q r) g
 
-  given_plain : (n : ℕ) (w : Builtin) (r : List Token) → (w ≡ builtin.Stringify → ⊥) → read_args (inner names n Whole) r ≡ given_at names n w r
+  given_plain : (n : ℕ) (w : Builtin) (r : List Token) → (w ≡ builtin.Stringify → ⊥) → read_args (inner tables n Whole) r ≡ given_at tables n w r
   unfolding args_at
   given_plain n w r h = sym (given_args n w r h)
 
-  given_single : (n : ℕ) (w : Builtin) (r : List Token) → w ≡ builtin.Stringify → map_by single_of (read_parens (inner names n Whole)) r ≡ given_at names n w r
+  given_single : (n : ℕ) (w : Builtin) (r : List Token) → w ≡ builtin.Stringify → map_by single_of (read_parens (inner tables n Whole)) r ≡ given_at tables n w r
   unfolding given_at
   given_single n w r h = rw h refl
 
   -- so have the URI handling functions
-  uri_call : (n at : ℕ) (w : Builtin) (s : List Token) → (w ≡ builtin.Stringify → ⊥) → (read_args (inner names n Whole) s >>= λ ts r. Got (uri_of (at, w) ts) r) ≡ calling n at w s
+  uri_call : (n at : ℕ) (w : Builtin) (s : List Token) → (w ≡ builtin.Stringify → ⊥) → (read_args (inner tables n Whole) s >>= λ ts r. Got (uri_of (at, w) ts) r) ≡ calling n at w s
   uri_call n at w s h = ap (λ a. a >>= λ ts r. Got (uri_of (at, w) ts) r) (given_plain n w s h)
 
-  string_call : (n at : ℕ) (s : List Token) → (choose (heads point) (and_then second_of (one_of point) (and_then pair_of (one_of from_word) (read_args (inner names n Whole)))) (map_by plain_string (read_args (inner names n Whole))) s >>= λ p r. Got (builtin_of at p) r) ≡ (read_string_called s >>= λ w r. calling n at w r)
+  string_call : (n at : ℕ) (s : List Token) → (choose (heads point) (and_then second_of (one_of point) (and_then pair_of (one_of from_word) (read_args (inner tables n Whole)))) (map_by plain_string (read_args (inner tables n Whole))) s >>= λ p r. Got (builtin_of at p) r) ≡ (read_string_called s >>= λ w r. calling n at w r)
   string_call n at s = go (heads point s) refl
     where
-      go : (b : Bool) → heads point s ≡ b → (choose (heads point) (and_then second_of (one_of point) (and_then pair_of (one_of from_word) (read_args (inner names n Whole)))) (map_by plain_string (read_args (inner names n Whole))) s >>= λ p r. Got (builtin_of at p) r) ≡ (read_string_called s >>= λ w r. calling n at w r)
-      go true h = rw h (behind s (and_then pair_of (one_of from_word) (read_args (inner names n Whole))) (λ p r. Got (builtin_of at p) r)
-          ∙ ap (λ f. one_of point s >>= f) (λ i _ r. function_call n at from_word (read_args (inner names n Whole)) r (λ w r' e. given_plain n w r' (from_plain r r' w e)) i)
+      go : (b : Bool) → heads point s ≡ b → (choose (heads point) (and_then second_of (one_of point) (and_then pair_of (one_of from_word) (read_args (inner tables n Whole)))) (map_by plain_string (read_args (inner tables n Whole))) s >>= λ p r. Got (builtin_of at p) r) ≡ (read_string_called s >>= λ w r. calling n at w r)
+      go true h = rw h (behind s (and_then pair_of (one_of from_word) (read_args (inner tables n Whole))) (λ p r. Got (builtin_of at p) r)
+          ∙ ap (λ f. one_of point s >>= f) (λ i _ r. function_call n at from_word (read_args (inner tables n Whole)) r (λ w r' e. given_plain n w r' (from_plain r r' w e)) i)
           ∙ sym (behind s (one_of from_word) (λ w r. calling n at w r)))
       go false h = rw h (plain_call n at s)
 
@@ -192,106 +208,175 @@ module _ (names : List (List ℕ)) where
   paired at (Got w r) g = refl
   paired at (Bad k r) g = refl
 
-  pub builtin_is : (n : ℕ) (s : List Token) → builtin_at names n s ≡ (read_called s >>= λ c r. given_at names n c.1 r >>= λ ts r'. Got (builtin_of c.0 (c.1, ts)) r')
+  pub builtin_is : (n : ℕ) (s : List Token) → builtin_at tables n s ≡ (read_called s >>= λ c r. given_at tables n c.1 r >>= λ ts r'. Got (builtin_of c.0 (c.1, ts)) r')
   unfolding builtin_at
   builtin_is n [] = refl
-  builtin_is n (token.Word at word.String ∷ s) = string_call n at s ∙ sym (paired at (read_string_called s) (λ c r. calling n c.0 c.1 r))
-  builtin_is n (token.Word at word.Symbol ∷ s) =
-      behind s (and_then pair_of (one_of symbol_function) (read_args (inner names n Whole))) (λ p r. Got (builtin_of at p) r)
-      ∙ ap (λ f. one_of point s >>= f) (λ i _ r. function_call n at symbol_function (read_args (inner names n Whole)) r (λ w r' e. given_plain n w r' (symbol_plain r r' w e)) i)
+  builtin_is n (token.Word at word.String number ∷ s) = string_call n at s ∙ sym (paired at (read_string_called s) (λ c r. calling n c.0 c.1 r))
+  builtin_is n (token.Word at word.Symbol number ∷ s) =
+      behind s (and_then pair_of (one_of symbol_function) (read_args (inner tables n Whole))) (λ p r. Got (builtin_of at p) r)
+      ∙ ap (λ f. one_of point s >>= f) (λ i _ r. function_call n at symbol_function (read_args (inner tables n Whole)) r (λ w r' e. given_plain n w r' (symbol_plain r r' w e)) i)
       ∙ sym (behind s (one_of symbol_function) (λ w r. calling n at w r))
       ∙ sym (paired at (and_then second_of (one_of point) (one_of symbol_function) s) (λ c r. calling n c.0 c.1 r))
-  builtin_is n (token.Word at word.Json ∷ s) =
-      behind s (and_then pair_of (one_of stringify_word) (map_by single_of (read_parens (inner names n Whole)))) (λ p r. Got (builtin_of at p) r)
-      ∙ ap (λ f. one_of point s >>= f) (λ i _ r. function_call n at stringify_word (map_by single_of (read_parens (inner names n Whole))) r (λ w r' e. given_single n w r' (json_one r r' w e)) i)
+  builtin_is n (token.Word at word.Json number ∷ s) =
+      behind s (and_then pair_of (one_of stringify_word) (map_by single_of (read_parens (inner tables n Whole)))) (λ p r. Got (builtin_of at p) r)
+      ∙ ap (λ f. one_of point s >>= f) (λ i _ r. function_call n at stringify_word (map_by single_of (read_parens (inner tables n Whole))) r (λ w r' e. given_single n w r' (json_one r r' w e)) i)
       ∙ sym (behind s (one_of stringify_word) (λ w r. calling n at w r))
       ∙ sym (paired at (and_then second_of (one_of point) (one_of stringify_word) s) (λ c r. calling n c.0 c.1 r))
-  builtin_is n (token.Word at word.EncodeUri ∷ s) = uri_call n at builtin.EncodeUri s (λ h. cc)
-  builtin_is n (token.Word at word.EncodeUriComponent ∷ s) = uri_call n at builtin.EncodeUriComponent s (λ h. cc)
-  builtin_is n (token.Word at word.DecodeUri ∷ s) = uri_call n at builtin.DecodeUri s (λ h. cc)
-  builtin_is n (token.Word at word.DecodeUriComponent ∷ s) = uri_call n at builtin.DecodeUriComponent s (λ h. cc)
+  builtin_is n (token.Word at word.Object number ∷ s) =
+      behind s (and_then pair_of (one_of keys_word) (read_args (inner tables n Whole))) (λ p r. Got (builtin_of at p) r)
+      ∙ ap (λ f. one_of point s >>= f) (λ i _ r. function_call n at keys_word (read_args (inner tables n Whole)) r (λ w r' e. given_plain n w r' (keys_plain r r' w e)) i)
+      ∙ sym (behind s (one_of keys_word) (λ w r. calling n at w r))
+      ∙ sym (paired at (and_then second_of (one_of point) (one_of keys_word) s) (λ c r. calling n c.0 c.1 r))
+  builtin_is n (token.Word at word.EncodeUri number ∷ s) = uri_call n at builtin.EncodeUri s (λ h. cc)
+  builtin_is n (token.Word at word.EncodeUriComponent number ∷ s) = uri_call n at builtin.EncodeUriComponent s (λ h. cc)
+  builtin_is n (token.Word at word.DecodeUri number ∷ s) = uri_call n at builtin.DecodeUri s (λ h. cc)
+  builtin_is n (token.Word at word.DecodeUriComponent number ∷ s) = uri_call n at builtin.DecodeUriComponent s (λ h. cc)
   builtin_is n (_ ∷ s) = refl
 
   -- primaries
 
-  pub primary_simple : (n : ℕ) (s : List Token) (x : ExprTree) (r : List Token) → one_of (simple names) s ≡ Got x r → primary_at names n s ≡ Got x r
+  pub primary_simple : (n : ℕ) (s : List Token) (x : ExprTree) (r : List Token) → one_of (simple tables) s ≡ Got x r → primary_at tables n s ≡ Got x r
   unfolding primary_at
-  primary_simple n s x r e = rw (head_of (simple names) s x r e) e
+  primary_simple n s x r e = rw (head_of (simple tables) s x r e) e
 
-  pub primary_none : (n : ℕ) (s : List Token) → heads (simple names) s ≡ false → openers s ≡ None → primary_at names n s ≡ wrong s
+  pub primary_none : (n : ℕ) (s : List Token) → heads (simple tables) s ≡ false → openers s ≡ None → primary_at tables n s ≡ wrong s
   unfolding primary_at
-  primary_none n s h o = rw (h, no_opening s o, no_string s o, no_symbol s o, no_json s o) (last n)
+  primary_none n s h o = rw (h, no_opening s o, no_string s o, no_symbol s o, no_json s o, no_uri s o, no_object s o) (last n)
     where
-      last : (n : ℕ) → opens (has_room n) (heads uri_function) (read_uri (inner names n Whole)) s ≡ wrong s
-      last zero = rw (no_uri s o) refl
-      last (suc n) = (then_strict uri_of uri_function (read_args (inner names (suc n) Whole))).fails s (no_uri s o)
+      last : (n : ℕ) → opens (has_room n) (heads open_literal) (read_literal tables (inner tables n Whole)) s ≡ wrong s
+      last zero = rw (no_literal s o) refl
+      last (suc n) = (then_strict object_of open_literal (read_members tables (inner tables (suc n) Whole))).fails s (no_literal s o)
 
-  pub primary_deep : (n : ℕ) (s : List Token) (o : Opener) → openers s ≡ Some o → n ≡ 0 → primary_at names n s ≡ too_deep s
+  pub primary_deep : (n : ℕ) (s : List Token) (o : Opener) → openers s ≡ Some o → n ≡ 0 → primary_at tables n s ≡ too_deep s
   unfolding primary_at
   primary_deep n [] o e h = absurd cc
   primary_deep n (token.Mark at mark.OpenParen l ∷ s) o e h = rw (no_room_for n h) refl
-  primary_deep n (token.Word at word.String ∷ s) o e h = rw (no_room_for n h) refl
-  primary_deep n (token.Word at word.Symbol ∷ s) o e h = rw (no_room_for n h) refl
-  primary_deep n (token.Word at word.Json ∷ s) o e h = rw (no_room_for n h) refl
-  primary_deep n (token.Word at word.EncodeUri ∷ s) o e h = rw (no_room_for n h) refl
-  primary_deep n (token.Word at word.EncodeUriComponent ∷ s) o e h = rw (no_room_for n h) refl
-  primary_deep n (token.Word at word.DecodeUri ∷ s) o e h = rw (no_room_for n h) refl
-  primary_deep n (token.Word at word.DecodeUriComponent ∷ s) o e h = rw (no_room_for n h) refl
+  primary_deep n (token.Mark at mark.OpenBrace l ∷ s) o e h = rw (no_room_for n h) refl
+  primary_deep n (token.Word at word.Object number ∷ s) o e h = rw (no_room_for n h) refl
+  primary_deep n (token.Word at word.String number ∷ s) o e h = rw (no_room_for n h) refl
+  primary_deep n (token.Word at word.Symbol number ∷ s) o e h = rw (no_room_for n h) refl
+  primary_deep n (token.Word at word.Json number ∷ s) o e h = rw (no_room_for n h) refl
+  primary_deep n (token.Word at word.EncodeUri number ∷ s) o e h = rw (no_room_for n h) refl
+  primary_deep n (token.Word at word.EncodeUriComponent number ∷ s) o e h = rw (no_room_for n h) refl
+  primary_deep n (token.Word at word.DecodeUri number ∷ s) o e h = rw (no_room_for n h) refl
+  primary_deep n (token.Word at word.DecodeUriComponent number ∷ s) o e h = rw (no_room_for n h) refl
   primary_deep n (_ ∷ s) o e h = absurd cc
 
-  pub primary_paren : (n : ℕ) (s : List Token) → openers s ≡ Some opener.Paren → 0 < n → primary_at names n s ≡ parens_at names n s
+  pub primary_paren : (n : ℕ) (s : List Token) → openers s ≡ Some opener.Paren → 0 < n → primary_at tables n s ≡ parens_at tables n s
   unfolding primary_at parens_at
   primary_paren n [] e h = absurd cc
   primary_paren n (token.Mark at mark.OpenParen l ∷ s) e h = rw (room_for n h) refl
-  primary_paren n (token.Word at word.String ∷ s) e h = absurd cc
-  primary_paren n (token.Word at word.Symbol ∷ s) e h = absurd cc
-  primary_paren n (token.Word at word.Json ∷ s) e h = absurd cc
-  primary_paren n (token.Word at word.EncodeUri ∷ s) e h = absurd cc
-  primary_paren n (token.Word at word.EncodeUriComponent ∷ s) e h = absurd cc
-  primary_paren n (token.Word at word.DecodeUri ∷ s) e h = absurd cc
-  primary_paren n (token.Word at word.DecodeUriComponent ∷ s) e h = absurd cc
+  primary_paren n (token.Mark at mark.OpenBrace l ∷ s) e h = absurd cc
+  primary_paren n (token.Word at word.Object number ∷ s) e h = absurd cc
+  primary_paren n (token.Word at word.String number ∷ s) e h = absurd cc
+  primary_paren n (token.Word at word.Symbol number ∷ s) e h = absurd cc
+  primary_paren n (token.Word at word.Json number ∷ s) e h = absurd cc
+  primary_paren n (token.Word at word.EncodeUri number ∷ s) e h = absurd cc
+  primary_paren n (token.Word at word.EncodeUriComponent number ∷ s) e h = absurd cc
+  primary_paren n (token.Word at word.DecodeUri number ∷ s) e h = absurd cc
+  primary_paren n (token.Word at word.DecodeUriComponent number ∷ s) e h = absurd cc
   primary_paren n (_ ∷ s) e h = absurd cc
 
-  pub primary_builtin : (n : ℕ) (s : List Token) → openers s ≡ Some opener.Builtin → 0 < n → primary_at names n s ≡ builtin_at names n s
+  pub primary_builtin : (n : ℕ) (s : List Token) → openers s ≡ Some opener.Builtin → 0 < n → primary_at tables n s ≡ builtin_at tables n s
   unfolding primary_at builtin_at
   primary_builtin n [] e h = absurd cc
-  primary_builtin n (token.Word at word.String ∷ s) e h = rw (room_for n h) refl
-  primary_builtin n (token.Word at word.Symbol ∷ s) e h = rw (room_for n h) refl
-  primary_builtin n (token.Word at word.Json ∷ s) e h = rw (room_for n h) refl
-  primary_builtin n (token.Word at word.EncodeUri ∷ s) e h = rw (room_for n h) refl
-  primary_builtin n (token.Word at word.EncodeUriComponent ∷ s) e h = rw (room_for n h) refl
-  primary_builtin n (token.Word at word.DecodeUri ∷ s) e h = rw (room_for n h) refl
-  primary_builtin n (token.Word at word.DecodeUriComponent ∷ s) e h = rw (room_for n h) refl
+  primary_builtin n (token.Word at word.String number ∷ s) e h = rw (room_for n h) refl
+  primary_builtin n (token.Word at word.Symbol number ∷ s) e h = rw (room_for n h) refl
+  primary_builtin n (token.Word at word.Json number ∷ s) e h = rw (room_for n h) refl
+  primary_builtin n (token.Word at word.EncodeUri number ∷ s) e h = rw (room_for n h) refl
+  primary_builtin n (token.Word at word.EncodeUriComponent number ∷ s) e h = rw (room_for n h) refl
+  primary_builtin n (token.Word at word.DecodeUri number ∷ s) e h = rw (room_for n h) refl
+  primary_builtin n (token.Word at word.DecodeUriComponent number ∷ s) e h = rw (room_for n h) refl
+  primary_builtin n (token.Word at word.Object number ∷ s) e h = rw (room_for n h) refl
+  primary_builtin n (token.Mark at mark.OpenBrace l ∷ s) e h = absurd cc
   primary_builtin n (token.Mark at mark.OpenParen l ∷ s) e h = absurd cc
   primary_builtin n (_ ∷ s) e h = absurd cc
 
+  pub primary_literal : (n : ℕ) (s : List Token) → openers s ≡ Some opener.Literal → 0 < n → primary_at tables n s ≡ literal_at tables n s
+  unfolding primary_at literal_at
+  primary_literal n [] e h = absurd cc
+  primary_literal n (token.Mark at mark.OpenBrace l ∷ s) e h = rw (room_for n h) refl
+  primary_literal n (token.Mark at mark.OpenParen l ∷ s) e h = absurd cc
+  primary_literal n (token.Word at word.String number ∷ s) e h = absurd cc
+  primary_literal n (token.Word at word.Symbol number ∷ s) e h = absurd cc
+  primary_literal n (token.Word at word.Json number ∷ s) e h = absurd cc
+  primary_literal n (token.Word at word.Object number ∷ s) e h = absurd cc
+  primary_literal n (token.Word at word.EncodeUri number ∷ s) e h = absurd cc
+  primary_literal n (token.Word at word.EncodeUriComponent number ∷ s) e h = absurd cc
+  primary_literal n (token.Word at word.DecodeUri number ∷ s) e h = absurd cc
+  primary_literal n (token.Word at word.DecodeUriComponent number ∷ s) e h = absurd cc
+  primary_literal n (_ ∷ s) e h = absurd cc
+
+  -- object literals
+
+  pub literal_is : (n : ℕ) (s : List Token) → literal_at tables n s ≡ (one_of open_literal s >>= λ at r. members_at tables n r >>= λ ms r'. Got (object_of at ms) r')
+  unfolding literal_at members_at
+  literal_is n s = refl
+
+  pub entry_is : (n : ℕ) (s : List Token) → 0 < n → entry_at tables n s ≡ (one_of (key tables) s >>= λ k r. one_of colon r >>= λ _ r. expression_at tables (n - 1) r >>= λ x r. Got (k, x) r)
+  unfolding entry_at
+  entry_is n s h = go (expression_at tables (n - 1)) (inner_whole n h)
+    where
+      value : (k : List ℕ) (a : Answer Token ExprTree) → ((a >>= λ y r. Got y r) >>= λ y r. Got (pair_of k y) r) ≡ (a >>= λ y r. Got (k, y) r)
+      value k (Bad w r) = refl
+      value k (Got y r) = refl
+
+      behind_key : (q : Reader Token ExprTree) (k : List ℕ) (a : Answer Token (Unit {0})) → ((a >>= λ _ r. q r >>= λ y r. Got y r) >>= λ y r. Got (pair_of k y) r) ≡ (a >>= λ _ r. q r >>= λ y r. Got (k, y) r)
+      behind_key q k (Bad w r) = refl
+      behind_key q k (Got u r) = value k (q r)
+
+      first : (q : Reader Token ExprTree) (a : Answer Token (List ℕ)) → (a >>= λ k r. (one_of colon r >>= λ _ r. q r >>= λ y r. Got y r) >>= λ y r. Got (pair_of k y) r) ≡ (a >>= λ k r. one_of colon r >>= λ _ r. q r >>= λ y r. Got (k, y) r)
+      first q (Bad w r) = refl
+      first q (Got k r) = behind_key q k (one_of colon r)
+
+      go : (q : Reader Token ExprTree) → inner tables n Whole ≡ q → entry_at tables n s ≡ (one_of (key tables) s >>= λ k r. one_of colon r >>= λ _ r. q r >>= λ x r. Got (k, x) r)
+      go q i = rw i (first q (one_of (key tables) s))
+
   -- steps
 
-  pub member_plain : (n : ℕ) (s : List Token) (x : StepTree) (r : List Token) → one_of member_word s ≡ Got x r → member_at names n s ≡ Got x r
+  pub member_plain : (n : ℕ) (s : List Token) (x : StepTree) (r : List Token) → one_of member_word s ≡ Got x r → member_at tables n s ≡ Got x r
   unfolding member_at
   member_plain n s x r e = rw (head_of member_word s x r e) e
 
-  pub member_none : (n : ℕ) (s : List Token) → heads member_word s ≡ false → heads method s ≡ false → member_at names n s ≡ wrong s
+  pub member_property : (n : ℕ) (s : List Token) (x : StepTree) (r : List Token) → heads member_word s ≡ false → one_of (property_word tables) s ≡ Got x r → member_at tables n s ≡ Got x r
   unfolding member_at
-  member_none n s h m = rw h (last n)
+  member_property n s x r h e = rw (h, head_of (property_word tables) s x r e) e
+
+  pub member_none : (n : ℕ) (s : List Token) → heads member_word s ≡ false → heads (property_word tables) s ≡ false → heads (method tables) s ≡ false → member_at tables n s ≡ wrong s
+  unfolding member_at
+  member_none n s h p m = rw (h, p) (none s m)
     where
-      last : (n : ℕ) → opens (has_room n) (heads method) (and_then call_of (one_of method) (read_args (inner names n Whole))) s ≡ wrong s
-      last zero = rw m refl
-      last (suc n) = (then_strict call_of method (read_args (inner names (suc n) Whole))).fails s m
+      none : (s : List Token) → heads (method tables) s ≡ false → (one_of (method tables) s >>= λ x r. read_method_args (has_room n) (inner tables n Whole) r >>= λ y r. Got (method_of x y) r) ≡ wrong s
+      none [] e = refl
+      none (t ∷ s) e = go (method tables t) e
+        where
+          go : (o : Option ((ℕ × Method) × List ℕ)) → is_some o ≡ false → (take_or o t s >>= λ x r. read_method_args (has_room n) (inner tables n Whole) r >>= λ y r. Got (method_of x y) r) ≡ wrong (t ∷ s)
+          go None e = refl
+          go (Some x) e = let q : true ≡ false = e in cc
 
-  pub member_deep : (n : ℕ) (s : List Token) (m : ℕ × Method) (r : List Token) → heads member_word s ≡ false → one_of method s ≡ Got m r → n ≡ 0 → member_at names n s ≡ too_deep s
-  unfolding member_at
-  member_deep n s m r h e z = rw (h, no_room_for n z, head_of method s m r e) refl
+  -- a method
+  module _ (n : ℕ) (s : List Token) (m : (ℕ × Method) × List ℕ) (r : List Token) (h : heads member_word s ≡ false) (p : heads (property_word tables) s ≡ false) (e : one_of (method tables) s ≡ Got m r) where
+    pub member_bare : heads opening r ≡ false → member_at tables n s ≡ Got (tree.of_property m.0.0 m.1) r
+    unfolding member_at
+    member_bare b = rw (h, p, e, b) refl
 
-  pub member_call : (n : ℕ) (s : List Token) (m : ℕ × Method) (r : List Token) → heads member_word s ≡ false → one_of method s ≡ Got m r → 0 < n → member_at names n s ≡ (args_at names n r >>= λ ts r'. Got (call_of m ts) r')
-  unfolding member_at args_at
-  member_call n s m r h e z = rw (h, room_for n z, e) refl
+    pub member_deep : (y : Unit {0}) (r' : List Token) → one_of opening r ≡ Got y r' → n ≡ 0 → member_at tables n s ≡ too_deep r
+    unfolding member_at
+    member_deep y r' o z = rw (h, p, e, head_of opening r y r' o, no_room_for n z, head_of opening r y r' o) refl
 
-  no_step : (n : ℕ) (s : List Token) → heads open_bracket s ≡ false → heads point s ≡ false → opens (has_room n) (heads open_bracket) (read_index (inner names n Whole)) s ≡ wrong s
+    pub member_call : (y : Unit {0}) (r' : List Token) → one_of opening r ≡ Got y r' → 0 < n → member_at tables n s ≡ (args_at tables n r >>= λ ts r'. Got (method_of m (Some ts)) r')
+    unfolding member_at args_at
+    member_call y r' o z = rw (h, p, e, head_of opening r y r' o, room_for n z) (flat (read_args (inner tables n Whole) r))
+      where
+        flat : (a : Answer Token (List ExprTree)) → ((a >>= λ x r. Got (Some x) r) >>= λ y r. Got (method_of m y) r) ≡ (a >>= λ ts r'. Got (method_of m (Some ts)) r')
+        flat (Got x r) = refl
+        flat (Bad k r) = refl
+
+  no_step : (n : ℕ) (s : List Token) → heads open_bracket s ≡ false → heads point s ≡ false → opens (has_room n) (heads open_bracket) (read_index (inner tables n Whole)) s ≡ wrong s
   no_step zero s h p = rw h refl
-  no_step (suc n) s h p = (then_strict index_of open_bracket (and_then first_of (inner names (suc n) Whole) (one_of close_bracket))).fails s h
+  no_step (suc n) s h p = (then_strict index_of open_bracket (and_then first_of (inner tables (suc n) Whole) (one_of close_bracket))).fails s h
 
-  pub step_member : (n : ℕ) (s : List Token) → heads open_bracket s ≡ false → step_at names n s ≡ (one_of point s >>= λ _ r. member_at names n r)
+  pub step_member : (n : ℕ) (s : List Token) → heads open_bracket s ≡ false → step_at tables n s ≡ (one_of point s >>= λ _ r. member_at tables n r)
   unfolding step_at member_at
   step_member n s h = go (heads point s) refl
     where
@@ -300,8 +385,8 @@ module _ (names : List (List ℕ)) where
       none (token.Mark at mark.Point l ∷ s) p = cc
       none (_ ∷ s) p = refl
 
-      go : (b : Bool) → heads point s ≡ b → step_at names n s ≡ (one_of point s >>= λ _ r. member_at names n r)
-      go true p = rw p (word_then point (choose (heads member_word) (one_of member_word) (opens (has_room n) (heads method) (and_then call_of (one_of method) (read_args (inner names n Whole))))) s)
+      go : (b : Bool) → heads point s ≡ b → step_at tables n s ≡ (one_of point s >>= λ _ r. member_at tables n r)
+      go true p = rw p (word_then point (read_word tables (has_room n) (inner tables n Whole)) s)
       go false p = rw (p, none s p) (no_step n s h p)
 
   bracket_no_point : (s r : List Token) (at : ℕ) → one_of open_bracket s ≡ Got at r → heads point s ≡ false
@@ -309,13 +394,13 @@ module _ (names : List (List ℕ)) where
   bracket_no_point (token.Mark a mark.Point l ∷ s) r at e = cc
   bracket_no_point (_ ∷ s) r at e = refl
 
-  pub step_deep : (n : ℕ) (s : List Token) (at : ℕ) (r : List Token) → one_of open_bracket s ≡ Got at r → n ≡ 0 → step_at names n s ≡ too_deep s
+  pub step_deep : (n : ℕ) (s : List Token) (at : ℕ) (r : List Token) → one_of open_bracket s ≡ Got at r → n ≡ 0 → step_at tables n s ≡ too_deep s
   unfolding step_at
   step_deep n s at r e z = rw (bracket_no_point s r at e, no_room_for n z, head_of open_bracket s at r e) refl
 
-  pub step_index : (n : ℕ) (s : List Token) (at : ℕ) (r : List Token) → one_of open_bracket s ≡ Got at r → 0 < n → step_at names n s ≡ (expression_at names (n - 1) r >>= λ x r'. one_of close_bracket r' >>= λ _ r''. Got (index_of at x) r'')
+  pub step_index : (n : ℕ) (s : List Token) (at : ℕ) (r : List Token) → one_of open_bracket s ≡ Got at r → 0 < n → step_at tables n s ≡ (expression_at tables (n - 1) r >>= λ x r'. one_of close_bracket r' >>= λ _ r''. Got (index_of at x) r'')
   unfolding step_at
-  step_index n s at r e z = rw (bracket_no_point s r at e, room_for n z, e) (closed (inner names n Whole r) ∙ ap (λ q. q r >>= λ x r'. one_of close_bracket r' >>= λ _ r''. Got (index_of at x) r'') (inner_whole n z))
+  step_index n s at r e z = rw (bracket_no_point s r at e, room_for n z, e) (closed (inner tables n Whole r) ∙ ap (λ q. q r >>= λ x r'. one_of close_bracket r' >>= λ _ r''. Got (index_of at x) r'') (inner_whole n z))
     where
       end : (x : ExprTree) (a : Answer Token (Unit {0})) → ((a >>= λ _ r. Got x r) >>= λ y r'. Got (index_of at y) r') ≡ (a >>= λ _ r''. Got (index_of at x) r'')
       end x (Got y r) = refl
@@ -327,38 +412,38 @@ module _ (names : List (List ℕ)) where
 
   -- operands
 
-  pub unary_plain : (n : ℕ) (s : List Token) → heads sign s ≡ false → unary_at names n s ≡ post_at names n s
+  pub unary_plain : (n : ℕ) (s : List Token) → heads sign s ≡ false → unary_at tables n s ≡ post_at tables n s
   unfolding unary_at post_at
   unary_plain n s h = rw h refl
 
-  pub unary_deep : (n : ℕ) (s : List Token) (o : ℕ × Bool) (r : List Token) → one_of sign s ≡ Got o r → n ≡ 0 → unary_at names n s ≡ too_deep s
+  pub unary_deep : (n : ℕ) (s : List Token) (o : ℕ × Bool) (r : List Token) → one_of sign s ≡ Got o r → n ≡ 0 → unary_at tables n s ≡ too_deep s
   unfolding unary_at
   unary_deep n s o r e z = rw (head_of sign s o r e, no_room_for n z, head_of sign s o r e) refl
 
-  pub unary_signed : (n : ℕ) (s : List Token) (o : ℕ × Bool) (r : List Token) → one_of sign s ≡ Got o r → 0 < n → unary_at names n s ≡ (unary_at names (n - 1) r >>= λ x r'. Got (unary_of o x) r')
+  pub unary_signed : (n : ℕ) (s : List Token) (o : ℕ × Bool) (r : List Token) → one_of sign s ≡ Got o r → 0 < n → unary_at tables n s ≡ (unary_at tables (n - 1) r >>= λ x r'. Got (unary_of o x) r')
   unfolding unary_at
-  unary_signed n s o r e z = go (unary_at names (n - 1)) (inner_operand n z)
+  unary_signed n s o r e z = go (unary_at tables (n - 1)) (inner_operand n z)
     where
-      go : (q : Reader Token ExprTree) → inner names n Operand ≡ q → unary_at names n s ≡ (q r >>= λ x r'. Got (unary_of o x) r')
+      go : (q : Reader Token ExprTree) → inner tables n Operand ≡ q → unary_at tables n s ≡ (q r >>= λ x r'. Got (unary_of o x) r')
       go q i = rw (head_of sign s o r e, room_for n z, e, i) refl
 
   -- conditionals
 
-  pub expression_is : (n : ℕ) (s : List Token) → expression_at names n s ≡ (chain_at names n level.Or s >>= λ t r. branches_at names n t r)
+  pub expression_is : (n : ℕ) (s : List Token) → expression_at tables n s ≡ (chain_at tables n level.Or s >>= λ t r. branches_at tables n t r)
   unfolding expression_at chain_at branches_at
   expression_is n s = refl
 
-  pub branches_none : (n : ℕ) (t : ExprTree) (s : List Token) → heads question s ≡ false → branches_at names n t s ≡ Got t s
+  pub branches_none : (n : ℕ) (t : ExprTree) (s : List Token) → heads question s ≡ false → branches_at tables n t s ≡ Got t s
   unfolding branches_at
   branches_none n t s h = rw h refl
 
-  pub branches_deep : (n : ℕ) (t : ExprTree) (s r : List Token) → one_of question s ≡ Got tt r → n ≡ 0 → branches_at names n t s ≡ too_deep s
+  pub branches_deep : (n : ℕ) (t : ExprTree) (s r : List Token) → one_of question s ≡ Got tt r → n ≡ 0 → branches_at tables n t s ≡ too_deep s
   unfolding branches_at
   branches_deep n t s r e z = rw (head_of question s tt r e, no_room_for n z, head_of question s tt r e) refl
 
-  pub branches_some : (n : ℕ) (t : ExprTree) (s r : List Token) → one_of question s ≡ Got tt r → 0 < n → branches_at names n t s ≡ (expression_at names (n - 1) r >>= λ x r1. one_of colon r1 >>= λ _ r2. expression_at names (n - 1) r2 >>= λ y r3. Got (tree.conditional t x y) r3)
+  pub branches_some : (n : ℕ) (t : ExprTree) (s r : List Token) → one_of question s ≡ Got tt r → 0 < n → branches_at tables n t s ≡ (expression_at tables (n - 1) r >>= λ x r1. one_of colon r1 >>= λ _ r2. expression_at tables (n - 1) r2 >>= λ y r3. Got (tree.conditional t x y) r3)
   unfolding branches_at
-  branches_some n t s r e z = go (expression_at names (n - 1)) (inner_whole n z)
+  branches_some n t s r e z = go (expression_at tables (n - 1)) (inner_whole n z)
     where
       last : (q : Reader Token ExprTree) (x : ExprTree) (a : Answer Token (Unit {0})) → (((a >>= λ _ r2. q r2 >>= λ y r3. Got y r3) >>= λ y r'. Got (branches_of x y) r') >>= λ b r. Got (cond_of t b) r) ≡ (a >>= λ _ r2. q r2 >>= λ y r3. Got (tree.conditional t x y) r3)
       last q x (Bad k r) = refl
@@ -372,5 +457,5 @@ module _ (names : List (List ℕ)) where
       first q (Bad k r) = refl
       first q (Got x r) = last q x (one_of colon r)
 
-      go : (q : Reader Token ExprTree) → inner names n Whole ≡ q → branches_at names n t s ≡ (q r >>= λ x r1. one_of colon r1 >>= λ _ r2. q r2 >>= λ y r3. Got (tree.conditional t x y) r3)
+      go : (q : Reader Token ExprTree) → inner tables n Whole ≡ q → branches_at tables n t s ≡ (q r >>= λ x r1. one_of colon r1 >>= λ _ r2. q r2 >>= λ y r3. Got (tree.conditional t x y) r3)
       go q i = rw (head_of question s tt r e, room_for n z, e, i) (ap (λ a. a >>= λ b r. Got (cond_of t b) r) (bind_got (q r >>= λ x r1. (one_of colon r1 >>= λ _ r2. q r2 >>= λ y r3. Got y r3) >>= λ y r'. Got (branches_of x y) r')) ∙ first q (q r))

@@ -3,12 +3,13 @@ use Rattle.std.specs.Prelude.{ℕ, zero, suc, Bool, true, false, List, Option, N
 use Rattle.parse_laws.specs.Lang.{second_of}
 use Rattle.parse_laws.specs.Reader.{Reader, ◌>>=◌, Got, wrong, and_then, map_by, one_of, choose, all_of, opens, heads, heads_two, succeed}
 use Rattle.parse_syntax.specs.declared.token.Token.{Token}
+use Rattle.parse_syntax.specs.Tables.{Tables}
 use Rattle.eval_tree.specs.declared.tree.Builtin.{Builtin}
 use Rattle.eval_tree.specs.declared.tree.Builtin.TheVariants as builtin
 use Rattle.eval_tree.specs.Tree.{ExprTree, StepTree, StmtTree, BlockTree, ArmTree}
-use Rattle.parse_syntax.specs.Terminals.{member_word, method, else_word, if_word, string_word, symbol_word, json_word, question}
-use Rattle.parse_syntax.specs.Grammar.{Which, Whole, Operand, single_of, call_of, cond_of}
-use Rattle.parse_syntax.specs.Reading.{read_within, read_parens, read_args, read_string, read_symbol, read_json, read_uri, read_primary, read_branches, read_step, read_post, read_unary, read_sum, read_comparison, read_equality, read_conjunction, read_disjunction, read_conditional, goes_on, read_block, read_init, read_let, read_const, read_assign, read_print, read_arm, read_rest, read_if, read_for, read_statement, read_at}
+use Rattle.parse_syntax.specs.Terminals.{else_word, if_word, string_word, symbol_word, json_word, uri_function, question}
+use Rattle.parse_syntax.specs.Grammar.{Which, Whole, Operand, single_of, cond_of}
+use Rattle.parse_syntax.specs.Reading.{read_within, read_parens, read_args, read_string, read_symbol, read_json, read_uri, read_object_call, read_entry, read_members, read_literal, read_primary, read_word, read_branches, read_step, read_post, read_unary, read_sum, read_comparison, read_equality, read_conjunction, read_disjunction, read_conditional, goes_on, read_block, read_init, read_let, read_const, read_assign, read_print, read_arm, read_rest, read_if, read_for, read_statement, read_at}
 use Rattle.parse_look.specs.declared.look.Level.{Level}
 use Rattle.parse_look.specs.declared.look.Level.TheVariants as level
 
@@ -16,11 +17,11 @@ abbrev pub has_room : ℕ → Bool
 has_room zero = false
 has_room (suc n) = true
 
-module _ (names : List (List ℕ)) where
+module _ (tables : Tables) where
   -- an expression or an operand where one more is open
   abbrev pub inner : ℕ → Which → Reader Token ExprTree
   inner zero w = wrong
-  inner (suc n) w = read_within names n w
+  inner (suc n) w = read_within tables n w
 
   unfoldable pub parens_at : ℕ → Reader Token ExprTree
   parens_at n = read_parens (inner n Whole)
@@ -34,45 +35,55 @@ module _ (names : List (List ℕ)) where
   given_at n _ = read_args (inner n Whole)
 
   unfoldable pub builtin_at : ℕ → Reader Token ExprTree
-  builtin_at n = choose (heads string_word) (read_string (inner n Whole)) (choose (heads symbol_word) (read_symbol (inner n Whole)) (choose (heads json_word) (read_json (inner n Whole)) (read_uri (inner n Whole))))
+  builtin_at n = choose (heads string_word) (read_string (inner n Whole)) (choose (heads symbol_word) (read_symbol (inner n Whole)) (choose (heads json_word) (read_json (inner n Whole)) (choose (heads uri_function) (read_uri (inner n Whole)) (read_object_call (inner n Whole)))))
+
+  -- Key : E, what stands behind the { of an object literal, and the literal
+  unfoldable pub entry_at : ℕ → Reader Token (List ℕ × ExprTree)
+  entry_at n = read_entry tables (inner n Whole)
+
+  unfoldable pub members_at : ℕ → Reader Token (List (List ℕ × ExprTree))
+  members_at n = read_members tables (inner n Whole)
+
+  unfoldable pub literal_at : ℕ → Reader Token ExprTree
+  literal_at n = read_literal tables (inner n Whole)
 
   unfoldable pub primary_at : ℕ → Reader Token ExprTree
-  primary_at n = read_primary names (has_room n) (inner n Whole)
+  primary_at n = read_primary tables (has_room n) (inner n Whole)
 
   -- what stands behind a point
   unfoldable pub member_at : ℕ → Reader Token StepTree
-  member_at n = choose (heads member_word) (one_of member_word) (opens (has_room n) (heads method) (and_then call_of (one_of method) (read_args (inner n Whole))))
+  member_at n = read_word tables (has_room n) (inner n Whole)
 
   unfoldable pub step_at : ℕ → Reader Token StepTree
-  step_at n = read_step (has_room n) (inner n Whole)
+  step_at n = read_step tables (has_room n) (inner n Whole)
 
   unfoldable pub post_at : ℕ → Reader Token ExprTree
-  post_at n = read_post names (has_room n) (inner n Whole)
+  post_at n = read_post tables (has_room n) (inner n Whole)
 
   unfoldable pub unary_at : ℕ → Reader Token ExprTree
-  unary_at n = read_unary names (has_room n) (inner n Whole) (inner n Operand)
+  unary_at n = read_unary tables (has_room n) (inner n Whole) (inner n Operand)
 
   -- what the chain of a level is made of, and the chain
   unfoldable pub operand_at : ℕ → Level → Reader Token ExprTree
-  operand_at n level.Sum = read_unary names (has_room n) (inner n Whole) (inner n Operand)
-  operand_at n level.Compare = read_sum names (has_room n) (inner n Whole) (inner n Operand)
-  operand_at n level.Equal = read_comparison names (has_room n) (inner n Whole) (inner n Operand)
-  operand_at n level.And = read_equality names (has_room n) (inner n Whole) (inner n Operand)
-  operand_at n level.Or = read_conjunction names (has_room n) (inner n Whole) (inner n Operand)
+  operand_at n level.Sum = read_unary tables (has_room n) (inner n Whole) (inner n Operand)
+  operand_at n level.Compare = read_sum tables (has_room n) (inner n Whole) (inner n Operand)
+  operand_at n level.Equal = read_comparison tables (has_room n) (inner n Whole) (inner n Operand)
+  operand_at n level.And = read_equality tables (has_room n) (inner n Whole) (inner n Operand)
+  operand_at n level.Or = read_conjunction tables (has_room n) (inner n Whole) (inner n Operand)
 
   unfoldable pub chain_at : ℕ → Level → Reader Token ExprTree
-  chain_at n level.Sum = read_sum names (has_room n) (inner n Whole) (inner n Operand)
-  chain_at n level.Compare = read_comparison names (has_room n) (inner n Whole) (inner n Operand)
-  chain_at n level.Equal = read_equality names (has_room n) (inner n Whole) (inner n Operand)
-  chain_at n level.And = read_conjunction names (has_room n) (inner n Whole) (inner n Operand)
-  chain_at n level.Or = read_disjunction names (has_room n) (inner n Whole) (inner n Operand)
+  chain_at n level.Sum = read_sum tables (has_room n) (inner n Whole) (inner n Operand)
+  chain_at n level.Compare = read_comparison tables (has_room n) (inner n Whole) (inner n Operand)
+  chain_at n level.Equal = read_equality tables (has_room n) (inner n Whole) (inner n Operand)
+  chain_at n level.And = read_conjunction tables (has_room n) (inner n Whole) (inner n Operand)
+  chain_at n level.Or = read_disjunction tables (has_room n) (inner n Whole) (inner n Operand)
 
   -- [ ? E : E ], behind a test
   unfoldable pub branches_at : ℕ → ExprTree → Reader Token ExprTree
   branches_at n t s = choose (heads question) (opens (has_room n) (heads question) (read_branches (inner n Whole))) (succeed None) s >>= λ b r. Got (cond_of t b) r
 
   unfoldable pub expression_at : ℕ → Reader Token ExprTree
-  expression_at n = read_conditional names (has_room n) (inner n Whole) (inner n Operand)
+  expression_at n = read_conditional tables (has_room n) (inner n Whole) (inner n Operand)
 
   -- statements
 
@@ -80,13 +91,13 @@ module _ (names : List (List ℕ)) where
   init_at n = read_init (expression_at n)
 
   unfoldable pub let_at : ℕ → Reader Token StmtTree
-  let_at n = read_let names (expression_at n)
+  let_at n = read_let tables (expression_at n)
 
   unfoldable pub const_at : ℕ → Reader Token StmtTree
-  const_at n = read_const names (expression_at n)
+  const_at n = read_const tables (expression_at n)
 
   unfoldable pub assign_at : ℕ → Reader Token StmtTree
-  assign_at n = read_assign names (expression_at n)
+  assign_at n = read_assign tables (expression_at n)
 
   unfoldable pub print_at : ℕ → Reader Token StmtTree
   print_at n = read_print (inner n Whole)
@@ -94,10 +105,10 @@ module _ (names : List (List ℕ)) where
   module _ (prints : Bool) where
     abbrev pub inner_statement : ℕ → Reader Token StmtTree
     inner_statement zero = wrong
-    inner_statement (suc n) = read_at names prints n
+    inner_statement (suc n) = read_at tables prints n
 
     unfoldable pub statement_at : ℕ → Reader Token StmtTree
-    statement_at n = read_statement names prints (has_room n) (expression_at n) (inner n Whole) (inner_statement n)
+    statement_at n = read_statement tables prints (has_room n) (expression_at n) (inner n Whole) (inner_statement n)
 
     unfoldable pub statements_at : ℕ → Reader Token (List StmtTree)
     statements_at n = all_of goes_on (statement_at n)
@@ -120,4 +131,4 @@ module _ (names : List (List ℕ)) where
     if_at n = read_if (inner n Whole) (inner_statement n)
 
     unfoldable pub for_at : ℕ → Reader Token StmtTree
-    for_at n = read_for names (inner_statement n)
+    for_at n = read_for tables (inner_statement n)

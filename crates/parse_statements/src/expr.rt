@@ -1,16 +1,19 @@
 // From tokens to the tree of an expression.
 ghost use Rattle.std.specs.Prelude.{◌≡◌, ◌<◌, map};
-ghost use Rattle.eval_tree.specs.Tree.{expr_tree, step_tree};
-ghost use Rattle.parse_statements.specs.At.{args_at, parens_at, given_at, builtin_at, primary_at, member_at, step_at, post_at, unary_at, operand_at, chain_at, branches_at, expression_at};
+ghost use Rattle.eval_tree.specs.Tree.{expr_tree, step_tree, entry_tree};
+ghost use Rattle.parse_statements.specs.At.{args_at, parens_at, given_at, builtin_at, entry_at, members_at, literal_at, primary_at, member_at, step_at, post_at, unary_at, operand_at, chain_at, branches_at, expression_at};
 ghost use Rattle.parse_look.specs.Gives.{Gives};
+ghost use Rattle.parse_syntax.specs.Tables.{tables_of};
 
-use crate::node::{add, builtin, call, chain, conditional, index, link, post, signed};
-use eval_tree::{Builtin, Expr, Name, PostStep};
+use crate::node::{add, builtin, call, chain, conditional, index, link, object, post, signed};
+use eval_tree::{Builtin, Expr, PostStep};
+use js_units::Units;
 use parse_look::{
-    Fault, Fixed, Level, Opener, begins_step, behind, called, member, method, next_opener,
-    open_bracket, operator, refused, sign, simple, take, too_deep,
+    Fault, Fixed, Level, Opener, begins_step, behind, called, key, member, method, next_opener,
+    open_bracket, open_literal, operator, property, property_word, refused, sign, simple, take,
+    too_deep,
 };
-use parse_syntax::Token;
+use parse_syntax::{Tables, Token};
 use std::alloc::Global;
 
 /// `( [ Expr { , Expr } ] )`, where one more may be open.
@@ -18,23 +21,23 @@ use std::alloc::Global;
 #[tactic(auto, using(crate::proofs::Rooms::inner_whole), unfolding(crate::specs::At::args_at))]
 pub(crate) fn args<'a>(
     alloc: Global,
-    names: &[Name],
+    tables: &Tables,
     tokens: &'a [Token],
     room: u32,
 ) -> Result<(Vec<Expr>, &'a [Token]), Fault<'a>>
     requires { 0 < room }
     ensures { Gives (λ found. map expr_tree found.0.items) (λ found. found.1.now) result
-        (args_at names.now room tokens.now) }
+        (args_at (tables_of tables.now) room tokens.now) }
 {
     let rest = take(tokens, Fixed::OpenParen)?;
     if let Some(after) = behind(rest, Fixed::CloseParen) {
         return Ok((Vec::new(alloc), after));
     }
-    let (first, mut rest) = expression(alloc, names, rest, room - 1)?;
+    let (first, mut rest) = expression(alloc, tables, rest, room - 1)?;
     let mut items = Vec::new(alloc);
     add(&mut items, first)?;
     while let Some(after) = behind(rest, Fixed::Comma) {
-        let (item, after) = expression(alloc, names, after, room - 1)?;
+        let (item, after) = expression(alloc, tables, after, room - 1)?;
         add(&mut items, item)?;
         rest = after;
     }
@@ -47,16 +50,16 @@ pub(crate) fn args<'a>(
 #[tactic(auto, using(crate::proofs::Rooms::parens_is))]
 pub(crate) fn parens<'a>(
     alloc: Global,
-    names: &[Name],
+    tables: &Tables,
     tokens: &'a [Token],
     room: u32,
 ) -> Result<(Expr, &'a [Token]), Fault<'a>>
     requires { 0 < room }
     ensures { Gives (λ found. expr_tree found.0) (λ found. found.1.now) result
-        (parens_at names.now room tokens.now) }
+        (parens_at (tables_of tables.now) room tokens.now) }
 {
     let rest = take(tokens, Fixed::OpenParen)?;
-    let (inside, rest) = expression(alloc, names, rest, room - 1)?;
+    let (inside, rest) = expression(alloc, tables, rest, room - 1)?;
     let rest = take(rest, Fixed::CloseParen)?;
     Ok((inside, rest))
 }
@@ -66,19 +69,19 @@ pub(crate) fn parens<'a>(
 #[tactic(auto, using(crate::proofs::Rooms::given_one, crate::proofs::Rooms::given_args))]
 fn given<'a>(
     alloc: Global,
-    names: &[Name],
+    tables: &Tables,
     tokens: &'a [Token],
     room: u32,
     which: Builtin,
 ) -> Result<(Vec<Expr>, &'a [Token]), Fault<'a>>
     requires { 0 < room }
     ensures { Gives (λ found. map expr_tree found.0.items) (λ found. found.1.now) result
-        (given_at names.now room which tokens.now) }
+        (given_at (tables_of tables.now) room which tokens.now) }
 {
     if which != Builtin::Stringify {
-        return args(alloc, names, tokens, room);
+        return args(alloc, tables, tokens, room);
     }
-    let (argument, rest) = parens(alloc, names, tokens, room)?;
+    let (argument, rest) = parens(alloc, tables, tokens, room)?;
     let mut args = Vec::new(alloc);
     add(&mut args, argument)?;
     Ok((args, rest))
@@ -86,37 +89,104 @@ fn given<'a>(
 
 // String Args | String . fromCharCode Args | String . fromCodePoint Args
 // | Symbol . for Args | Symbol . keyFor Args | JSON . stringify ( Expr )
-// | encodeURI Args | encodeURIComponent Args | decodeURI Args | decodeURIComponent Args
+// | encodeURI Args | encodeURIComponent Args | decodeURI Args | decodeURIComponent Args | Object . keys Args
 #[cycle(expr)]
 #[tactic(auto, using(crate::proofs::Rooms::builtin_is))]
 fn builtin_call<'a>(
     alloc: Global,
-    names: &[Name],
+    tables: &Tables,
     tokens: &'a [Token],
     room: u32,
 ) -> Result<(Expr, &'a [Token]), Fault<'a>>
     requires { 0 < room }
     ensures { Gives (λ found. expr_tree found.0) (λ found. found.1.now) result
-        (builtin_at names.now room tokens.now) }
+        (builtin_at (tables_of tables.now) room tokens.now) }
 {
     let (called, rest) = called(tokens)?;
-    let (args, rest) = given(alloc, names, rest, room, called.1)?;
+    let (args, rest) = given(alloc, tables, rest, room, called.1)?;
     Ok((builtin(called, args), rest))
 }
 
-// Text | Number | Name | a constant | ( Expr ) | a call of a built-in function
+// Key : Expr
 #[cycle(expr)]
-#[tactic(auto, using(crate::proofs::Rooms::primary_simple, crate::proofs::Rooms::primary_none, crate::proofs::Rooms::primary_deep, crate::proofs::Rooms::primary_paren, crate::proofs::Rooms::primary_builtin))]
+#[tactic(auto, using(crate::proofs::Rooms::entry_is))]
+fn entry<'a>(
+    alloc: Global,
+    tables: &Tables,
+    tokens: &'a [Token],
+    room: u32,
+) -> Result<((Units, Expr), &'a [Token]), Fault<'a>>
+    requires { 0 < room }
+    ensures { Gives (λ found. entry_tree found.0) (λ found. found.1.now) result
+        (entry_at (tables_of tables.now) room tokens.now) }
+{
+    let (key, rest) = key(alloc, tables, tokens)?;
+    let rest = take(rest, Fixed::Colon)?;
+    let (value, rest) = expression(alloc, tables, rest, room - 1)?;
+    Ok(((key, value), rest))
+}
+
+// [ Key : Expr { , Key : Expr } ] }
+#[cycle(expr)]
+#[tactic(auto, using(crate::proofs::Members::members_none, crate::proofs::Members::first_fails))]
+fn members<'a>(
+    alloc: Global,
+    tables: &Tables,
+    tokens: &'a [Token],
+    room: u32,
+) -> Result<(Vec<(Units, Expr)>, &'a [Token]), Fault<'a>>
+    requires { 0 < room }
+    ensures { Gives (λ found. map entry_tree found.0.items) (λ found. found.1.now) result
+        (members_at (tables_of tables.now) room tokens.now) }
+{
+    if let Some(after) = behind(tokens, Fixed::CloseBrace) {
+        return Ok((Vec::new(alloc), after));
+    }
+    let (first, mut rest) = entry(alloc, tables, tokens, room)?;
+    let mut items = Vec::new(alloc);
+    add(&mut items, first)?;
+    while let Some(after) = behind(rest, Fixed::Comma) {
+        let (item, after) = entry(alloc, tables, after, room)?;
+        add(&mut items, item)?;
+        rest = after;
+    }
+    let rest = take(rest, Fixed::CloseBrace)?;
+    Ok((items, rest))
+}
+
+// { [ Key : Expr { , Key : Expr } ] }
+#[cycle(expr)]
+#[tactic(auto, using(crate::proofs::Rooms::literal_is))]
+fn object_literal<'a>(
+    alloc: Global,
+    tables: &Tables,
+    tokens: &'a [Token],
+    room: u32,
+) -> Result<(Expr, &'a [Token]), Fault<'a>>
+    requires { 0 < room }
+    ensures { Gives (λ found. expr_tree found.0) (λ found. found.1.now) result
+        (literal_at (tables_of tables.now) room tokens.now) }
+{
+    let Some((at, rest)) = open_literal(tokens) else {
+        return Err(refused(tokens));
+    };
+    let (members, rest) = members(alloc, tables, rest, room)?;
+    Ok((object(at, members), rest))
+}
+
+// Text | Number | Name | a constant | ( Expr ) | a call of a built-in function | an object literal
+#[cycle(expr)]
+#[tactic(auto, using(crate::proofs::Rooms::primary_simple, crate::proofs::Rooms::primary_none, crate::proofs::Rooms::primary_deep, crate::proofs::Rooms::primary_paren, crate::proofs::Rooms::primary_builtin, crate::proofs::Rooms::primary_literal))]
 fn primary<'a>(
     alloc: Global,
-    names: &[Name],
+    tables: &Tables,
     tokens: &'a [Token],
     room: u32,
 ) -> Result<(Expr, &'a [Token]), Fault<'a>>
     ensures { Gives (λ found. expr_tree found.0) (λ found. found.1.now) result
-        (primary_at names.now room tokens.now) }
+        (primary_at (tables_of tables.now) room tokens.now) }
 {
-    if let Some(found) = simple(alloc, names, tokens)? {
+    if let Some(found) = simple(alloc, tables, tokens)? {
         return Ok(found);
     }
     let Some(opener) = next_opener(tokens) else {
@@ -126,56 +196,64 @@ fn primary<'a>(
         return Err(too_deep(tokens));
     }
     match opener {
-        Opener::Paren => parens(alloc, names, tokens, room),
-        Opener::Builtin => builtin_call(alloc, names, tokens, room),
+        Opener::Paren => parens(alloc, tables, tokens, room),
+        Opener::Builtin => builtin_call(alloc, tables, tokens, room),
+        Opener::Literal => object_literal(alloc, tables, tokens, room),
     }
 }
 
-// length | description | Method Args
+// length | description | Method Args | Property
 #[cycle(expr)]
-#[tactic(auto, using(crate::proofs::Rooms::member_plain, crate::proofs::Rooms::member_none, crate::proofs::Rooms::member_deep, crate::proofs::Rooms::member_call))]
+#[tactic(auto, using(crate::proofs::Rooms::member_plain, crate::proofs::Rooms::member_property, crate::proofs::Rooms::member_none, crate::proofs::Rooms::member_bare, crate::proofs::Rooms::member_deep))]
 fn behind_point<'a>(
     alloc: Global,
-    names: &[Name],
+    tables: &Tables,
     tokens: &'a [Token],
     room: u32,
 ) -> Result<(PostStep, &'a [Token]), Fault<'a>>
     ensures { Gives (λ found. step_tree found.0) (λ found. found.1.now) result
-        (member_at names.now room tokens.now) }
+        (member_at (tables_of tables.now) room tokens.now) }
 {
     if let Some(found) = member(tokens) {
         return Ok(found);
     }
-    let Some((method, rest)) = method(tokens) else {
+    if let Some(found) = property_word(alloc, tables, tokens)? {
+        return Ok(found);
+    }
+    let Some(((at, method, letters), rest)) = method(tables, tokens) else {
         return Err(refused(tokens));
     };
+    let Some(_) = behind(rest, Fixed::OpenParen) else {
+        let step = property(alloc, at, letters)?;
+        return Ok((step, rest));
+    };
     if room == 0 {
-        return Err(too_deep(tokens));
+        return Err(too_deep(rest));
     }
-    let (args, rest) = args(alloc, names, rest, room)?;
-    Ok((call(method, args), rest))
+    let (args, rest) = args(alloc, tables, rest, room)?;
+    Ok((call((at, method), args), rest))
 }
 
-// . Member | . Method Args | [ Expr ]
+// . Member | . Method Args | . Property | [ Expr ]
 #[cycle(expr)]
 #[tactic(auto, using(crate::proofs::Rooms::step_member, crate::proofs::Rooms::step_deep, crate::proofs::Rooms::step_index))]
 fn step<'a>(
     alloc: Global,
-    names: &[Name],
+    tables: &Tables,
     tokens: &'a [Token],
     room: u32,
 ) -> Result<(PostStep, &'a [Token]), Fault<'a>>
     ensures { Gives (λ found. step_tree found.0) (λ found. found.1.now) result
-        (step_at names.now room tokens.now) }
+        (step_at (tables_of tables.now) room tokens.now) }
 {
     let Some((at, rest)) = open_bracket(tokens) else {
         let rest = take(tokens, Fixed::Point)?;
-        return behind_point(alloc, names, rest, room);
+        return behind_point(alloc, tables, rest, room);
     };
     if room == 0 {
         return Err(too_deep(tokens));
     }
-    let (inside, rest) = expression(alloc, names, rest, room - 1)?;
+    let (inside, rest) = expression(alloc, tables, rest, room - 1)?;
     let rest = take(rest, Fixed::CloseBracket)?;
     Ok((index(at, inside), rest))
 }
@@ -184,17 +262,17 @@ fn step<'a>(
 #[cycle(expr)]
 fn postfix<'a>(
     alloc: Global,
-    names: &[Name],
+    tables: &Tables,
     tokens: &'a [Token],
     room: u32,
 ) -> Result<(Expr, &'a [Token]), Fault<'a>>
     ensures { Gives (λ found. expr_tree found.0) (λ found. found.1.now) result
-        (post_at names.now room tokens.now) }
+        (post_at (tables_of tables.now) room tokens.now) }
 {
-    let (of, mut rest) = primary(alloc, names, tokens, room)?;
+    let (of, mut rest) = primary(alloc, tables, tokens, room)?;
     let mut steps = Vec::new(alloc);
     while begins_step(rest) {
-        let (step, after) = step(alloc, names, rest, room)?;
+        let (step, after) = step(alloc, tables, rest, room)?;
         add(&mut steps, step)?;
         rest = after;
     }
@@ -207,20 +285,20 @@ fn postfix<'a>(
 #[tactic(auto, using(crate::proofs::Rooms::unary_plain, crate::proofs::Rooms::unary_deep, crate::proofs::Rooms::unary_signed))]
 fn unary<'a>(
     alloc: Global,
-    names: &[Name],
+    tables: &Tables,
     tokens: &'a [Token],
     room: u32,
 ) -> Result<(Expr, &'a [Token]), Fault<'a>>
     ensures { Gives (λ found. expr_tree found.0) (λ found. found.1.now) result
-        (unary_at names.now room tokens.now) }
+        (unary_at (tables_of tables.now) room tokens.now) }
 {
     let Some((sign, rest)) = sign(tokens) else {
-        return postfix(alloc, names, tokens, room);
+        return postfix(alloc, tables, tokens, room);
     };
     if room == 0 {
         return Err(too_deep(tokens));
     }
-    let (of, rest) = unary(alloc, names, rest, room - 1)?;
+    let (of, rest) = unary(alloc, tables, rest, room - 1)?;
     let tree = signed(alloc, sign, of)?;
     Ok((tree, rest))
 }
@@ -230,20 +308,20 @@ fn unary<'a>(
 #[tactic(auto, unfolding(crate::specs::At::operand_at, crate::specs::At::chain_at, crate::specs::At::unary_at))]
 fn operand<'a>(
     alloc: Global,
-    names: &[Name],
+    tables: &Tables,
     tokens: &'a [Token],
     room: u32,
     level: Level,
 ) -> Result<(Expr, &'a [Token]), Fault<'a>>
     ensures { Gives (λ found. expr_tree found.0) (λ found. found.1.now) result
-        (operand_at names.now room level tokens.now) }
+        (operand_at (tables_of tables.now) room level tokens.now) }
 {
     match level {
-        Level::Or => chained(alloc, names, tokens, room, Level::And),
-        Level::And => chained(alloc, names, tokens, room, Level::Equal),
-        Level::Equal => chained(alloc, names, tokens, room, Level::Compare),
-        Level::Compare => chained(alloc, names, tokens, room, Level::Sum),
-        Level::Sum => unary(alloc, names, tokens, room),
+        Level::Or => chained(alloc, tables, tokens, room, Level::And),
+        Level::And => chained(alloc, tables, tokens, room, Level::Equal),
+        Level::Equal => chained(alloc, tables, tokens, room, Level::Compare),
+        Level::Compare => chained(alloc, tables, tokens, room, Level::Sum),
+        Level::Sum => unary(alloc, tables, tokens, room),
     }
 }
 
@@ -251,18 +329,18 @@ fn operand<'a>(
 #[cycle(expr)]
 fn chained<'a>(
     alloc: Global,
-    names: &[Name],
+    tables: &Tables,
     tokens: &'a [Token],
     room: u32,
     level: Level,
 ) -> Result<(Expr, &'a [Token]), Fault<'a>>
     ensures { Gives (λ found. expr_tree found.0) (λ found. found.1.now) result
-        (chain_at names.now room level tokens.now) }
+        (chain_at (tables_of tables.now) room level tokens.now) }
 {
-    let (first, mut rest) = operand(alloc, names, tokens, room, level)?;
+    let (first, mut rest) = operand(alloc, tables, tokens, room, level)?;
     let mut links = Vec::new(alloc);
     while let Some((op, after)) = operator(level, rest) {
-        let (right, after) = operand(alloc, names, after, room, level)?;
+        let (right, after) = operand(alloc, tables, after, room, level)?;
         add(&mut links, link(op, right))?;
         rest = after;
     }
@@ -275,13 +353,13 @@ fn chained<'a>(
 #[tactic(auto, using(crate::proofs::Rooms::branches_none, crate::proofs::Rooms::branches_deep, crate::proofs::Rooms::branches_some))]
 fn branches<'a>(
     alloc: Global,
-    names: &[Name],
+    tables: &Tables,
     test: Expr,
     tokens: &'a [Token],
     room: u32,
 ) -> Result<(Expr, &'a [Token]), Fault<'a>>
     ensures { Gives (λ found. expr_tree found.0) (λ found. found.1.now) result
-        (branches_at names.now room (expr_tree test) tokens.now) }
+        (branches_at (tables_of tables.now) room (expr_tree test) tokens.now) }
 {
     let Some(rest) = behind(tokens, Fixed::Question) else {
         return Ok((test, tokens));
@@ -289,9 +367,9 @@ fn branches<'a>(
     if room == 0 {
         return Err(too_deep(tokens));
     }
-    let (yes, rest) = expression(alloc, names, rest, room - 1)?;
+    let (yes, rest) = expression(alloc, tables, rest, room - 1)?;
     let rest = take(rest, Fixed::Colon)?;
-    let (no, rest) = expression(alloc, names, rest, room - 1)?;
+    let (no, rest) = expression(alloc, tables, rest, room - 1)?;
     let tree = conditional(alloc, test, yes, no)?;
     Ok((tree, rest))
 }
@@ -301,13 +379,13 @@ fn branches<'a>(
 #[tactic(auto, using(crate::proofs::Rooms::expression_is))]
 pub(crate) fn expression<'a>(
     alloc: Global,
-    names: &[Name],
+    tables: &Tables,
     tokens: &'a [Token],
     room: u32,
 ) -> Result<(Expr, &'a [Token]), Fault<'a>>
     ensures { Gives (λ found. expr_tree found.0) (λ found. found.1.now) result
-        (expression_at names.now room tokens.now) }
+        (expression_at (tables_of tables.now) room tokens.now) }
 {
-    let (test, rest) = chained(alloc, names, tokens, room, Level::Or)?;
-    branches(alloc, names, test, rest, room)
+    let (test, rest) = chained(alloc, tables, tokens, room, Level::Or)?;
+    branches(alloc, tables, test, rest, room)
 }

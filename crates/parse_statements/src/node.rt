@@ -1,13 +1,15 @@
 // The nodes of the tree.
 ghost use Rattle.std.specs.Prelude.{◌≡◌, ◌++◌, ◌∷◌, [], map, take, IfOk, OnOk, OnErr, MatchOption};
-ghost use Rattle.eval_tree.specs.Tree.{expr_tree, link_tree, step_tree, init_tree, stmt_tree, arm_tree, block_tree, arms as arms_tree};
-ghost use Rattle.parse_syntax.specs.Grammar.{call_of, index_of, builtin_of, post_of, unary_of, link_of, chain_of, own_name, own_names, inside_of, no_inside, print_of, arm_of, let_of, const_of, assign_of, for_of};
+ghost use Rattle.eval_tree.specs.Tree.{expr_tree, exprs_tree, link_tree, step_tree, entry_tree, init_tree, stmt_tree, arm_tree, block_tree, arms as arms_tree};
+ghost use Rattle.parse_syntax.specs.Grammar.{index_of, builtin_of, object_of, post_of, unary_of, link_of, chain_of, own_name, own_names, inside_of, no_inside, print_of, arm_of, let_of, const_of, assign_of, for_of};
 ghost use Rattle.parse_look.specs.Look.{ident};
+ghost use Rattle.parse_syntax.specs.Tables.{tables_of};
 ghost use Rattle.eval_tree.specs.Tree as tree;
 
 use eval_tree::{Arm, Block, Builtin, Expr, Link, Method, Name, Names, Op, PostStep, Stmt};
-use js_units::NoMemory;
+use js_units::{NoMemory, Units};
 use parse_look::{Ident, letters};
+use parse_syntax::Tables;
 use std::alloc::{AllocError, Global};
 
 /// Adds an element; unchanged on refusal. Most lists of a tree have one: the first takes room for itself alone.
@@ -33,7 +35,7 @@ pub(crate) fn link(op: (u32, Op), right: Expr) -> Link
 }
 
 pub(crate) fn call(method: (u32, Method), args: Vec<Expr>) -> PostStep
-    ensures { step_tree result ≡ call_of (method.0, method.1) (map expr_tree args.items) }
+    ensures { step_tree result ≡ tree.of_call method.0 method.1 (exprs_tree args.items) }
 {
     PostStep::Call {
         at: method.0,
@@ -56,6 +58,13 @@ pub(crate) fn builtin(called: (u32, Builtin), args: Vec<Expr>) -> Expr
         which: called.1,
         args,
     }
+}
+
+#[tactic(auto, using(eval_tree::proofs::Trees::tree_of_object))]
+pub(crate) fn object(at: u32, members: Vec<(Units, Expr)>) -> Expr
+    ensures { expr_tree result ≡ object_of at (map entry_tree members.items) }
+{
+    Expr::Object { at, members }
 }
 
 pub(crate) fn signed(alloc: Global, sign: (u32, bool), of: Expr) -> Result<Expr, AllocError>
@@ -115,31 +124,31 @@ pub(crate) fn post(alloc: Global, of: Expr, steps: Vec<PostStep>) -> Result<Expr
 
 pub(crate) fn let_line(
     alloc: Global,
-    names: &[Name],
+    tables: &Tables,
     name: Ident,
     init: Option<Expr>,
 ) -> Result<Stmt, NoMemory>
-    ensures { IfOk result (λ s. stmt_tree s ≡ let_of names.now (ident name.at name.number) (init_tree init)) }
+    ensures { IfOk result (λ s. stmt_tree s ≡ let_of (tables_of tables.now) (ident name.at name.number) (init_tree init)) }
 {
     Ok(Stmt::Let {
         at: name.at,
-        name: letters(alloc, names, name.number)?,
+        name: letters(alloc, tables, name.number)?,
         init,
     })
 }
 
 pub(crate) fn const_line(
     alloc: Global,
-    names: &[Name],
+    tables: &Tables,
     name: Ident,
     init: Expr,
 ) -> Result<Stmt, NoMemory>
     ensures { IfOk result (λ s. stmt_tree s
-        ≡ const_of names.now (ident name.at name.number) (expr_tree init)) }
+        ≡ const_of (tables_of tables.now) (ident name.at name.number) (expr_tree init)) }
 {
     Ok(Stmt::Const {
         at: name.at,
-        name: letters(alloc, names, name.number)?,
+        name: letters(alloc, tables, name.number)?,
         init,
     })
 }
@@ -147,15 +156,15 @@ pub(crate) fn const_line(
 /// An assignment, or with the offset of a `+=` what appends.
 pub(crate) fn assignment(
     alloc: Global,
-    names: &[Name],
+    tables: &Tables,
     name: Ident,
     append: Option<u32>,
     value: Expr,
 ) -> Result<Stmt, NoMemory>
     ensures { IfOk result (λ s. stmt_tree s
-        ≡ assign_of names.now (ident name.at name.number) (append, expr_tree value)) }
+        ≡ assign_of (tables_of tables.now) (ident name.at name.number) (append, expr_tree value)) }
 {
-    let letters = letters(alloc, names, name.number)?;
+    let letters = letters(alloc, tables, name.number)?;
     match append {
         None => Ok(Stmt::Assign {
             at: name.at,
@@ -191,15 +200,15 @@ pub(crate) fn conditions(arms: Vec<Arm>, rest: Block) -> Stmt
 
 pub(crate) fn for_line(
     alloc: Global,
-    names: &[Name],
+    tables: &Tables,
     header: (Ident, u32),
     body: Block,
 ) -> Result<Stmt, NoMemory>
     ensures { IfOk result (λ s. stmt_tree s
-        ≡ for_of names.now (ident header.0.at header.0.number, header.1) (block_tree body)) }
+        ≡ for_of (tables_of tables.now) (ident header.0.at header.0.number, header.1) (block_tree body)) }
 {
     Ok(Stmt::For {
-        name: letters(alloc, names, header.0.number)?,
+        name: letters(alloc, tables, header.0.number)?,
         bound: header.1,
         body,
     })

@@ -7,35 +7,36 @@ ghost use Rattle.parse_syntax.specs.Grammar.{Statements, most};
 ghost use Rattle.parse_syntax.specs.Reading.{read_strict, read_statements};
 ghost use Rattle.parse_statements.specs.At.{init_at, let_at, const_at, assign_at, print_at, statement_at, statements_at, block_at, arm_at, rest_at, if_at, for_at};
 ghost use Rattle.parse_look.specs.Gives.{Gives, OnFault, IsOrMemory};
+ghost use Rattle.parse_syntax.specs.Tables.{tables_of};
 
 use crate::expr::{args, expression, parens};
 use crate::node::{
     add, arm, assignment, block, block_line, conditions, const_line, for_line, let_line, no_block,
     print,
 };
-use eval_tree::{Arm, Block, Expr, Name, Stmt};
+use eval_tree::{Arm, Block, Expr, Stmt};
 use js_lex::Mark;
 use parse_look::{
     Fault, Fixed, assign_op, behind, else_if, goes_on, header, name, next, refused, take, too_deep,
 };
-use parse_syntax::{Token, Word};
+use parse_syntax::{Tables, Token, Word};
 use std::alloc::Global;
 
 // [ = Expr ]
 #[tactic(auto, using(crate::proofs::Lines::init_none, crate::proofs::Lines::init_some))]
 fn init<'a>(
     alloc: Global,
-    names: &[Name],
+    tables: &Tables,
     tokens: &'a [Token],
     room: u32,
 ) -> Result<(Option<Expr>, &'a [Token]), Fault<'a>>
     ensures { Gives (λ found. init_tree found.0) (λ found. found.1.now) result
-        (init_at names.now room tokens.now) }
+        (init_at (tables_of tables.now) room tokens.now) }
 {
     match behind(tokens, Fixed::Assign) {
         None => Ok((None, tokens)),
         Some(rest) => {
-            let (value, rest) = expression(alloc, names, rest, room)?;
+            let (value, rest) = expression(alloc, tables, rest, room)?;
             Ok((Some(value), rest))
         }
     }
@@ -45,18 +46,18 @@ fn init<'a>(
 #[tactic(auto, using(crate::proofs::Lines::let_is))]
 fn declaration<'a>(
     alloc: Global,
-    names: &[Name],
+    tables: &Tables,
     tokens: &'a [Token],
     room: u32,
 ) -> Result<(Stmt, &'a [Token]), Fault<'a>>
     ensures { Gives (λ found. stmt_tree found.0) (λ found. found.1.now) result
-        (let_at names.now room tokens.now) }
+        (let_at (tables_of tables.now) room tokens.now) }
 {
     let rest = take(tokens, Fixed::Let)?;
     let (name, rest) = name(rest)?;
-    let (init, rest) = init(alloc, names, rest, room)?;
+    let (init, rest) = init(alloc, tables, rest, room)?;
     let rest = take(rest, Fixed::Semicolon)?;
-    let line = let_line(alloc, names, name, init)?;
+    let line = let_line(alloc, tables, name, init)?;
     Ok((line, rest))
 }
 
@@ -64,19 +65,19 @@ fn declaration<'a>(
 #[tactic(auto, using(crate::proofs::Lines::const_is))]
 fn constant<'a>(
     alloc: Global,
-    names: &[Name],
+    tables: &Tables,
     tokens: &'a [Token],
     room: u32,
 ) -> Result<(Stmt, &'a [Token]), Fault<'a>>
     ensures { Gives (λ found. stmt_tree found.0) (λ found. found.1.now) result
-        (const_at names.now room tokens.now) }
+        (const_at (tables_of tables.now) room tokens.now) }
 {
     let rest = take(tokens, Fixed::Const)?;
     let (name, rest) = name(rest)?;
     let rest = take(rest, Fixed::Assign)?;
-    let (init, rest) = expression(alloc, names, rest, room)?;
+    let (init, rest) = expression(alloc, tables, rest, room)?;
     let rest = take(rest, Fixed::Semicolon)?;
-    let line = const_line(alloc, names, name, init)?;
+    let line = const_line(alloc, tables, name, init)?;
     Ok((line, rest))
 }
 
@@ -84,18 +85,18 @@ fn constant<'a>(
 #[tactic(auto, using(crate::proofs::Lines::assign_is))]
 fn assign<'a>(
     alloc: Global,
-    names: &[Name],
+    tables: &Tables,
     tokens: &'a [Token],
     room: u32,
 ) -> Result<(Stmt, &'a [Token]), Fault<'a>>
     ensures { Gives (λ found. stmt_tree found.0) (λ found. found.1.now) result
-        (assign_at names.now room tokens.now) }
+        (assign_at (tables_of tables.now) room tokens.now) }
 {
     let (name, rest) = name(tokens)?;
     let (append, rest) = assign_op(rest)?;
-    let (value, rest) = expression(alloc, names, rest, room)?;
+    let (value, rest) = expression(alloc, tables, rest, room)?;
     let rest = take(rest, Fixed::Semicolon)?;
-    let line = assignment(alloc, names, name, append, value)?;
+    let line = assignment(alloc, tables, name, append, value)?;
     Ok((line, rest))
 }
 
@@ -103,16 +104,16 @@ fn assign<'a>(
 #[tactic(auto, using(crate::proofs::Lines::print_is))]
 fn print_line<'a>(
     alloc: Global,
-    names: &[Name],
+    tables: &Tables,
     tokens: &'a [Token],
     room: u32,
 ) -> Result<(Stmt, &'a [Token]), Fault<'a>>
     requires { 0 < room }
     ensures { Gives (λ found. stmt_tree found.0) (λ found. found.1.now) result
-        (print_at names.now room tokens.now) }
+        (print_at (tables_of tables.now) room tokens.now) }
 {
     let rest = take(tokens, Fixed::Print)?;
-    let (args, rest) = args(alloc, names, rest, room)?;
+    let (args, rest) = args(alloc, tables, rest, room)?;
     let rest = take(rest, Fixed::Semicolon)?;
     Ok((print(args), rest))
 }
@@ -121,18 +122,18 @@ fn print_line<'a>(
 #[cycle(statements)]
 fn list<'a>(
     alloc: Global,
-    names: &[Name],
+    tables: &Tables,
     tokens: &'a [Token],
     prints: bool,
     room: u32,
 ) -> Result<(Vec<Stmt>, &'a [Token]), Fault<'a>>
     ensures { Gives (λ found. map stmt_tree found.0.items) (λ found. found.1.now) result
-        (statements_at names.now prints room tokens.now) }
+        (statements_at (tables_of tables.now) prints room tokens.now) }
 {
     let mut items = Vec::new(alloc);
     let mut rest = tokens;
     while goes_on(rest) {
-        let (item, after) = statement(alloc, names, rest, prints, room)?;
+        let (item, after) = statement(alloc, tables, rest, prints, room)?;
         items.push(item)?;
         rest = after;
     }
@@ -144,17 +145,17 @@ fn list<'a>(
 #[tactic(auto, using(crate::proofs::Lines::block_is))]
 fn inside<'a>(
     alloc: Global,
-    names: &[Name],
+    tables: &Tables,
     tokens: &'a [Token],
     prints: bool,
     room: u32,
 ) -> Result<(Block, &'a [Token]), Fault<'a>>
     requires { 0 < room }
     ensures { Gives (λ found. block_tree found.0) (λ found. found.1.now) result
-        (block_at names.now prints room tokens.now) }
+        (block_at (tables_of tables.now) prints room tokens.now) }
 {
     let rest = take(tokens, Fixed::OpenBrace)?;
-    let (body, rest) = list(alloc, names, rest, prints, room - 1)?;
+    let (body, rest) = list(alloc, tables, rest, prints, room - 1)?;
     let rest = take(rest, Fixed::CloseBrace)?;
     let block = block(alloc, body)?;
     Ok((block, rest))
@@ -165,18 +166,18 @@ fn inside<'a>(
 #[tactic(auto, using(crate::proofs::Lines::arm_is))]
 fn condition<'a>(
     alloc: Global,
-    names: &[Name],
+    tables: &Tables,
     tokens: &'a [Token],
     prints: bool,
     room: u32,
 ) -> Result<(Arm, &'a [Token]), Fault<'a>>
     requires { 0 < room }
     ensures { Gives (λ found. arm_tree found.0) (λ found. found.1.now) result
-        (arm_at names.now prints room tokens.now) }
+        (arm_at (tables_of tables.now) prints room tokens.now) }
 {
     let rest = take(tokens, Fixed::If)?;
-    let (test, rest) = parens(alloc, names, rest, room)?;
-    let (body, rest) = inside(alloc, names, rest, prints, room)?;
+    let (test, rest) = parens(alloc, tables, rest, room)?;
+    let (body, rest) = inside(alloc, tables, rest, prints, room)?;
     Ok((arm(test, body), rest))
 }
 
@@ -185,17 +186,17 @@ fn condition<'a>(
 #[tactic(auto, using(crate::proofs::Lines::rest_none, crate::proofs::Lines::rest_some))]
 fn otherwise<'a>(
     alloc: Global,
-    names: &[Name],
+    tables: &Tables,
     tokens: &'a [Token],
     prints: bool,
     room: u32,
 ) -> Result<(Block, &'a [Token]), Fault<'a>>
     requires { 0 < room }
     ensures { Gives (λ found. block_tree found.0) (λ found. found.1.now) result
-        (rest_at names.now prints room tokens.now) }
+        (rest_at (tables_of tables.now) prints room tokens.now) }
 {
     match behind(tokens, Fixed::Else) {
-        Some(rest) => inside(alloc, names, rest, prints, room),
+        Some(rest) => inside(alloc, tables, rest, prints, room),
         None => Ok((no_block(alloc), tokens)),
     }
 }
@@ -205,24 +206,24 @@ fn otherwise<'a>(
 #[tactic(auto, using(crate::proofs::Lines::if_is))]
 fn if_statement<'a>(
     alloc: Global,
-    names: &[Name],
+    tables: &Tables,
     tokens: &'a [Token],
     prints: bool,
     room: u32,
 ) -> Result<(Stmt, &'a [Token]), Fault<'a>>
     requires { 0 < room }
     ensures { Gives (λ found. stmt_tree found.0) (λ found. found.1.now) result
-        (if_at names.now prints room tokens.now) }
+        (if_at (tables_of tables.now) prints room tokens.now) }
 {
-    let (first, mut rest) = condition(alloc, names, tokens, prints, room)?;
+    let (first, mut rest) = condition(alloc, tables, tokens, prints, room)?;
     let mut arms = Vec::new(alloc);
     add(&mut arms, first)?;
     while let Some(after) = else_if(rest) {
-        let (arm, after) = condition(alloc, names, after, prints, room)?;
+        let (arm, after) = condition(alloc, tables, after, prints, room)?;
         add(&mut arms, arm)?;
         rest = after;
     }
-    let (last, rest) = otherwise(alloc, names, rest, prints, room)?;
+    let (last, rest) = otherwise(alloc, tables, rest, prints, room)?;
     Ok((conditions(arms, last), rest))
 }
 
@@ -231,18 +232,18 @@ fn if_statement<'a>(
 #[tactic(auto, using(crate::proofs::Lines::for_is))]
 fn for_statement<'a>(
     alloc: Global,
-    names: &[Name],
+    tables: &Tables,
     tokens: &'a [Token],
     prints: bool,
     room: u32,
 ) -> Result<(Stmt, &'a [Token]), Fault<'a>>
     requires { 0 < room }
     ensures { Gives (λ found. stmt_tree found.0) (λ found. found.1.now) result
-        (for_at names.now prints room tokens.now) }
+        (for_at (tables_of tables.now) prints room tokens.now) }
 {
     let (header, rest) = header(tokens)?;
-    let (body, rest) = inside(alloc, names, rest, prints, room)?;
-    let line = for_line(alloc, names, header, body)?;
+    let (body, rest) = inside(alloc, tables, rest, prints, room)?;
+    let line = for_line(alloc, tables, header, body)?;
     Ok((line, rest))
 }
 
@@ -250,13 +251,13 @@ fn for_statement<'a>(
 #[tactic(auto, using(crate::proofs::Lines::block_here, crate::proofs::Lines::let_here, crate::proofs::Lines::const_here, crate::proofs::Lines::name_here, crate::proofs::Lines::print_refused, crate::proofs::Lines::print_here, crate::proofs::Lines::if_here, crate::proofs::Lines::for_here, crate::proofs::Lines::block_deep, crate::proofs::Lines::print_deep, crate::proofs::Lines::if_deep, crate::proofs::Lines::for_deep, crate::proofs::Lines::nothing_here, crate::proofs::Lines::other_here))]
 fn statement<'a>(
     alloc: Global,
-    names: &[Name],
+    tables: &Tables,
     tokens: &'a [Token],
     prints: bool,
     room: u32,
 ) -> Result<(Stmt, &'a [Token]), Fault<'a>>
     ensures { Gives (λ found. stmt_tree found.0) (λ found. found.1.now) result
-        (statement_at names.now prints room tokens.now) }
+        (statement_at (tables_of tables.now) prints room tokens.now) }
 {
     match next(tokens) {
         Some(
@@ -267,7 +268,7 @@ fn statement<'a>(
                 },
                 _,
             ),
-        ) => declaration(alloc, names, tokens, room),
+        ) => declaration(alloc, tables, tokens, room),
         Some(
             (
                 Token::Word {
@@ -276,8 +277,8 @@ fn statement<'a>(
                 },
                 _,
             ),
-        ) => constant(alloc, names, tokens, room),
-        Some((Token::Name { .. }, _)) => assign(alloc, names, tokens, room),
+        ) => constant(alloc, tables, tokens, room),
+        Some((Token::Name { .. }, _)) => assign(alloc, tables, tokens, room),
         Some(
             (
                 Token::Mark {
@@ -290,7 +291,7 @@ fn statement<'a>(
             if room == 0 {
                 return Err(too_deep(tokens));
             }
-            let (inner, rest) = inside(alloc, names, tokens, prints, room)?;
+            let (inner, rest) = inside(alloc, tables, tokens, prints, room)?;
             Ok((block_line(inner), rest))
         }
         Some(
@@ -308,13 +309,13 @@ fn statement<'a>(
             if room == 0 {
                 return Err(too_deep(tokens));
             }
-            print_line(alloc, names, tokens, room)
+            print_line(alloc, tables, tokens, room)
         }
         Some((Token::Word { word: Word::If, .. }, _)) => {
             if room == 0 {
                 return Err(too_deep(tokens));
             }
-            if_statement(alloc, names, tokens, prints, room)
+            if_statement(alloc, tables, tokens, prints, room)
         }
         Some(
             (
@@ -328,7 +329,7 @@ fn statement<'a>(
             if room == 0 {
                 return Err(too_deep(tokens));
             }
-            for_statement(alloc, names, tokens, prints, room)
+            for_statement(alloc, tables, tokens, prints, room)
         }
         _ => Err(refused(tokens)),
     }
@@ -349,16 +350,16 @@ fn strict(tokens: &[Token]) -> Result<&[Token], Fault<'_>>
 #[tactic(auto, using(crate::proofs::Lines::whole_is))]
 fn whole<'a>(
     alloc: Global,
-    names: &[Name],
+    tables: &Tables,
     tokens: &'a [Token],
     prints: bool,
     room: u32,
 ) -> Result<Vec<Stmt>, Fault<'a>>
     ensures { Gives (λ body. map stmt_tree body.items) (λ _. []) result
-        (read_whole (read_statements names.now prints room) tokens.now) }
+        (read_whole (read_statements (tables_of tables.now) prints room) tokens.now) }
 {
     let rest = strict(tokens)?;
-    let (body, rest) = list(alloc, names, rest, prints, room)?;
+    let (body, rest) = list(alloc, tables, rest, prints, room)?;
     match next(rest) {
         None => Ok(body),
         Some(_) => Err(refused(rest)),
@@ -371,18 +372,18 @@ fn limit() -> u32
     200
 }
 
-/// The statements that the tokens spell, with or without `print`, where a name's number is its place among `names`.
+/// The statements that the tokens spell, with or without `print`, where the numbers of tokens are places in the tables.
 pub fn statements<'a>(
     alloc: Global,
-    names: &[Name],
+    tables: &Tables,
     tokens: &'a [Token],
     prints: bool,
 ) -> Result<Vec<Stmt>, Fault<'a>>
-    ensures spells { IfOk result (λ body. Statements names.now prints most tokens.now
+    ensures spells { IfOk result (λ body. Statements (tables_of tables.now) prints most tokens.now
         (map stmt_tree body.items)) }
-    ensures found { (x : List StmtTree) → Statements names.now prints most tokens.now x
+    ensures found { (x : List StmtTree) → Statements (tables_of tables.now) prints most tokens.now x
         → IsOrMemory (λ body. map stmt_tree body.items) result x }
-    ensures refused { OnFault result (IsRefused (Statements names.now prints) most tokens.now) }
+    ensures refused { OnFault result (IsRefused (Statements (tables_of tables.now) prints) most tokens.now) }
 {
-    whole(alloc, names, tokens, prints, limit())
+    whole(alloc, tables, tokens, prints, limit())
 }

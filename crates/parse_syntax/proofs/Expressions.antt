@@ -1,12 +1,13 @@
 -- The readers of expressions are lawful and local, one level over the one below.
 use Rattle.std.proofs.Common.{◌≡◌, ℕ, ◌≤◌, List, [], ◌∷◌, ◌++◌, Bool, true, false, nat_lt, Option, Some, None, refl, ap, ◌∙◌, arith, append_assoc}
+use Rattle.std.specs.Prelude.{decimal}
 use Rattle.js_lex.specs.declared.token.Mark.TheVariants as mark
 use Rattle.parse_laws.specs.Lang.{Lang, One, one, Then, both, Mapped, mapped, Nothing, nothing, Either, left, right, Many, end, more, if_room, first_of, second_of, ◌▸◌, ◌◂◌}
 use Rattle.parse_laws.specs.Reader.{Reader, Kind, map_by, and_then, one_of, choose, heads}
 use Rattle.parse_laws.proofs.Laws.{Holds}
 use Rattle.parse_laws.proofs.Wider.{Begins, Starts, one_starts, then_starts, either_starts, head_gives, some_of}
-use Rattle.parse_laws.proofs.Part.{anything, Part, both_hold, one_part, then_part, next_part, map_part, branch, part_of, choose_branch, nothing_branch, heads_test, Rooms, then_strict, open_branch, many_part}
-use Rattle.parse_laws.proofs.Heads.{one_heads, then_heads, mapped_heads, then_some, begins_length, room_of, in_room, deeper, over, then_lacks, lacks, one_over, first_over, lower}
+use Rattle.parse_laws.proofs.Part.{anything, Branch, Part, both_hold, one_part, then_part, next_part, map_part, branch, sooner, part_of, choose_branch, nothing_branch, heads_test, Rooms, then_strict, map_strict, open_branch, many_part}
+use Rattle.parse_laws.proofs.Heads.{one_heads, then_heads, mapped_heads, then_some, begins_length, either_lacks, room_of, in_room, deeper, over, one_lacks, then_lacks, lacks, one_over, first_over, lower}
 use Rattle.parse_syntax.specs.declared.token.Token.{Token}
 use Rattle.parse_syntax.specs.declared.token.Token.TheVariants as token
 use Rattle.parse_syntax.specs.declared.token.Word.TheVariants as word
@@ -16,11 +17,13 @@ use Rattle.eval_tree.specs.declared.tree.Method.TheVariants as methods
 use Rattle.eval_tree.specs.declared.tree.Builtin.{Builtin}
 use Rattle.eval_tree.specs.Tree as tree
 use Rattle.eval_tree.specs.Tree.{ExprTree, LinkTree, StepTree}
-use Rattle.parse_syntax.specs.Terminals.{string_word, symbol_word, json_word, uri_function, member_word, method, from_word, symbol_function, stringify_word, opening, closing, open_bracket, close_bracket, comma, point, question, colon, sign, or_op, and_op, equal_op, compare_op, sum_op, simple}
+use Rattle.parse_syntax.specs.Tables.{Tables}
+use Rattle.parse_syntax.specs.Terminals.{string_word, symbol_word, json_word, object_word, uri_function, member_word, property_word, method, key, from_word, symbol_function, stringify_word, keys_word, opening, closing, open_bracket, close_bracket, open_literal, close_brace, comma, point, question, colon, sign, or_op, and_op, equal_op, compare_op, sum_op, simple}
 use Rattle.parse_syntax.specs.Grammar
-use Rattle.parse_syntax.specs.Grammar.{list_of, none_of, single_of, pair_of, index_of, call_of, builtin_of, uri_of, plain_string, post_of, unary_of, link_of, chain_of, branches_of, cond_of}
-use Rattle.parse_syntax.specs.Reading.{read_parens, read_items, read_args, read_string, read_symbol, read_json, read_uri, read_primary, read_member, read_index, read_step, step_mark, read_post, read_unary, read_chain, read_sum, read_comparison, read_equality, read_conjunction, read_disjunction, read_branches, read_conditional}
-use Rattle.parse_syntax.proofs.Stops.{stops, stops_more, HasLevel, question_level, or_level, and_level, equal_level, compare_level, sum_level, step_level, colon_level, closing_level, close_bracket_level, comma_level, none_of_level, class, simple_of, opening_of, string_of, symbol_of, json_of, uri_function_of, sign_of, begins_unary, sign_begins, primary_begins, no_closing, part, point_of, bracket_of, paren_of, member_of, method_of, is_step, point_step, bracket_step}
+use Rattle.parse_syntax.specs.Grammar.{list_of, none_of, single_of, pair_of, index_of, method_of, object_of, builtin_of, uri_of, plain_string, post_of, unary_of, link_of, chain_of, branches_of, cond_of}
+use Rattle.parse_syntax.specs.Reading.{read_parens, read_items, read_args, read_string, read_symbol, read_json, read_uri, read_object_call, read_entry, read_entries, read_members, read_literal, read_primary, read_method_args, read_word, read_member, read_index, read_step, step_mark, read_post, read_unary, read_chain, read_sum, read_comparison, read_equality, read_conjunction, read_disjunction, read_branches, read_conditional}
+use Rattle.parse_syntax.proofs.Stops.{stops, stops_more, HasLevel, question_level, or_level, and_level, equal_level, compare_level, sum_level, step_level, opening_level, colon_level, closing_level, close_bracket_level, close_brace_level, comma_level, none_of_level, class, simple_of, opening_of, string_of, symbol_of, json_of, uri_function_of, literal_of, sign_of, begins_unary, sign_begins, primary_begins, no_closing, part, point_of, bracket_of, paren_of, member_of, property_of, is_step, point_step, bracket_step, step_no_args, entry_class, key_of, close_brace_of}
+use Rattle.parse_syntax.proofs.Stops.{object_of as object_word_of, method_of as method_word_of}
 
 -- a token of a lower level ends what is above it
 
@@ -65,17 +68,26 @@ module _ (P : Kind → Type 0) where
   from_part = one_part P from_word (token.Name 0 0 property.FromCharCode) _ refl
 
   function_part : Part P (One symbol_function) (One symbol_function) anything (one_of symbol_function) (one_of symbol_function)
-  function_part = one_part P symbol_function (token.Word 0 word.For) _ refl
+  function_part = one_part P symbol_function (token.Word 0 word.For 0) _ refl
 
   stringify_part : Part P (One stringify_word) (One stringify_word) anything (one_of stringify_word) (one_of stringify_word)
   stringify_part = one_part P stringify_word (token.Name 0 0 property.Stringify) _ refl
+
+  comma_part : Part P (One comma) (One comma) anything (one_of comma) (one_of comma)
+  comma_part = one_part P comma (token.Mark 0 mark.Comma false) tt refl
+
+  close_brace_part : Part P (One close_brace) (One close_brace) anything (one_of close_brace) (one_of close_brace)
+  close_brace_part = one_part P close_brace (token.Mark 0 mark.CloseBrace false) tt refl
+
+  keys_part : Part P (One keys_word) (One keys_word) anything (one_of keys_word) (one_of keys_word)
+  keys_part = one_part P keys_word (token.Name 0 0 property.Keys) _ refl
 
   module _ {E F : Lang Token ExprTree} {e e' : Reader Token ExprTree} (p : Part P E F (stops 1) e e') where
     pub parens_part : Part P (Grammar.parens E) (Grammar.parens F) anything (read_parens e) (read_parens e')
     parens_part = next_part second_of opening_part (then_part first_of p closing_part (λ b y rest h s. one_stops closing 0 1 closing_level refl b y rest h))
 
     items_part : Part P (Grammar.items E) (Grammar.items F) (heads closing) (read_items e) (read_items e')
-    items_part = then_part list_of p (many_part (heads comma) (heads closing) (next_part second_of (one_part P comma (token.Mark 0 mark.Comma false) tt refl) p) (record {
+    items_part = then_part list_of p (many_part (heads comma) (heads closing) (next_part second_of comma_part p) (record {
       test = heads_test comma;
       none = refl;
       eats = λ ts x h. then_some comma ts x h;
@@ -107,7 +119,7 @@ module _ (P : Kind → Type 0) where
         (record { tokens = closing_part.some.tokens; value = []; spells = left closing_part.some.tokens [] (mapped closing_part.some.tokens tt closing_part.some.spells) }))
 
     string_part : Starts E begins_unary → Part P (Grammar.string_call E) (Grammar.string_call F) anything (read_string e) (read_string e')
-    string_part st = next_part builtin_of (one_part P string_word (token.Word 0 word.String) 0 refl) (part_of
+    string_part st = next_part builtin_of (one_part P string_word (token.Word 0 word.String 0) 0 refl) (part_of
         (choose_branch (heads point) (heads_test point)
         (branch (next_part second_of point_part (next_part pair_of from_part (args_part st))) (λ ts x h. left ts x h))
         (branch (map_part plain_string (args_part st)) (λ ts x h. right ts x h))
@@ -122,13 +134,56 @@ module _ (P : Kind → Type 0) where
         plain_no_point _ _ rest (mapped a x h) = then_lacks part point_of paren_of (λ q. omega arith) a x rest h
 
     symbol_part : Starts E begins_unary → Part P (Grammar.symbol_call E) (Grammar.symbol_call F) anything (read_symbol e) (read_symbol e')
-    symbol_part st = next_part builtin_of (one_part P symbol_word (token.Word 0 word.Symbol) 0 refl) (next_part second_of point_part (next_part pair_of function_part (args_part st)))
+    symbol_part st = next_part builtin_of (one_part P symbol_word (token.Word 0 word.Symbol 0) 0 refl) (next_part second_of point_part (next_part pair_of function_part (args_part st)))
 
     json_part : Part P (Grammar.json_call E) (Grammar.json_call F) anything (read_json e) (read_json e')
-    json_part = next_part builtin_of (one_part P json_word (token.Word 0 word.Json) 0 refl) (next_part second_of point_part (next_part pair_of stringify_part (map_part single_of parens_part)))
+    json_part = next_part builtin_of (one_part P json_word (token.Word 0 word.Json 0) 0 refl) (next_part second_of point_part (next_part pair_of stringify_part (map_part single_of parens_part)))
 
     uri_part : Starts E begins_unary → Part P (Grammar.uri_call E) (Grammar.uri_call F) anything (read_uri e) (read_uri e')
-    uri_part st = next_part uri_of (one_part P uri_function (token.Word 0 word.EncodeUri) _ refl) (args_part st)
+    uri_part st = next_part uri_of (one_part P uri_function (token.Word 0 word.EncodeUri 0) _ refl) (args_part st)
+
+    object_call_part : Starts E begins_unary → Part P (Grammar.object_call E) (Grammar.object_call F) anything (read_object_call e) (read_object_call e')
+    object_call_part st = next_part builtin_of (one_part P object_word (token.Word 0 word.Object 0) 0 refl) (next_part second_of point_part (next_part pair_of keys_part (args_part st)))
+
+    -- object literals
+    module _ (tables : Tables) where
+      entry_part : Part P (Grammar.entry tables E) (Grammar.entry tables F) (stops 1) (read_entry tables e) (read_entry tables e')
+      entry_part = next_part pair_of (one_part P (key tables) (token.Number 0 0) (decimal 0) refl) (next_part second_of colon_part p)
+
+      entries_part : Part P (Grammar.entries tables E) (Grammar.entries tables F) (heads close_brace) (read_entries tables e) (read_entries tables e')
+      entries_part = then_part list_of entry_part (many_part (heads comma) (heads close_brace) (next_part second_of comma_part entry_part) (record {
+        test = heads_test comma;
+        none = refl;
+        eats = λ ts x h. then_some comma ts x h;
+        begins = λ ts x rest h. then_heads comma ts x rest h;
+        again = λ ts x rest h. then_stops comma 0 1 comma_level refl ts x rest h;
+        ends = closes_commas;
+        over = heads_stop close_brace 0 1 close_brace_level refl;
+      })) follows
+        where
+          no_comma : (t : Token) (x : Unit {0}) → close_brace t ≡ Some x → heads comma (t ∷ []) ≡ false
+          no_comma (token.Mark a mark.CloseBrace l) x h = refl
+          no_comma _ x h = cc
+
+          closes_commas : (s : List Token) → heads close_brace s ≡ true → heads comma s ≡ false
+          closes_commas [] h = refl
+          closes_commas (t ∷ s) h = let y = some_of (close_brace t) h in no_comma t y.0 y.1
+
+          follows : (b : List Token) (y : List (List ℕ × ExprTree)) (rest : List Token) → Many (One comma ▸ Grammar.entry tables E) b y → heads close_brace rest ≡ true → stops 1 (b ++ rest) ≡ true
+          follows _ _ rest end s = heads_stop close_brace 0 1 close_brace_level refl rest s
+          follows _ _ rest (more a b x xs ha hb) s = rw (append_assoc a b rest) (then_stops comma 0 1 comma_level refl a x (b ++ rest) ha)
+
+      entries_start : Starts (Grammar.entries tables E ◂ One close_brace) (over entry_class 0)
+      entries_start = then_starts first_of (Grammar.entries tables E) (One close_brace) (over entry_class 0) (then_starts list_of (Grammar.entry tables E) (Many (One comma ▸ Grammar.entry tables E)) (over entry_class 0) (first_over entry_class (key tables) 1 0 (key_of tables) refl))
+
+      literal_part : Part P (Grammar.object_literal tables E) (Grammar.object_literal tables F) anything (read_literal tables e) (read_literal tables e')
+      literal_part = next_part object_of (one_part P open_literal (token.Mark 0 mark.OpenBrace false) 0 refl) (part_of
+          (choose_branch (heads close_brace) (heads_test close_brace)
+          (branch (map_part none_of close_brace_part) (λ ts x h. left ts x h))
+          (branch (then_part first_of entries_part close_brace_part (λ b y rest h s. one_heads close_brace b y rest h)) (λ ts x h. right ts x h))
+          (λ ts x rest h. mapped_heads close_brace ts x rest h)
+          (λ ts x rest h s. lacks entry_class close_brace 0 0 close_brace_of (omega arith) entries_start ts x rest h))
+          (record { tokens = close_brace_part.some.tokens; value = []; spells = left close_brace_part.some.tokens [] (mapped close_brace_part.some.tokens tt close_brace_part.some.spells) }))
 
     index_part : Part P (Grammar.index E) (Grammar.index F) anything (read_index e) (read_index e')
     index_part = next_part index_of (one_part P open_bracket (token.Mark 0 mark.OpenBracket false) 0 refl) (then_part first_of p close_bracket_part (λ b y rest h s. one_stops close_bracket 0 1 close_bracket_level refl b y rest h))
@@ -156,11 +211,30 @@ module _ (P : Kind → Type 0) where
       let m = held_parens h in
       both_hold second_of point_part.some (both_hold pair_of stringify_part.some (record { tokens = m.tokens; value = single_of m.value; spells = mapped m.tokens m.value m.spells }))
 
-  module _ (names : List (List ℕ)) (room room' : Bool) (rs : Rooms P room room') (E U F G : Lang Token ExprTree) (e u e' u' : Reader Token ExprTree) (i : Inner P room E U F G e u e' u') where
+  held_object_call : (L : Lang Token ExprTree) → Holds (One point ▸ Then pair_of (One keys_word) (Grammar.args L))
+  held_object_call L = both_hold second_of point_part.some (both_hold pair_of keys_part.some (no_args L))
+
+  -- { } is an object literal at each level
+  held_literal : (tables : Tables) (L : Lang Token ExprTree) → Holds (Either (Mapped none_of (One close_brace)) (Grammar.entries tables L ◂ One close_brace))
+  held_literal tables L = record { tokens = close_brace_part.some.tokens; value = []; spells = left close_brace_part.some.tokens [] (mapped close_brace_part.some.tokens tt close_brace_part.some.spells) }
+
+  -- ( begins a method's arguments at each level
+  held_args : (L : Lang Token ExprTree) (t : Token) (y : Unit {0}) → opening t ≡ Some y → (tail : List Token) × (x : Option (List ExprTree)) × Mapped Some (Grammar.args L) (t ∷ tail) x
+  held_args L t y q =
+      let d = deeper second_of opening {L = Either (Mapped none_of (One closing)) (Grammar.items L ◂ One closing)} (record { tokens = closing_part.some.tokens; value = []; spells = left closing_part.some.tokens [] (mapped closing_part.some.tokens tt closing_part.some.spells) }) t y q in
+      (d.0, Some d.1, mapped (t ∷ d.0) d.1 d.2)
+
+  module _ (tables : Tables) (room room' : Bool) (rs : Rooms P room room') (E U F G : Lang Token ExprTree) (e u e' u' : Reader Token ExprTree) (i : Inner P room E U F G e u e' u') where
     -- a primary, from each of its alternatives on
 
+    abbrev From_literal : Lang Token ExprTree
+    From_literal = if_room room (Grammar.object_literal tables E)
+
+    abbrev From_object : Lang Token ExprTree
+    From_object = Either (if_room room (Grammar.object_call E)) From_literal
+
     abbrev From_uri : Lang Token ExprTree
-    From_uri = if_room room (Grammar.uri_call E)
+    From_uri = Either (if_room room (Grammar.uri_call E)) From_object
 
     abbrev From_json : Lang Token ExprTree
     From_json = Either (if_room room (Grammar.json_call E)) From_uri
@@ -174,8 +248,14 @@ module _ (P : Kind → Type 0) where
     abbrev From_parens : Lang Token ExprTree
     From_parens = Either (if_room room (Grammar.parens E)) From_string
 
+    literal_starts : Starts From_literal (over class 7)
+    literal_starts = room_starts room (over class 7) (first_over class open_literal 8 7 literal_of refl)
+
+    object_starts : Starts From_object (over class 6)
+    object_starts = either_starts (if_room room (Grammar.object_call E)) From_literal (over class 6) (room_starts room (over class 6) (first_over class object_word 7 6 object_word_of refl)) (lower class 7 6 refl literal_starts)
+
     uri_starts : Starts From_uri (over class 5)
-    uri_starts = room_starts room (over class 5) (first_over class uri_function 6 5 uri_function_of refl)
+    uri_starts = either_starts (if_room room (Grammar.uri_call E)) From_object (over class 5) (room_starts room (over class 5) (first_over class uri_function 6 5 uri_function_of refl)) (lower class 6 5 refl object_starts)
 
     json_starts : Starts From_json (over class 4)
     json_starts = either_starts (if_room room (Grammar.json_call E)) From_uri (over class 4) (room_starts room (over class 4) (first_over class json_word 5 4 json_of refl)) (lower class 5 4 refl uri_starts)
@@ -189,16 +269,24 @@ module _ (P : Kind → Type 0) where
     parens_starts : Starts From_parens (over class 1)
     parens_starts = either_starts (if_room room (Grammar.parens E)) From_string (over class 1) (room_starts room (over class 1) (first_over class opening 2 1 opening_of refl)) (lower class 2 1 refl string_starts)
 
-    primary_starts : Starts (Grammar.primary names room E) (over class 0)
-    primary_starts = either_starts (One (simple names)) From_parens (over class 0) (one_over class (simple names) 1 0 (simple_of names) refl) (lower class 1 0 refl parens_starts)
+    primary_starts : Starts (Grammar.primary tables room E) (over class 0)
+    primary_starts = either_starts (One (simple tables)) From_parens (over class 0) (one_over class (simple tables) 1 0 (simple_of tables) refl) (lower class 1 0 refl parens_starts)
 
-    some_primary : Holds (Grammar.primary names room E)
+    some_primary : Holds (Grammar.primary tables room E)
     some_primary = record { tokens = token.Number 0 0 ∷ []; value = tree.number 0; spells = left (token.Number 0 0 ∷ []) (tree.number 0) (one (token.Number 0 0) (tree.number 0) refl) }
 
-    primary_part : Part P (Grammar.primary names room E) (Grammar.primary names true F) anything (read_primary names room e) (read_primary names room' e')
+    primary_part : Part P (Grammar.primary tables room E) (Grammar.primary tables true F) anything (read_primary tables room e) (read_primary tables room' e')
     primary_part =
-        let uris = open_branch room room' rs uri_function (λ r. branch (uri_part (i.whole r) (i.first_whole r)) (λ ts x h. right ts x (right ts x (right ts x (right ts x (right ts x (in_room room (Grammar.uri_call E) r ts x h)))))))
-        some_primary (deeper uri_of uri_function (no_args F)) (then_strict uri_of uri_function (read_args e')) in
+        let literals = open_branch room room' rs open_literal (λ r. branch (literal_part (i.whole r) tables) (λ ts x h. right ts x (right ts x (right ts x (right ts x (right ts x (right ts x (right ts x (in_room room (Grammar.object_literal tables E) r ts x h)))))))))
+        some_primary (deeper object_of open_literal (held_literal tables F)) (then_strict object_of open_literal (read_members tables e')) in
+        let objects = choose_branch (heads object_word) (heads_test object_word)
+        (open_branch room room' rs object_word (λ r. branch (object_call_part (i.whole r) (i.first_whole r)) (λ ts x h. right ts x (right ts x (right ts x (right ts x (right ts x (right ts x (left ts x (in_room room (Grammar.object_call E) r ts x h)))))))))
+        some_primary (deeper builtin_of object_word (held_object_call F)) (then_strict builtin_of object_word (and_then second_of (one_of point) (and_then pair_of (one_of keys_word) (read_args e')))))
+        literals (λ ts x rest h. then_heads object_word ts x rest (room_of room (Grammar.object_call E) ts x h)) (λ ts x rest h s. lacks class object_word 7 7 object_word_of (omega arith) literal_starts ts x rest h) in
+        let uris = choose_branch (heads uri_function) (heads_test uri_function)
+        (open_branch room room' rs uri_function (λ r. branch (uri_part (i.whole r) (i.first_whole r)) (λ ts x h. right ts x (right ts x (right ts x (right ts x (right ts x (left ts x (in_room room (Grammar.uri_call E) r ts x h))))))))
+        some_primary (deeper uri_of uri_function (no_args F)) (then_strict uri_of uri_function (read_args e')))
+        objects (λ ts x rest h. then_heads uri_function ts x rest (room_of room (Grammar.uri_call E) ts x h)) (λ ts x rest h s. lacks class uri_function 6 6 uri_function_of (omega arith) object_starts ts x rest h) in
         let json = choose_branch (heads json_word) (heads_test json_word)
         (open_branch room room' rs json_word (λ r. branch (json_part (i.whole r)) (λ ts x h. right ts x (right ts x (right ts x (right ts x (left ts x (in_room room (Grammar.json_call E) r ts x h)))))))
         some_primary (deeper builtin_of json_word (held_json i.held_whole)) (then_strict builtin_of json_word (and_then second_of (one_of point) (and_then pair_of (one_of stringify_word) (map_by single_of (read_parens e'))))))
@@ -215,30 +303,74 @@ module _ (P : Kind → Type 0) where
         (open_branch room room' rs opening (λ r. branch (parens_part (i.whole r)) (λ ts x h. right ts x (left ts x (in_room room (Grammar.parens E) r ts x h))))
         some_primary (deeper second_of opening (both_hold first_of i.held_whole closing_part.some)) (then_strict second_of opening (and_then first_of e' (one_of closing))))
         strings (λ ts x rest h. then_heads opening ts x rest (room_of room (Grammar.parens E) ts x h)) (λ ts x rest h s. lacks class opening 2 2 opening_of (omega arith) string_starts ts x rest h) in
-        part_of (choose_branch (heads (simple names)) (heads_test (simple names)) (branch (one_part P (simple names) (token.Number 0 0) (tree.number 0) refl) (λ ts x h. left ts x h)) opened
-        (one_heads (simple names)) (λ ts x rest h s. lacks class (simple names) 1 1 (simple_of names) (omega arith) parens_starts ts x rest h)) some_primary
+        part_of (choose_branch (heads (simple tables)) (heads_test (simple tables)) (branch (one_part P (simple tables) (token.Number 0 0) (tree.number 0) refl) (λ ts x h. left ts x h)) opened
+        (one_heads (simple tables)) (λ ts x rest h s. lacks class (simple tables) 1 1 (simple_of tables) (omega arith) parens_starts ts x rest h)) some_primary
 
-    some_member : Holds (Either (One member_word) (if_room room (Then call_of (One method) (Grammar.args E))))
-    some_member = record { tokens = token.Name 0 0 property.Length ∷ []; value = tree.of_length; spells = left (token.Name 0 0 property.Length ∷ []) tree.of_length (one (token.Name 0 0 property.Length) tree.of_length refl) }
+    -- what stands behind a method's word
 
-    member_part : Part P (Grammar.member room E) (Grammar.member true F) anything (read_member room e) (read_member room' e')
-    member_part = next_part second_of point_part (part_of
+    args_heads : (ts : List Token) (x : Option (List ExprTree)) (rest : List Token) → Mapped Some (Grammar.args E) ts x → heads opening (ts ++ rest) ≡ true
+    args_heads _ _ rest (mapped a x h) = then_heads opening a x rest h
+
+    no_args_here : (ts : List Token) (x : Option (List ExprTree)) (rest : List Token) → Nothing None ts x → stops 8 rest ≡ true → heads opening (ts ++ rest) ≡ false
+    no_args_here _ _ rest (nothing x h) s = none_of_level opening 8 8 opening_level (omega arith) rest s
+
+    some_method_args : Holds (Grammar.method_args room E)
+    some_method_args = record { tokens = []; value = None; spells = right [] None (nothing None refl) }
+
+    method_args_part : Part P (Grammar.method_args room E) (Grammar.method_args true F) (stops 8) (read_method_args room e) (read_method_args room' e')
+    method_args_part = part_of
+        (choose_branch (heads opening) (heads_test opening)
+        (open_branch room room' rs opening
+        (λ r. sooner (λ q h. refl) (branch (map_part Some (args_part (i.whole r) (i.first_whole r))) (λ ts x h. left ts x (in_room room (Mapped Some (Grammar.args E)) r ts x h))))
+        some_method_args (held_args F)
+        (map_strict Some opening (read_args e') (then_strict second_of opening (choose (heads closing) (map_by none_of (one_of closing)) (and_then first_of (read_items e') (one_of closing))))))
+        (nothing_branch P None)
+        (λ ts x rest h. args_heads ts x rest (room_of room (Mapped Some (Grammar.args E)) ts x h))
+        no_args_here)
+        some_method_args
+
+    -- what stands behind a point
+
+    abbrev Word : Lang Token StepTree
+    Word = Either (One member_word) (Either (One (property_word tables)) (Then method_of (One (method tables)) (Grammar.method_args room E)))
+
+    some_word : Holds Word
+    some_word = record { tokens = token.Name 0 0 property.Length ∷ []; value = tree.of_length; spells = left (token.Name 0 0 property.Length ∷ []) tree.of_length (one (token.Name 0 0 property.Length) tree.of_length refl) }
+
+    no_member : (ts : List Token) (x : StepTree) (rest : List Token) → Either (One (property_word tables)) (Then method_of (One (method tables)) (Grammar.method_args room E)) ts x → heads member_word (ts ++ rest) ≡ false
+    no_member = either_lacks member_word
+        (one_lacks part member_of (property_of tables) (λ q. omega arith))
+        (then_lacks part member_of (method_word_of tables) (λ q. omega arith))
+
+    methods_branch : Branch P Word (Then method_of (One (method tables)) (Grammar.method_args room E)) (Then method_of (One (method tables)) (Grammar.method_args true F)) (stops 8) (and_then method_of (one_of (method tables)) (read_method_args room e)) (and_then method_of (one_of (method tables)) (read_method_args room' e'))
+    methods_branch = branch (next_part method_of (one_part P (method tables) (token.Name 0 0 (property.Method methods.At)) _ refl) method_args_part) (λ ts x h. right ts x (right ts x h))
+
+    word_part : Part P Word (Either (One member_word) (Either (One (property_word tables)) (Then method_of (One (method tables)) (Grammar.method_args true F)))) (stops 8) (read_word tables room e) (read_word tables room' e')
+    word_part =
+        let properties = choose_branch (heads (property_word tables)) (heads_test (property_word tables))
+        (sooner (λ q h. refl) (branch (one_part P (property_word tables) (token.Name 0 0 property.Nothing) _ refl) (λ ts x h. right ts x (left ts x h))))
+        methods_branch
+        (one_heads (property_word tables))
+        (λ ts x rest h s. then_lacks part (property_of tables) (method_word_of tables) (λ q. omega arith) ts x rest h) in
+        part_of
         (choose_branch (heads member_word) (heads_test member_word)
-        (branch (one_part P member_word (token.Name 0 0 property.Length) tree.of_length refl) (λ ts x h. left ts x h))
-        (open_branch room room' rs method (λ r. branch (next_part call_of (one_part P method (token.Name 0 0 (property.Method methods.At)) _ refl) (args_part (i.whole r) (i.first_whole r))) (λ ts x h. right ts x (in_room room (Then call_of (One method) (Grammar.args E)) r ts x h)))
-        some_member (deeper call_of method (no_args F)) (then_strict call_of method (read_args e')))
+        (sooner (λ q h. refl) (branch (one_part P member_word (token.Name 0 0 property.Length) tree.of_length refl) (λ ts x h. left ts x h)))
+        properties
         (one_heads member_word)
-        (λ ts x rest h s. then_lacks part member_of method_of (λ q. omega arith) ts x rest (room_of room (Then call_of (One method) (Grammar.args E)) ts x h)))
-        some_member)
+        (λ ts x rest h s. no_member ts x rest h))
+        some_word
 
-    some_step : Holds (Grammar.step room E)
+    member_part : Part P (Grammar.member tables room E) (Grammar.member tables true F) (stops 8) (read_member tables room e) (read_member tables room' e')
+    member_part = next_part second_of point_part word_part
+
+    some_step : Holds (Grammar.step tables room E)
     some_step = record { tokens = member_part.some.tokens; value = member_part.some.value; spells = left member_part.some.tokens member_part.some.value member_part.some.spells }
 
-    pub step_part : Part P (Grammar.step room E) (Grammar.step true F) anything (read_step room e) (read_step room' e')
+    pub step_part : Part P (Grammar.step tables room E) (Grammar.step tables true F) (stops 8) (read_step tables room e) (read_step tables room' e')
     step_part = part_of
         (choose_branch (heads point) (heads_test point)
         (branch member_part (λ ts x h. left ts x h))
-        (open_branch room room' rs open_bracket (λ r. branch (index_part (i.whole r)) (λ ts x h. right ts x (in_room room (Grammar.index E) r ts x h)))
+        (open_branch room room' rs open_bracket (λ r. sooner (λ q h. refl) (branch (index_part (i.whole r)) (λ ts x h. right ts x (in_room room (Grammar.index E) r ts x h))))
         some_step
         (deeper index_of open_bracket (both_hold first_of i.held_whole close_bracket_part.some))
         (then_strict index_of open_bracket (and_then first_of e' (one_of close_bracket))))
@@ -246,29 +378,29 @@ module _ (P : Kind → Type 0) where
         (λ ts x rest h s. then_lacks part point_of bracket_of (λ q. omega arith) ts x rest (room_of room (Grammar.index E) ts x h)))
         some_step
 
-    pub step_starts : Starts (Grammar.step room E) is_step
-    step_starts = either_starts (Grammar.member room E) (if_room room (Grammar.index E)) is_step
-        (then_starts second_of (One point) (Either (One member_word) (if_room room (Then call_of (One method) (Grammar.args E)))) is_step (one_starts point is_step point_step))
+    pub step_starts : Starts (Grammar.step tables room E) is_step
+    step_starts = either_starts (Grammar.member tables room E) (if_room room (Grammar.index E)) is_step
+        (then_starts second_of (One point) Word is_step (one_starts point is_step point_step))
         (room_starts room is_step (then_starts index_of (One open_bracket) (E ◂ One close_bracket) is_step (one_starts open_bracket is_step bracket_step)))
 
-    post_part : Part P (Grammar.post names room E) (Grammar.post names true F) (stops 7) (read_post names room e) (read_post names room' e')
+    post_part : Part P (Grammar.post tables room E) (Grammar.post tables true F) (stops 7) (read_post tables room e) (read_post tables room' e')
     post_part = next_part post_of primary_part (many_part (heads step_mark) (stops 7) step_part (record {
       test = heads_test step_mark;
       none = refl;
       eats = λ ts x h. begins_length is_step ts (step_starts.by ts x h);
       begins = λ ts x rest h. head_gives is_step (heads step_mark) true (λ t s q. q) ts rest (step_starts.by ts x h);
-      again = λ ts x rest h. refl;
+      again = λ ts x rest h. head_gives is_step (stops 8) true (λ t s q. step_no_args t q) ts rest (step_starts.by ts x h);
       ends = none_of_level step_mark 7 7 step_level (omega arith);
-      over = λ rest s. refl;
+      over = λ rest s. stops_more 7 8 rest (omega arith) s;
     }))
 
-    post_starts : Starts (Grammar.post names room E) (over class 0)
-    post_starts = then_starts post_of (Grammar.primary names room E) (Many (Grammar.step room E)) (over class 0) primary_starts
+    post_starts : Starts (Grammar.post tables room E) (over class 0)
+    post_starts = then_starts post_of (Grammar.primary tables room E) (Many (Grammar.step tables room E)) (over class 0) primary_starts
 
-    some_unary : Holds (Grammar.unary names room E U)
+    some_unary : Holds (Grammar.unary tables room E U)
     some_unary = record { tokens = post_part.some.tokens; value = post_part.some.value; spells = right post_part.some.tokens post_part.some.value post_part.some.spells }
 
-    pub unary_part : Part P (Grammar.unary names room E U) (Grammar.unary names true F G) (stops 7) (read_unary names room e u) (read_unary names room' e' u')
+    pub unary_part : Part P (Grammar.unary tables room E U) (Grammar.unary tables true F G) (stops 7) (read_unary tables room e u) (read_unary tables room' e' u')
     unary_part = part_of
         (choose_branch (heads sign) (heads_test sign)
         (open_branch room room' rs sign (λ r. branch (next_part unary_of (one_part P sign (token.Mark 0 mark.Minus false) _ refl) (i.operand r)) (λ ts x h. left ts x (in_room room (Then unary_of (One sign) U) r ts x h)))
@@ -278,8 +410,8 @@ module _ (P : Kind → Type 0) where
         (λ ts x rest h s. lacks class sign 0 0 sign_of (omega arith) post_starts ts x rest h))
         some_unary
 
-    pub unary_starts : Starts (Grammar.unary names room E U) begins_unary
-    unary_starts = either_starts (if_room room (Then unary_of (One sign) U)) (Grammar.post names room E) begins_unary
+    pub unary_starts : Starts (Grammar.unary tables room E U) begins_unary
+    unary_starts = either_starts (if_room room (Then unary_of (One sign) U)) (Grammar.post tables room E) begins_unary
         (room_starts room begins_unary (then_starts unary_of (One sign) U begins_unary (one_starts sign begins_unary sign_begins)))
         (record { by = λ ts x h. raised ts (post_starts.by ts x h) })
       where
@@ -303,23 +435,23 @@ module _ (P : Kind → Type 0) where
       follows _ _ rest end s = stops_more k k' rest le s
       follows _ _ rest (more a b x xs ha hb) s = rw (append_assoc a b rest) (then_stops o k k' of lt a x (b ++ rest) ha)
 
-  module _ (names : List (List ℕ)) (room room' : Bool) (rs : Rooms P room room') (E U F G : Lang Token ExprTree) (e u e' u' : Reader Token ExprTree) (i : Inner P room E U F G e u e' u') where
-    pub sum_part : Part P (Grammar.sum names room E U) (Grammar.sum names true F G) (stops 6) (read_sum names room e u) (read_sum names room' e' u')
-    sum_part = chain_part sum_op 6 7 sum_level refl (omega arith) (token.Mark 0 mark.Plus false) _ refl (unary_part names room room' rs E U F G e u e' u' i)
+  module _ (tables : Tables) (room room' : Bool) (rs : Rooms P room room') (E U F G : Lang Token ExprTree) (e u e' u' : Reader Token ExprTree) (i : Inner P room E U F G e u e' u') where
+    pub sum_part : Part P (Grammar.sum tables room E U) (Grammar.sum tables true F G) (stops 6) (read_sum tables room e u) (read_sum tables room' e' u')
+    sum_part = chain_part sum_op 6 7 sum_level refl (omega arith) (token.Mark 0 mark.Plus false) _ refl (unary_part tables room room' rs E U F G e u e' u' i)
 
-    pub comparison_part : Part P (Grammar.comparison names room E U) (Grammar.comparison names true F G) (stops 5) (read_comparison names room e u) (read_comparison names room' e' u')
+    pub comparison_part : Part P (Grammar.comparison tables room E U) (Grammar.comparison tables true F G) (stops 5) (read_comparison tables room e u) (read_comparison tables room' e' u')
     comparison_part = chain_part compare_op 5 6 compare_level refl (omega arith) (token.Mark 0 mark.Less false) _ refl sum_part
 
-    pub equality_part : Part P (Grammar.equality names room E U) (Grammar.equality names true F G) (stops 4) (read_equality names room e u) (read_equality names room' e' u')
+    pub equality_part : Part P (Grammar.equality tables room E U) (Grammar.equality tables true F G) (stops 4) (read_equality tables room e u) (read_equality tables room' e' u')
     equality_part = chain_part equal_op 4 5 equal_level refl (omega arith) (token.Mark 0 mark.StrictEqual false) _ refl comparison_part
 
-    pub conjunction_part : Part P (Grammar.conjunction names room E U) (Grammar.conjunction names true F G) (stops 3) (read_conjunction names room e u) (read_conjunction names room' e' u')
+    pub conjunction_part : Part P (Grammar.conjunction tables room E U) (Grammar.conjunction tables true F G) (stops 3) (read_conjunction tables room e u) (read_conjunction tables room' e' u')
     conjunction_part = chain_part and_op 3 4 and_level refl (omega arith) (token.Mark 0 mark.And false) _ refl equality_part
 
-    pub disjunction_part : Part P (Grammar.disjunction names room E U) (Grammar.disjunction names true F G) (stops 2) (read_disjunction names room e u) (read_disjunction names room' e' u')
+    pub disjunction_part : Part P (Grammar.disjunction tables room E U) (Grammar.disjunction tables true F G) (stops 2) (read_disjunction tables room e u) (read_disjunction tables room' e' u')
     disjunction_part = chain_part or_op 2 3 or_level refl (omega arith) (token.Mark 0 mark.Or false) _ refl conjunction_part
 
-    pub whole_part : Part P (Grammar.conditional names room E U) (Grammar.conditional names true F G) (stops 1) (read_conditional names room e u) (read_conditional names room' e' u')
+    pub whole_part : Part P (Grammar.conditional tables room E U) (Grammar.conditional tables true F G) (stops 1) (read_conditional tables room e u) (read_conditional tables room' e' u')
     whole_part = then_part cond_of disjunction_part (part_of
         (choose_branch (heads question) (heads_test question)
         (open_branch room room' rs question (λ r. branch (branches_part (i.whole r)) (λ ts x h. left ts x (in_room room (Grammar.branches E) r ts x h)))
@@ -344,20 +476,20 @@ module _ (P : Kind → Type 0) where
         follows _ _ rest (left b y h) s = then_stops question 1 2 question_level refl b y rest (room_of room (Grammar.branches E) b y h)
         follows _ _ rest (right b y h) s = nothing_stops b y rest h s
 
-    pub sum_starts : Starts (Grammar.sum names room E U) begins_unary
-    sum_starts = then_starts chain_of (Grammar.unary names room E U) (Many (Then link_of (One sum_op) (Grammar.unary names room E U))) begins_unary (unary_starts names room room' rs E U F G e u e' u' i)
+    pub sum_starts : Starts (Grammar.sum tables room E U) begins_unary
+    sum_starts = then_starts chain_of (Grammar.unary tables room E U) (Many (Then link_of (One sum_op) (Grammar.unary tables room E U))) begins_unary (unary_starts tables room room' rs E U F G e u e' u' i)
 
-    pub comparison_starts : Starts (Grammar.comparison names room E U) begins_unary
-    comparison_starts = then_starts chain_of (Grammar.sum names room E U) (Many (Then link_of (One compare_op) (Grammar.sum names room E U))) begins_unary sum_starts
+    pub comparison_starts : Starts (Grammar.comparison tables room E U) begins_unary
+    comparison_starts = then_starts chain_of (Grammar.sum tables room E U) (Many (Then link_of (One compare_op) (Grammar.sum tables room E U))) begins_unary sum_starts
 
-    pub equality_starts : Starts (Grammar.equality names room E U) begins_unary
-    equality_starts = then_starts chain_of (Grammar.comparison names room E U) (Many (Then link_of (One equal_op) (Grammar.comparison names room E U))) begins_unary comparison_starts
+    pub equality_starts : Starts (Grammar.equality tables room E U) begins_unary
+    equality_starts = then_starts chain_of (Grammar.comparison tables room E U) (Many (Then link_of (One equal_op) (Grammar.comparison tables room E U))) begins_unary comparison_starts
 
-    pub conjunction_starts : Starts (Grammar.conjunction names room E U) begins_unary
-    conjunction_starts = then_starts chain_of (Grammar.equality names room E U) (Many (Then link_of (One and_op) (Grammar.equality names room E U))) begins_unary equality_starts
+    pub conjunction_starts : Starts (Grammar.conjunction tables room E U) begins_unary
+    conjunction_starts = then_starts chain_of (Grammar.equality tables room E U) (Many (Then link_of (One and_op) (Grammar.equality tables room E U))) begins_unary equality_starts
 
-    pub disjunction_starts : Starts (Grammar.disjunction names room E U) begins_unary
-    disjunction_starts = then_starts chain_of (Grammar.conjunction names room E U) (Many (Then link_of (One or_op) (Grammar.conjunction names room E U))) begins_unary conjunction_starts
+    pub disjunction_starts : Starts (Grammar.disjunction tables room E U) begins_unary
+    disjunction_starts = then_starts chain_of (Grammar.conjunction tables room E U) (Many (Then link_of (One or_op) (Grammar.conjunction tables room E U))) begins_unary conjunction_starts
 
-    pub whole_starts : Starts (Grammar.conditional names room E U) begins_unary
-    whole_starts = then_starts cond_of (Grammar.disjunction names room E U) (Either (if_room room (Grammar.branches E)) (Nothing None)) begins_unary disjunction_starts
+    pub whole_starts : Starts (Grammar.conditional tables room E U) begins_unary
+    whole_starts = then_starts cond_of (Grammar.disjunction tables room E U) (Either (if_room room (Grammar.branches E)) (Nothing None)) begins_unary disjunction_starts

@@ -13,6 +13,7 @@ use Rattle.parse_syntax.specs.declared.token.Token.{Token}
 use Rattle.parse_syntax.specs.declared.token.Token.TheVariants as token
 use Rattle.eval_tree.specs.Tree as tree
 use Rattle.eval_tree.specs.Tree.{ExprTree, StmtTree}
+use Rattle.parse_syntax.specs.Tables.{Tables}
 use Rattle.parse_syntax.specs.Terminals.{else_word, directive}
 use Rattle.parse_syntax.specs.Grammar.{Whole, Operand, within_room, Expression, Statement, Statements}
 use Rattle.parse_syntax.specs.Reading.{goes_on, read_within, read_at, read_statements}
@@ -22,13 +23,13 @@ use Rattle.parse_syntax.proofs.Expressions.{whole_part, unary_part, whole_starts
 use Rattle.parse_syntax.proofs.Statements as statements
 use Rattle.parse_syntax.proofs.Statements.{first, directive_first, no_more, list_item, statement_part, statement_starts, strict_part}
 
-module _ (names : List (List ℕ)) where
+module _ (tables : Tables) where
   -- every level of expressions
 
-  an_operand : within_room names 0 Operand (token.Number 0 0 ∷ []) (tree.number 0)
+  an_operand : within_room tables 0 Operand (token.Number 0 0 ∷ []) (tree.number 0)
   an_operand = right (token.Number 0 0 ∷ []) (tree.number 0) (both (token.Number 0 0 ∷ []) [] (tree.number 0) [] (left (token.Number 0 0 ∷ []) (tree.number 0) (one (token.Number 0 0) (tree.number 0) refl)) end)
 
-  a_number : Expression names 0 (token.Number 0 0 ∷ []) (tree.number 0)
+  a_number : Expression tables 0 (token.Number 0 0 ∷ []) (tree.number 0)
   a_number =
       let sum = both (token.Number 0 0 ∷ []) [] (tree.number 0) [] an_operand end in
       let comparison = both (token.Number 0 0 ∷ []) [] (tree.number 0) [] sum end in
@@ -38,16 +39,16 @@ module _ (names : List (List ℕ)) where
       both (token.Number 0 0 ∷ []) [] (tree.number 0) None disjunction (right [] None (nothing None refl))
 
   -- an expression with nothing open holds a number
-  pub held_lowest : Holds (Expression names 0)
+  pub held_lowest : Holds (Expression tables 0)
   held_lowest = record { tokens = token.Number 0 0 ∷ []; value = tree.number 0; spells = a_number }
 
   pub record Levels (P : Kind → Type 0) (n m : ℕ) : Type 0 where
-    pub whole : Part P (Expression names n) (Expression names (suc n)) (stops 1) (read_within names n Whole) (read_within names m Whole)
-    pub operand : Part P (within_room names n Operand) (within_room names (suc n) Operand) (stops 7) (read_within names n Operand) (read_within names m Operand)
-    pub starts : Starts (Expression names n) begins_unary
+    pub whole : Part P (Expression tables n) (Expression tables (suc n)) (stops 1) (read_within tables n Whole) (read_within tables m Whole)
+    pub operand : Part P (within_room tables n Operand) (within_room tables (suc n) Operand) (stops 7) (read_within tables n Operand) (read_within tables m Operand)
+    pub starts : Starts (Expression tables n) begins_unary
 
   module _ (P : Kind → Type 0) where
-    pub lowest : (e' u' : Reader Token ExprTree) → expressions.Inner P false Never Never (Expression names 0) (within_room names 0 Operand) wrong wrong e' u'
+    pub lowest : (e' u' : Reader Token ExprTree) → expressions.Inner P false Never Never (Expression tables 0) (within_room tables 0 Operand) wrong wrong e' u'
     lowest e' u' = record {
       whole = λ h. let q : false ≡ true = h in cc;
       operand = λ h. let q : false ≡ true = h in cc;
@@ -58,26 +59,26 @@ module _ (names : List (List ℕ)) where
 
     end_levels : Levels P 0 0
     end_levels = record {
-      whole = whole_part P names false false same_end Never Never (Expression names 0) (within_room names 0 Operand) wrong wrong wrong wrong (lowest wrong wrong);
-      operand = unary_part P names false false same_end Never Never (Expression names 0) (within_room names 0 Operand) wrong wrong wrong wrong (lowest wrong wrong);
-      starts = whole_starts P names false false same_end Never Never (Expression names 0) (within_room names 0 Operand) wrong wrong wrong wrong (lowest wrong wrong);
+      whole = whole_part P tables false false same_end Never Never (Expression tables 0) (within_room tables 0 Operand) wrong wrong wrong wrong (lowest wrong wrong);
+      operand = unary_part P tables false false same_end Never Never (Expression tables 0) (within_room tables 0 Operand) wrong wrong wrong wrong (lowest wrong wrong);
+      starts = whole_starts P tables false false same_end Never Never (Expression tables 0) (within_room tables 0 Operand) wrong wrong wrong wrong (lowest wrong wrong);
     }
 
     above_levels : (P TooDeep → ⊥) → (m : ℕ) → Levels P 0 (suc m)
     above_levels less m = record {
-      whole = whole_part P names false true (more_room less) Never Never (Expression names 0) (within_room names 0 Operand) wrong wrong (read_within names m Whole) (read_within names m Operand) (lowest (read_within names m Whole) (read_within names m Operand));
-      operand = unary_part P names false true (more_room less) Never Never (Expression names 0) (within_room names 0 Operand) wrong wrong (read_within names m Whole) (read_within names m Operand) (lowest (read_within names m Whole) (read_within names m Operand));
+      whole = whole_part P tables false true (more_room less) Never Never (Expression tables 0) (within_room tables 0 Operand) wrong wrong (read_within tables m Whole) (read_within tables m Operand) (lowest (read_within tables m Whole) (read_within tables m Operand));
+      operand = unary_part P tables false true (more_room less) Never Never (Expression tables 0) (within_room tables 0 Operand) wrong wrong (read_within tables m Whole) (read_within tables m Operand) (lowest (read_within tables m Whole) (read_within tables m Operand));
       starts = end_levels.starts;
     }
 
-    pub inner_levels : (n m : ℕ) → Levels P n m → expressions.Inner P true (Expression names n) (within_room names n Operand) (Expression names (suc n)) (within_room names (suc n) Operand) (read_within names n Whole) (read_within names n Operand) (read_within names m Whole) (read_within names m Operand)
+    pub inner_levels : (n m : ℕ) → Levels P n m → expressions.Inner P true (Expression tables n) (within_room tables n Operand) (Expression tables (suc n)) (within_room tables (suc n) Operand) (read_within tables n Whole) (read_within tables n Operand) (read_within tables m Whole) (read_within tables m Operand)
     inner_levels n m l = record { whole = λ _. l.whole; operand = λ _. l.operand; first_whole = λ _. l.starts; held_whole = above l.whole; held_operand = above l.operand }
 
     next_levels : (n m : ℕ) → Levels P n m → Levels P (suc n) (suc m)
     next_levels n m l = record {
-      whole = whole_part P names true true same_room (Expression names n) (within_room names n Operand) (Expression names (suc n)) (within_room names (suc n) Operand) (read_within names n Whole) (read_within names n Operand) (read_within names m Whole) (read_within names m Operand) (inner_levels n m l);
-      operand = unary_part P names true true same_room (Expression names n) (within_room names n Operand) (Expression names (suc n)) (within_room names (suc n) Operand) (read_within names n Whole) (read_within names n Operand) (read_within names m Whole) (read_within names m Operand) (inner_levels n m l);
-      starts = whole_starts P names true true same_room (Expression names n) (within_room names n Operand) (Expression names (suc n)) (within_room names (suc n) Operand) (read_within names n Whole) (read_within names n Operand) (read_within names m Whole) (read_within names m Operand) (inner_levels n m l);
+      whole = whole_part P tables true true same_room (Expression tables n) (within_room tables n Operand) (Expression tables (suc n)) (within_room tables (suc n) Operand) (read_within tables n Whole) (read_within tables n Operand) (read_within tables m Whole) (read_within tables m Operand) (inner_levels n m l);
+      operand = unary_part P tables true true same_room (Expression tables n) (within_room tables n Operand) (Expression tables (suc n)) (within_room tables (suc n) Operand) (read_within tables n Whole) (read_within tables n Operand) (read_within tables m Whole) (read_within tables m Operand) (inner_levels n m l);
+      starts = whole_starts P tables true true same_room (Expression tables n) (within_room tables n Operand) (Expression tables (suc n)) (within_room tables (suc n) Operand) (read_within tables n Whole) (read_within tables n Operand) (read_within tables m Whole) (read_within tables m Operand) (inner_levels n m l);
     }
 
     pub same_expressions : (n : ℕ) → Levels P n n
@@ -93,15 +94,15 @@ module _ (names : List (List ℕ)) where
   -- every level of statements
 
   module _ (prints : Bool) where
-    pub starts_at : (n : ℕ) → Starts (Statement names prints n) (over first 0)
-    starts_at zero = statement_starts names prints false (Expression names 0) Never Never
-    starts_at (suc n) = statement_starts names prints true (Expression names (suc n)) (Expression names n) (Statement names prints n)
+    pub starts_at : (n : ℕ) → Starts (Statement tables prints n) (over first 0)
+    starts_at zero = statement_starts tables prints false (Expression tables 0) Never Never
+    starts_at (suc n) = statement_starts tables prints true (Expression tables (suc n)) (Expression tables n) (Statement tables prints n)
 
     module _ (P : Kind → Type 0) where
       abbrev pub Level : ℕ → ℕ → Type 0
-      Level n m = Part P (Statement names prints n) (Statement names prints (suc n)) (no_such else_word) (read_at names prints n) (read_at names prints m)
+      Level n m = Part P (Statement tables prints n) (Statement tables prints (suc n)) (no_such else_word) (read_at tables prints n) (read_at tables prints m)
 
-      nowhere : (m : ℕ) (i' : Reader Token ExprTree) (s' : Reader Token StmtTree) → Levels P 0 m → statements.Inner P false (Expression names 0) (Expression names 1) Never (Expression names 0) Never (Statement names prints 0) (read_within names 0 Whole) (read_within names m Whole) wrong i' wrong s'
+      nowhere : (m : ℕ) (i' : Reader Token ExprTree) (s' : Reader Token StmtTree) → Levels P 0 m → statements.Inner P false (Expression tables 0) (Expression tables 1) Never (Expression tables 0) Never (Statement tables prints 0) (read_within tables 0 Whole) (read_within tables m Whole) wrong i' wrong s'
       nowhere m i' s' l = record {
         here = l.whole;
         test = λ h. let q : false ≡ true = h in cc;
@@ -112,13 +113,13 @@ module _ (names : List (List ℕ)) where
       }
 
       end_level : Level 0 0
-      end_level = statement_part P names prints false false same_end (Expression names 0) (Expression names 1) Never (Expression names 0) Never (Statement names prints 0) (read_within names 0 Whole) (read_within names 0 Whole) wrong wrong wrong wrong (nowhere 0 wrong wrong (same_expressions P 0))
+      end_level = statement_part P tables prints false false same_end (Expression tables 0) (Expression tables 1) Never (Expression tables 0) Never (Statement tables prints 0) (read_within tables 0 Whole) (read_within tables 0 Whole) wrong wrong wrong wrong (nowhere 0 wrong wrong (same_expressions P 0))
 
       above_level : (P TooDeep → ⊥) → (m : ℕ) → Level 0 (suc m)
-      above_level less m = statement_part P names prints false true (more_room less) (Expression names 0) (Expression names 1) Never (Expression names 0) Never (Statement names prints 0) (read_within names 0 Whole) (read_within names (suc m) Whole) wrong (read_within names m Whole) wrong (read_at names prints m) (nowhere (suc m) (read_within names m Whole) (read_at names prints m) (above_levels P less m))
+      above_level less m = statement_part P tables prints false true (more_room less) (Expression tables 0) (Expression tables 1) Never (Expression tables 0) Never (Statement tables prints 0) (read_within tables 0 Whole) (read_within tables (suc m) Whole) wrong (read_within tables m Whole) wrong (read_at tables prints m) (nowhere (suc m) (read_within tables m Whole) (read_at tables prints m) (above_levels P less m))
 
       next_level : (n m : ℕ) → Levels P (suc n) (suc m) → Levels P n m → Level n m → Level (suc n) (suc m)
-      next_level n m e i l = statement_part P names prints true true same_room (Expression names (suc n)) (Expression names (suc (suc n))) (Expression names n) (Expression names (suc n)) (Statement names prints n) (Statement names prints (suc n)) (read_within names (suc n) Whole) (read_within names (suc m) Whole) (read_within names n Whole) (read_within names m Whole) (read_at names prints n) (read_at names prints m)
+      next_level n m e i l = statement_part P tables prints true true same_room (Expression tables (suc n)) (Expression tables (suc (suc n))) (Expression tables n) (Expression tables (suc n)) (Statement tables prints n) (Statement tables prints (suc n)) (read_within tables (suc n) Whole) (read_within tables (suc m) Whole) (read_within tables n Whole) (read_within tables m Whole) (read_at tables prints n) (read_at tables prints m)
           (record { here = e.whole; test = λ _. i.whole; first_test = λ _. i.starts; law = λ _. l; starts = λ _. starts_at n; held_test = above i.whole })
 
       pub same_levels : (n : ℕ) → Level n n
@@ -134,7 +135,7 @@ module _ (names : List (List ℕ)) where
       -- scripts
 
       -- what stands behind the directive doesn't begin with one
-      no_directive : (n : ℕ) (b : List Token) (y : List StmtTree) (rest : List Token) → Many (Statement names prints n) b y → no_more rest ≡ true → no_such directive (b ++ rest) ≡ true
+      no_directive : (n : ℕ) (b : List Token) (y : List StmtTree) (rest : List Token) → Many (Statement tables prints n) b y → no_more rest ≡ true → no_such directive (b ++ rest) ≡ true
       no_directive n _ _ rest end s = at_end rest s
         where
           at_end : (rest : List Token) → no_more rest ≡ true → no_such directive rest ≡ true
@@ -144,11 +145,11 @@ module _ (names : List (List ℕ)) where
       no_directive n _ _ rest (more a b x xs ha hb) s =
           rw (append_assoc a b rest) (head_gives (over first 0) (no_such directive) true (λ t s q. ap (λ b. cond b false true) (none_over first directive 0 0 directive_first (omega arith) t s q)) a (b ++ rest) ((starts_at n).by a x ha))
 
-      script_part : (n m : ℕ) → Level n m → Part P (Statements names prints n) (Statements names prints (suc n)) no_more (read_statements names prints n) (read_statements names prints m)
-      script_part n m l = then_part second_of (strict_part P) (many_part goes_on no_more l (list_item (Statement names prints n) (starts_at n))) (no_directive n)
+      script_part : (n m : ℕ) → Level n m → Part P (Statements tables prints n) (Statements tables prints (suc n)) no_more (read_statements tables prints n) (read_statements tables prints m)
+      script_part n m l = then_part second_of (strict_part P) (many_part goes_on no_more l (list_item (Statement tables prints n) (starts_at n))) (no_directive n)
 
     -- the scripts by how many may be open
-    pub scripts : Family (Statements names prints) no_more (read_statements names prints)
+    pub scripts : Family (Statements tables prints) no_more (read_statements tables prints)
     scripts = record {
       at_nothing = refl;
       same = λ n. script_part (λ k. Unit {0}) n n (same_levels (λ k. Unit {0}) n);
@@ -157,14 +158,14 @@ module _ (names : List (List ℕ)) where
 
     -- a text is a script exactly where the reader gives it, and is refused where and as the reader says
 
-    pub reads_all : (n : ℕ) (ts : List Token) (x : List StmtTree) → Statements names prints n ts x → read_whole (read_statements names prints n) ts ≡ Got x []
+    pub reads_all : (n : ℕ) (ts : List Token) (x : List StmtTree) → Statements tables prints n ts x → read_whole (read_statements tables prints n) ts ≡ Got x []
     reads_all = whole.reads_all scripts
 
-    pub all_read : (n : ℕ) (ts : List Token) (x : List StmtTree) (rest : List Token) → read_whole (read_statements names prints n) ts ≡ Got x rest → Statements names prints n ts x
+    pub all_read : (n : ℕ) (ts : List Token) (x : List StmtTree) (rest : List Token) → read_whole (read_statements tables prints n) ts ≡ Got x rest → Statements tables prints n ts x
     all_read = whole.all_read scripts
 
-    pub one_list : (n m : ℕ) (ts : List Token) (x y : List StmtTree) → Statements names prints n ts x → Statements names prints m ts y → x ≡ y
+    pub one_list : (n m : ℕ) (ts : List Token) (x y : List StmtTree) → Statements tables prints n ts x → Statements tables prints m ts y → x ≡ y
     one_list = whole.one_script scripts
 
-    pub refuses : (n : ℕ) (ts : List Token) (k : Kind) (rest : List Token) → read_whole (read_statements names prints n) ts ≡ Bad k rest → IsRefused (Statements names prints) n ts k rest
+    pub refuses : (n : ℕ) (ts : List Token) (k : Kind) (rest : List Token) → read_whole (read_statements tables prints n) ts ≡ Bad k rest → IsRefused (Statements tables prints) n ts k rest
     refuses = whole.refuses scripts

@@ -14,6 +14,7 @@ use Rattle.parse_syntax.specs.declared.token.Token.TheVariants as token
 use Rattle.parse_syntax.specs.declared.token.Word.TheVariants as word
 use Rattle.parse_syntax.specs.declared.token.Property.TheVariants as property
 use Rattle.eval_tree.specs.Tree.{ExprTree, StmtTree, BlockTree, block}
+use Rattle.parse_syntax.specs.Tables.{Tables}
 use Rattle.parse_syntax.specs.Terminals.{Ident, when, directive, let_word, const_word, print_word, if_word, else_word, for_word, name, the_name, opening, open_brace, close_brace, semicolon, less, assign_mark, assign_op, increment, nought, bound_number}
 use Rattle.parse_syntax.specs.Grammar
 use Rattle.parse_syntax.specs.Grammar.{pair_of, inside_of, no_inside, print_of, arm_of, more_of, if_of, header_of, let_of, const_of, assign_of, for_of}
@@ -24,12 +25,12 @@ use Rattle.parse_syntax.proofs.Expressions.{one_stops, heads_stop, parens_part, 
 -- which statement begins with the token
 abbrev pub first : Token → ℕ
 first (token.Mark at mark.OpenBrace l) = 1
-first (token.Word at word.Let) = 2
-first (token.Word at word.Const) = 3
+first (token.Word at word.Let number) = 2
+first (token.Word at word.Const number) = 3
 first (token.Name at n p) = 4
-first (token.Word at word.Print) = 5
-first (token.Word at word.If) = 6
-first (token.Word at word.For) = 7
+first (token.Word at word.Print number) = 5
+first (token.Word at word.If number) = 6
+first (token.Word at word.For number) = 7
 first _ = 0
 
 open_brace_of : IsOf first open_brace 1
@@ -43,14 +44,14 @@ let_first : IsOf first let_word 2
 let_first = record { is = go }
   where
     go : (t : Token) (x : _) → let_word t ≡ Some x → first t ≡ 2
-    go (token.Word at word.Let) x e = refl
+    go (token.Word at word.Let number) x e = refl
     go _ x e = cc
 
 const_first : IsOf first const_word 3
 const_first = record { is = go }
   where
     go : (t : Token) (x : _) → const_word t ≡ Some x → first t ≡ 3
-    go (token.Word at word.Const) x e = refl
+    go (token.Word at word.Const number) x e = refl
     go _ x e = cc
 
 name_first : IsOf first name 4
@@ -64,28 +65,28 @@ print_first : IsOf first print_word 5
 print_first = record { is = go }
   where
     go : (t : Token) (x : _) → print_word t ≡ Some x → first t ≡ 5
-    go (token.Word at word.Print) x e = refl
+    go (token.Word at word.Print number) x e = refl
     go _ x e = cc
 
 if_first : IsOf first if_word 6
 if_first = record { is = go }
   where
     go : (t : Token) (x : _) → if_word t ≡ Some x → first t ≡ 6
-    go (token.Word at word.If) x e = refl
+    go (token.Word at word.If number) x e = refl
     go _ x e = cc
 
 for_first : IsOf first for_word 7
 for_first = record { is = go }
   where
     go : (t : Token) (x : _) → for_word t ≡ Some x → first t ≡ 7
-    go (token.Word at word.For) x e = refl
+    go (token.Word at word.For number) x e = refl
     go _ x e = cc
 
 else_first : IsOf first else_word 0
 else_first = record { is = go }
   where
     go : (t : Token) (x : _) → else_word t ≡ Some x → first t ≡ 0
-    go (token.Word at word.Else) x e = refl
+    go (token.Word at word.Else number) x e = refl
     go _ x e = cc
 
 close_brace_first : IsOf first close_brace 0
@@ -137,7 +138,7 @@ list_item S st = record {
     at_end : (rest : List Token) → no_more rest ≡ true → no_such else_word rest ≡ true
     at_end [] e = refl
     at_end (token.Mark at mark.CloseBrace l ∷ s) e = refl
-    at_end (token.Word at word.Else ∷ s) e = cc
+    at_end (token.Word at word.Else number ∷ s) e = cc
     at_end (_ ∷ s) e = refl
 
 -- what is known of an expression at this level, and of an expression and a statement where one more is open
@@ -164,27 +165,27 @@ at_semicolon_no_assign (_ ∷ s) h = refl
 
 -- what a statement begins with
 
-module _ (names : List (List ℕ)) (prints room : Bool) (E I : Lang Token ExprTree) (S : Lang Token StmtTree) where
-  for_starts : (k : ℕ) → nat_lt k 7 ≡ true → Starts (if_room room (Grammar.for_statement names S)) (over first k)
-  for_starts k lt = record { by = λ ts x h. (then_starts (for_of names) Grammar.for_header (Grammar.block_part S) (over first k) (first_over first for_word 7 k for_first lt)).by ts x (room_of room (Grammar.for_statement names S) ts x h) }
+module _ (tables : Tables) (prints room : Bool) (E I : Lang Token ExprTree) (S : Lang Token StmtTree) where
+  for_starts : (k : ℕ) → nat_lt k 7 ≡ true → Starts (if_room room (Grammar.for_statement tables S)) (over first k)
+  for_starts k lt = record { by = λ ts x h. (then_starts (for_of tables) Grammar.for_header (Grammar.block_part S) (over first k) (first_over first for_word 7 k for_first lt)).by ts x (room_of room (Grammar.for_statement tables S) ts x h) }
 
   abbrev pub From_if : Lang Token StmtTree
-  From_if = Either (if_room room (Grammar.if_statement I S)) (if_room room (Grammar.for_statement names S))
+  From_if = Either (if_room room (Grammar.if_statement I S)) (if_room room (Grammar.for_statement tables S))
 
   abbrev pub From_print : Lang Token StmtTree
   From_print = Either (if_room prints (if_room room (Grammar.print_line I))) From_if
 
   abbrev pub From_assign : Lang Token StmtTree
-  From_assign = Either (Grammar.assign_line names E) From_print
+  From_assign = Either (Grammar.assign_line tables E) From_print
 
   abbrev pub From_const : Lang Token StmtTree
-  From_const = Either (Grammar.const_line names E) From_assign
+  From_const = Either (Grammar.const_line tables E) From_assign
 
   abbrev pub From_let : Lang Token StmtTree
-  From_let = Either (Grammar.let_line names E) From_const
+  From_let = Either (Grammar.let_line tables E) From_const
 
   if_starts : Starts From_if (over first 5)
-  if_starts = either_starts (if_room room (Grammar.if_statement I S)) (if_room room (Grammar.for_statement names S)) (over first 5)
+  if_starts = either_starts (if_room room (Grammar.if_statement I S)) (if_room room (Grammar.for_statement tables S)) (over first 5)
       (record { by = λ ts x h. (then_starts if_of (Grammar.if_arm I S) (Then more_of (Many (One else_word ▸ Grammar.if_arm I S)) (Either (One else_word ▸ Grammar.block_part S) (Nothing no_inside))) (over first 5) (first_over first if_word 6 5 if_first refl)).by ts x (room_of room (Grammar.if_statement I S) ts x h) })
       (for_starts 5 refl)
 
@@ -197,15 +198,15 @@ module _ (names : List (List ℕ)) (prints room : Bool) (E I : Lang Token ExprTr
       first_print = first_over first print_word 5 4 print_first refl
 
   assign_starts : Starts From_assign (over first 3)
-  assign_starts = either_starts (Grammar.assign_line names E) From_print (over first 3) (first_over first name 4 3 name_first refl) (lower first 4 3 refl print_starts)
+  assign_starts = either_starts (Grammar.assign_line tables E) From_print (over first 3) (first_over first name 4 3 name_first refl) (lower first 4 3 refl print_starts)
 
   const_starts : Starts From_const (over first 2)
-  const_starts = either_starts (Grammar.const_line names E) From_assign (over first 2) (first_over first const_word 3 2 const_first refl) (lower first 3 2 refl assign_starts)
+  const_starts = either_starts (Grammar.const_line tables E) From_assign (over first 2) (first_over first const_word 3 2 const_first refl) (lower first 3 2 refl assign_starts)
 
   let_starts : Starts From_let (over first 1)
-  let_starts = either_starts (Grammar.let_line names E) From_const (over first 1) (first_over first let_word 2 1 let_first refl) (lower first 2 1 refl const_starts)
+  let_starts = either_starts (Grammar.let_line tables E) From_const (over first 1) (first_over first let_word 2 1 let_first refl) (lower first 2 1 refl const_starts)
 
-  pub statement_starts : Starts (Grammar.statement names prints room E I S) (over first 0)
+  pub statement_starts : Starts (Grammar.statement tables prints room E I S) (over first 0)
   statement_starts = either_starts (if_room room (Mapped block (Grammar.block_part S))) From_let (over first 0)
       (record { by = λ ts x h. (mapped_starts block (Grammar.block_part S) (over first 0) (first_over first open_brace 1 0 open_brace_of refl)).by ts x (room_of room (Mapped block (Grammar.block_part S)) ts x h) })
       (lower first 1 0 refl let_starts)
@@ -216,7 +217,7 @@ module _ (names : List (List ℕ)) (prints room : Bool) (E I : Lang Token ExprTr
   if_heads : (ts : List Token) (x : StmtTree) (rest : List Token) → Grammar.if_statement I S ts x → heads if_word (ts ++ rest) ≡ true
   if_heads _ _ rest (both a b x y ha hb) = rw (append_assoc a b rest) (then_heads if_word a x (b ++ rest) ha)
 
-  for_heads : (ts : List Token) (x : StmtTree) (rest : List Token) → Grammar.for_statement names S ts x → heads for_word (ts ++ rest) ≡ true
+  for_heads : (ts : List Token) (x : StmtTree) (rest : List Token) → Grammar.for_statement tables S ts x → heads for_word (ts ++ rest) ≡ true
   for_heads _ _ rest (both a b x y ha hb) = rw (append_assoc a b rest) (then_heads for_word a x (b ++ rest) ha)
 
 module _ (P : Kind → Type 0) where
@@ -236,13 +237,13 @@ module _ (P : Kind → Type 0) where
   close_brace_part = one_part P close_brace (token.Mark 0 mark.CloseBrace false) tt refl
 
   let_part : Part P (One let_word) (One let_word) anything (one_of let_word) (one_of let_word)
-  let_part = one_part P let_word (token.Word 0 word.Let) tt refl
+  let_part = one_part P let_word (token.Word 0 word.Let 0) tt refl
 
   pub else_part : Part P (One else_word) (One else_word) anything (one_of else_word) (one_of else_word)
-  else_part = one_part P else_word (token.Word 0 word.Else) tt refl
+  else_part = one_part P else_word (token.Word 0 word.Else 0) tt refl
 
   if_part : Part P (One if_word) (One if_word) anything (one_of if_word) (one_of if_word)
-  if_part = one_part P if_word (token.Word 0 word.If) tt refl
+  if_part = one_part P if_word (token.Word 0 word.If 0) tt refl
 
   same_name : (x : ℕ) → nat_eq x x ≡ true
   same_name x = grind (arith, nat_tests)
@@ -259,9 +260,9 @@ module _ (P : Kind → Type 0) where
   from_opening = next_part second_of (opening_part P) (next_part second_of let_part (bind_part header_of name_part (λ a x h. turns_part x) (λ x. (turns_part x).local)))
 
   header_part : Part P Grammar.for_header Grammar.for_header anything read_header read_header
-  header_part = next_part second_of (one_part P for_word (token.Word 0 word.For) tt refl) from_opening
+  header_part = next_part second_of (one_part P for_word (token.Word 0 word.For 0) tt refl) from_opening
 
-  module _ (names : List (List ℕ)) {E H : Lang Token ExprTree} {e e' : Reader Token ExprTree} (p : Part P E H (stops 1) e e') where
+  module _ (tables : Tables) {E H : Lang Token ExprTree} {e e' : Reader Token ExprTree} (p : Part P E H (stops 1) e e') where
     ended_part : Part P (E ◂ One semicolon) (H ◂ One semicolon) anything (and_then first_of e (one_of semicolon)) (and_then first_of e' (one_of semicolon))
     ended_part = then_part first_of p semicolon_part (λ b y rest h s. one_stops semicolon 0 1 semicolon_level refl b y rest h)
 
@@ -279,16 +280,16 @@ module _ (P : Kind → Type 0) where
         ended : (ts : List Token) (x : Option ExprTree) (rest : List Token) → Nothing None ts x → heads semicolon rest ≡ true → heads assign_mark (ts ++ rest) ≡ false
         ended _ _ rest (nothing x h) s = at_semicolon_no_assign rest s
 
-    let_line_part : Part P (Grammar.let_line names E) (Grammar.let_line names H) anything (read_let names e) (read_let names e')
-    let_line_part = next_part second_of let_part (then_part first_of (next_part (let_of names) name_part init_part) semicolon_part (λ b y rest h s. one_heads semicolon b y rest h))
+    let_line_part : Part P (Grammar.let_line tables E) (Grammar.let_line tables H) anything (read_let tables e) (read_let tables e')
+    let_line_part = next_part second_of let_part (then_part first_of (next_part (let_of tables) name_part init_part) semicolon_part (λ b y rest h s. one_heads semicolon b y rest h))
 
-    const_line_part : Part P (Grammar.const_line names E) (Grammar.const_line names H) anything (read_const names e) (read_const names e')
-    const_line_part = next_part second_of (one_part P const_word (token.Word 0 word.Const) tt refl) (next_part (const_of names) name_part (next_part second_of assign_part ended_part))
+    const_line_part : Part P (Grammar.const_line tables E) (Grammar.const_line tables H) anything (read_const tables e) (read_const tables e')
+    const_line_part = next_part second_of (one_part P const_word (token.Word 0 word.Const 0) tt refl) (next_part (const_of tables) name_part (next_part second_of assign_part ended_part))
 
-    assign_line_part : Part P (Grammar.assign_line names E) (Grammar.assign_line names H) anything (read_assign names e) (read_assign names e')
-    assign_line_part = next_part (assign_of names) name_part (next_part pair_of (one_part P assign_op (token.Mark 0 mark.Assign false) None refl) ended_part)
+    assign_line_part : Part P (Grammar.assign_line tables E) (Grammar.assign_line tables H) anything (read_assign tables e) (read_assign tables e')
+    assign_line_part = next_part (assign_of tables) name_part (next_part pair_of (one_part P assign_op (token.Mark 0 mark.Assign false) None refl) ended_part)
 
-  module _ (names : List (List ℕ)) {I J : Lang Token ExprTree} {i i' : Reader Token ExprTree} {S F : Lang Token StmtTree} {s s' : Reader Token StmtTree} (q : Part P I J (stops 1) i i') (p : Part P S F (no_such else_word) s s') (st : Starts S (over first 0)) where
+  module _ (tables : Tables) {I J : Lang Token ExprTree} {i i' : Reader Token ExprTree} {S F : Lang Token StmtTree} {s s' : Reader Token StmtTree} (q : Part P I J (stops 1) i i') (p : Part P S F (no_such else_word) s s') (st : Starts S (over first 0)) where
     pub block_part : Part P (Grammar.block_part S) (Grammar.block_part F) anything (read_block s) (read_block s')
     block_part = next_part second_of open_brace_part (map_part inside_of (then_part first_of (many_part goes_on no_more p (list_item S st)) close_brace_part closes))
       where
@@ -304,8 +305,8 @@ module _ (P : Kind → Type 0) where
     if_statement_part : Part P (Grammar.if_statement I S) (Grammar.if_statement J F) (no_such else_word) (read_if i s) (read_if i' s')
     if_statement_part = next_part if_of arm_part (series_part more_of else_word if_word no_inside block_no_if else_part if_part (next_part arm_of (parens_part P q) block_part) block_part)
 
-    for_statement_part : Part P (Grammar.for_statement names S) (Grammar.for_statement names F) anything (read_for names s) (read_for names s')
-    for_statement_part = next_part (for_of names) header_part block_part
+    for_statement_part : Part P (Grammar.for_statement tables S) (Grammar.for_statement tables F) anything (read_for tables s) (read_for tables s')
+    for_statement_part = next_part (for_of tables) header_part block_part
 
   -- { } is a block at each level
 
@@ -325,27 +326,27 @@ module _ (P : Kind → Type 0) where
       let d = deeper second_of if_word (both_hold arm_of (held_parens P held) (body L)) t y e in
       (d.0 ++ [], if_of d.1 ([], no_inside), both (t ∷ d.0) [] d.1 ([], no_inside) d.2 (both [] [] [] no_inside end (right [] no_inside (nothing no_inside refl))))
 
-  for_rest : (names : List (List ℕ)) (L : Lang Token StmtTree) (t : Token) (y : Unit {0}) → for_word t ≡ Some y → (tail : List Token) × (x : StmtTree) × Grammar.for_statement names L (t ∷ tail) x
-  for_rest names L t y e =
+  for_rest : (tables : Tables) (L : Lang Token StmtTree) (t : Token) (y : Unit {0}) → for_word t ≡ Some y → (tail : List Token) × (x : StmtTree) × Grammar.for_statement tables L (t ∷ tail) x
+  for_rest tables L t y e =
       let d = deeper second_of for_word from_opening.some t y e in
       let b = body L in
-      (d.0 ++ b.tokens, for_of names d.1 b.value, both (t ∷ d.0) b.tokens d.1 b.value d.2 b.spells)
+      (d.0 ++ b.tokens, for_of tables d.1 b.value, both (t ∷ d.0) b.tokens d.1 b.value d.2 b.spells)
 
   -- one level
 
-  module _ (names : List (List ℕ)) (prints room room' : Bool) (rs : Rooms P room room') (E H I J : Lang Token ExprTree) (S F : Lang Token StmtTree) (e e' i i' : Reader Token ExprTree) (s s' : Reader Token StmtTree) (k : Inner P room E H I J S F e e' i i' s s') where
-    some_statement : Holds (Grammar.statement names prints room E I S)
-    some_statement = let m = (let_line_part names k.here).some in record { tokens = m.tokens; value = m.value; spells = right m.tokens m.value (left m.tokens m.value m.spells) }
+  module _ (tables : Tables) (prints room room' : Bool) (rs : Rooms P room room') (E H I J : Lang Token ExprTree) (S F : Lang Token StmtTree) (e e' i i' : Reader Token ExprTree) (s s' : Reader Token StmtTree) (k : Inner P room E H I J S F e e' i i' s s') where
+    some_statement : Holds (Grammar.statement tables prints room E I S)
+    some_statement = let m = (let_line_part tables k.here).some in record { tokens = m.tokens; value = m.value; spells = right m.tokens m.value (left m.tokens m.value m.spells) }
 
-    block_branch : Branch P (Grammar.statement names prints room E I S) (if_room room (Mapped block (Grammar.block_part S))) (Mapped block (Grammar.block_part F)) (no_such else_word) (opens room (heads open_brace) (map_by block (read_block s))) (opens room' (heads open_brace) (map_by block (read_block s')))
+    block_branch : Branch P (Grammar.statement tables prints room E I S) (if_room room (Mapped block (Grammar.block_part S))) (Mapped block (Grammar.block_part F)) (no_such else_word) (opens room (heads open_brace) (map_by block (read_block s))) (opens room' (heads open_brace) (map_by block (read_block s')))
     block_branch = open_branch room room' rs open_brace
-        (λ r. sooner (λ q h. refl) (branch (map_part block (block_part names (k.test r) (k.law r) (k.starts r))) (λ ts x h. left ts x (in_room room (Mapped block (Grammar.block_part S)) r ts x h))))
+        (λ r. sooner (λ q h. refl) (branch (map_part block (block_part tables (k.test r) (k.law r) (k.starts r))) (λ ts x h. left ts x (in_room room (Mapped block (Grammar.block_part S)) r ts x h))))
         some_statement (block_rest F)
         (map_strict block open_brace (read_block s') (then_strict second_of open_brace (map_by inside_of (and_then first_of (all_of goes_on s') (one_of close_brace)))))
 
-    print_branch : Branch P (Grammar.statement names prints room E I S) (if_room prints (if_room room (Grammar.print_line I))) (if_room prints (Grammar.print_line J)) (no_such else_word) (allowed prints (opens room (heads print_word) (read_print i))) (allowed prints (opens room' (heads print_word) (read_print i')))
+    print_branch : Branch P (Grammar.statement tables prints room E I S) (if_room prints (if_room room (Grammar.print_line I))) (if_room prints (Grammar.print_line J)) (no_such else_word) (allowed prints (opens room (heads print_word) (read_print i))) (allowed prints (opens room' (heads print_word) (read_print i')))
     print_branch = never_branch prints some_statement (λ a. open_branch room room' rs print_word
-        (λ r. sooner (λ q h. refl) (branch (next_part second_of (one_part P print_word (token.Word 0 word.Print) tt refl) (map_part print_of (next_part first_of (args_part P (k.test r) (k.first_test r)) semicolon_part)))
+        (λ r. sooner (λ q h. refl) (branch (next_part second_of (one_part P print_word (token.Word 0 word.Print 0) tt refl) (map_part print_of (next_part first_of (args_part P (k.test r) (k.first_test r)) semicolon_part)))
         (λ ts x h. right ts x (right ts x (right ts x (right ts x (left ts x (in_room prints (if_room room (Grammar.print_line I)) a ts x (in_room room (Grammar.print_line I) r ts x h)))))))))
         some_statement
         (deeper second_of print_word printed)
@@ -356,29 +357,29 @@ module _ (P : Kind → Type 0) where
             let m = both_hold first_of (no_args P J) semicolon_part.some in
             record { tokens = m.tokens; value = print_of m.value; spells = mapped m.tokens m.value m.spells }
 
-    if_branch : Branch P (Grammar.statement names prints room E I S) (if_room room (Grammar.if_statement I S)) (Grammar.if_statement J F) (no_such else_word) (opens room (heads if_word) (read_if i s)) (opens room' (heads if_word) (read_if i' s'))
+    if_branch : Branch P (Grammar.statement tables prints room E I S) (if_room room (Grammar.if_statement I S)) (Grammar.if_statement J F) (no_such else_word) (opens room (heads if_word) (read_if i s)) (opens room' (heads if_word) (read_if i' s'))
     if_branch = open_branch room room' rs if_word
-        (λ r. branch (if_statement_part names (k.test r) (k.law r) (k.starts r)) (λ ts x h. right ts x (right ts x (right ts x (right ts x (right ts x (left ts x (in_room room (Grammar.if_statement I S) r ts x h))))))))
+        (λ r. branch (if_statement_part tables (k.test r) (k.law r) (k.starts r)) (λ ts x h. right ts x (right ts x (right ts x (right ts x (right ts x (left ts x (in_room room (Grammar.if_statement I S) r ts x h))))))))
         some_statement
         (if_rest F k.held_test)
         (first_strict if_of if_word (read_arm i' s') (and_then more_of (all_of (heads_two else_word if_word) (and_then second_of (one_of else_word) (read_arm i' s'))) (read_rest s')) (then_strict second_of if_word (and_then arm_of (read_parens i') (read_block s'))))
 
-    for_branch : Branch P (Grammar.statement names prints room E I S) (if_room room (Grammar.for_statement names S)) (Grammar.for_statement names F) (no_such else_word) (opens room (heads for_word) (read_for names s)) (opens room' (heads for_word) (read_for names s'))
+    for_branch : Branch P (Grammar.statement tables prints room E I S) (if_room room (Grammar.for_statement tables S)) (Grammar.for_statement tables F) (no_such else_word) (opens room (heads for_word) (read_for tables s)) (opens room' (heads for_word) (read_for tables s'))
     for_branch = open_branch room room' rs for_word
-        (λ r. sooner (λ q h. refl) (branch (for_statement_part names (k.test r) (k.law r) (k.starts r)) (λ ts x h. right ts x (right ts x (right ts x (right ts x (right ts x (right ts x (in_room room (Grammar.for_statement names S) r ts x h)))))))))
+        (λ r. sooner (λ q h. refl) (branch (for_statement_part tables (k.test r) (k.law r) (k.starts r)) (λ ts x h. right ts x (right ts x (right ts x (right ts x (right ts x (right ts x (in_room room (Grammar.for_statement tables S) r ts x h)))))))))
         some_statement
-        (for_rest names F)
-        (first_strict (for_of names) for_word read_header (read_block s') (then_strict second_of for_word (and_then second_of (one_of opening) (and_then second_of (one_of let_word) (and_bind header_of (one_of name) read_turns)))))
+        (for_rest tables F)
+        (first_strict (for_of tables) for_word read_header (read_block s') (then_strict second_of for_word (and_then second_of (one_of opening) (and_then second_of (one_of let_word) (and_bind header_of (one_of name) read_turns)))))
 
     -- the statements at this level
-    pub statement_part : Part P (Grammar.statement names prints room E I S) (Grammar.statement names prints true H J F) (no_such else_word) (read_statement names prints room e i s) (read_statement names prints room' e' i' s')
+    pub statement_part : Part P (Grammar.statement tables prints room E I S) (Grammar.statement tables prints true H J F) (no_such else_word) (read_statement tables prints room e i s) (read_statement tables prints room' e' i' s')
     statement_part =
-        let ifs = choose_branch (heads if_word) (heads_test if_word) if_branch for_branch (λ ts x rest h. if_heads names prints room E I S ts x rest (room_of room (Grammar.if_statement I S) ts x h)) (λ ts x rest h q. lacks first if_word 6 6 if_first (omega arith) (for_starts names prints room E I S 6 refl) ts x rest h) in
-        let prints' = choose_branch (heads print_word) (heads_test print_word) print_branch ifs (λ ts x rest h. then_heads print_word ts x rest (room_of room (Grammar.print_line I) ts x (room_of prints (if_room room (Grammar.print_line I)) ts x h))) (λ ts x rest h q. lacks first print_word 5 5 print_first (omega arith) (if_starts names prints room E I S) ts x rest h) in
-        let assigns = choose_branch (heads name) (heads_test name) (sooner (λ q h. refl) (branch (assign_line_part names k.here) (λ ts x h. right ts x (right ts x (right ts x (left ts x h)))))) prints' (λ ts x rest h. then_heads name ts x rest h) (λ ts x rest h q. lacks first name 4 4 name_first (omega arith) (print_starts names prints room E I S) ts x rest h) in
-        let consts = choose_branch (heads const_word) (heads_test const_word) (sooner (λ q h. refl) (branch (const_line_part names k.here) (λ ts x h. right ts x (right ts x (left ts x h))))) assigns (λ ts x rest h. then_heads const_word ts x rest h) (λ ts x rest h q. lacks first const_word 3 3 const_first (omega arith) (assign_starts names prints room E I S) ts x rest h) in
-        let lets = choose_branch (heads let_word) (heads_test let_word) (sooner (λ q h. refl) (branch (let_line_part names k.here) (λ ts x h. right ts x (left ts x h)))) consts (λ ts x rest h. then_heads let_word ts x rest h) (λ ts x rest h q. lacks first let_word 2 2 let_first (omega arith) (const_starts names prints room E I S) ts x rest h) in
-        part_of (choose_branch (heads open_brace) (heads_test open_brace) block_branch lets (λ ts x rest h. block_heads names prints room E I S ts x rest (room_of room (Mapped block (Grammar.block_part S)) ts x h)) (λ ts x rest h q. lacks first open_brace 1 1 open_brace_of (omega arith) (let_starts names prints room E I S) ts x rest h)) some_statement
+        let ifs = choose_branch (heads if_word) (heads_test if_word) if_branch for_branch (λ ts x rest h. if_heads tables prints room E I S ts x rest (room_of room (Grammar.if_statement I S) ts x h)) (λ ts x rest h q. lacks first if_word 6 6 if_first (omega arith) (for_starts tables prints room E I S 6 refl) ts x rest h) in
+        let prints' = choose_branch (heads print_word) (heads_test print_word) print_branch ifs (λ ts x rest h. then_heads print_word ts x rest (room_of room (Grammar.print_line I) ts x (room_of prints (if_room room (Grammar.print_line I)) ts x h))) (λ ts x rest h q. lacks first print_word 5 5 print_first (omega arith) (if_starts tables prints room E I S) ts x rest h) in
+        let assigns = choose_branch (heads name) (heads_test name) (sooner (λ q h. refl) (branch (assign_line_part tables k.here) (λ ts x h. right ts x (right ts x (right ts x (left ts x h)))))) prints' (λ ts x rest h. then_heads name ts x rest h) (λ ts x rest h q. lacks first name 4 4 name_first (omega arith) (print_starts tables prints room E I S) ts x rest h) in
+        let consts = choose_branch (heads const_word) (heads_test const_word) (sooner (λ q h. refl) (branch (const_line_part tables k.here) (λ ts x h. right ts x (right ts x (left ts x h))))) assigns (λ ts x rest h. then_heads const_word ts x rest h) (λ ts x rest h q. lacks first const_word 3 3 const_first (omega arith) (assign_starts tables prints room E I S) ts x rest h) in
+        let lets = choose_branch (heads let_word) (heads_test let_word) (sooner (λ q h. refl) (branch (let_line_part tables k.here) (λ ts x h. right ts x (left ts x h)))) consts (λ ts x rest h. then_heads let_word ts x rest h) (λ ts x rest h q. lacks first let_word 2 2 let_first (omega arith) (const_starts tables prints room E I S) ts x rest h) in
+        part_of (choose_branch (heads open_brace) (heads_test open_brace) block_branch lets (λ ts x rest h. block_heads tables prints room E I S ts x rest (room_of room (Mapped block (Grammar.block_part S)) ts x h)) (λ ts x rest h q. lacks first open_brace 1 1 open_brace_of (omega arith) (let_starts tables prints room E I S) ts x rest h)) some_statement
 
   -- [ Directive ]
   pub strict_part : Part P Grammar.strict Grammar.strict (no_such directive) read_strict read_strict

@@ -10,10 +10,11 @@ use Rattle.parse_syntax.specs.declared.token.Word.TheVariants as word
 use Rattle.parse_syntax.specs.declared.token.Property.TheVariants as property
 use Rattle.eval_tree.specs.declared.tree.Method.{Method}
 use Rattle.eval_tree.specs.Tree.{ExprTree, StepTree}
-use Rattle.parse_syntax.specs.Terminals.{string_word, symbol_word, json_word, uri_function, member_word, method, opening, closing, open_bracket, close_bracket, comma, point, question, colon, sign, or_op, and_op, equal_op, compare_op, sum_op, simple, constant}
+use Rattle.parse_syntax.specs.Tables.{Tables}
+use Rattle.parse_syntax.specs.Terminals.{string_word, symbol_word, json_word, object_word, uri_function, member_word, property_word, method, key, opening, closing, open_bracket, close_bracket, open_literal, close_brace, comma, point, question, colon, sign, or_op, and_op, equal_op, compare_op, sum_op, simple, constant}
 use Rattle.parse_syntax.specs.Reading.{step_mark}
 
--- an operator has the level of its chain, and what begins a step the one above
+-- an operator has the level of its chain, what begins a step the one above, and what begins a method's arguments the next
 abbrev pub level_of : Token → ℕ
 level_of (token.Mark at mark.Question l) = 1
 level_of (token.Mark at mark.Or l) = 2
@@ -28,6 +29,7 @@ level_of (token.Mark at mark.Plus l) = 6
 level_of (token.Mark at mark.Minus l) = 6
 level_of (token.Mark at mark.Point l) = 7
 level_of (token.Mark at mark.OpenBracket l) = 7
+level_of (token.Mark at mark.OpenParen l) = 8
 level_of _ = 0
 
 -- what follows goes on with nothing of this level or a higher one
@@ -101,6 +103,13 @@ step_level = record { is = go }
     go (token.Mark at mark.OpenBracket l) x e = refl
     go _ x e = cc
 
+pub opening_level : HasLevel opening 8
+opening_level = record { is = go }
+  where
+    go : (t : Token) (x : _) → opening t ≡ Some x → level_of t ≡ 8
+    go (token.Mark at mark.OpenParen l) x e = refl
+    go _ x e = cc
+
 pub colon_level : HasLevel colon 0
 colon_level = record { is = go }
   where
@@ -120,6 +129,13 @@ close_bracket_level = record { is = go }
   where
     go : (t : Token) (x : _) → close_bracket t ≡ Some x → level_of t ≡ 0
     go (token.Mark at mark.CloseBracket l) x e = refl
+    go _ x e = cc
+
+pub close_brace_level : HasLevel close_brace 0
+close_brace_level = record { is = go }
+  where
+    go : (t : Token) (x : _) → close_brace t ≡ Some x → level_of t ≡ 0
+    go (token.Mark at mark.CloseBrace l) x e = refl
     go _ x e = cc
 
 pub comma_level : HasLevel comma 0
@@ -144,42 +160,44 @@ none_of_level v n k h le (t ∷ s) e = go (v t) refl
 -- which tokens begin a primary
 
 abbrev pub class : Token → ℕ
-class (token.Text at n) = 1
+class (token.Text at n k) = 1
 class (token.Number at n) = 1
 class (token.Name at n p) = 1
-class (token.Word at word.Undefined) = 1
-class (token.Word at word.Null) = 1
-class (token.Word at word.True) = 1
-class (token.Word at word.False) = 1
-class (token.Word at word.NaN) = 1
-class (token.Word at word.Infinity) = 1
+class (token.Word at word.Undefined number) = 1
+class (token.Word at word.Null number) = 1
+class (token.Word at word.True number) = 1
+class (token.Word at word.False number) = 1
+class (token.Word at word.NaN number) = 1
+class (token.Word at word.Infinity number) = 1
 class (token.Mark at mark.OpenParen l) = 2
-class (token.Word at word.String) = 3
-class (token.Word at word.Symbol) = 4
-class (token.Word at word.Json) = 5
-class (token.Word at word.EncodeUri) = 6
-class (token.Word at word.EncodeUriComponent) = 6
-class (token.Word at word.DecodeUri) = 6
-class (token.Word at word.DecodeUriComponent) = 6
+class (token.Word at word.String number) = 3
+class (token.Word at word.Symbol number) = 4
+class (token.Word at word.Json number) = 5
+class (token.Word at word.EncodeUri number) = 6
+class (token.Word at word.EncodeUriComponent number) = 6
+class (token.Word at word.DecodeUri number) = 6
+class (token.Word at word.DecodeUriComponent number) = 6
+class (token.Word at word.Object number) = 7
+class (token.Mark at mark.OpenBrace l) = 8
 class _ = 0
 
-pub simple_of : (names : List (List ℕ)) → IsOf class (simple names) 1
-simple_of names = record { is = go }
+pub simple_of : (tables : Tables) → IsOf class (simple tables) 1
+simple_of tables = record { is = go }
   where
-    constants : (at : ℕ) (w : _) (x : ExprTree) → constant w ≡ Some x → class (token.Word at w) ≡ 1
-    constants at word.Undefined x e = refl
-    constants at word.Null x e = refl
-    constants at word.True x e = refl
-    constants at word.False x e = refl
-    constants at word.NaN x e = refl
-    constants at word.Infinity x e = refl
-    constants at _ x e = cc
+    constants : (at number : ℕ) (w : _) (x : ExprTree) → constant w ≡ Some x → class (token.Word at w number) ≡ 1
+    constants at number word.Undefined x e = refl
+    constants at number word.Null x e = refl
+    constants at number word.True x e = refl
+    constants at number word.False x e = refl
+    constants at number word.NaN x e = refl
+    constants at number word.Infinity x e = refl
+    constants at number _ x e = cc
 
-    go : (t : Token) (x : ExprTree) → simple names t ≡ Some x → class t ≡ 1
-    go (token.Text at n) x e = refl
+    go : (t : Token) (x : ExprTree) → simple tables t ≡ Some x → class t ≡ 1
+    go (token.Text at n k) x e = refl
     go (token.Number at n) x e = refl
     go (token.Name at n p) x e = refl
-    go (token.Word at w) x e = constants at w x e
+    go (token.Word at w number) x e = constants at number w x e
     go (token.Directive at) x e = cc
     go (token.Mark at m l) x e = cc
 
@@ -194,31 +212,45 @@ pub string_of : IsOf class string_word 3
 string_of = record { is = go }
   where
     go : (t : Token) (x : _) → string_word t ≡ Some x → class t ≡ 3
-    go (token.Word at word.String) x e = refl
+    go (token.Word at word.String number) x e = refl
     go _ x e = cc
 
 pub symbol_of : IsOf class symbol_word 4
 symbol_of = record { is = go }
   where
     go : (t : Token) (x : _) → symbol_word t ≡ Some x → class t ≡ 4
-    go (token.Word at word.Symbol) x e = refl
+    go (token.Word at word.Symbol number) x e = refl
     go _ x e = cc
 
 pub json_of : IsOf class json_word 5
 json_of = record { is = go }
   where
     go : (t : Token) (x : _) → json_word t ≡ Some x → class t ≡ 5
-    go (token.Word at word.Json) x e = refl
+    go (token.Word at word.Json number) x e = refl
     go _ x e = cc
 
 pub uri_function_of : IsOf class uri_function 6
 uri_function_of = record { is = go }
   where
     go : (t : Token) (x : _) → uri_function t ≡ Some x → class t ≡ 6
-    go (token.Word at word.EncodeUri) x e = refl
-    go (token.Word at word.EncodeUriComponent) x e = refl
-    go (token.Word at word.DecodeUri) x e = refl
-    go (token.Word at word.DecodeUriComponent) x e = refl
+    go (token.Word at word.EncodeUri number) x e = refl
+    go (token.Word at word.EncodeUriComponent number) x e = refl
+    go (token.Word at word.DecodeUri number) x e = refl
+    go (token.Word at word.DecodeUriComponent number) x e = refl
+    go _ x e = cc
+
+pub object_of : IsOf class object_word 7
+object_of = record { is = go }
+  where
+    go : (t : Token) (x : _) → object_word t ≡ Some x → class t ≡ 7
+    go (token.Word at word.Object number) x e = refl
+    go _ x e = cc
+
+pub literal_of : IsOf class open_literal 8
+literal_of = record { is = go }
+  where
+    go : (t : Token) (x : _) → open_literal t ≡ Some x → class t ≡ 8
+    go (token.Mark at mark.OpenBrace l) x e = refl
     go _ x e = cc
 
 pub sign_of : IsOf class sign 0
@@ -266,6 +298,8 @@ part (token.Mark at mark.OpenParen l) = 3
 part (token.Name at n property.Length) = 4
 part (token.Name at n property.Description) = 4
 part (token.Name at n (property.Method m)) = 5
+part (token.Name at n p) = 6
+part (token.Word at w number) = 6
 part _ = 0
 
 pub point_of : IsOf part point 1
@@ -297,11 +331,22 @@ member_of = record { is = go }
     go (token.Name at n property.Description) x e = refl
     go _ x e = cc
 
-pub method_of : IsOf part method 5
-method_of = record { is = go }
+pub method_of : (tables : Tables) → IsOf part (method tables) 5
+method_of tables = record { is = go }
   where
-    go : (t : Token) (x : ℕ × Method) → method t ≡ Some x → part t ≡ 5
+    go : (t : Token) (x : (ℕ × Method) × List ℕ) → method tables t ≡ Some x → part t ≡ 5
     go (token.Name at n (property.Method m)) x e = refl
+    go _ x e = cc
+
+pub property_of : (tables : Tables) → IsOf part (property_word tables) 6
+property_of tables = record { is = go }
+  where
+    go : (t : Token) (x : StepTree) → property_word tables t ≡ Some x → part t ≡ 6
+    go (token.Name at n property.Length) x e = cc
+    go (token.Name at n property.Description) x e = cc
+    go (token.Name at n (property.Method m)) x e = cc
+    go (token.Name at n p) x e = refl
+    go (token.Word at w number) x e = refl
     go _ x e = cc
 
 -- a step begins with a point or a bracket
@@ -316,3 +361,41 @@ point_step _ x e = cc
 pub bracket_step : (t : Token) (x : ℕ) → open_bracket t ≡ Some x → is_step t ≡ true
 bracket_step (token.Mark at mark.OpenBracket l) x e = refl
 bracket_step _ x e = cc
+
+-- what begins a step goes on with no arguments
+pub step_no_args : (t : Token) → is_step t ≡ true → nat_lt (level_of t) 8 ≡ true
+step_no_args (token.Mark at mark.Point l) e = refl
+step_no_args (token.Mark at mark.OpenBracket l) e = refl
+step_no_args (token.Mark at mark.OpenParen l) e = cc
+step_no_args (token.Mark at m l) e = cc
+step_no_args (token.Directive at) e = cc
+step_no_args (token.Text at n k) e = cc
+step_no_args (token.Number at n) e = cc
+step_no_args (token.Name at n p) e = cc
+step_no_args (token.Word at w number) e = cc
+
+-- a key isn't the end of an object literal
+
+abbrev pub entry_class : Token → ℕ
+entry_class (token.Text at n k) = 1
+entry_class (token.Number at n) = 1
+entry_class (token.Name at n p) = 1
+entry_class (token.Word at w number) = 1
+entry_class _ = 0
+
+pub key_of : (tables : Tables) → IsOf entry_class (key tables) 1
+key_of tables = record { is = go }
+  where
+    go : (t : Token) (x : List ℕ) → key tables t ≡ Some x → entry_class t ≡ 1
+    go (token.Text at n k) x e = refl
+    go (token.Number at n) x e = refl
+    go (token.Name at n p) x e = refl
+    go (token.Word at w number) x e = refl
+    go _ x e = cc
+
+pub close_brace_of : IsOf entry_class close_brace 0
+close_brace_of = record { is = go }
+  where
+    go : (t : Token) (x : _) → close_brace t ≡ Some x → entry_class t ≡ 0
+    go (token.Mark at mark.CloseBrace l) x e = refl
+    go _ x e = cc

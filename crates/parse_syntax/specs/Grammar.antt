@@ -6,7 +6,8 @@ use Rattle.eval_tree.specs.declared.tree.Op.{Op}
 use Rattle.eval_tree.specs.declared.tree.Method.{Method}
 use Rattle.eval_tree.specs.declared.tree.Builtin.{Builtin}
 use Rattle.eval_tree.specs.declared.tree.Builtin.TheVariants as builtin
-use Rattle.parse_syntax.specs.Terminals.{Ident, directive, let_word, const_word, print_word, if_word, else_word, for_word, string_word, symbol_word, json_word, uri_function, name, the_name, member_word, method, from_word, symbol_function, stringify_word, opening, closing, open_bracket, close_bracket, open_brace, close_brace, comma, point, semicolon, question, colon, less, assign_mark, assign_op, increment, sign, or_op, and_op, equal_op, compare_op, sum_op, nought, bound_number, simple}
+use Rattle.parse_syntax.specs.Terminals.{Ident, directive, let_word, const_word, print_word, if_word, else_word, for_word, string_word, symbol_word, json_word, object_word, uri_function, name, the_name, member_word, property_word, method, key, from_word, symbol_function, stringify_word, keys_word, opening, closing, open_bracket, close_bracket, open_brace, open_literal, close_brace, comma, point, semicolon, question, colon, less, assign_mark, assign_op, increment, sign, or_op, and_op, equal_op, compare_op, sum_op, nought, bound_number, simple}
+use Rattle.parse_syntax.specs.Tables.{Tables}
 use Rattle.eval_tree.specs.Tree as tree
 use Rattle.eval_tree.specs.Tree.{ExprTree, LinkTree, StepTree, links, steps, exprs, StmtTree, BlockTree, block_of, ArmTree, arms, stmts}
 
@@ -27,8 +28,14 @@ pair_of x y = (x, y)
 abbrev pub index_of : ℕ → ExprTree → StepTree
 index_of at t = tree.of_index at t
 
-abbrev pub call_of : ℕ × Method → List ExprTree → StepTree
-call_of m ts = tree.of_call m.0 m.1 (exprs ts)
+-- a method and its letters, with arguments or without, where it is the read of a property of that name
+abbrev pub method_of : (ℕ × Method) × List ℕ → Option (List ExprTree) → StepTree
+method_of m None = tree.of_property m.0.0 m.1
+method_of m (Some ts) = tree.of_call m.0.0 m.0.1 (exprs ts)
+
+-- an object literal, at an offset, with its members
+abbrev pub object_of : ℕ → List (List ℕ × ExprTree) → ExprTree
+object_of at ms = tree.object at (tree.entries ms)
 
 -- a built-in function, at an offset, with its arguments
 abbrev pub builtin_of : ℕ → Builtin × List ExprTree → ExprTree
@@ -100,10 +107,10 @@ if_of a p = tree.if_line (arms (a ∷ p.0)) p.1
 abbrev pub header_of : Ident → ℕ → Ident × ℕ
 header_of x bound = (x, bound)
 
-module _ (names : List (List ℕ)) where
+module _ (tables : Tables) where
   -- the letters of a name
   abbrev pub letters : Ident → List ℕ
-  letters x = get_or names x.number []
+  letters x = get_or tables.names x.number []
 
   abbrev pub let_of : Ident → Option ExprTree → StmtTree
   let_of x init = tree.let_line x.at (letters x) init
@@ -151,76 +158,98 @@ json_call E = Then builtin_of (One json_word) (One point ▸ Then pair_of (One s
 abbrev pub uri_call : Lang Token ExprTree → Lang Token ExprTree
 uri_call E = Then uri_of (One uri_function) (args E)
 
-abbrev pub primary : List (List ℕ) → Bool → Lang Token ExprTree → Lang Token ExprTree
-primary names room E =
-    Either (One (simple names))
+-- Object . keys Args
+abbrev pub object_call : Lang Token ExprTree → Lang Token ExprTree
+object_call E = Then builtin_of (One object_word) (One point ▸ Then pair_of (One keys_word) (args E))
+
+-- Key : E
+abbrev pub entry : Tables → Lang Token ExprTree → Lang Token (List ℕ × ExprTree)
+entry tables E = Then pair_of (One (key tables)) (One colon ▸ E)
+
+-- Key : E { , Key : E }
+abbrev pub entries : Tables → Lang Token ExprTree → Lang Token (List (List ℕ × ExprTree))
+entries tables E = Then list_of (entry tables E) (Many (One comma ▸ entry tables E))
+
+-- { [ Key : E { , Key : E } ] }
+abbrev pub object_literal : Tables → Lang Token ExprTree → Lang Token ExprTree
+object_literal tables E = Then object_of (One open_literal) (Either (Mapped none_of (One close_brace)) (entries tables E ◂ One close_brace))
+
+abbrev pub primary : Tables → Bool → Lang Token ExprTree → Lang Token ExprTree
+primary tables room E =
+    Either (One (simple tables))
     (Either (if_room room (parens E))
     (Either (if_room room (string_call E))
     (Either (if_room room (symbol_call E))
     (Either (if_room room (json_call E))
-    (if_room room (uri_call E))))))
+    (Either (if_room room (uri_call E))
+    (Either (if_room room (object_call E))
+    (if_room room (object_literal tables E))))))))
 
--- . Member | . Method Args
-abbrev pub member : Bool → Lang Token ExprTree → Lang Token StepTree
-member room E = One point ▸ Either (One member_word) (if_room room (Then call_of (One method) (args E)))
+-- [ Args ]
+abbrev pub method_args : Bool → Lang Token ExprTree → Lang Token (Option (List ExprTree))
+method_args room E = Either (if_room room (Mapped Some (args E))) (Nothing None)
+
+-- . Member | . Method Args | . Property, where a method without arguments is a property
+abbrev pub member : Tables → Bool → Lang Token ExprTree → Lang Token StepTree
+member tables room E = One point ▸ Either (One member_word) (Either (One (property_word tables)) (Then method_of (One (method tables)) (method_args room E)))
 
 -- [ E ]
 abbrev pub index : Lang Token ExprTree → Lang Token StepTree
 index E = Then index_of (One open_bracket) (E ◂ One close_bracket)
 
-abbrev pub step : Bool → Lang Token ExprTree → Lang Token StepTree
-step room E = Either (member room E) (if_room room (index E))
+abbrev pub step : Tables → Bool → Lang Token ExprTree → Lang Token StepTree
+step tables room E = Either (member tables room E) (if_room room (index E))
 
 -- Primary { Step }
-abbrev pub post : List (List ℕ) → Bool → Lang Token ExprTree → Lang Token ExprTree
-post names room E = Then post_of (primary names room E) (Many (step room E))
+abbrev pub post : Tables → Bool → Lang Token ExprTree → Lang Token ExprTree
+post tables room E = Then post_of (primary tables room E) (Many (step tables room E))
 
 -- ( - | ! ) U | Post
-abbrev pub unary : List (List ℕ) → Bool → Lang Token ExprTree → Lang Token ExprTree → Lang Token ExprTree
-unary names room E U = Either (if_room room (Then unary_of (One sign) U)) (post names room E)
+abbrev pub unary : Tables → Bool → Lang Token ExprTree → Lang Token ExprTree → Lang Token ExprTree
+unary tables room E U = Either (if_room room (Then unary_of (One sign) U)) (post tables room E)
 
 -- L { o L }
 abbrev pub chain : (Token → Option (ℕ × Op)) → Lang Token ExprTree → Lang Token ExprTree
 chain o L = Then chain_of L (Many (Then link_of (One o) L))
 
-abbrev pub sum : List (List ℕ) → Bool → Lang Token ExprTree → Lang Token ExprTree → Lang Token ExprTree
-sum names room E U = chain sum_op (unary names room E U)
+abbrev pub sum : Tables → Bool → Lang Token ExprTree → Lang Token ExprTree → Lang Token ExprTree
+sum tables room E U = chain sum_op (unary tables room E U)
 
-abbrev pub comparison : List (List ℕ) → Bool → Lang Token ExprTree → Lang Token ExprTree → Lang Token ExprTree
-comparison names room E U = chain compare_op (sum names room E U)
+abbrev pub comparison : Tables → Bool → Lang Token ExprTree → Lang Token ExprTree → Lang Token ExprTree
+comparison tables room E U = chain compare_op (sum tables room E U)
 
-abbrev pub equality : List (List ℕ) → Bool → Lang Token ExprTree → Lang Token ExprTree → Lang Token ExprTree
-equality names room E U = chain equal_op (comparison names room E U)
+abbrev pub equality : Tables → Bool → Lang Token ExprTree → Lang Token ExprTree → Lang Token ExprTree
+equality tables room E U = chain equal_op (comparison tables room E U)
 
-abbrev pub conjunction : List (List ℕ) → Bool → Lang Token ExprTree → Lang Token ExprTree → Lang Token ExprTree
-conjunction names room E U = chain and_op (equality names room E U)
+abbrev pub conjunction : Tables → Bool → Lang Token ExprTree → Lang Token ExprTree → Lang Token ExprTree
+conjunction tables room E U = chain and_op (equality tables room E U)
 
-abbrev pub disjunction : List (List ℕ) → Bool → Lang Token ExprTree → Lang Token ExprTree → Lang Token ExprTree
-disjunction names room E U = chain or_op (conjunction names room E U)
+abbrev pub disjunction : Tables → Bool → Lang Token ExprTree → Lang Token ExprTree → Lang Token ExprTree
+disjunction tables room E U = chain or_op (conjunction tables room E U)
 
 -- ? E : E
 abbrev pub branches : Lang Token ExprTree → Lang Token (Option (ExprTree × ExprTree))
 branches E = One question ▸ Then branches_of E (One colon ▸ E)
 
 -- Or [ ? E : E ]
-abbrev pub conditional : List (List ℕ) → Bool → Lang Token ExprTree → Lang Token ExprTree → Lang Token ExprTree
-conditional names room E U = Then cond_of (disjunction names room E U) (Either (if_room room (branches E)) (Nothing None))
+abbrev pub conditional : Tables → Bool → Lang Token ExprTree → Lang Token ExprTree → Lang Token ExprTree
+conditional tables room E U = Then cond_of (disjunction tables room E U) (Either (if_room room (branches E)) (Nothing None))
 
 -- an expression, and the operand of a sign
 pub data Which : Type 0 where
   Whole Operand : Which
 
-abbrev pub level : List (List ℕ) → Bool → (Which → Lang Token ExprTree) → Which → Lang Token ExprTree
-level names room I Whole = conditional names room (I Whole) (I Operand)
-level names room I Operand = unary names room (I Whole) (I Operand)
+abbrev pub level : Tables → Bool → (Which → Lang Token ExprTree) → Which → Lang Token ExprTree
+level tables room I Whole = conditional tables room (I Whole) (I Operand)
+level tables room I Operand = unary tables room (I Whole) (I Operand)
 
 -- with room for so many that are open
-abbrev pub within_room : List (List ℕ) → ℕ → Which → Lang Token ExprTree
-within_room names zero = level names false (λ w. Never)
-within_room names (suc n) = level names true (within_room names n)
+abbrev pub within_room : Tables → ℕ → Which → Lang Token ExprTree
+within_room tables zero = level tables false (λ w. Never)
+within_room tables (suc n) = level tables true (within_room tables n)
 
-abbrev pub Expression : List (List ℕ) → ℕ → Lang Token ExprTree
-Expression names n = within_room names n Whole
+abbrev pub Expression : Tables → ℕ → Lang Token ExprTree
+Expression tables n = within_room tables n Whole
 
 -- statements, over an expression E at this level, and what an expression I and a statement S are where one more is open
 
@@ -228,14 +257,14 @@ Expression names n = within_room names n Whole
 abbrev pub block_part : Lang Token StmtTree → Lang Token BlockTree
 block_part S = One open_brace ▸ Mapped inside_of (Many S ◂ One close_brace)
 
-abbrev pub let_line : List (List ℕ) → Lang Token ExprTree → Lang Token StmtTree
-let_line names E = One let_word ▸ Then (let_of names) (One name) (Either (Mapped Some (One assign_mark ▸ E)) (Nothing None)) ◂ One semicolon
+abbrev pub let_line : Tables → Lang Token ExprTree → Lang Token StmtTree
+let_line tables E = One let_word ▸ Then (let_of tables) (One name) (Either (Mapped Some (One assign_mark ▸ E)) (Nothing None)) ◂ One semicolon
 
-abbrev pub const_line : List (List ℕ) → Lang Token ExprTree → Lang Token StmtTree
-const_line names E = One const_word ▸ Then (const_of names) (One name) (One assign_mark ▸ E ◂ One semicolon)
+abbrev pub const_line : Tables → Lang Token ExprTree → Lang Token StmtTree
+const_line tables E = One const_word ▸ Then (const_of tables) (One name) (One assign_mark ▸ E ◂ One semicolon)
 
-abbrev pub assign_line : List (List ℕ) → Lang Token ExprTree → Lang Token StmtTree
-assign_line names E = Then (assign_of names) (One name) (Then pair_of (One assign_op) (E ◂ One semicolon))
+abbrev pub assign_line : Tables → Lang Token ExprTree → Lang Token StmtTree
+assign_line tables E = Then (assign_of tables) (One name) (Then pair_of (One assign_op) (E ◂ One semicolon))
 
 abbrev pub print_line : Lang Token ExprTree → Lang Token StmtTree
 print_line I = One print_word ▸ Mapped print_of (args I ◂ One semicolon)
@@ -256,32 +285,32 @@ turns x = One assign_mark ▸ One nought ▸ One semicolon ▸ One (the_name x.n
 abbrev pub for_header : Lang Token (Ident × ℕ)
 for_header = One for_word ▸ One opening ▸ One let_word ▸ Bind header_of (One name) turns
 
-abbrev pub for_statement : List (List ℕ) → Lang Token StmtTree → Lang Token StmtTree
-for_statement names S = Then (for_of names) for_header (block_part S)
+abbrev pub for_statement : Tables → Lang Token StmtTree → Lang Token StmtTree
+for_statement tables S = Then (for_of tables) for_header (block_part S)
 
 -- with prints, or without
-abbrev pub statement : List (List ℕ) → Bool → Bool → Lang Token ExprTree → Lang Token ExprTree → Lang Token StmtTree → Lang Token StmtTree
-statement names prints room E I S =
+abbrev pub statement : Tables → Bool → Bool → Lang Token ExprTree → Lang Token ExprTree → Lang Token StmtTree → Lang Token StmtTree
+statement tables prints room E I S =
     Either (if_room room (Mapped tree.block (block_part S)))
-    (Either (let_line names E)
-    (Either (const_line names E)
-    (Either (assign_line names E)
+    (Either (let_line tables E)
+    (Either (const_line tables E)
+    (Either (assign_line tables E)
     (Either (if_room prints (if_room room (print_line I)))
     (Either (if_room room (if_statement I S))
-    (if_room room (for_statement names S)))))))
+    (if_room room (for_statement tables S)))))))
 
 -- with room for so many that are open
-abbrev pub Statement : List (List ℕ) → Bool → ℕ → Lang Token StmtTree
-Statement names prints zero = statement names prints false (Expression names 0) Never Never
-Statement names prints (suc n) = statement names prints true (Expression names (suc n)) (Expression names n) (Statement names prints n)
+abbrev pub Statement : Tables → Bool → ℕ → Lang Token StmtTree
+Statement tables prints zero = statement tables prints false (Expression tables 0) Never Never
+Statement tables prints (suc n) = statement tables prints true (Expression tables (suc n)) (Expression tables n) (Statement tables prints n)
 
 -- [ Directive ]
 abbrev pub strict : Lang Token (Unit {0})
 strict = Either (One directive ▸ One semicolon) (Nothing tt)
 
 -- [ Directive ] { Statement }
-abbrev pub Statements : List (List ℕ) → Bool → ℕ → Lang Token (List StmtTree)
-Statements names prints n = strict ▸ Many (Statement names prints n)
+abbrev pub Statements : Tables → Bool → ℕ → Lang Token (List StmtTree)
+Statements tables prints n = strict ▸ Many (Statement tables prints n)
 
 -- so many may be open
 unfoldable pub most : ℕ

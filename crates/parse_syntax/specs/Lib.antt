@@ -1,3 +1,4 @@
+pub mod Tables
 pub mod Terminals
 pub mod Grammar
 pub mod Reading

@@ -7,8 +7,9 @@ use Rattle.parse_syntax.specs.declared.token.Token.{Token}
 use Rattle.parse_syntax.specs.declared.token.Token.TheVariants as token
 use Rattle.eval_tree.specs.declared.tree.Op.{Op}
 use Rattle.eval_tree.specs.Tree.{ExprTree, StepTree, StmtTree, BlockTree, ArmTree, block}
-use Rattle.parse_syntax.specs.Terminals.{Ident, directive, let_word, const_word, print_word, if_word, else_word, for_word, string_word, symbol_word, json_word, uri_function, name, the_name, member_word, method, from_word, symbol_function, stringify_word, opening, closing, open_bracket, close_bracket, open_brace, close_brace, comma, point, semicolon, question, colon, less, assign_mark, assign_op, increment, sign, or_op, and_op, equal_op, compare_op, sum_op, nought, bound_number, simple}
-use Rattle.parse_syntax.specs.Grammar.{list_of, none_of, single_of, pair_of, index_of, call_of, builtin_of, uri_of, plain_string, post_of, unary_of, link_of, chain_of, branches_of, cond_of, inside_of, no_inside, print_of, arm_of, more_of, if_of, header_of, let_of, const_of, assign_of, for_of, Which, Whole, Operand}
+use Rattle.parse_syntax.specs.Tables.{Tables}
+use Rattle.parse_syntax.specs.Terminals.{Ident, directive, let_word, const_word, print_word, if_word, else_word, for_word, string_word, symbol_word, json_word, object_word, uri_function, name, the_name, member_word, property_word, method, key, from_word, symbol_function, stringify_word, keys_word, opening, closing, open_bracket, close_bracket, open_brace, open_literal, close_brace, comma, point, semicolon, question, colon, less, assign_mark, assign_op, increment, sign, or_op, and_op, equal_op, compare_op, sum_op, nought, bound_number, simple}
+use Rattle.parse_syntax.specs.Grammar.{list_of, none_of, single_of, pair_of, index_of, method_of, object_of, builtin_of, uri_of, plain_string, post_of, unary_of, link_of, chain_of, branches_of, cond_of, inside_of, no_inside, print_of, arm_of, more_of, if_of, header_of, let_of, const_of, assign_of, for_of, Which, Whole, Operand}
 
 -- expressions
 
@@ -33,23 +34,48 @@ read_json e = and_then builtin_of (one_of json_word) (and_then second_of (one_of
 abbrev pub read_uri : Reader Token ExprTree → Reader Token ExprTree
 read_uri e = and_then uri_of (one_of uri_function) (read_args e)
 
-abbrev pub read_primary : List (List ℕ) → Bool → Reader Token ExprTree → Reader Token ExprTree
-read_primary names room e =
-    choose (heads (simple names)) (one_of (simple names))
+abbrev pub read_object_call : Reader Token ExprTree → Reader Token ExprTree
+read_object_call e = and_then builtin_of (one_of object_word) (and_then second_of (one_of point) (and_then pair_of (one_of keys_word) (read_args e)))
+
+abbrev pub read_entry : Tables → Reader Token ExprTree → Reader Token (List ℕ × ExprTree)
+read_entry tables e = and_then pair_of (one_of (key tables)) (and_then second_of (one_of colon) e)
+
+abbrev pub read_entries : Tables → Reader Token ExprTree → Reader Token (List (List ℕ × ExprTree))
+read_entries tables e = and_then list_of (read_entry tables e) (all_of (heads comma) (and_then second_of (one_of comma) (read_entry tables e)))
+
+-- what stands behind the { of an object literal
+abbrev pub read_members : Tables → Reader Token ExprTree → Reader Token (List (List ℕ × ExprTree))
+read_members tables e = choose (heads close_brace) (map_by none_of (one_of close_brace)) (and_then first_of (read_entries tables e) (one_of close_brace))
+
+abbrev pub read_literal : Tables → Reader Token ExprTree → Reader Token ExprTree
+read_literal tables e = and_then object_of (one_of open_literal) (read_members tables e)
+
+abbrev pub read_primary : Tables → Bool → Reader Token ExprTree → Reader Token ExprTree
+read_primary tables room e =
+    choose (heads (simple tables)) (one_of (simple tables))
     (choose (heads opening) (opens room (heads opening) (read_parens e))
     (choose (heads string_word) (opens room (heads string_word) (read_string e))
     (choose (heads symbol_word) (opens room (heads symbol_word) (read_symbol e))
     (choose (heads json_word) (opens room (heads json_word) (read_json e))
-    (opens room (heads uri_function) (read_uri e))))))
+    (choose (heads uri_function) (opens room (heads uri_function) (read_uri e))
+    (choose (heads object_word) (opens room (heads object_word) (read_object_call e))
+    (opens room (heads open_literal) (read_literal tables e))))))))
 
-abbrev pub read_member : Bool → Reader Token ExprTree → Reader Token StepTree
-read_member room e = and_then second_of (one_of point) (choose (heads member_word) (one_of member_word) (opens room (heads method) (and_then call_of (one_of method) (read_args e))))
+abbrev pub read_method_args : Bool → Reader Token ExprTree → Reader Token (Option (List ExprTree))
+read_method_args room e = choose (heads opening) (opens room (heads opening) (map_by Some (read_args e))) (succeed None)
+
+-- what stands behind a point
+abbrev pub read_word : Tables → Bool → Reader Token ExprTree → Reader Token StepTree
+read_word tables room e = choose (heads member_word) (one_of member_word) (choose (heads (property_word tables)) (one_of (property_word tables)) (and_then method_of (one_of (method tables)) (read_method_args room e)))
+
+abbrev pub read_member : Tables → Bool → Reader Token ExprTree → Reader Token StepTree
+read_member tables room e = and_then second_of (one_of point) (read_word tables room e)
 
 abbrev pub read_index : Reader Token ExprTree → Reader Token StepTree
 read_index e = and_then index_of (one_of open_bracket) (and_then first_of e (one_of close_bracket))
 
-abbrev pub read_step : Bool → Reader Token ExprTree → Reader Token StepTree
-read_step room e = choose (heads point) (read_member room e) (opens room (heads open_bracket) (read_index e))
+abbrev pub read_step : Tables → Bool → Reader Token ExprTree → Reader Token StepTree
+read_step tables room e = choose (heads point) (read_member tables room e) (opens room (heads open_bracket) (read_index e))
 
 -- what begins a step
 abbrev pub step_mark : Token → Option (Unit {0})
@@ -57,43 +83,43 @@ step_mark (token.Mark at mark.Point l) = Some tt
 step_mark (token.Mark at mark.OpenBracket l) = Some tt
 step_mark _ = None
 
-abbrev pub read_post : List (List ℕ) → Bool → Reader Token ExprTree → Reader Token ExprTree
-read_post names room e = and_then post_of (read_primary names room e) (all_of (heads step_mark) (read_step room e))
+abbrev pub read_post : Tables → Bool → Reader Token ExprTree → Reader Token ExprTree
+read_post tables room e = and_then post_of (read_primary tables room e) (all_of (heads step_mark) (read_step tables room e))
 
-abbrev pub read_unary : List (List ℕ) → Bool → Reader Token ExprTree → Reader Token ExprTree → Reader Token ExprTree
-read_unary names room e u = choose (heads sign) (opens room (heads sign) (and_then unary_of (one_of sign) u)) (read_post names room e)
+abbrev pub read_unary : Tables → Bool → Reader Token ExprTree → Reader Token ExprTree → Reader Token ExprTree
+read_unary tables room e u = choose (heads sign) (opens room (heads sign) (and_then unary_of (one_of sign) u)) (read_post tables room e)
 
 abbrev pub read_chain : (Token → Option (ℕ × Op)) → Reader Token ExprTree → Reader Token ExprTree
 read_chain o r = and_then chain_of r (all_of (heads o) (and_then link_of (one_of o) r))
 
-abbrev pub read_sum : List (List ℕ) → Bool → Reader Token ExprTree → Reader Token ExprTree → Reader Token ExprTree
-read_sum names room e u = read_chain sum_op (read_unary names room e u)
+abbrev pub read_sum : Tables → Bool → Reader Token ExprTree → Reader Token ExprTree → Reader Token ExprTree
+read_sum tables room e u = read_chain sum_op (read_unary tables room e u)
 
-abbrev pub read_comparison : List (List ℕ) → Bool → Reader Token ExprTree → Reader Token ExprTree → Reader Token ExprTree
-read_comparison names room e u = read_chain compare_op (read_sum names room e u)
+abbrev pub read_comparison : Tables → Bool → Reader Token ExprTree → Reader Token ExprTree → Reader Token ExprTree
+read_comparison tables room e u = read_chain compare_op (read_sum tables room e u)
 
-abbrev pub read_equality : List (List ℕ) → Bool → Reader Token ExprTree → Reader Token ExprTree → Reader Token ExprTree
-read_equality names room e u = read_chain equal_op (read_comparison names room e u)
+abbrev pub read_equality : Tables → Bool → Reader Token ExprTree → Reader Token ExprTree → Reader Token ExprTree
+read_equality tables room e u = read_chain equal_op (read_comparison tables room e u)
 
-abbrev pub read_conjunction : List (List ℕ) → Bool → Reader Token ExprTree → Reader Token ExprTree → Reader Token ExprTree
-read_conjunction names room e u = read_chain and_op (read_equality names room e u)
+abbrev pub read_conjunction : Tables → Bool → Reader Token ExprTree → Reader Token ExprTree → Reader Token ExprTree
+read_conjunction tables room e u = read_chain and_op (read_equality tables room e u)
 
-abbrev pub read_disjunction : List (List ℕ) → Bool → Reader Token ExprTree → Reader Token ExprTree → Reader Token ExprTree
-read_disjunction names room e u = read_chain or_op (read_conjunction names room e u)
+abbrev pub read_disjunction : Tables → Bool → Reader Token ExprTree → Reader Token ExprTree → Reader Token ExprTree
+read_disjunction tables room e u = read_chain or_op (read_conjunction tables room e u)
 
 abbrev pub read_branches : Reader Token ExprTree → Reader Token (Option (ExprTree × ExprTree))
 read_branches e = and_then second_of (one_of question) (and_then branches_of e (and_then second_of (one_of colon) e))
 
-abbrev pub read_conditional : List (List ℕ) → Bool → Reader Token ExprTree → Reader Token ExprTree → Reader Token ExprTree
-read_conditional names room e u = and_then cond_of (read_disjunction names room e u) (choose (heads question) (opens room (heads question) (read_branches e)) (succeed None))
+abbrev pub read_conditional : Tables → Bool → Reader Token ExprTree → Reader Token ExprTree → Reader Token ExprTree
+read_conditional tables room e u = and_then cond_of (read_disjunction tables room e u) (choose (heads question) (opens room (heads question) (read_branches e)) (succeed None))
 
-abbrev pub read_level : List (List ℕ) → Bool → (Which → Reader Token ExprTree) → Which → Reader Token ExprTree
-read_level names room i Whole = read_conditional names room (i Whole) (i Operand)
-read_level names room i Operand = read_unary names room (i Whole) (i Operand)
+abbrev pub read_level : Tables → Bool → (Which → Reader Token ExprTree) → Which → Reader Token ExprTree
+read_level tables room i Whole = read_conditional tables room (i Whole) (i Operand)
+read_level tables room i Operand = read_unary tables room (i Whole) (i Operand)
 
-abbrev pub read_within : List (List ℕ) → ℕ → Which → Reader Token ExprTree
-read_within names zero = read_level names false (λ w. wrong)
-read_within names (suc n) = read_level names true (read_within names n)
+abbrev pub read_within : Tables → ℕ → Which → Reader Token ExprTree
+read_within tables zero = read_level tables false (λ w. wrong)
+read_within tables (suc n) = read_level tables true (read_within tables n)
 
 -- statements
 
@@ -108,14 +134,14 @@ read_block s = and_then second_of (one_of open_brace) (map_by inside_of (and_the
 abbrev pub read_init : Reader Token ExprTree → Reader Token (Option ExprTree)
 read_init e = choose (heads assign_mark) (map_by Some (and_then second_of (one_of assign_mark) e)) (succeed None)
 
-abbrev pub read_let : List (List ℕ) → Reader Token ExprTree → Reader Token StmtTree
-read_let names e = and_then second_of (one_of let_word) (and_then first_of (and_then (let_of names) (one_of name) (read_init e)) (one_of semicolon))
+abbrev pub read_let : Tables → Reader Token ExprTree → Reader Token StmtTree
+read_let tables e = and_then second_of (one_of let_word) (and_then first_of (and_then (let_of tables) (one_of name) (read_init e)) (one_of semicolon))
 
-abbrev pub read_const : List (List ℕ) → Reader Token ExprTree → Reader Token StmtTree
-read_const names e = and_then second_of (one_of const_word) (and_then (const_of names) (one_of name) (and_then second_of (one_of assign_mark) (and_then first_of e (one_of semicolon))))
+abbrev pub read_const : Tables → Reader Token ExprTree → Reader Token StmtTree
+read_const tables e = and_then second_of (one_of const_word) (and_then (const_of tables) (one_of name) (and_then second_of (one_of assign_mark) (and_then first_of e (one_of semicolon))))
 
-abbrev pub read_assign : List (List ℕ) → Reader Token ExprTree → Reader Token StmtTree
-read_assign names e = and_then (assign_of names) (one_of name) (and_then pair_of (one_of assign_op) (and_then first_of e (one_of semicolon)))
+abbrev pub read_assign : Tables → Reader Token ExprTree → Reader Token StmtTree
+read_assign tables e = and_then (assign_of tables) (one_of name) (and_then pair_of (one_of assign_op) (and_then first_of e (one_of semicolon)))
 
 abbrev pub read_print : Reader Token ExprTree → Reader Token StmtTree
 read_print e = and_then second_of (one_of print_word) (map_by print_of (and_then first_of (read_args e) (one_of semicolon)))
@@ -135,25 +161,25 @@ read_turns x = and_then second_of (one_of assign_mark) (and_then second_of (one_
 abbrev pub read_header : Reader Token (Ident × ℕ)
 read_header = and_then second_of (one_of for_word) (and_then second_of (one_of opening) (and_then second_of (one_of let_word) (and_bind header_of (one_of name) read_turns)))
 
-abbrev pub read_for : List (List ℕ) → Reader Token StmtTree → Reader Token StmtTree
-read_for names s = and_then (for_of names) read_header (read_block s)
+abbrev pub read_for : Tables → Reader Token StmtTree → Reader Token StmtTree
+read_for tables s = and_then (for_of tables) read_header (read_block s)
 
-abbrev pub read_statement : List (List ℕ) → Bool → Bool → Reader Token ExprTree → Reader Token ExprTree → Reader Token StmtTree → Reader Token StmtTree
-read_statement names prints room e i s =
+abbrev pub read_statement : Tables → Bool → Bool → Reader Token ExprTree → Reader Token ExprTree → Reader Token StmtTree → Reader Token StmtTree
+read_statement tables prints room e i s =
     choose (heads open_brace) (opens room (heads open_brace) (map_by block (read_block s)))
-    (choose (heads let_word) (read_let names e)
-    (choose (heads const_word) (read_const names e)
-    (choose (heads name) (read_assign names e)
+    (choose (heads let_word) (read_let tables e)
+    (choose (heads const_word) (read_const tables e)
+    (choose (heads name) (read_assign tables e)
     (choose (heads print_word) (allowed prints (opens room (heads print_word) (read_print i)))
     (choose (heads if_word) (opens room (heads if_word) (read_if i s))
-    (opens room (heads for_word) (read_for names s)))))))
+    (opens room (heads for_word) (read_for tables s)))))))
 
-abbrev pub read_at : List (List ℕ) → Bool → ℕ → Reader Token StmtTree
-read_at names prints zero = read_statement names prints false (read_within names 0 Whole) wrong wrong
-read_at names prints (suc n) = read_statement names prints true (read_within names (suc n) Whole) (read_within names n Whole) (read_at names prints n)
+abbrev pub read_at : Tables → Bool → ℕ → Reader Token StmtTree
+read_at tables prints zero = read_statement tables prints false (read_within tables 0 Whole) wrong wrong
+read_at tables prints (suc n) = read_statement tables prints true (read_within tables (suc n) Whole) (read_within tables n Whole) (read_at tables prints n)
 
 abbrev pub read_strict : Reader Token (Unit {0})
 read_strict = choose (heads directive) (and_then second_of (one_of directive) (one_of semicolon)) (succeed tt)
 
-abbrev pub read_statements : List (List ℕ) → Bool → ℕ → Reader Token (List StmtTree)
-read_statements names prints n = and_then second_of read_strict (all_of goes_on (read_at names prints n))
+abbrev pub read_statements : Tables → Bool → ℕ → Reader Token (List StmtTree)
+read_statements tables prints n = and_then second_of read_strict (all_of goes_on (read_at tables prints n))

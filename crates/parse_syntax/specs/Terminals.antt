@@ -1,6 +1,6 @@
 -- What each token is to the grammar. A terminal is a function from a token to an optional value; so one word may be
 -- a name at one place and a property at another.
-use Rattle.std.specs.Prelude.{ℕ, Bool, true, false, nat_eq, nat_lt, List, [], Option, Some, None, get_or}
+use Rattle.std.specs.Prelude.{ℕ, Bool, true, false, nat_eq, nat_lt, decimal, List, [], Option, Some, None, get_or}
 use Rattle.js_lex.specs.declared.token.Mark.TheVariants as mark
 use Rattle.parse_syntax.specs.declared.token.Token.{Token}
 use Rattle.parse_syntax.specs.declared.token.Token.TheVariants as token
@@ -15,6 +15,7 @@ use Rattle.eval_tree.specs.declared.tree.Builtin.{Builtin}
 use Rattle.eval_tree.specs.declared.tree.Builtin.TheVariants as builtin
 use Rattle.eval_tree.specs.Tree as tree
 use Rattle.eval_tree.specs.Tree.{ExprTree, StepTree}
+use Rattle.parse_syntax.specs.Tables.{Tables}
 
 -- a name where it stands: its offset, and the number of its letters
 pub record Ident : Type 0 where
@@ -32,48 +33,52 @@ directive (token.Directive at) = Some tt
 directive _ = None
 
 abbrev pub let_word : Token → Option (Unit {0})
-let_word (token.Word at word.Let) = Some tt
+let_word (token.Word at word.Let number) = Some tt
 let_word _ = None
 
 abbrev pub const_word : Token → Option (Unit {0})
-const_word (token.Word at word.Const) = Some tt
+const_word (token.Word at word.Const number) = Some tt
 const_word _ = None
 
 abbrev pub print_word : Token → Option (Unit {0})
-print_word (token.Word at word.Print) = Some tt
+print_word (token.Word at word.Print number) = Some tt
 print_word _ = None
 
 abbrev pub if_word : Token → Option (Unit {0})
-if_word (token.Word at word.If) = Some tt
+if_word (token.Word at word.If number) = Some tt
 if_word _ = None
 
 abbrev pub else_word : Token → Option (Unit {0})
-else_word (token.Word at word.Else) = Some tt
+else_word (token.Word at word.Else number) = Some tt
 else_word _ = None
 
 abbrev pub for_word : Token → Option (Unit {0})
-for_word (token.Word at word.For) = Some tt
+for_word (token.Word at word.For number) = Some tt
 for_word _ = None
 
--- the word String, Symbol or JSON: its offset
+-- the word String, Symbol, JSON or Object: its offset
 abbrev pub string_word : Token → Option ℕ
-string_word (token.Word at word.String) = Some at
+string_word (token.Word at word.String number) = Some at
 string_word _ = None
 
 abbrev pub symbol_word : Token → Option ℕ
-symbol_word (token.Word at word.Symbol) = Some at
+symbol_word (token.Word at word.Symbol number) = Some at
 symbol_word _ = None
 
 abbrev pub json_word : Token → Option ℕ
-json_word (token.Word at word.Json) = Some at
+json_word (token.Word at word.Json number) = Some at
 json_word _ = None
+
+abbrev pub object_word : Token → Option ℕ
+object_word (token.Word at word.Object number) = Some at
+object_word _ = None
 
 -- a URI handling function: its offset, and which (ECMA-262, "URI Handling Functions")
 abbrev pub uri_function : Token → Option (ℕ × Builtin)
-uri_function (token.Word at word.EncodeUri) = Some (at, builtin.EncodeUri)
-uri_function (token.Word at word.EncodeUriComponent) = Some (at, builtin.EncodeUriComponent)
-uri_function (token.Word at word.DecodeUri) = Some (at, builtin.DecodeUri)
-uri_function (token.Word at word.DecodeUriComponent) = Some (at, builtin.DecodeUriComponent)
+uri_function (token.Word at word.EncodeUri number) = Some (at, builtin.EncodeUri)
+uri_function (token.Word at word.EncodeUriComponent number) = Some (at, builtin.EncodeUriComponent)
+uri_function (token.Word at word.DecodeUri number) = Some (at, builtin.DecodeUri)
+uri_function (token.Word at word.DecodeUriComponent number) = Some (at, builtin.DecodeUriComponent)
 uri_function _ = None
 
 -- names
@@ -98,14 +103,26 @@ abbrev pub member_word : Token → Option StepTree
 member_word (token.Name at n p) = member_of p
 member_word _ = None
 
--- a method and its offset
-abbrev pub method_at : ℕ → Property → Option (ℕ × Method)
-method_at at (property.Method m) = Some (at, m)
-method_at at _ = None
+-- a method with its offset and its letters
+abbrev pub method_at : ℕ → List ℕ → Property → Option ((ℕ × Method) × List ℕ)
+method_at at letters (property.Method m) = Some ((at, m), letters)
+method_at at letters _ = None
 
-abbrev pub method : Token → Option (ℕ × Method)
-method (token.Name at n p) = method_at at p
-method _ = None
+abbrev pub method : Tables → Token → Option ((ℕ × Method) × List ℕ)
+method tables (token.Name at n p) = method_at at (get_or tables.names n []) p
+method tables _ = None
+
+-- any other word behind a point, reserved words among them: the read of a property of that name
+abbrev pub property_at : ℕ → List ℕ → Property → Option StepTree
+property_at at letters property.Length = None
+property_at at letters property.Description = None
+property_at at letters (property.Method m) = None
+property_at at letters _ = Some (tree.of_property at letters)
+
+abbrev pub property_word : Tables → Token → Option StepTree
+property_word tables (token.Name at n p) = property_at at (get_or tables.names n []) p
+property_word tables (token.Word at w number) = Some (tree.of_property at (get_or tables.names number []))
+property_word tables _ = None
 
 abbrev pub from_of : Property → Option Builtin
 from_of property.FromCharCode = Some builtin.FromCharCode
@@ -121,7 +138,7 @@ key_of property.KeyFor = Some builtin.KeyFor
 key_of _ = None
 
 abbrev pub symbol_function : Token → Option Builtin
-symbol_function (token.Word at word.For) = Some builtin.SymbolFor
+symbol_function (token.Word at word.For number) = Some builtin.SymbolFor
 symbol_function (token.Name at n p) = key_of p
 symbol_function _ = None
 
@@ -132,6 +149,23 @@ stringify_of _ = None
 abbrev pub stringify_word : Token → Option Builtin
 stringify_word (token.Name at n p) = stringify_of p
 stringify_word _ = None
+
+abbrev pub keys_of : Property → Option Builtin
+keys_of property.Keys = Some builtin.Keys
+keys_of _ = None
+
+abbrev pub keys_word : Token → Option Builtin
+keys_word (token.Name at n p) = keys_of p
+keys_word _ = None
+
+-- the key of a member of an object literal (ECMA-262, "LiteralPropertyName"): the letters of any word, the units of a
+-- string, or the decimal text of a number
+abbrev pub key : Tables → Token → Option (List ℕ)
+key tables (token.Text at n k) = Some (get_or tables.keys n [])
+key tables (token.Number at n) = Some (decimal n)
+key tables (token.Name at n p) = Some (get_or tables.names n [])
+key tables (token.Word at w number) = Some (get_or tables.names number [])
+key tables _ = None
 
 -- marks
 
@@ -155,6 +189,11 @@ close_bracket _ = None
 abbrev pub open_brace : Token → Option (Unit {0})
 open_brace (token.Mark at mark.OpenBrace l) = Some tt
 open_brace _ = None
+
+-- the { of an object literal: its offset
+abbrev pub open_literal : Token → Option ℕ
+open_literal (token.Mark at mark.OpenBrace l) = Some at
+open_literal _ = None
 
 abbrev pub close_brace : Token → Option (Unit {0})
 close_brace (token.Mark at mark.CloseBrace l) = Some tt
@@ -255,25 +294,26 @@ constant word.NaN = Some tree.nan
 constant word.Infinity = Some tree.infinity
 constant _ = None
 
--- a token that is an expression alone, where names have these letters by their numbers
-abbrev pub simple : List (List ℕ) → Token → Option ExprTree
-simple names (token.Text at n) = Some (tree.literal n)
-simple names (token.Number at n) = Some (tree.number n)
-simple names (token.Name at n p) = Some (tree.variable (get_or names n []))
-simple names (token.Word at w) = constant w
-simple names _ = None
+-- a token that is an expression alone. So is each string: whether it is a key shows only at the token behind it, and in
+-- a whole script a key stands before the colon of a member alone
+abbrev pub simple : Tables → Token → Option ExprTree
+simple tables (token.Text at n k) = Some (tree.literal n)
+simple tables (token.Number at n) = Some (tree.number n)
+simple tables (token.Name at n p) = Some (tree.variable (get_or tables.names n []))
+simple tables (token.Word at w number) = constant w
+simple tables _ = None
 
 -- whether a token that can't stand where it stands is a word
 abbrev pub is_word : Token → Bool
 is_word (token.Name at n p) = true
-is_word (token.Word at w) = true
+is_word (token.Word at w number) = true
 is_word _ = false
 
 -- where a token stands
 abbrev pub place : Token → ℕ
 place (token.Directive at) = at
-place (token.Text at n) = at
+place (token.Text at n k) = at
 place (token.Number at n) = at
 place (token.Name at n p) = at
-place (token.Word at w) = at
+place (token.Word at w number) = at
 place (token.Mark at m l) = at

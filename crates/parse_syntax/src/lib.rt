@@ -3,4 +3,4 @@
 
 mod token;
 
-pub use token::{Property, Token, Word};
+pub use token::{Property, Tables, Token, Word};

@@ -1,6 +1,6 @@
 -- The loop over the tokens of a text.
 use Rattle.std.proofs.Common.{◌≡◌, ℕ, ◌+◌, ◌≤◌, Bool, true, false, List, [], ◌∷◌, ◌++◌, length, length-append, append_assoc, refl, sym, subst, arith, ◌⊎◌, inl, inr, Ok, Err}
-use Rattle.std.specs.Prelude.{IsUtf8, Result, IfErr, OnOk, Option, Some, None, is_err, nat_lt}
+use Rattle.std.specs.Prelude.{IsUtf8, Result, IfErr, OnOk, is_err, nat_lt}
 use Rattle.js_lex.specs.Tokens.{Fails, LexFaultOf, in_text}
 use Rattle.js_lex.specs.Next.{GoesOn}
 use Rattle.js_lex.specs.declared.token.Token.{Token as Lexed}
@@ -9,32 +9,33 @@ use Rattle.js_lex.specs.declared.token.TokenKind.TheVariants as kinds
 use Rattle.js_lex.specs.declared.token.LexFault.{LexFault}
 use Rattle.js_lex.specs.declared.token.LexFault.TheVariants as faults
 use Rattle.parse_syntax.specs.declared.token.Token.{Token}
-use Rattle.parse_syntax.specs.declared.token.Word.{Word}
-use Rattle.parse_tokens.specs.Words.{word_of}
-use Rattle.parse_tokens.specs.Tokens.{Before, token_at, after, tokens_from, after_all, literals_after, table_after, texts_after, names_after, with_name, place_in, is_use_strict}
-use Rattle.parse_tokens.specs.Steps.{Goes, Whole, before_at, is_empty}
+use Rattle.parse_tokens.specs.Tokens.{Before, opens_member, token_at, after, tokens_from, after_all, literals_after, keys_after, table_after, texts_after, texts_with, keys_with, with_name, place_in, is_use_strict}
+use Rattle.parse_tokens.specs.Steps.{Goes, Whole, TellsKey, before_at, is_empty}
 
-pub goes_start : (text : List ℕ) (tokens : List Token) (texts names : List (List ℕ)) → tokens ≡ [] → texts ≡ [] → names ≡ [] → Goes text 0 tokens (before_at tokens texts names 0)
-goes_start text tokens texts names e f g = rw (e, f, g) (λ ts h. record { lexed = ts; lexes = h; tokens_are = refl; last_is = refl })
+pub goes_start : (text : List ℕ) (tokens : List Token) (texts names keys : List (List ℕ)) → tokens ≡ [] → texts ≡ [] → names ≡ [] → keys ≡ [] → Goes text 0 tokens false (before_at tokens texts names keys 0)
+goes_start text tokens texts names keys e f g k = rw (e, f, g, k) (λ ts h. record { lexed = ts; lexes = h; tokens_are = refl; last_is = refl })
 
 started : (tokens : List Token) (x : Token) → is_empty (tokens ++ x ∷ []) ≡ false
 started [] x = refl
 started (y ∷ tokens) x = refl
 
-one_more : (text : List ℕ) (at : ℕ) (t : Lexed) (tokens : List Token) (texts names : List (List ℕ)) → GoesOn text at t → Goes text at tokens (before_at tokens texts names at)
-    → let before = before_at tokens texts names at in Goes text t.to (tokens ++ token_at text before t ∷ []) (before_at (tokens ++ token_at text before t ∷ []) (after text before t).texts (after text before t).names t.to)
-one_more text at t tokens texts names on goes = λ ts h.
-    let before = before_at tokens texts names at in
-    let x = token_at text before t in
-    let P : Bool → Type 0 = λ b. (let next : Before = record { first = b; end = t.to; names = (after text before t).names; texts = (after text before t).texts } in Whole text ((tokens ++ x ∷ []) ++ tokens_from text next ts) (after_all text next ts)) in
-    subst P (sym (started tokens x)) (rw append_assoc (goes (t ∷ ts) (on.lexes ts h)))
+one_more : (text : List ℕ) (at : ℕ) (t : Lexed) (opened key : Bool) (tokens : List Token) (texts names keys : List (List ℕ)) → GoesOn text at t → TellsKey text opened t key → Goes text at tokens opened (before_at tokens texts names keys at)
+    → let before = before_at tokens texts names keys at in let next = after text before key t in Goes text t.to (tokens ++ token_at text before key t ∷ []) (opens_member t.kind) (before_at (tokens ++ token_at text before key t ∷ []) next.texts next.names next.keys t.to)
+one_more text at t opened key tokens texts names keys on tells goes = λ ts h.
+    let before = before_at tokens texts names keys at in
+    let x = token_at text before key t in
+    let next = after text before key t in
+    let P : Bool → Type 0 = λ b. (let n : Before = record { first = b; end = t.to; names = next.names; texts = next.texts; keys = next.keys } in Whole text ((tokens ++ x ∷ []) ++ tokens_from text (opens_member t.kind) n ts) (after_all text (opens_member t.kind) n ts)) in
+    let Q : Bool → Type 0 = λ k. (let n = after text before k t in Whole text (tokens ++ token_at text before k t ∷ tokens_from text (opens_member t.kind) n ts) (after_all text (opens_member t.kind) n ts)) in
+    let all : Q key = subst Q (sym (tells ts h)) (goes (t ∷ ts) (on.lexes ts h)) in
+    subst P (sym (started tokens x)) (rw append_assoc all)
 
-pub goes_on : (text : List ℕ) (at : ℕ) (t : Lexed) (tokens tokens' : List Token) (texts texts' names names' : List (List ℕ)) → GoesOn text at t → Goes text at tokens (before_at tokens texts names at)
-    → (let before = before_at tokens texts names at in (tokens' ≡ tokens ++ token_at text before t ∷ []) × (texts' ≡ (after text before t).texts) × (names' ≡ (after text before t).names))
-    → Goes text t.to tokens' (before_at tokens' texts' names' t.to)
-goes_on text at t tokens tokens' texts texts' names names' on goes e = rw (e.0, e.1, e.2) (one_more text at t tokens texts names on goes)
+pub goes_on : (text : List ℕ) (at : ℕ) (t : Lexed) (opened key opens : Bool) (tokens tokens' : List Token) (texts texts' names names' keys keys' : List (List ℕ)) → GoesOn text at t → TellsKey text opened t key → opens ≡ opens_member t.kind → Goes text at tokens opened (before_at tokens texts names keys at)
+    → (let before = before_at tokens texts names keys at in (tokens' ≡ tokens ++ token_at text before key t ∷ []) × (texts' ≡ (after text before key t).texts) × (names' ≡ (after text before key t).names) × (keys' ≡ (after text before key t).keys))
+    → Goes text t.to tokens' opens (before_at tokens' texts' names' keys' t.to)
+goes_on text at t opened key opens tokens tokens' texts texts' names names' keys keys' on tells o goes e = rw (e.0, e.1, e.2, e.3, o) (one_more text at t opened key tokens texts names keys on tells goes)
 
--- at most one text and one name come with a token
+-- at most one text, one name and one key come with a token
 
 few : (xs : List (List ℕ)) (x : List ℕ) → length (xs ++ x ∷ []) ≤ length xs + 1
 few xs x = simp length-append (omega arith)
@@ -44,22 +45,32 @@ few_texts_after true true texts source units e = rw e (omega arith)
 few_texts_after true false texts source units e = rw e (few texts units)
 few_texts_after false strict texts source units e = few texts units
 
-pub few_texts : (before : Before) (source : List ℕ) (kind : TokenKind) → length (literals_after before source kind) ≤ length before.texts + 1
-few_texts before source kinds.Word = omega arith
-few_texts before source (kinds.Text units) = few_texts_after before.first (is_use_strict source) before.texts source units refl
-few_texts before source (kinds.Number value) = omega arith
-few_texts before source (kinds.Mark mark) = omega arith
+few_strings : (key : Bool) (before : Before) (source units : List ℕ) → length (texts_with key before.first before.texts source units) ≤ length before.texts + 1
+few_strings true before source units = omega arith
+few_strings false before source units = few_texts_after before.first (is_use_strict source) before.texts source units refl
+
+pub few_texts : (key : Bool) (before : Before) (source : List ℕ) (kind : TokenKind) → length (literals_after key before source kind) ≤ length before.texts + 1
+few_texts key before source kinds.Word = omega arith
+few_texts key before source (kinds.Text units) = few_strings key before source units
+few_texts key before source (kinds.Number value) = omega arith
+few_texts key before source (kinds.Mark mark) = omega arith
+
+few_key : (key : Bool) (before : Before) (units : List ℕ) → length (keys_with key before.keys units) ≤ length before.keys + 1
+few_key true before units = few before.keys units
+few_key false before units = omega arith
+
+pub few_keys : (key : Bool) (before : Before) (kind : TokenKind) → length (keys_after key before kind) ≤ length before.keys + 1
+few_keys key before kinds.Word = omega arith
+few_keys key before (kinds.Text units) = few_key key before units
+few_keys key before (kinds.Number value) = omega arith
+few_keys key before (kinds.Mark mark) = omega arith
 
 few_with : (names : List (List ℕ)) (letters : List ℕ) (b : Bool) → nat_lt (place_in names letters) (length names) ≡ b → length (with_name names letters) ≤ length names + 1
 few_with names letters true e = rw e (omega arith)
 few_with names letters false e = rw e (few names letters)
 
-few_names_after : (w : Option Word) (names : List (List ℕ)) (letters : List ℕ) → length (names_after w names letters) ≤ length names + 1
-few_names_after (Some w) names letters = omega arith
-few_names_after None names letters = few_with names letters _ refl
-
 pub few_names : (before : Before) (source : List ℕ) (kind : TokenKind) → length (table_after before source kind) ≤ length before.names + 1
-few_names before source kinds.Word = few_names_after (word_of source) before.names source
+few_names before source kinds.Word = few_with before.names source _ refl
 few_names before source (kinds.Text units) = omega arith
 few_names before source (kinds.Number value) = omega arith
 few_names before source (kinds.Mark mark) = omega arith

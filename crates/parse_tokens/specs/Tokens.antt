@@ -5,6 +5,7 @@ use Rattle.std.specs.List.{position_or_len, list_any}
 use Rattle.js_lex.specs.declared.token.Token.{Token as Lexed}
 use Rattle.js_lex.specs.declared.token.TokenKind.{TokenKind}
 use Rattle.js_lex.specs.declared.token.TokenKind.TheVariants as kinds
+use Rattle.js_lex.specs.declared.token.Mark.TheVariants as mark
 use Rattle.js_lex.specs.Elements.{is_line_end}
 use Rattle.js_lex.specs.Spans.{slice}
 use Rattle.js_lex.specs.Tokens.{TokensOf}
@@ -13,7 +14,7 @@ use Rattle.parse_syntax.specs.declared.token.Token.TheVariants as token
 use Rattle.parse_syntax.specs.declared.token.Word.{Word}
 use Rattle.parse_tokens.specs.Words.{word_of, property_of, is_in}
 
--- The number of a name is its place in the table of names, which has each one once in the order of the text.
+-- The number of a word is its place in the table of names, which has each word once in the order of the text.
 
 -- where the letters stand in a table, or its length
 abbrev pub place_in : List (List ℕ) → List ℕ → ℕ
@@ -30,10 +31,12 @@ pub record Before : Type 0 where
   -- the place behind the token before
   pub end : ℕ
   pub names : List (List ℕ)
+  -- the strings that are no keys, and those that are
   pub texts : List (List ℕ)
+  pub keys : List (List ℕ)
 
 abbrev pub nothing : Before
-nothing = record { first = true; end = 0; names = []; texts = [] }
+nothing = record { first = true; end = 0; names = []; texts = []; keys = [] }
 
 -- whether a line end stands in these bytes of a text
 abbrev pub has_line_end : List ℕ → Bool
@@ -43,63 +46,99 @@ has_line_end bytes = list_any is_line_end (chars bytes)
 abbrev pub is_use_strict : List ℕ → Bool
 is_use_strict source = is_in source (codes "'use strict'" ∷ codes "\"use strict\"" ∷ [])
 
--- after so many texts
+-- A string is the key of a member exactly where { or a comma stands before it and a colon behind it: no statement has a
+-- label, and in a conditional a question mark stands before the operand that a colon follows.
+
+abbrev pub opens_member : TokenKind → Bool
+opens_member (kinds.Mark mark.OpenBrace) = true
+opens_member (kinds.Mark mark.Comma) = true
+opens_member _ = false
+
+abbrev pub is_colon : TokenKind → Bool
+is_colon (kinds.Mark mark.Colon) = true
+is_colon _ = false
+
+abbrev pub begins_colon : List Lexed → Bool
+begins_colon [] = false
+begins_colon (t ∷ ts) = is_colon t.kind
+
+-- whether the token is a string that is a key, where { or a comma stands before it or not, and these tokens behind it
+abbrev pub is_key : Bool → TokenKind → List Lexed → Bool
+is_key opened (kinds.Text units) ts = if opened then begins_colon ts else false
+is_key opened _ ts = false
+
+-- a string that is no key, after so many texts
 abbrev pub text_token : Bool → List (List ℕ) → List ℕ → ℕ → Token
-text_token first texts source at = if first then (if is_use_strict source then token.Directive at else token.Text at (length texts)) else token.Text at (length texts)
+text_token first texts source at = if first then (if is_use_strict source then token.Directive at else token.Text at (length texts) false) else token.Text at (length texts) false
 
 abbrev pub texts_after : Bool → List (List ℕ) → List ℕ → List ℕ → List (List ℕ)
 texts_after first texts source units = if first then (if is_use_strict source then texts else texts ++ units ∷ []) else texts ++ units ∷ []
 
+-- a string, which is a key or not, after so many texts and keys
+abbrev pub string_token : Bool → Bool → List (List ℕ) → List (List ℕ) → List ℕ → ℕ → Token
+string_token key first texts keys source at = if key then token.Text at (length keys) true else text_token first texts source at
+
+abbrev pub texts_with : Bool → Bool → List (List ℕ) → List ℕ → List ℕ → List (List ℕ)
+texts_with key first texts source units = if key then texts else texts_after first texts source units
+
+abbrev pub keys_with : Bool → List (List ℕ) → List ℕ → List (List ℕ)
+keys_with key keys units = if key then keys ++ units ∷ [] else keys
+
 abbrev pub word_token : Option Word → List (List ℕ) → List ℕ → ℕ → Token
-word_token (Some w) names letters at = token.Word at w
+word_token (Some w) names letters at = token.Word at w (place_in names letters)
 word_token None names letters at = token.Name at (place_in names letters) (property_of letters)
 
-abbrev pub names_after : Option Word → List (List ℕ) → List ℕ → List (List ℕ)
-names_after (Some w) names letters = names
-names_after None names letters = with_name names letters
-
--- a token of this source text and kind, at an offset
-abbrev pub token_of : Before → List ℕ → ℕ → Bool → TokenKind → Token
-token_of before source at after_line kinds.Word = word_token (word_of source) before.names source at
-token_of before source at after_line (kinds.Text units) = text_token before.first before.texts source at
-token_of before source at after_line (kinds.Number value) = token.Number at value
-token_of before source at after_line (kinds.Mark mark) = token.Mark at mark after_line
+-- a token of this source text and kind, at an offset, which is a key or not
+abbrev pub token_of : Before → List ℕ → ℕ → Bool → Bool → TokenKind → Token
+token_of before source at after_line key kinds.Word = word_token (word_of source) before.names source at
+token_of before source at after_line key (kinds.Text units) = string_token key before.first before.texts before.keys source at
+token_of before source at after_line key (kinds.Number value) = token.Number at value
+token_of before source at after_line key (kinds.Mark mark) = token.Mark at mark after_line
 
 abbrev pub table_after : Before → List ℕ → TokenKind → List (List ℕ)
-table_after before source kinds.Word = names_after (word_of source) before.names source
+table_after before source kinds.Word = with_name before.names source
 table_after before source (kinds.Text units) = before.names
 table_after before source (kinds.Number value) = before.names
 table_after before source (kinds.Mark mark) = before.names
 
-abbrev pub literals_after : Before → List ℕ → TokenKind → List (List ℕ)
-literals_after before source kinds.Word = before.texts
-literals_after before source (kinds.Text units) = texts_after before.first before.texts source units
-literals_after before source (kinds.Number value) = before.texts
-literals_after before source (kinds.Mark mark) = before.texts
+abbrev pub literals_after : Bool → Before → List ℕ → TokenKind → List (List ℕ)
+literals_after key before source kinds.Word = before.texts
+literals_after key before source (kinds.Text units) = texts_with key before.first before.texts source units
+literals_after key before source (kinds.Number value) = before.texts
+literals_after key before source (kinds.Mark mark) = before.texts
 
-abbrev pub token_at : List ℕ → Before → Lexed → Token
-token_at bytes before t = token_of before (slice bytes t.from t.to) t.from (has_line_end (slice bytes before.end t.from)) t.kind
+abbrev pub keys_after : Bool → Before → TokenKind → List (List ℕ)
+keys_after key before kinds.Word = before.keys
+keys_after key before (kinds.Text units) = keys_with key before.keys units
+keys_after key before (kinds.Number value) = before.keys
+keys_after key before (kinds.Mark mark) = before.keys
 
-abbrev pub after : List ℕ → Before → Lexed → Before
-after bytes before t = record {
+abbrev pub token_at : List ℕ → Before → Bool → Lexed → Token
+token_at bytes before key t = token_of before (slice bytes t.from t.to) t.from (has_line_end (slice bytes before.end t.from)) key t.kind
+
+abbrev pub after : List ℕ → Before → Bool → Lexed → Before
+after bytes before key t = record {
   first = false;
   end = t.to;
   names = table_after before (slice bytes t.from t.to) t.kind;
-  texts = literals_after before (slice bytes t.from t.to) t.kind;
+  texts = literals_after key before (slice bytes t.from t.to) t.kind;
+  keys = keys_after key before t.kind;
 }
 
-abbrev pub tokens_from : List ℕ → Before → List Lexed → List Token
-tokens_from bytes before [] = []
-tokens_from bytes before (t ∷ ts) = token_at bytes before t ∷ tokens_from bytes (after bytes before t) ts
+-- the tokens, where { or a comma stands before them or not
+abbrev pub tokens_from : List ℕ → Bool → Before → List Lexed → List Token
+tokens_from bytes opened before [] = []
+tokens_from bytes opened before (t ∷ ts) = token_at bytes before (is_key opened t.kind ts) t ∷ tokens_from bytes (opens_member t.kind) (after bytes before (is_key opened t.kind ts) t) ts
 
-abbrev pub after_all : List ℕ → Before → List Lexed → Before
-after_all bytes before [] = before
-after_all bytes before (t ∷ ts) = after_all bytes (after bytes before t) ts
+abbrev pub after_all : List ℕ → Bool → Before → List Lexed → Before
+after_all bytes opened before [] = before
+after_all bytes opened before (t ∷ ts) = after_all bytes (opens_member t.kind) (after bytes before (is_key opened t.kind ts) t) ts
 
--- the bytes have these tokens, literals and names
-pub record Reads (bytes : List ℕ) (tokens : List Token) (literals names : List (List ℕ)) : Type 0 where
+-- the bytes have these tokens, literals, names and keys
+pub record Reads (bytes : List ℕ) (tokens : List Token) (literals names keys : List (List ℕ)) : Type 0 where
   pub lexed : List Lexed
   pub lexes : TokensOf bytes lexed
-  pub tokens_are : tokens ≡ tokens_from bytes nothing lexed
-  pub literals_are : literals ≡ (after_all bytes nothing lexed).texts
-  pub names_are : names ≡ (after_all bytes nothing lexed).names
+  pub tokens_are : tokens ≡ tokens_from bytes false nothing lexed
+  pub literals_are : literals ≡ (after_all bytes false nothing lexed).texts
+  pub names_are : names ≡ (after_all bytes false nothing lexed).names
+  pub keys_are : keys ≡ (after_all bytes false nothing lexed).keys

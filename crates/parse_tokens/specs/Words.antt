@@ -76,6 +76,7 @@ operand_word letters =
     else if bytes_eq letters (codes "String") then Some word.String
     else if bytes_eq letters (codes "Symbol") then Some word.Symbol
     else if bytes_eq letters (codes "JSON") then Some word.Json
+    else if bytes_eq letters (codes "Object") then Some word.Object
     else if bytes_eq letters (codes "encodeURI") then Some word.EncodeUri
     else if bytes_eq letters (codes "encodeURIComponent") then Some word.EncodeUriComponent
     else if bytes_eq letters (codes "decodeURI") then Some word.DecodeUri
@@ -104,6 +105,7 @@ other_property letters =
     else if bytes_eq letters (codes "fromCodePoint") then Some property.FromCodePoint
     else if bytes_eq letters (codes "keyFor") then Some property.KeyFor
     else if bytes_eq letters (codes "stringify") then Some property.Stringify
+    else if bytes_eq letters (codes "keys") then Some property.Keys
     else None
 
 -- a method that gives or looks at single units

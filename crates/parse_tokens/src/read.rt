@@ -4,30 +4,32 @@ ghost use Rattle.std.specs.List.{list_any};
 ghost use Rattle.std.specs.Str.{IsCharBoundary, chars};
 ghost use Rattle.js_lex.specs.Elements.{is_line_end};
 ghost use Rattle.js_lex.specs.Spans.{slice};
-ghost use Rattle.js_lex.specs.Tokens.{LexFaultOf, Fails};
+ghost use Rattle.js_lex.specs.Tokens.{LexFaultOf, Fails, Lexes};
+ghost use Rattle.js_lex.specs.declared.token.Token.{Token as Lexed};
 ghost use Rattle.js_lex.specs.declared.token.LexFault.{LexFault};
 ghost use Rattle.js_lex.specs.declared.token.LexFault.TheVariants.{Memory};
 ghost use Rattle.parse_tokens.specs.Tokens as definition;
-ghost use Rattle.parse_tokens.specs.Tokens.{Reads, place_in, with_name, has_line_end, token_at, after};
+ghost use Rattle.parse_tokens.specs.Tokens.{Reads, place_in, with_name, has_line_end, begins_colon, token_at, after};
 ghost use Rattle.parse_tokens.specs.Words as words;
 ghost use Rattle.parse_syntax.specs.declared.token.Token.{Token};
-ghost use Rattle.parse_tokens.specs.Steps.{Agrees, IsSource, ScannedTo, before_of};
+ghost use Rattle.parse_tokens.specs.Steps.{Agrees, IsSource, ScannedTo, TellsKey, before_of};
 
 use crate::numbers::Numbers;
 use crate::word::{property_named, word_named};
 use eval_tree::Name;
-use js_lex::{LexFault, TokenKind};
+use js_lex::{LexFault, Mark, TokenKind};
 use js_units::{NoMemory, Units, split_char};
 use parse_syntax::Token;
 use std::alloc::Global;
 
-/// The tokens of a script's bytes; the units of its texts, in order, without the directive; and its
-/// names, each once, in order.
+/// The tokens of a script's bytes; the units of its texts that are no keys of members, in order, without the
+/// directive; its words, each once, in order; and the units of its texts that are keys, in order.
 #[derive(Drop)]
 pub struct Source {
     pub tokens: Vec<Token>,
     pub literals: Vec<Units>,
     pub names: Vec<Name>,
+    pub keys: Vec<Units>,
 }
 
 // Whether it is LF, CR, U+2028 or U+2029.
@@ -51,7 +53,7 @@ fn any_line_end(text: &str) -> bool
     false
 }
 
-// The number of a name, which is put into the table where it isn't in it.
+// The number of a word, which is put into the table where it isn't in it.
 fn number_of(
     alloc: Global,
     numbers: &mut Numbers,
@@ -88,13 +90,13 @@ fn word_token(
     ensures token { IfOk result (λ token. token
         ≡ definition.word_token (words.word_of letters.now) names.old.items letters.now at) }
     ensures names { OnOk result (names.new.items
-        ≡ definition.names_after (words.word_of letters.now) names.old.items letters.now) }
+        ≡ with_name names.old.items letters.now) }
     ensures agrees { OnOk result (Agrees numbers.new names.new.items) }
 {
+    let number = number_of(alloc, numbers, names, letters)?;
     match word_named(letters) {
-        Some(word) => Ok(Token::Word { at, word }),
+        Some(word) => Ok(Token::Word { at, word, number }),
         None => {
-            let number = number_of(alloc, numbers, names, letters)?;
             let property = property_named(letters);
             Ok(Token::Name {
                 at,
@@ -118,7 +120,7 @@ fn is_use_strict(source: &[u8]) -> bool
     }
 }
 
-// The token of a text, whose units are put behind the others where it isn't the directive.
+// The token of a text that is no key, whose units are put behind the others where it isn't the directive.
 fn text_token(
     first: bool,
     literals: &mut Vec<Units>,
@@ -137,9 +139,43 @@ fn text_token(
             return Ok(Token::Directive { at });
         }
     }
-    let literal = literals.len() as u32;
+    let number = literals.len() as u32;
     literals.push(units)?;
-    Ok(Token::Text { at, literal })
+    Ok(Token::Text {
+        at,
+        number,
+        is_key: false,
+    })
+}
+
+// The token of a text, whose units are put behind those of the other keys where it is one.
+fn string_token(
+    key: bool,
+    first: bool,
+    literals: &mut Vec<Units>,
+    keys: &mut Vec<Units>,
+    source: &[u8],
+    at: u32,
+    units: Units,
+) -> Result<Token, NoMemory>
+    requires few { length literals.old.items ≤ 1_048_576 }
+    requires few_keys { length keys.old.items ≤ 1_048_576 }
+    ensures token { IfOk result (λ token. token
+        ≡ definition.string_token key first literals.old.items keys.old.items source.now at) }
+    ensures literals { OnOk result (literals.new.items
+        ≡ definition.texts_with key first literals.old.items source.now units) }
+    ensures keys { OnOk result (keys.new.items ≡ definition.keys_with key keys.old.items units) }
+{
+    if key {
+        let number = keys.len() as u32;
+        keys.push(units)?;
+        return Ok(Token::Text {
+            at,
+            number,
+            is_key: true,
+        });
+    }
+    text_token(first, literals, source, at, units)
 }
 
 // The token of the grammar behind those that were read, whose text ended at a place.
@@ -150,9 +186,11 @@ fn next(
     text: &str,
     end: u32,
     token: js_lex::Token,
+    key: bool,
 ) -> Result<Token, NoMemory>
     requires texts { length source.old.literals.items ≤ 1_048_576 }
     requires names { length source.old.names.items ≤ 1_048_576 }
+    requires keys { length source.old.keys.items ≤ 1_048_576 }
     requires agrees { Agrees numbers.old source.old.names.items }
     requires behind { end ≤ token.from }
     requires forward { token.from < token.to }
@@ -160,10 +198,12 @@ fn next(
     requires last { IsCharBoundary text.now end }
     requires start { IsCharBoundary text.now token.from }
     ensures tokens { OnOk result (source.new.tokens ≡ source.old.tokens) }
-    ensures token { IfOk result (λ found. found ≡ token_at text.now (before_of source.old end) token) }
+    ensures token { IfOk result (λ found. found ≡ token_at text.now (before_of source.old end) key token) }
     ensures literals { OnOk result (source.new.literals.items
-        ≡ definition.literals_after (before_of source.old end)
+        ≡ definition.literals_after key (before_of source.old end)
         (slice text.now token.from token.to) token.kind) }
+    ensures keys { OnOk result (source.new.keys.items
+        ≡ definition.keys_after key (before_of source.old end) token.kind) }
     ensures names { OnOk result (source.new.names.items
         ≡ definition.table_after (before_of source.old end) (slice text.now token.from token.to) token.kind) }
     ensures agrees { OnOk result (Agrees numbers.new source.new.names.items) }
@@ -172,9 +212,11 @@ fn next(
     let letters = &text.as_bytes()[from as usize..to as usize];
     match kind {
         TokenKind::Word => word_token(alloc, numbers, &mut source.names, letters, from),
-        TokenKind::Text(units) => text_token(
+        TokenKind::Text(units) => string_token(
+            key,
             source.tokens.is_empty(),
             &mut source.literals,
+            &mut source.keys,
             letters,
             from,
             units,
@@ -199,9 +241,11 @@ fn add(
     text: &str,
     end: u32,
     token: js_lex::Token,
+    key: bool,
 ) -> Result<(), NoMemory>
     requires literals { length source.old.literals.items ≤ 1_048_576 }
     requires names { length source.old.names.items ≤ 1_048_576 }
+    requires keys { length source.old.keys.items ≤ 1_048_576 }
     requires agrees { Agrees numbers.old source.old.names.items }
     requires behind { end ≤ token.from }
     requires forward { token.from < token.to }
@@ -209,14 +253,16 @@ fn add(
     requires last { IsCharBoundary text.now end }
     requires start { IsCharBoundary text.now token.from }
     ensures tokens { OnOk result (source.new.tokens.items
-        ≡ source.old.tokens.items ++ token_at text.now (before_of source.old end) token ∷ []) }
+        ≡ source.old.tokens.items ++ token_at text.now (before_of source.old end) key token ∷ []) }
     ensures literals { OnOk result (source.new.literals.items
-        ≡ (after text.now (before_of source.old end) token).texts) }
+        ≡ (after text.now (before_of source.old end) key token).texts) }
     ensures names { OnOk result (source.new.names.items
-        ≡ (after text.now (before_of source.old end) token).names) }
+        ≡ (after text.now (before_of source.old end) key token).names) }
+    ensures keys { OnOk result (source.new.keys.items
+        ≡ (after text.now (before_of source.old end) key token).keys) }
     ensures agrees { OnOk result (Agrees numbers.new source.new.names.items) }
 {
-    let token = next(alloc, source, numbers, text, end, token)?;
+    let token = next(alloc, source, numbers, text, end, token, key)?;
     source.tokens.push(token)?;
     Ok(())
 }
@@ -227,12 +273,65 @@ fn no_source(alloc: Global, bytes: usize) -> Result<Source, NoMemory>
     ensures tokens { IfOk result (λ source. source.tokens.items ≡ []) }
     ensures literals { IfOk result (λ source. source.literals.items ≡ []) }
     ensures names { IfOk result (λ source. source.names.items ≡ []) }
+    ensures keys { IfOk result (λ source. source.keys.items ≡ []) }
 {
     Ok(Source {
         tokens: Vec::with_capacity(alloc, bytes / 8 + 8)?,
         literals: Vec::new(alloc),
         names: Vec::new(alloc),
+        keys: Vec::new(alloc),
     })
+}
+
+fn opens_member(kind: &TokenKind) -> bool
+    ensures { result ≡ definition.opens_member kind.now }
+{
+    match kind {
+        TokenKind::Mark(Mark::OpenBrace | Mark::Comma) => true,
+        _ => false,
+    }
+}
+
+fn is_colon(kind: &TokenKind) -> bool
+    ensures { result ≡ definition.is_colon kind.now }
+{
+    match kind {
+        TokenKind::Mark(Mark::Colon) => true,
+        _ => false,
+    }
+}
+
+// Whether the next token from a place on is a colon.
+fn colon_follows(alloc: Global, text: &str, at: u32) -> Result<bool, LexFault>
+    requires size { length text.now ≤ 1_048_576 }
+    requires cut { IsCharBoundary text.now at }
+    ensures colon { IfOk result (λ colon. (ts : List Lexed) → Lexes text.now at ts
+        → colon ≡ begins_colon ts) }
+    ensures fault { IfErr result (λ e. (e ≡ Memory) ⊎ Fails text.now at e) }
+{
+    match js_lex::next_token(alloc, text, at) {
+        Ok(Some(token)) => Ok(is_colon(&token.kind)),
+        Ok(None) => Ok(false),
+        Err(fault) => Err(fault),
+    }
+}
+
+// Whether a token is a string that is a key, where `{` or a comma stands before it or not.
+fn is_key(alloc: Global, text: &str, opened: bool, token: &js_lex::Token) -> Result<bool, LexFault>
+    requires size { length text.now ≤ 1_048_576 }
+    requires cut { IsCharBoundary text.now token.now.to }
+    ensures key { IfOk result (TellsKey text.now opened token.now) }
+    ensures fault { IfErr result (λ e. (e ≡ Memory) ⊎ Fails text.now token.now.to e) }
+{
+    if !opened {
+        return Ok(false);
+    }
+    match &token.kind {
+        TokenKind::Text(_) => colon_follows(alloc, text, token.to),
+        TokenKind::Word => Ok(false),
+        TokenKind::Number(_) => Ok(false),
+        TokenKind::Mark(_) => Ok(false),
+    }
 }
 
 // The tokens of a text.
@@ -247,13 +346,20 @@ fn scan(alloc: Global, text: &str) -> Result<Source, LexFault>
     };
     let mut numbers = Numbers::new(alloc);
     let mut at: u32 = 0;
+    let mut opened = false;
     'tokens: loop {
         match js_lex::next_token(alloc, text, at) {
             Ok(Some(token)) => {
                 let end = token.to;
-                if add(alloc, &mut source, &mut numbers, text, at, token).is_err() {
+                let opens = opens_member(&token.kind);
+                let key = match is_key(alloc, text, opened, &token) {
+                    Ok(key) => key,
+                    Err(fault) => return Err(fault),
+                };
+                if add(alloc, &mut source, &mut numbers, text, at, token, key).is_err() {
                     return Err(LexFault::Memory);
                 }
+                opened = opens;
                 at = end;
             }
             Ok(None) => return Ok(source),
@@ -266,7 +372,8 @@ fn scan(alloc: Global, text: &str) -> Result<Source, LexFault>
 fn read(alloc: Global, bytes: &[u8]) -> Result<Source, LexFault>
     requires { length bytes.now ≤ 1_048_576 }
     ensures read { IfOk result
-        (λ source. Reads bytes.now source.tokens.items source.literals.items source.names.items) }
+        (λ source. Reads bytes.now source.tokens.items source.literals.items source.names.items
+        source.keys.items) }
     ensures refused { IfErr result (λ fault. (fault ≡ Memory) ⊎ LexFaultOf bytes.now fault) }
 {
     match js_lex::source_text(bytes) {
@@ -279,10 +386,11 @@ fn read(alloc: Global, bytes: &[u8]) -> Result<Source, LexFault>
 pub fn tokens(alloc: Global, bytes: &[u8]) -> Result<Source, LexFault>
     requires { length bytes.now ≤ 1_048_576 }
     ensures read { IfOk result
-        (λ source. Reads bytes.now source.tokens.items source.literals.items source.names.items) }
+        (λ source. Reads bytes.now source.tokens.items source.literals.items source.names.items
+        source.keys.items) }
     ensures refused { IfErr result (λ fault. (fault ≡ Memory) ⊎ LexFaultOf bytes.now fault) }
-    ensures found { (ts : List Token) (texts names : List (List ℕ)) → Reads bytes.now ts texts names
-        → IfOk result (λ source. IsSource source ts texts names) × IfErr result (λ fault. fault ≡ Memory) }
+    ensures found { (ts : List Token) (texts names keys : List (List ℕ)) → Reads bytes.now ts texts names keys
+        → IfOk result (λ source. IsSource source ts texts names keys) × IfErr result (λ fault. fault ≡ Memory) }
     ensures faults { (f : LexFault) → LexFaultOf bytes.now f
         → IfOk result (λ source. ⊥) × IfErr result (λ fault. (fault ≡ f) ⊎ (fault ≡ Memory)) }
 {

@@ -49,6 +49,8 @@ fn operand_word(letters: &[u8]) -> Option<Word>
         Some(Word::Symbol)
     } else if letters == b"JSON".as_slice() {
         Some(Word::Json)
+    } else if letters == b"Object".as_slice() {
+        Some(Word::Object)
     } else if letters == b"encodeURI".as_slice() {
         Some(Word::EncodeUri)
     } else if letters == b"encodeURIComponent".as_slice() {
@@ -103,6 +105,8 @@ fn other_property(letters: &[u8]) -> Option<Property>
         Some(Property::KeyFor)
     } else if letters == b"stringify".as_slice() {
         Some(Property::Stringify)
+    } else if letters == b"keys".as_slice() {
+        Some(Property::Keys)
     } else {
         None
     }

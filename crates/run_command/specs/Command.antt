@@ -1,5 +1,5 @@
 -- The command: its options with their defaults, and the words that name files.
-use Rattle.std.specs.Prelude.{List, [], ◌∷◌, Bool, Some, codes, fold, pos}
+use Rattle.std.specs.Prelude.{List, [], ◌∷◌, ◌++◌, Bool, Some, codes, fold, pos}
 use Rattle.clap.specs.declared.builder.action.ArgAction.TheVariants.{Append, SetTrue}
 use Rattle.clap.specs.declared.builder.value_parser.ValueParser.TheVariants as parser
 use Rattle.clap.specs.Walk.{is_empty}
@@ -25,18 +25,17 @@ flag_rule name = record (option_rule name) { action = Some SetTrue }
 abbrev pub file_rule : Rule
 file_rule = record (new_rule (codes "FILE")) { action = Some Append }
 
+abbrev pub job_rules : List Rule
+job_rules = option_rule (codes "prelude") ∷ defaulted_rule (codes "jobs") (codes "4") ∷ []
+
+abbrev pub size_rules : List Rule
+size_rules = defaulted_rule (codes "ids") (codes "262144") ∷ defaulted_rule (codes "heap-words") (codes "4194304") ∷ defaulted_rule (codes "slots") (codes "65536") ∷ []
+
+abbrev pub other_rules : List Rule
+other_rules = flag_rule (codes "summary") ∷ number_rule (codes "generate") ∷ defaulted_rule (codes "limit") (codes "64") ∷ []
+
 abbrev pub rules : List Rule
-rules =
-    option_rule (codes "prelude")
-    ∷ defaulted_rule (codes "jobs") (codes "4")
-    ∷ defaulted_rule (codes "ids") (codes "262144")
-    ∷ defaulted_rule (codes "heap-words") (codes "4194304")
-    ∷ defaulted_rule (codes "slots") (codes "65536")
-    ∷ flag_rule (codes "summary")
-    ∷ number_rule (codes "generate")
-    ∷ defaulted_rule (codes "limit") (codes "64")
-    ∷ file_rule
-    ∷ []
+rules = job_rules ++ size_rules ++ other_rules ++ (file_rule ∷ [])
 
 -- the command: these arguments, and what a command of clap has by itself, `-h`, `--help` and `--`
 abbrev pub command : App

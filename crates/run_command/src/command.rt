@@ -1,8 +1,8 @@
 // The command, and what it finds in the words.
-ghost use Rattle.std.specs.Prelude.{◌≡◌, false, map, IfOk};
+ghost use Rattle.std.specs.Prelude.{◌≡◌, false, fold, map, IfOk};
 ghost use Rattle.std.specs.String.{string_bytes};
-ghost use Rattle.clap.specs.Words.{FailsBy, HasMatchesOf, app_of, fault_of, rule_of};
-ghost use Rattle.run_command.specs.Command.{command, defaulted_rule, file_rule, flag_rule, number_rule, option_rule};
+ghost use Rattle.clap.specs.Words.{FailsBy, HasMatchesOf, app_of, fault_of, rule_of, with_rule};
+ghost use Rattle.run_command.specs.Command.{command, defaulted_rule, file_rule, flag_rule, job_rules, number_rule, option_rule, other_rules, size_rules};
 
 use clap::{Arg, ArgAction, ArgMatches, Command, Error, value_parser};
 use std::alloc::{AllocError, Global};
@@ -52,23 +52,48 @@ fn files(alloc: Global) -> Arg<'static>
     Arg::new(alloc, "FILE").action(ArgAction::Append)
 }
 
+// With the prelude and the jobs.
+fn with_jobs<'a>(alloc: Global, command: Command<'a>) -> Result<Command<'a>, AllocError>
+    ensures { IfOk result (λ made. app_of made ≡ fold with_rule (app_of command.entry) job_rules) }
+{
+    let prelude = option(alloc, "prelude");
+    let command = command.arg(prelude)?;
+    let jobs = number_or(alloc, "jobs", "4");
+    command.arg(jobs)
+}
+
+// With the sizes of the heap.
+fn with_sizes<'a>(alloc: Global, command: Command<'a>) -> Result<Command<'a>, AllocError>
+    ensures { IfOk result (λ made. app_of made ≡ fold with_rule (app_of command.entry) size_rules) }
+{
+    let ids = number_or(alloc, "ids", "262144");
+    let command = command.arg(ids)?;
+    let heap_words = number_or(alloc, "heap-words", "4194304");
+    let command = command.arg(heap_words)?;
+    let slots = number_or(alloc, "slots", "65536");
+    command.arg(slots)
+}
+
+// With the other options.
+fn with_others<'a>(alloc: Global, command: Command<'a>) -> Result<Command<'a>, AllocError>
+    ensures { IfOk result (λ made. app_of made ≡ fold with_rule (app_of command.entry) other_rules) }
+{
+    let summary = flag(alloc, "summary");
+    let command = command.arg(summary)?;
+    let generate = number(alloc, "generate");
+    let command = command.arg(generate)?;
+    let limit = number_or(alloc, "limit", "64");
+    command.arg(limit)
+}
+
 // The command, with all its arguments.
 fn command<'a>(alloc: Global) -> Result<Command<'a>, AllocError>
     ensures { IfOk result (λ made. app_of made ≡ command) }
 {
-    let prelude = option(alloc, "prelude");
-    let jobs = number_or(alloc, "jobs", "4");
-    let ids = number_or(alloc, "ids", "262144");
-    let heap_words = number_or(alloc, "heap-words", "4194304");
-    let slots = number_or(alloc, "slots", "65536");
-    let summary = flag(alloc, "summary");
-    let generate = number(alloc, "generate");
-    let limit = number_or(alloc, "limit", "64");
-    let files = files(alloc);
-    let command = Command::new(alloc, "jsstr").arg(prelude)?.arg(jobs)?;
-    let command = command.arg(ids)?.arg(heap_words)?.arg(slots)?;
-    let command = command.arg(summary)?.arg(generate)?.arg(limit)?;
-    command.arg(files)
+    let command = with_jobs(alloc, Command::new(alloc, "jsstr"))?;
+    let command = with_sizes(alloc, command)?;
+    let command = with_others(alloc, command)?;
+    command.arg(files(alloc))
 }
 
 // What the command finds in the words.

@@ -9,7 +9,7 @@ use Rattle.js_store.specs.declared.faults.StoreFault.TheVariants as store
 use Rattle.js_store.proofs.Laws.{has_known, grows_refl, grows_trans}
 use Rattle.js_texts.specs.Texts.{full_only}
 use Rattle.eval_scopes.specs.Bindings.{Bound}
-use Rattle.eval_values.specs.Outcome.{Val}
+use Rattle.js_item.specs.Seen.{Val}
 use Rattle.eval_values.specs.Ran.{NextShut}
 use Rattle.js_eval.specs.declared.ending.End.{End}
 use Rattle.js_eval.specs.declared.ending.End.TheVariants.{Done, Threw, Unsupported, Full, Memory}

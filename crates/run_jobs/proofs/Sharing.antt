@@ -8,8 +8,8 @@ use Rattle.eval_tree.specs.Tree.{tree_of}
 use Rattle.eval_scopes.specs.declared.env.Binding.{Binding}
 use Rattle.eval_scopes.specs.Bindings.{Bound}
 use Rattle.eval_scopes.specs.Seen.{bounds_of}
-use Rattle.eval_values.specs.declared.value.Value.{Value}
-use Rattle.eval_values.specs.Outcome.{Val}
+use Rattle.js_item.specs.declared.item.Item.{Item}
+use Rattle.js_item.specs.Seen.{Val}
 use Rattle.js_eval.specs.Script.{Flow, meaning}
 use Rattle.js_eval.specs.Seen.{BoundsFine, bounds_seen}
 use Rattle.heap_rule.specs.Paths.{StartsWith}
@@ -23,7 +23,7 @@ use Rattle.run_jobs.proofs.Copies.{bounds_still}
 use Rattle.run_jobs.proofs.Jobs.{each_weaker, each_append, pairs_append, ids_append, words_append, came_later}
 
 -- what jobs mean is what they mean at an earlier moment
-pub runs_still : {F : Type 0} (a b c : State F) (env : List (Binding (Value JsStr))) (js : List Job) (os : List Outcome) → Grows a b → BoundsFine a number (bounds_of env) → Runs b c env js os → RanJobs (means a env) b c js os
+pub runs_still : {F : Type 0} (a b c : State F) (env : List (Binding (Item JsStr))) (js : List Job) (os : List Outcome) → Grows a b → BoundsFine a number (bounds_of env) → Runs b c env js os → RanJobs (means a env) b c js os
 runs_still a b c env js os g h r =
     subst (λ (n : ℕ). RanJobs (λ j. meaning (tree_of j.script) (bounds_seen a number (bounds_of env)) n) b c js os) g.limit
     (subst (λ (bs : List (Bound Val)). RanJobs (λ j. meaning (tree_of j.script) bs b.limit) b c js os) (bounds_still a b number g (bounds_of env) h) r)
@@ -105,7 +105,7 @@ module _ (mean : Job → Flow) (v a b : State SessionFrame) (give : ℕ) (js : L
     }
 
 -- the two halves of jobs that may be run
-pub may_left : (v x : State SessionFrame) (groups : ℕ) (env : List (Binding (Value JsStr))) (js front : List Job) (os low : List Outcome) (count : ℕ) → MayRun v groups env js os → 2 ≤ groups
+pub may_left : (v x : State SessionFrame) (groups : ℕ) (env : List (Binding (Item JsStr))) (js front : List Job) (os low : List Outcome) (count : ℕ) → MayRun v groups env js os → 2 ≤ groups
     → x ≡ left_by v (groups - groups / 2) → low ≡ take count os → length low ≡ length front → MayRun x (groups / 2) env front low
 may_left v x groups env js front os low count m two is lows lengths = subst (λ (y : State SessionFrame). MayRun y (groups / 2) env front low) (sym is) (record {
   some = omega arith;
@@ -116,7 +116,7 @@ may_left v x groups env js front os low count m two is lows lengths = subst (λ 
   begins = m.begins;
 })
 
-pub may_right : (v x : State SessionFrame) (groups : ℕ) (env : List (Binding (Value JsStr))) (js back : List Job) (os high : List Outcome) (count : ℕ) → MayRun v groups env js os → 2 ≤ groups
+pub may_right : (v x : State SessionFrame) (groups : ℕ) (env : List (Binding (Item JsStr))) (js back : List Job) (os high : List Outcome) (count : ℕ) → MayRun v groups env js os → 2 ≤ groups
     → x ≡ right_by v (groups - groups / 2) → high ≡ drop count os → length high ≡ length back → MayRun x (groups - groups / 2) env back high
 may_right v x groups env js back os high count m two is highs lengths = subst (λ (y : State SessionFrame). MayRun y (groups - groups / 2) env back high) (sym is) (record {
   some = omega arith;

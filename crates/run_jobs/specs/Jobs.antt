@@ -9,7 +9,7 @@ use Rattle.js_store.specs.declared.faults.StoreFault.TheVariants as store
 use Rattle.eval_tree.specs.Tree.{tree_of}
 use Rattle.eval_scopes.specs.declared.env.Binding.{Binding}
 use Rattle.eval_scopes.specs.Seen.{bounds_of}
-use Rattle.eval_values.specs.declared.value.Value.{Value}
+use Rattle.js_item.specs.declared.item.Item.{Item}
 use Rattle.eval_values.specs.Ran.{NextShut}
 use Rattle.js_eval.specs.declared.ending.End.{End}
 use Rattle.js_eval.specs.declared.ending.End.TheVariants.{Done, Threw, Unsupported, Full, Memory}
@@ -28,7 +28,7 @@ abbrev pub number : JsStr → ℕ
 number s = s.id
 
 -- what a job means that begins with these bindings in a store
-abbrev pub means : {F : Type 0} → State F → List (Binding (Value JsStr)) → Job → Flow
+abbrev pub means : {F : Type 0} → State F → List (Binding (Item JsStr)) → Job → Flow
 means s env job = meaning (tree_of job.script) (bounds_seen s number (bounds_of env)) s.limit
 
 -- what one job did to the store: the pairs that it added to the history, and the ids and content words that it used
@@ -122,7 +122,7 @@ pub record RanJobs {F : Type 0} (mean : Job → Flow) (before after : State F) (
   pub used_words : after.used_words ≡ before.used_words + words_of parts
 
 -- every job began with these bindings
-abbrev pub Runs : {F : Type 0} → State F → State F → List (Binding (Value JsStr)) → List Job → List Outcome → Type 0
+abbrev pub Runs : {F : Type 0} → State F → State F → List (Binding (Item JsStr)) → List Job → List Outcome → Type 0
 Runs before after env jobs outcomes = RanJobs (means before env) before after jobs outcomes
 
 -- what the jobs need together, and the greatest want that a report of theirs tells
@@ -147,7 +147,7 @@ HasNoLines o = o.lines ≡ []
 
 -- Jobs may be run in so many groups: the session has a share for each, and its history begins with that at its split. No public contract
 -- cites this.
-pub record MayRun (s : State SessionFrame) (groups : ℕ) (env : List (Binding (Value JsStr))) (jobs : List Job) (outcomes : List Outcome) : Type 0 where
+pub record MayRun (s : State SessionFrame) (groups : ℕ) (env : List (Binding (Item JsStr))) (jobs : List Job) (outcomes : List Outcome) : Type 0 where
   pub some : 1 ≤ groups
   pub share : groups ≤ s.frame.share
   pub lengths : length outcomes ≡ length jobs

@@ -6,8 +6,8 @@ use Rattle.eval_tree.specs.Tree.{Tree, tree_of}
 use Rattle.eval_scopes.specs.declared.env.Binding.{Binding}
 use Rattle.eval_scopes.specs.Bindings.{Bound}
 use Rattle.eval_scopes.specs.Seen.{bounds_of}
-use Rattle.eval_values.specs.declared.value.Value.{Value}
-use Rattle.eval_values.specs.Outcome.{Val}
+use Rattle.js_item.specs.declared.item.Item.{Item}
+use Rattle.js_item.specs.Seen.{Val}
 use Rattle.js_eval.specs.declared.ending.End.{End}
 use Rattle.js_eval.specs.declared.ending.End.TheVariants.{Done, Threw, Unsupported, Full, Memory}
 use Rattle.js_eval.specs.Evaluates.{Evaluates, Finished}
@@ -70,7 +70,7 @@ module _ (a b : State SessionFrame) (script : Script) (o : Outcome) (after : Lis
   leaves : o.end ≡ Done → after ≡ flow.bindings.top
   leaves done = let h : Finished a b [] o.lines after Done flow = subst (λ (e : End). Evaluates a b [] o.lines after e flow) done ev in h.bindings
 
-  module _ (c : State SessionFrame) (env : List (Binding (Value JsStr))) (js : List Job) (os : List Outcome) (is : after ≡ bounds_seen b number (bounds_of env)) (done : o.end ≡ Done) (r : Runs b c env js os) where
+  module _ (c : State SessionFrame) (env : List (Binding (Item JsStr))) (js : List Job) (os : List Outcome) (is : after ≡ bounds_seen b number (bounds_of env)) (done : o.end ≡ Done) (r : Runs b c env js os) where
     as_meant : map (means b env) js ≡ scripts_meant a.limit (Some (tree_of script)) (job_trees js)
     as_meant = means_jobs js (bounds_seen b number (bounds_of env)) b.limit
         ∙ (ap (λ (top : List (Bound Val)). map (λ t. meaning t top b.limit) (job_trees js)) (sym is ∙ leaves done)

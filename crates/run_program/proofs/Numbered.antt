@@ -5,7 +5,7 @@ use Rattle.js_store.specs.State.{State}
 use Rattle.eval_tree.specs.declared.tree.Script.{Script}
 use Rattle.eval_tree.specs.Tree.{tree_of}
 use Rattle.eval_scopes.specs.Bindings.{Bound}
-use Rattle.eval_values.specs.Outcome.{Val}
+use Rattle.js_item.specs.Seen.{Val}
 use Rattle.js_eval.specs.Script.{Flow, meaning}
 use Rattle.run_jobs.specs.declared.job.Job.{Job}
 use Rattle.run_jobs.specs.declared.job.Outcome.{Outcome}

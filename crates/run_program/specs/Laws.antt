@@ -6,7 +6,7 @@ use Rattle.js_store.specs.Faults.{Step}
 use Rattle.eval_scopes.specs.Bindings.{Bound}
 use Rattle.eval_tree.specs.declared.tree.Script.{Script}
 use Rattle.eval_tree.specs.Tree.{tree_of}
-use Rattle.eval_values.specs.Outcome.{Val}
+use Rattle.js_item.specs.Seen.{Val}
 use Rattle.js_eval.specs.declared.ending.End.{End}
 use Rattle.js_eval.specs.Evaluates.{Evaluates}
 use Rattle.js_eval.specs.Script.{Flow, meaning}

@@ -2,7 +2,7 @@
 use Rattle.std.specs.Prelude.{ℕ, List, [], map, Option, Some, None}
 use Rattle.eval_tree.specs.Tree.{Tree}
 use Rattle.eval_scopes.specs.Bindings.{Bound}
-use Rattle.eval_values.specs.Outcome.{Val}
+use Rattle.js_item.specs.Seen.{Val}
 use Rattle.js_eval.specs.Script.{Flow, meaning}
 
 -- the prelude begins with no bindings

@@ -1,2 +1,4 @@
+mod Rounds
+mod Small
 mod Turns
 mod Stages

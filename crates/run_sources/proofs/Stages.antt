@@ -3,7 +3,7 @@ use Rattle.std.proofs.Common.{◌≡◌, ◌++◌, ℕ, zero, suc, List, [], ◌
 use Rattle.std.specs.declared.option.Option.{Option}
 use Rattle.std.specs.List.{All}
 use Rattle.std.proofs.lemmas.List.Elements.{All-nil}
-use Rattle.run_generate.specs.Texts.{IsSmall, Named}
+use Rattle.run_sources.specs.Texts.{IsSmall, Named}
 use Rattle.js_io.specs.Counts.{next_count}
 use Rattle.js_io.specs.FilesState.{FilesState, IsTooLarge, Tells}
 use Rattle.js_parse.specs.declared.fault.Role.TheVariants.{Main}

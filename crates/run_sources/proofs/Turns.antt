@@ -3,8 +3,8 @@ use Rattle.std.proofs.Common.{◌≡◌, ◌+◌, ◌-◌, ◌<◌, ℕ, zero, s
 use Rattle.std.specs.declared.option.Option.{Option}
 use Rattle.std.specs.List.{All}
 use Rattle.std.proofs.lemmas.List.{map_push, take_more}
-use Rattle.run_generate.specs.Texts.{Named, named_for}
-use Rattle.run_generate.specs.declared.texts.Text.{Text}
+use Rattle.run_sources.specs.Texts.{Named, named_for}
+use Rattle.run_sources.specs.declared.texts.Text.{Text}
 use Rattle.js_parse.specs.declared.fault.Role.TheVariants.{Main}
 use Rattle.js_parse.specs.declared.fault.ParseFault.{ParseFault}
 use Rattle.js_parse.specs.Spells as script

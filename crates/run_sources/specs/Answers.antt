@@ -2,7 +2,7 @@
 use Rattle.std.specs.Prelude.{◌≡◌, ◌≤◌, ⊤, ℕ, List, [], Option, None, Some, length, map, option_map}
 use Rattle.std.specs.Borrow.{Bor}
 use Rattle.std.specs.List.{All}
-use Rattle.run_generate.specs.Texts.{Named}
+use Rattle.run_sources.specs.Texts.{Named}
 use Rattle.js_io.specs.Counts.{next_count}
 use Rattle.js_io.specs.FilesState.{FilesState, IsTooLarge}
 use Rattle.js_io.specs.declared.files.TheConstants.{FILE_MAX}

@@ -1,6 +1,6 @@
 -- A prelude or none, and scripts: by the names of their files, by their texts, or by their trees.
 use Rattle.std.specs.Prelude.{ℕ, List, [], ◌∷◌, Option, None, Some}
-use Rattle.run_generate.specs.Texts.{Named}
+use Rattle.run_sources.specs.Texts.{Named}
 use Rattle.eval_tree.specs.Tree.{Tree}
 
 -- a word that names a file, by its bytes

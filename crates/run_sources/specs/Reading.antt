@@ -1,7 +1,7 @@
 -- Which files were read, and which one was not. With every answer but that a file can't be read or is too large, no read
 -- failed or found too large a file.
 use Rattle.std.specs.Prelude.{◌≡◌, ◌≤◌, ⊤, ℕ, List, [], ◌∷◌, ◌++◌, length, Option, None, Some}
-use Rattle.run_generate.specs.Texts.{Named}
+use Rattle.run_sources.specs.Texts.{Named}
 use Rattle.js_io.specs.Counts.{next_count}
 use Rattle.js_io.specs.FilesState.{Tells, IsTooLarge, FilesState}
 use Rattle.js_io.specs.declared.files.TheConstants.{FILE_MAX}

@@ -1,6 +1,6 @@
 -- Which texts spell which scripts, and which one is the first that spells none.
 use Rattle.std.specs.Prelude.{◌≡◌, ⊤, ℕ, List, [], ◌∷◌, Option, None, Some}
-use Rattle.run_generate.specs.Texts.{Named}
+use Rattle.run_sources.specs.Texts.{Named}
 use Rattle.js_parse.specs.declared.fault.Role.TheVariants as role
 use Rattle.js_parse.specs.declared.fault.ParseFault.{ParseFault}
 use Rattle.js_parse.specs.Spells as script

@@ -1,17 +1,22 @@
 //! The sources of a run: files that are read or texts that are made, and the scripts that they spell.
 //!
-//! [`read_sources`] reads a prelude and scripts, [`made_sources`] takes texts that were made, and
+//! [`read_sources`] reads a prelude and scripts. [`texts_from`] makes a large input from a number, a
+//! prelude and 32 scripts, the same on every machine, and [`made_sources`] takes them as sources.
 //! [`parse_sources`] gives the scripts. Each refusal has its cause in the contract.
 #![tactic(auto)]
 
+mod draws;
+mod lines;
 mod making;
 mod parsing;
 mod reading;
 mod sources;
 mod stop;
+mod texts;
 
 pub use making::made_sources;
 pub use parsing::parse_sources;
 pub use reading::read_sources;
 pub use sources::{Scripts, Source, Sources};
 pub use stop::Stop;
+pub use texts::{Text, texts_from};

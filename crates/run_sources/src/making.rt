@@ -1,12 +1,12 @@
 // Texts that were made.
 ghost use Rattle.std.specs.Prelude.{◌≡◌, map, IfOk};
 ghost use Rattle.std.specs.List.{All};
-ghost use Rattle.run_generate.specs.Texts.{named_for, IsSmall};
+ghost use Rattle.run_sources.specs.Texts.{named_for, IsSmall};
 ghost use Rattle.run_sources.specs.Program.{program_from};
 ghost use Rattle.run_sources.specs.Answers.{source_for, sources_for, AreShort};
 
 use crate::sources::{Source, Sources};
-use run_generate::Text;
+use crate::texts::Text;
 use std::alloc::{AllocError, Global};
 
 // A text, under its name.

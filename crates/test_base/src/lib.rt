@@ -1,13 +1,26 @@
-//! Tests of crates that stand on no heap and no tree, by their public calls: units and words, forms of
-//! strings, files and sinks in memory and of the process, numbers, the plain store, the URI functions,
-//! the order of strings, and the words of the command line. A table is one text, a row a line: what is
-//! given, an arrow, and what is wanted; one loop goes through all of them.
+//! Tests by public calls, where no script shows what they show. Of crates that stand on no heap and no
+//! tree: units and words, forms of strings, files and sinks in memory and of the process, numbers, the
+//! plain store, the URI functions, the order of strings, and the words of the command line. Of reading
+//! and running scripts: lexical and grammatical tokens with their spans, texts made from a number, a run
+//! over the plain store, copies of names, and the laws of files that were run on one heap. Which texts are
+//! scripts, the kind and place of each fault, and what scripts print are cases of `jsstr_cases`.
+//!
+//! A table is one text, a row a line: what is given, an arrow, and what is wanted; one loop goes through
+//! all of them. Wanted values come from the standard, from node, or from a definition alone.
 #![tactic(auto)]
 
 #[cfg(test)]
 mod files;
 #[cfg(test)]
+mod generated;
+#[cfg(test)]
 mod header;
+#[cfg(test)]
+mod laws;
+#[cfg(test)]
+mod lexing;
+#[cfg(test)]
+mod names;
 #[cfg(test)]
 mod number;
 #[cfg(test)]
@@ -16,6 +29,8 @@ mod rows;
 mod store;
 #[cfg(test)]
 mod strings;
+#[cfg(test)]
+mod tokens;
 #[cfg(test)]
 mod units;
 #[cfg(test)]

@@ -35,6 +35,18 @@ pub(crate) fn units_of(alloc: Global, text: &str) -> Result<Vec<u16>, Fail> {
     Ok(units)
 }
 
+/// The bytes of a text, or those that it spells behind `#` in hexadecimal digits, one blank apart.
+pub(crate) fn bytes_of(alloc: Global, text: &str) -> Result<Vec<u8>, Fail> {
+    let Some(spelled) = text.strip_prefix('#') else {
+        return Ok(text.as_bytes().to_vec(alloc)?);
+    };
+    let mut bytes = Vec::new(alloc);
+    for digits in spelled.split(' ') {
+        bytes.push(u8::from_str_radix(digits, 16)?)?;
+    }
+    Ok(bytes)
+}
+
 /// The text of units, none of which is a surrogate alone.
 pub(crate) fn text_of(alloc: Global, units: &[u16]) -> Result<String, Fail> {
     let mut bytes = Vec::new(alloc);

@@ -11,10 +11,10 @@ claim 0 words 0 1 -> 0
 store 0 0 6513249 -> 0
 claim 0 ids 0 1 -> 0
 length 0 0 3 -> 0
-birth 0 0 1 -> 0 = [97, 98, 99]
-words = [1, 1, 0, 1, 3, 0, 0, 6513249]
-entry 0 0 = none
-entry 1 0 = none
+birth 0 0 1 -> 0
+words -> [1, 1, 0, 1, 3, 0, 0, 6513249]
+entry 0 -> None
+entry 1 -> None
 == a cons of itself is not born
 # One content word with the bytes of abc, and an own id of length 3.
 make 2 1 1 1 -> 0
@@ -23,7 +23,7 @@ store 0 0 6513249 -> 0
 claim 0 ids 0 1 -> 0
 length 0 0 3 -> 0
 birth 0 0 2 -> refused
-words = [1, 1, 0, 0, 3, 0, 0, 6513249]
+words -> [1, 1, 0, 0, 3, 0, 0, 6513249]
 == two byte units are born
 make 1 1 1 2 -> 0
 # The units 0061 and 3042.
@@ -31,13 +31,13 @@ claim 0 words 0 1 -> 0
 store 0 0 809631841 -> 0
 claim 0 ids 0 1 -> 0
 length 0 0 2 -> 0
-birth 0 0 9 -> 0 = [97, 12354]
-words = [1, 1, 0, 9, 2, 809631841]
+birth 0 0 9 -> 0
+words -> [1, 1, 0, 9, 2, 809631841]
 == the empty string is born
 make 1 1 1 1 -> 0
 claim 0 ids 0 1 -> 0
-birth 0 0 1 -> 0 = []
-words = [1, 0, 0, 1, 0, 0]
+birth 0 0 1 -> 0
+words -> [1, 0, 0, 1, 0, 0]
 == words are shared and claims are lost
 # One content word with the bytes of abc, and an own id of length 3.
 make 2 1 1 1 -> 0
@@ -52,8 +52,8 @@ claim 0 ids 1 1 -> 1
 counter 0 ids -> 2
 length 0 1 8 -> 0
 length 0 1 3 -> 8
-birth 0 1 17 -> 0 = [97, 98, 99]
-words = [2, 1, 0, 1, 3, 17, 3, 6513249]
+birth 0 1 17 -> 0
+words -> [2, 1, 0, 1, 3, 17, 3, 6513249]
 == an agent is split off and joined
 make 2 2 1 3 -> 0
 # The new agent knows the string that the first one made, and claims for itself; after the join
@@ -67,12 +67,12 @@ birth 0 0 1 -> 0
 claim 1 words 1 1 -> 1
 store 1 1 5 -> 0
 store 0 1 7 -> refused
-words = [1, 2, 0, 1, 3, 0, 0, 6513249, 5]
+words -> [1, 2, 0, 1, 3, 0, 0, 6513249, 5]
 join 0 1 -> 1
 store 1 1 5 -> refused
-words = [1, 2, 0, 1, 3, 0, 0, 6513249, 5]
+words -> [1, 2, 0, 1, 3, 0, 0, 6513249, 5]
 store 0 1 7 -> 5
-words = [1, 2, 0, 1, 3, 0, 0, 6513249, 7]
+words -> [1, 2, 0, 1, 3, 0, 0, 6513249, 7]
 == splits and joins that are not enabled
 make 1 1 1 4 -> 0
 # What is split off from a part of a share, in a heap of four agents.
@@ -91,12 +91,12 @@ join 0 3 -> refused
 join 3 0 -> refused
 join 0 2 -> refused
 join 2 0 -> refused
-words = [0, 0, 0, 0, 0, 0]
+words -> [0, 0, 0, 0, 0, 0]
 split 1 2 -> 0
 join 3 0 -> 0
 join 1 3 -> 0
 split 1 4 -> refused
-words = [0, 0, 0, 0, 0, 0]
+words -> [0, 0, 0, 0, 0, 0]
 split 1 3 -> 0
 == headers and words are loaded
 # A string of twelve bytes in two words, with its birth, and a second agent.
@@ -115,7 +115,7 @@ word 1 0 -> 7523094288207667809
 # the two words are frozen from the split on, so the units follow at once
 word 1 1 learn 0 -> 1818978921
 form 0 0 learn 0 learn 0 -> 1
-words = [1, 2, 0, 1, 12, 0, 0, 7523094288207667809, 1818978921, 0]
+words -> [1, 2, 0, 1, 12, 0, 0, 7523094288207667809, 1818978921, 0]
 == an own word is loaded
 # One content word with the bytes of abc, and an own id of length 3.
 make 2 1 1 1 -> 0
@@ -152,15 +152,15 @@ word 1 2 -> refused
 word 1 3 -> refused
 word 0 4294967295 -> refused
 word 0 2 learn 1 -> refused
-words = [2, 3, 0, 1, 12, 0, 0, 7523094288207667809, 1818978921, 0]
+words -> [2, 3, 0, 1, 12, 0, 0, 7523094288207667809, 1818978921, 0]
 # what another agent made since the split is not known, and is after the join
 birth 0 1 1 -> 0
 form 1 1 -> refused
-words = [2, 3, 0, 1, 12, 1, 0, 7523094288207667809, 1818978921, 0]
+words -> [2, 3, 0, 1, 12, 1, 0, 7523094288207667809, 1818978921, 0]
 join 1 0 -> 2
 form 1 1 -> 1
 == nothing comes before a making
-words = []
+words -> []
 # Sizes and agents out of bounds, and any other event before the making.
 make 0 1 1 1 -> refused
 make 1 0 1 1 -> refused
@@ -179,7 +179,7 @@ claim 0 ids 0 1 -> refused
 store 0 0 0 -> refused
 length 0 0 0 -> refused
 birth 0 0 1 -> refused
-words = []
+words -> []
 == what is not enabled
 # One content word with the bytes of abc, and an own id of length 3.
 make 2 1 1 1 -> 0
@@ -209,11 +209,11 @@ birth 0 0 33 -> refused
 birth 0 0 3 -> refused
 birth 0 0 4 -> refused
 birth 0 0 0 -> refused
-words = [1, 1, 0, 0, 3, 0, 0, 6513249]
+words -> [1, 1, 0, 0, 3, 0, 0, 6513249]
 # a lane past the length that is not 0
 length 0 0 2 -> 3
 birth 0 0 1 -> refused
-words = [1, 1, 0, 0, 2, 0, 0, 6513249]
+words -> [1, 1, 0, 0, 2, 0, 0, 6513249]
 length 0 0 3 -> 2
 # an empty Flat starts at word 0, and a word that was frozen is no longer own
 birth 0 0 1 -> 0
@@ -222,7 +222,7 @@ birth 0 1 33 -> refused
 store 0 0 0 -> refused
 length 0 0 3 -> refused
 birth 0 0 1 -> refused
-words = [2, 1, 0, 1, 3, 0, 0, 6513249]
+words -> [2, 1, 0, 1, 3, 0, 0, 6513249]
 == a string goes into a slot
 make 4 4 2 1 -> 0
 # The string abc, and a fixed Flat over the same word, which goes into the slot of its hash,
@@ -239,11 +239,11 @@ length 0 1 3 -> 0
 birth 0 1 17 -> 0
 take 0 0 1 -> 0
 take 0 1 1 -> refused
-words = [2, 1, 2, 0, 1, 3, 17, 3, 0, 0, 0, 0, 6513249, 0, 0, 0]
+words -> [2, 1, 2, 0, 1, 3, 17, 3, 0, 0, 0, 0, 6513249, 0, 0, 0]
 slot 0 0 -> 2
-entry 0 0 = [97, 98, 99]
+entry 0 -> [97, 98, 99]
 thin 0 0 1 1 -> 1
-words = [2, 1, 2, 0, 36, 3, 17, 3, 0, 0, 0, 0, 6513249, 0, 0, 0]";
+words -> [2, 1, 2, 0, 36, 3, 17, 3, 0, 0, 0, 0, 6513249, 0, 0, 0]";
 
 #[test]
 fn the_machine_on_small_heaps(rt: HostRuntime) {

@@ -1,7 +1,8 @@
 // Births of ropes and slices, and the two compare-exchanges that move a header.
-use crate::plays::{play_lines, plays, refuse};
+use crate::plays::{is_played, outcome, plays};
 use heap_core::{CoreState, Event};
 use js_header::Form;
+use std::alloc::Global;
 
 // 17179869186 is the form word of the Cons of 0 and 1, 34359738371 of the Sliced of 0 from unit 2 on, 97 of
 // a Flat at content word 3, and 68 of a Thin to 2.
@@ -24,7 +25,7 @@ birth 0 1 65 -> 0
 claim 0 ids 2 1 -> 2
 length 0 2 13 -> 0
 # Both agents copy the 13 units into words of their own; the first one's header stands.
-birth 0 2 17179869186 -> 0 = [97, 98, 99, 100, 101, 102, 103, 104, 105, 106, 107, 108, 109]
+birth 0 2 17179869186 -> 0
 split 0 1 -> 3
 claim 0 words 3 1 -> 3
 store 0 3 7523094288207667809 -> 0
@@ -39,7 +40,7 @@ flatten 0 2 17179869186 97 learn 2 -> 17179869186
 flatten 1 2 17179869186 161 -> 97
 form 1 2 -> 97
 join 0 1 -> 3
-words = [3, 7, 0, 1, 12, 65, 1, 97, 13, 0, 0, 0, 0, 0, 0, 0, 0, 0, 0, 7523094288207667809, 1818978921, 109, 7523094288207667809, 469970414185, 7523094288207667809, 469970414185, 0]
+words -> [3, 7, 0, 1, 12, 65, 1, 97, 13, 0, 0, 0, 0, 0, 0, 0, 0, 0, 0, 7523094288207667809, 1818978921, 109, 7523094288207667809, 469970414185, 7523094288207667809, 469970414185, 0]
 == what is not flattened
 # The strings abcdefghijkl and m over three words, and an own id of length 13.
 make 8 8 1 2 -> 0
@@ -109,7 +110,8 @@ claim 0 words 3 1 -> 3
 store 0 3 7523094288207667809 -> 0
 claim 0 words 4 1 -> 4
 store 0 4 469970414185 -> 0
-birth 0 2 17179869186 -> 0 = [97, 98, 99, 100, 101, 102, 103, 104, 105, 106, 107, 108, 109] then flatten 0 2 17179869186 97 learn 2 -> 17179869186
+birth 0 2 17179869186 -> 0
+flatten 0 2 17179869186 97 learn 2 -> 17179869186
 == what is not joined
 # The strings abcdefghijkl and m over three words, and an own id of length 13.
 make 8 8 1 2 -> 0
@@ -154,7 +156,7 @@ birth 0 5 17179869250 -> refused
 length 0 5 25 -> 13
 birth 0 5 2 -> refused
 # 12 and 13 units are 25
-birth 0 5 34359738370 -> 0 = [97, 98, 99, 100, 101, 102, 103, 104, 105, 106, 107, 108, 97, 98, 99, 100, 101, 102, 103, 104, 105, 106, 107, 108, 109]
+birth 0 5 34359738370 -> 0
 == a rope is as wide as its sides
 # The strings abcdefghijkl and m over three words, and an own id of length 13.
 make 8 8 1 2 -> 0
@@ -181,7 +183,7 @@ birth 0 3 105 -> 0
 claim 0 ids 4 1 -> 4
 length 0 4 13 -> 0
 birth 0 4 51539607554 -> refused
-birth 0 4 51539607562 -> 0 = [97, 98, 99, 100, 101, 102, 103, 104, 105, 106, 107, 108, 12354]
+birth 0 4 51539607562 -> 0
 == a slice keeps its units
 # The string abcdefghijklmnopqr, a fixed Flat over its words in the one slot, and own ids of 15 and
 # 13 units.
@@ -204,11 +206,12 @@ take 0 0 2 -> 0
 claim 0 ids 3 1 -> 3
 length 0 3 13 -> 0
 # The slice from 2 to 17, its parent forwarded, and a slice of the slice, which is one of the parent.
-birth 0 1 34359738371 -> 0 = [99, 100, 101, 102, 103, 104, 105, 106, 107, 108, 109, 110, 111, 112, 113] then thin 0 0 1 2 -> 1
+birth 0 1 34359738371 -> 0
+thin 0 0 1 2 -> 1
 form 0 1 -> 34359738371
 form 0 0 learn 2 -> 68
 thin 0 1 34359738371 2 -> refused
-birth 0 3 51539607555 -> 0 = [100, 101, 102, 103, 104, 105, 106, 107, 108, 109, 110, 111, 112]
+birth 0 3 51539607555 -> 0
 == what is not sliced
 # The string abcdefghijklmnopqr, a fixed Flat over its words in the one slot, and own ids of 15 and
 # 13 units.
@@ -299,7 +302,7 @@ thin 0 0 1 1 -> refused
 thin 0 0 1 2 -> 1
 thin 1 0 1 2 -> 68
 join 0 1 -> 3
-words = [3, 2, 2, 3, 68, 2, 49, 2, 17, 2, 0, 0, 24897, 16962, 0, 0]";
+words -> [3, 2, 2, 3, 68, 2, 49, 2, 17, 2, 0, 0, 24897, 16962, 0, 0]";
 
 #[test]
 fn ropes_slices_and_moves_of_headers(rt: HostRuntime) {
@@ -323,11 +326,26 @@ birth 0 1 65 -> 0
 claim 0 ids 2 1 -> 2
 length 0 2 13 -> 0";
 
+// Whether the event is refused once these lines were played, and, where it is asked, the rope's birth.
+fn is_refused(alloc: Global, is_born: bool, event: &Event) -> bool {
+    let mut state = CoreState::new(alloc);
+    for line in TWO_SIDES.lines() {
+        if !is_played(alloc, &mut state, line) {
+            return false;
+        }
+    }
+    if is_born && !is_played(alloc, &mut state, "birth 0 2 17179869186 -> 0") {
+        return false;
+    }
+    match outcome(alloc, &mut state, event) {
+        Some(told) => told.as_str() == "refused",
+        None => false,
+    }
+}
+
 // Words and strings past every place, which no form word can name.
 #[test]
 fn forms_past_every_place(rt: HostRuntime) {
-    let mut state = CoreState::new(rt.alloc());
-    play_lines(&rt, rt.alloc(), &mut state, TWO_SIDES);
     let far = u32::MAX;
     let flat = Form::Flat {
         wide: false,
@@ -350,22 +368,13 @@ fn forms_past_every_place(rt: HostRuntime) {
             id: 2,
             form,
         };
-        refuse(
-            &rt,
-            rt.alloc(),
-            &mut state,
-            &birth,
-            "a form past every place",
-        );
+        assert!(rt; is_refused(rt.alloc(), false, &birth));
     }
 }
 
 // The same where a rope is to be flattened.
 #[test]
 fn a_word_past_every_place(rt: HostRuntime) {
-    let mut state = CoreState::new(rt.alloc());
-    play_lines(&rt, rt.alloc(), &mut state, TWO_SIDES);
-    play_lines(&rt, rt.alloc(), &mut state, "birth 0 2 17179869186 -> 0");
     let old = Form::Cons {
         wide: false,
         left: 0,
@@ -383,11 +392,5 @@ fn a_word_past_every_place(rt: HostRuntime) {
         new,
         learn: Vec::new(rt.alloc()),
     };
-    refuse(
-        &rt,
-        rt.alloc(),
-        &mut state,
-        &flatten,
-        "a word past every place",
-    );
+    assert!(rt; is_refused(rt.alloc(), true, &flatten));
 }

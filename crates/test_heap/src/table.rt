@@ -54,27 +54,31 @@ fn refuses_sizes(rt: HostRuntime) {
     }
 }
 
-#[test]
-fn claims_and_stores(rt: HostRuntime) {
-    let Ok((heap, mut agent)) = Heap::make(rt.alloc(), size(8, 8, 1), 2) else {
-        panic!(rt; "no heap");
+// A word that was claimed and stored, both counters, and a claim of eight words more.
+fn claimed(alloc: Global) -> Option<(u64, (u32, u32), Result<u32, CounterFull>)> {
+    let Ok((heap, mut agent)) = Heap::make(alloc, size(8, 8, 1), 2) else {
+        return None;
     };
     let Ok(at) = agent.claim_words(&heap, 1) else {
-        panic!(rt; "no word");
+        return None;
     };
     agent.store_word(&heap, at, 6513249);
-    assert_eq!(rt; agent.load_word(&heap, at), 6513249);
+    let word = agent.load_word(&heap, at);
     let Ok(id) = agent.claim_id(&heap) else {
-        panic!(rt; "no id");
+        return None;
     };
     agent.store_length(&heap, id, 3);
-    assert!(rt; agent.totals(&heap) == (1, 1));
+    Some((word, agent.totals(&heap), agent.claim_words(&heap, 8)))
+}
+
+#[test]
+fn claims_and_stores(rt: HostRuntime) {
     let full = CounterFull {
         at: 1,
         want: 8,
         end: 8,
     };
-    assert!(rt; agent.claim_words(&heap, 8) == Err(full));
+    assert!(rt; claimed(rt.alloc()) == Some((6513249, (1, 1), Err(full))));
 }
 
 #[test]

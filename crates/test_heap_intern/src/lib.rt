@@ -11,6 +11,8 @@ mod reads;
 #[cfg(test)]
 mod sessions;
 #[cfg(test)]
+mod singles;
+#[cfg(test)]
 mod slices;
 #[cfg(test)]
 mod slots;

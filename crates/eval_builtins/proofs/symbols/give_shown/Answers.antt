@@ -6,7 +6,7 @@ use Rattle.js_store.proofs.Laws.{flat_words_most}
 use Rattle.eval_builtins.specs.Symbols.{shown_symbol}
 use Rattle.eval_values.specs.Need.{row_ids, row_words}
 use Rattle.eval_values.proofs.Limited.{within_given}
-use Rattle.eval_builtins.proofs.Keys.{shown_length, shown_stops}
+use Rattle.eval_builtins.proofs.SymbolKeys.{shown_length, shown_stops}
 use Rattle.eval_builtins.proofs.symbols.give_shown.Goals as goal
 
 pub returns-clause-did : goal.returns-clause-did

@@ -1,6 +1,6 @@
 use Rattle.std.proofs.lemmas.Result.{err_from_is_err_and}
 use Rattle.js_store.specs.State.{text}
-use Rattle.eval_builtins.proofs.Keys.{registered_given, registered_cut}
+use Rattle.eval_builtins.proofs.SymbolKeys.{registered_given, registered_cut}
 use Rattle.eval_builtins.proofs.symbols.register.Goals as goal
 
 pub returns-in_err-r-clause-did : goal.returns-in_err-r-clause-did

@@ -1,5 +1,5 @@
 use Rattle.std.proofs.lemmas.Result.{err_from_is_err_and}
-use Rattle.eval_builtins.proofs.Keys.{symbol_does, symbol_ends}
+use Rattle.eval_builtins.proofs.SymbolKeys.{symbol_does, symbol_ends}
 use Rattle.eval_builtins.proofs.symbols.symbol_for.Goals as goal
 
 pub returns-in_err-key-clause-did : goal.returns-in_err-key-clause-did

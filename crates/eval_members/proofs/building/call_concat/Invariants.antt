@@ -1,6 +1,6 @@
 use Rattle.std.proofs.Common.{drop, Result}
 use Rattle.js_store.specs.State.{State, Grows, IsKnown, text}
-use Rattle.eval_values.specs.declared.value.Value.{Value}
+use Rattle.js_item.specs.declared.item.Item.{Item}
 use Rattle.eval_values.specs.declared.value.Stop.{Stop}
 use Rattle.eval_members.specs.Building.{concat_call}
 use Rattle.eval_values.specs.Seen.{all_seen, AllFine}
@@ -17,7 +17,7 @@ invariant-loop-value g l =
       grows : Grows a (state l.store);
       fine : AllFine (state l.store) number l.args;
       known : IsKnown (state l.store) (number l.text);
-      completes : (c : State g.S.Strings.Frame) (r : Result (Value g.row.S-Ref.Denot) Stop) →
+      completes : (c : State g.S.Strings.Frame) (r : Result (Item g.row.S-Ref.Denot) Stop) →
           Does number (state l.store) c r (concat_call a.limit (text (state l.store) (number l.text)) (all_seen a number (drop l.value-index l.args))) →
           Does number a c r (concat_call a.limit (text a (number l.fn.s)) (all_seen a number l.args));
     }

@@ -2,7 +2,7 @@ use Rattle.std.proofs.Common.{arith, length, ◌+◌}
 use Rattle.std.proofs.lemmas.Result.{err_from_is_err_and}
 use Rattle.js_store.specs.State.{text}
 use Rattle.js_methods.specs.Places.{char_at_of}
-use Rattle.eval_values.specs.Outcome.{text as text_value}
+use Rattle.js_item.specs.Contents.{text as text_value}
 use Rattle.eval_values.specs.Need.{row_ids, row_words}
 use Rattle.eval_values.specs.Conversions.{all_units}
 use Rattle.eval_values.specs.Seen.{all_seen}
@@ -19,4 +19,4 @@ returns-in_err-r-clause-did g c =
     let n = c.in_ok-n.n in
     let e = c.in_err-r.ensures in
     let p = err_from_is_err_and c.from_residual-in_err-r.result c.from_residual-in_err-r.ensures.1 in
-    rw (p.1, p.2, ← c.in_ok-n.ensures.value) (row_stops number a (state c.char_at.new.store) row_ids (row_words (t + length (char_at_of u n))) (text_value (char_at_of u n)) c.in_err-r.field-0.0 e.throws e.step e.history e.slots (omega arith) (omega arith))
+    rw (p.1, p.2, ← c.in_ok-n.ensures.value) (row_stops number a (state c.char_at.new.store) row_ids (row_words (t + length (char_at_of u n))) (text_value (char_at_of u n)) c.in_err-r.field-0.0 e.throws (rw c.in_ok-n.ensures.same at e.step) (rw c.in_ok-n.ensures.same at e.history) e.slots (omega arith) (omega arith))

@@ -1,6 +1,8 @@
 use Rattle.std.proofs.lemmas.Result.{err_from_is_err_and}
 use Rattle.eval_members.specs.Groups.{replaced_of, match_count}
 use Rattle.eval_members.proofs.Replacements.{searched_stops, template_stops, replace_does}
+use Rattle.js_store.proofs.Laws.{grows_trans}
+use Rattle.eval_values.proofs.Still.{fine_still}
 use Rattle.eval_members.proofs.replacing.replace_values.Goals as goal
 
 pub returns-in_err-w-clause-did : goal.returns-in_err-w-clause-did
@@ -22,3 +24,9 @@ returns-clause-did g c = λ o m t k.
     let e = c.in_ok-w.ensures in
     let f = c.in_ok-by.ensures in
     replace_does g.S.Strings.number o m t (match_count c.args.replace) (replaced_of c.args.replace) (state c.args.store.now) (state c.to_text.new.store) (state c.to_text-2.new.store) c.args.s c.args.searched.now c.args.template.now e.grows c.requires.template c.in_ok-w.w e.did (state c.give_replaced.new.store) c.in_ok-by.by c.give_replaced.result f.grows c.requires.known e.known e.short f.short k f.did c.give_replaced.ensures.did
+
+pub to_text-requires-2 : goal.to_text-requires-2
+to_text-requires-2 g c = fine_still (g.S.Strings.state c.args.store.now) (g.S.Strings.state c.to_text.new.store) g.S.Strings.number c.in_ok-w.ensures.grows c.args.template.now c.requires.template
+
+pub returns-clause-grows : goal.returns-clause-grows
+returns-clause-grows g c = grows_trans c.in_ok-w.ensures.grows (grows_trans c.in_ok-by.ensures.grows c.give_replaced.ensures.grows)

@@ -1,5 +1,6 @@
 use Rattle.std.proofs.lemmas.Result.{err_from_is_err_and}
 use Rattle.js_store.proofs.Laws.{grows_trans}
+use Rattle.eval_values.proofs.Still.{fine_still}
 use Rattle.eval_values.proofs.Orders.{order_does, first_ends, second_ends}
 use Rattle.eval_values.proofs.comparing.compare.Goals as goal
 
@@ -25,3 +26,6 @@ returns-clause-did g c =
 
 pub returns-clause-grows : goal.returns-clause-grows
 returns-clause-grows g c = grows_trans (grows_trans c.in_ok-first.ensures.grows c.in_ok-second.ensures.grows) c.compare_primitives.ensures.grows
+
+pub to_primitive-requires-2 : goal.to_primitive-requires-2
+to_primitive-requires-2 g c = fine_still (g.S.Strings.state c.args.store.now) (g.S.Strings.state c.to_primitive.new.store) g.S.Strings.number c.in_ok-first.ensures.grows c.args.right.now c.requires.right

@@ -1,4 +1,4 @@
-use Rattle.std.proofs.Common.{arith, ℕ, List, [], Ok, Err, refl, sym, subst}
+use Rattle.std.proofs.Common.{arith, ℕ, List, Ok, Err, refl, sym, subst}
 use Rattle.std.proofs.Math.ListN.{drop_of_length-le}
 use Rattle.std.proofs.lemmas.Result.{err_from_is_err_and}
 use Rattle.js_store.specs.State.{IsKnown, text}
@@ -7,7 +7,7 @@ use Rattle.js_store.proofs.Laws.{grows_refl, grows_trans, known_still, text_stil
 use Rattle.eval_values.specs.declared.value.Stop.TheVariants.{Store}
 use Rattle.eval_values.specs.Outcome.{Out}
 use Rattle.eval_values.specs.Conversions.{to_string}
-use Rattle.eval_values.specs.Seen.{seen}
+use Rattle.js_item.specs.Seen.{seen}
 use Rattle.eval_values.specs.Does.{GivesTexts}
 use Rattle.js_texts.proofs.Lists.{every_map}
 use Rattle.eval_values.proofs.Compose.{ran_free}

@@ -4,7 +4,8 @@ use Rattle.eval_values.specs.declared.value.Stop.{Stop}
 use Rattle.eval_values.specs.Outcome.{each}
 use Rattle.eval_values.specs.Conversions.{to_string}
 use Rattle.js_texts.specs.Texts.{texts as texts_seen, AllKnown, settle_most}
-use Rattle.eval_values.specs.Seen.{seen, all_seen, AllFine}
+use Rattle.js_item.specs.Seen.{seen}
+use Rattle.eval_values.specs.Seen.{all_seen, AllFine}
 use Rattle.eval_values.specs.Does.{GivesTexts, string_words}
 use Rattle.eval_values.proofs.Each.{each_behind}
 use Rattle.eval_values.proofs.conversions.texts.Given as goal

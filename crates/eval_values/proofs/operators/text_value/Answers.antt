@@ -1,5 +1,5 @@
 use Rattle.std.proofs.lemmas.Result.{err_from_is_err_and}
-use Rattle.eval_values.specs.Seen.{seen}
+use Rattle.js_item.specs.Seen.{seen}
 use Rattle.eval_values.proofs.Sums.{text_given, text_ends}
 use Rattle.eval_values.proofs.operators.text_value.Goals as goal
 

@@ -1,4 +1,4 @@
-use Rattle.std.proofs.Common.{◌≡◌, ◌∙◌, ℕ, ◌<◌, subst, sym, arith}
+use Rattle.std.proofs.Common.{◌∙◌, arith}
 use Rattle.heap_rule.specs.declared.view.View.{View}
 use Rattle.heap_read.proofs.Comparison.{unit_held_is}
 use Rattle.heap_read.proofs.Loaded.{reads_trans}

@@ -1,5 +1,5 @@
 use Rattle.eval_scopes.specs.Seen.{bindings_of}
-use Rattle.eval_values.specs.Seen.{seen}
+use Rattle.js_item.specs.Seen.{seen}
 use Rattle.js_eval.proofs.Assigned.{unassigned}
 use Rattle.js_eval.proofs.context.assign.Goals as goal
 

@@ -1,6 +1,6 @@
 use Rattle.std.proofs.Common.{◌∙◌, sym}
 use Rattle.eval_scopes.specs.Seen.{bound_of, bindings_of}
-use Rattle.eval_values.specs.Seen.{seen}
+use Rattle.js_item.specs.Seen.{seen}
 use Rattle.js_eval.proofs.Within.{put_at_fine}
 use Rattle.js_eval.proofs.Assigned.{constant_kept, assign_done}
 use Rattle.js_eval.proofs.context.assign_at.Goals as goal

@@ -1,6 +1,6 @@
 use Rattle.std.proofs.Common.{ap, sym, ◌∙◌}
 use Rattle.eval_scopes.specs.Seen.{bindings_of}
-use Rattle.eval_values.specs.Seen.{seen}
+use Rattle.js_item.specs.Seen.{seen}
 use Rattle.js_eval.specs.Seen.{bindings_seen}
 use Rattle.js_eval.proofs.Kept.{outer_fine}
 use Rattle.js_eval.proofs.Mapped.{outer_by}

@@ -1,5 +1,5 @@
 use Rattle.std.proofs.Common.{◌∙◌, sym, ap, Option, option_map}
-use Rattle.eval_values.specs.Outcome.{Val}
+use Rattle.js_item.specs.Seen.{Val}
 use Rattle.eval_scopes.specs.Bindings.{Bound}
 use Rattle.eval_scopes.specs.Seen.{bound_of, bindings_of}
 use Rattle.js_eval.proofs.Within.{place_fine}

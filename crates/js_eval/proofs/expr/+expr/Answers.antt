@@ -3,13 +3,15 @@ use Rattle.std.proofs.lemmas.Result.{err_from_is_err_and}
 use Rattle.std.proofs.Math.ListN.{drop_of_length-le}
 use Rattle.js_store.specs.declared.faults.StoreFault.TheVariants.{Memory}
 use Rattle.js_store.proofs.Laws.{grows_refl, grows_trans}
-use Rattle.eval_tree.specs.Tree.{expr_tree, link_tree, links_tree, steps_tree, exprs_tree}
-use Rattle.eval_tree.proofs.Trees.{tree_of_unary, tree_of_chain, tree_of_post, tree_of_conditional, tree_of_call, tree_of_index, tree_of_builtin}
+use Rattle.eval_tree.specs.Tree.{expr_tree, link_tree, links_tree, steps_tree, exprs_tree, entries_tree}
+use Rattle.eval_tree.proofs.Trees.{tree_of_unary, tree_of_chain, tree_of_post, tree_of_conditional, tree_of_call, tree_of_index, tree_of_property, tree_of_builtin, tree_of_object}
 use Rattle.eval_values.specs.declared.value.Stop.TheVariants.{Store}
-use Rattle.eval_values.specs.Outcome.{Val, Out}
+use Rattle.js_item.specs.Seen.{Val, seen, says, fields_mapped}
+use Rattle.js_item.proofs.Still.{key_still, fine_fields_still}
+use Rattle.eval_values.specs.Outcome.{Out}
 use Rattle.eval_scopes.specs.Bindings.{meant}
 use Rattle.js_eval.specs.Expression.{expr_out, steps_out}
-use Rattle.eval_values.specs.Seen.{seen, IsFine}
+use Rattle.js_item.specs.Fine.{IsFine}
 use Rattle.js_eval.specs.Seen.{scope_of}
 use Rattle.eval_values.specs.Does.{GivesAll}
 use Rattle.eval_values.proofs.Compose.{ran_free}
@@ -17,6 +19,7 @@ use Rattle.eval_values.proofs.Each.{each_turn, each_halt, each_full, fine_turn}
 use Rattle.js_eval.proofs.Leaves.{tree_of_literal, tree_of_number}
 use Rattle.js_eval.proofs.Expressions.{seen_does, written_does, unary_does, chain_does, chain_stops, post_does, post_stops, builtin_does, builtin_stops, index_does, index_stops, link_decided, link_does, link_stops, condition_holds, condition_fails, condition_stops, name_does, name_fails, copy_does, copy_stops, links_turn, links_halt, steps_turn, steps_halt, call_does, call_stops, call_absent, exprs_are}
 use Rattle.eval_values.proofs.Still.{seen_still, fine_still}
+use Rattle.js_eval.proofs.Making.{key_stops, value_stops, entry_does, entries_turn, entries_halt, literal_does, literal_stops}
 use Rattle.js_eval.proofs.Stays.{scope_still, context_fine_still}
 use Rattle.js_eval.proofs.expr.+expr.Goals as goal
 
@@ -398,3 +401,130 @@ pub expr-returns-in-Builtin-clause-did : goal.expr-returns-in-Builtin-clause-did
 expr-returns-in-Builtin-clause-did g t c =
     let w = c.builtin.ensures.did in
     rw (c.in-Builtin.is, tree_of_builtin c.in-Builtin.at c.in-Builtin.which c.in-Builtin.args) (rw c.deref-in-Builtin.ensures.value at w)
+
+pub expr-returns-in-Object-clause-did : goal.expr-returns-in-Object-clause-did
+expr-returns-in-Object-clause-did g t c =
+    let w = c.object_literal.ensures.did in
+    rw (c.in-Object.is, tree_of_object c.in-Object.at c.in-Object.members) (rw c.deref-in-Object.ensures.value at w)
+
+pub object_literal-returns-in_err-object-clause-did : goal.object_literal-returns-in_err-object-clause-did
+object_literal-returns-in_err-object-clause-did g t c =
+    let state = g.S.Strings.state in
+    let p = err_from_is_err_and c.from_residual.result c.from_residual.ensures.1 in
+    rw (p.1, p.2)
+    (literal_stops g.S.Strings.number (state c.args.store.now) (state c.members_of.new.store) c.args.at (entries_tree c.args.members.now) (scope_of (state c.args.store.now) g.S.Strings.number c.args.context.now) c.in_err-object.field-0.0 c.in_err-object.ensures.did)
+
+pub object_literal-returns-clause-did : goal.object_literal-returns-clause-did
+object_literal-returns-clause-did g t c =
+    let state = g.S.Strings.state in
+    literal_does g.S.Strings.number (state c.args.store.now) (state c.members_of.new.store) c.args.at (entries_tree c.args.members.now) (scope_of (state c.args.store.now) g.S.Strings.number c.args.context.now) (state c.members_of.new.store) c.in_ok-object.object c.bounded.result c.in_ok-object.ensures.did c.bounded.ensures.did
+
+pub members_of-loop-member-init : goal.members_of-loop-member-init
+members_of-loop-member-init g t c =
+    let e = c.new-object.ensures in
+    record {
+      grows = grows_refl (g.S.Strings.state c.args.store.now);
+      context = c.requires;
+      fine = rw e tt;
+      completes = λ z r f. rw e at f;
+    }
+
+pub members_of-returns-in_err-object-clause-grows : goal.members_of-returns-in_err-object-clause-grows
+members_of-returns-in_err-object-clause-grows g t c = grows_trans c.loop-member.invariant.grows c.in_err-object.ensures.grows
+
+pub members_of-returns-in_err-object-clause-did : goal.members_of-returns-in_err-object-clause-did
+members_of-returns-in_err-object-clause-did g t c =
+    let state = g.S.Strings.state in
+    let number = g.S.Strings.number in
+    let a = state c.args.store.now in
+    let b = state c.loop-member.store in
+    let i = c.loop-member.invariant in
+    let p = err_from_is_err_and c.from_residual.result c.from_residual.ensures.1 in
+    let same = scope_still a b number i.grows c.args.context.now c.requires in
+    let d = c.in_err-object.ensures.did in
+    rw (p.1, p.2) (i.completes (state c.with_member.new.store) (Err c.in_err-object.field-0.0)
+    (entries_halt number b (state c.with_member.new.store) (scope_of a number c.args.context.now) c.loop-member.object c.args.members.now c.loop-member.member-index c.member-item.result c.loop-member-test.true c.member-item.is c.in_err-object.field-0.0 (rw same at d)))
+
+pub members_of-loop-member-preserved : goal.members_of-loop-member-preserved
+members_of-loop-member-preserved g t c =
+    let state = g.S.Strings.state in
+    let number = g.S.Strings.number in
+    let a = state c.args.store.now in
+    let b = state c.loop-member.store in
+    let i = c.loop-member.invariant in
+    let same = scope_still a b number i.grows c.args.context.now c.requires in
+    let d = c.in_ok-object.ensures.did in
+    record {
+      grows = grows_trans i.grows c.in_ok-object.ensures.grows;
+      context = c.in_ok-object.ensures.context;
+      fine = c.in_ok-object.ensures.fine;
+      completes = λ e r f. i.completes e r
+          (entries_turn number b (state c.with_member.new.store) (scope_of a number c.args.context.now) c.loop-member.object c.args.members.now c.loop-member.member-index c.member-item.result c.loop-member-test.true c.member-item.is e c.in_ok-object.object r (rw same at d) f);
+    }
+
+pub members_of-returns-clause-did : goal.members_of-returns-clause-did
+members_of-returns-clause-did g t c =
+    let past = drop_of_length-le c.args.members.now {i = c.loop-member.member-index} c.loop-member-test.false in
+    c.loop-member.invariant.completes (g.S.Strings.state c.loop-member.store) (Ok c.loop-member.object)
+    (rw past (record { is = refl; good = c.loop-member.invariant.fine; ran = ran_free (g.S.Strings.state c.loop-member.store) }))
+
+pub with_member-returns-in_err-key-clause-did : goal.with_member-returns-in_err-key-clause-did
+with_member-returns-in_err-key-clause-did g t c =
+    let state = g.S.Strings.state in
+    let p = err_from_is_err_and c.from_residual.result c.from_residual.ensures.1 in
+    let d = c.in_err-key.ensures.did in
+    rw (p.1, p.2) (key_stops g.S.Strings.number (state c.args.store.now) (state c.intern_key.new.store) c.args.member.now.0 (expr_tree c.args.member.now.1) c.args.context.now c.args.object c.in_err-key.field-0.0 (rw c.as_slice.ensures at d))
+
+pub with_member-returns-in_err-value-clause-did : goal.with_member-returns-in_err-value-clause-did
+with_member-returns-in_err-value-clause-did g t c =
+    let state = g.S.Strings.state in
+    let p = err_from_is_err_and c.from_residual-in_err-value.result c.from_residual-in_err-value.ensures.1 in
+    let d = c.in_ok-key.ensures.did in
+    rw (p.1, p.2) (value_stops g.S.Strings.number (state c.args.store.now) (state c.intern_key.new.store) c.args.member.now.0 (expr_tree c.args.member.now.1) c.args.context.now c.args.object c.in_ok-key.key c.in_ok-key.ensures.grows c.requires.context (rw c.as_slice.ensures at d) (state c.expr.new.store) c.in_err-value.field-0.0 c.in_err-value.ensures.did)
+
+pub with_member-put-requires-clause-object : goal.with_member-put-requires-clause-object
+with_member-put-requires-clause-object g t c =
+    let state = g.S.Strings.state in
+    fine_fields_still (state c.args.store.now) (state c.expr.new.store) (grows_trans c.in_ok-key.ensures.grows c.in_ok-value.ensures.grows) g.S.Strings.number c.args.object c.requires.object
+
+pub with_member-put-requires-clause-key : goal.with_member-put-requires-clause-key
+with_member-put-requires-clause-key g t c =
+    let state = g.S.Strings.state in
+    key_still (state c.intern_key.new.store) (state c.expr.new.store) c.in_ok-value.ensures.grows (g.S.Strings.number c.in_ok-key.key) c.in_ok-key.ensures.fine
+
+pub with_member-returns-clause-grows : goal.with_member-returns-clause-grows
+with_member-returns-clause-grows g t c = grows_trans (grows_trans c.in_ok-key.ensures.grows c.in_ok-value.ensures.grows) c.put.ensures.grows
+
+pub with_member-returns-clause-context : goal.with_member-returns-clause-context
+with_member-returns-clause-context g t c =
+    context_fine_still (g.S.Strings.state c.expr.new.store) (g.S.Strings.state c.put.new.store) g.S.Strings.number c.put.ensures.grows c.args.context.now c.in_ok-value.ensures.context
+
+pub with_member-returns-clause-did : goal.with_member-returns-clause-did
+with_member-returns-clause-did g t c =
+    let state = g.S.Strings.state in
+    let d = c.in_ok-key.ensures.did in
+    entry_does g.S.Strings.number (state c.args.store.now) (state c.intern_key.new.store) c.args.member.now.0 (expr_tree c.args.member.now.1) c.args.context.now c.args.object c.in_ok-key.key c.in_ok-key.ensures.grows c.requires.context (rw c.as_slice.ensures at d) (state c.expr.new.store) (state c.put.new.store) c.in_ok-value.value c.put.result c.in_ok-value.ensures.grows c.requires.object c.in_ok-key.ensures.fine c.in_ok-value.ensures.did c.put.ensures.did
+
+pub one_step-returns-in-Property-clause-context : goal.one_step-returns-in-Property-clause-context
+one_step-returns-in-Property-clause-context g t c =
+    context_fine_still (g.S.Strings.state c.args.store.now) (g.S.Strings.state c.read_property.new.store) g.S.Strings.number c.read_property.ensures.grows c.args.context.now c.requires.context
+
+pub one_step-returns-in-Property-clause-did : goal.one_step-returns-in-Property-clause-did
+one_step-returns-in-Property-clause-did g t c =
+    let d = c.read_property.ensures.did in
+    rw (c.in-Property.is, tree_of_property c.in-Property.at c.in-Property.key) (rw c.as_slice.ensures at d)
+
+pub one_step-returns-in-Description-clause-context : goal.one_step-returns-in-Description-clause-context
+one_step-returns-in-Description-clause-context g t c =
+    context_fine_still (g.S.Strings.state c.args.store.now) (g.S.Strings.state c.read_description.new.store) g.S.Strings.number c.read_description.ensures.grows c.args.context.now c.requires.context
+
+pub one_step-call-requires-clause-fine : goal.one_step-call-requires-clause-fine
+one_step-call-requires-clause-fine g t c =
+    fine_still (g.S.Strings.state c.args.store.now) (g.S.Strings.state c.exprs.new.store) g.S.Strings.number c.in_ok-values-in-Call.ensures.grows c.args.value.now c.requires.value
+
+pub one_step-returns-in_ok-values-in-Call-clause-grows : goal.one_step-returns-in_ok-values-in-Call-clause-grows
+one_step-returns-in_ok-values-in-Call-clause-grows g t c = grows_trans c.in_ok-values-in-Call.ensures.grows c.call.ensures.grows
+
+pub one_step-read_index-requires-clause-value : goal.one_step-read_index-requires-clause-value
+one_step-read_index-requires-clause-value g t c =
+    fine_still (g.S.Strings.state c.args.store.now) (g.S.Strings.state c.expr.new.store) g.S.Strings.number c.in_ok-index-in-Index.ensures.grows c.args.value.now c.requires.value

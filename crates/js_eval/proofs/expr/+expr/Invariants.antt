@@ -1,11 +1,15 @@
 use Rattle.std.proofs.Common.{◌+◌, ◌*◌, max, drop, unwrap_or, Result, Vec, Global}
 use Rattle.js_store.specs.State.{State, Grows}
 use Rattle.eval_tree.specs.declared.tree.Expr.{size-Expr}
-use Rattle.eval_tree.specs.Tree.{expr_tree, links_tree, steps_tree, exprs_tree}
-use Rattle.eval_values.specs.declared.value.Value.{Value}
+use Rattle.eval_tree.specs.Tree.{expr_tree, links_tree, steps_tree, exprs_tree, entries_tree}
+use Rattle.js_item.specs.declared.item.Item.{Item}
 use Rattle.eval_values.specs.declared.value.Stop.{Stop}
 use Rattle.js_eval.specs.Expression.{expr_out, links_out, steps_out, exprs_out}
-use Rattle.eval_values.specs.Seen.{seen, IsFine, all_seen, AllFine}
+use Rattle.js_item.specs.Contents.{Fields, no_fields}
+use Rattle.js_item.specs.Seen.{seen, says, fields_mapped}
+use Rattle.js_item.specs.Fine.{strings_of, IsFine, FineFields}
+use Rattle.eval_values.specs.Seen.{all_seen, AllFine}
+use Rattle.js_eval.specs.Paid.{entries_paid, Makes}
 use Rattle.js_eval.specs.Seen.{ContextFine, scope_of}
 use Rattle.eval_values.specs.Does.{Does, GivesAll}
 use Rattle.eval_values.proofs.Each.{each_behind}
@@ -20,7 +24,7 @@ invariant-links-loop-link g l =
       grows : Grows (state l.fn.store) (state l.store);
       context : ContextFine (state l.store) number l.context;
       fine : IsFine (state l.store) number l.value;
-      completes : (c : State g.S.Strings.Frame) (r : Result (Value g.row.S-Ref.Denot) Stop) →
+      completes : (c : State g.S.Strings.Frame) (r : Result (Item g.row.S-Ref.Denot) Stop) →
           Does number (state l.store) c r (links_out (links_tree (drop l.link-index l.rest)) (scope_of (state l.fn.store) number l.context) (seen (state l.store) number l.value)) →
           Does number (state l.fn.store) c r (links_out (links_tree l.rest) (scope_of (state l.fn.store) number l.context) (seen (state l.fn.store) number l.fn.first));
     }
@@ -33,7 +37,7 @@ invariant-steps-loop-step g l =
       grows : Grows (state l.fn.store) (state l.store);
       context : ContextFine (state l.store) number l.context;
       fine : IsFine (state l.store) number (unwrap_or l.value l.first);
-      completes : (c : State g.S.Strings.Frame) (r : Result (Value g.row.S-Ref.Denot) Stop) →
+      completes : (c : State g.S.Strings.Frame) (r : Result (Item g.row.S-Ref.Denot) Stop) →
           Does number (state l.store) c r (steps_out (steps_tree (drop l.step-index l.rest)) (scope_of (state l.fn.store) number l.context) (seen (state l.store) number (unwrap_or l.value l.first))) →
           Does number (state l.fn.store) c r (steps_out (steps_tree l.rest) (scope_of (state l.fn.store) number l.context) (seen (state l.fn.store) number l.first));
     }
@@ -47,9 +51,22 @@ invariant-exprs-loop-e g l =
       grows : Grows (state l.fn.store) (state l.store);
       context : ContextFine (state l.store) number l.context;
       fine : AllFine (state l.store) number l.values.items;
-      completes : (c : State g.S.Strings.Frame) (r : Result (Vec (Value g.row.S-Ref.Denot) Global) Stop) →
+      completes : (c : State g.S.Strings.Frame) (r : Result (Vec (Item g.row.S-Ref.Denot) Global) Stop) →
           GivesAll number (state l.store) c r (each_behind (λ e. expr_out (expr_tree e) meant) (drop l.e-index l.list) (all_seen (state l.store) number l.values.items)) →
           GivesAll number (state l.fn.store) c r (exprs_out (exprs_tree l.list) meant);
+    }
+
+abbrev pub invariant-members_of-loop-member : goal.invariant-members_of-loop-member
+invariant-members_of-loop-member g l =
+    let state = g.S.Strings.state in
+    let number = g.S.Strings.number in
+    record {
+      grows : Grows (state l.fn.store) (state l.store);
+      context : ContextFine (state l.store) number l.context;
+      fine : FineFields (strings_of (state l.store)) number l.object;
+      completes : (c : State g.S.Strings.Frame) (r : Result (Fields g.row.S-Ref.Denot) Stop) →
+          Makes number (state l.store) c r (entries_paid (entries_tree (drop l.member-index l.members)) (scope_of (state l.fn.store) number l.context) (fields_mapped (says (state l.store) number) l.object)) →
+          Makes number (state l.fn.store) c r (entries_paid (entries_tree l.members) (scope_of (state l.fn.store) number l.context) no_fields);
     }
 
 -- each form in one of its own functions, then its parts; a form of several parts is as deep as the deepest of them
@@ -88,3 +105,12 @@ decreases-steps_of_name g l = 8 * goal.size-steps_of_name g l + 4
 
 abbrev pub decreases-post : goal.decreases-post
 decreases-post g l = 8 * max (goal.size-post g l) (size-Expr l.of.now) + 5
+
+abbrev pub decreases-with_member : goal.decreases-with_member
+decreases-with_member g l = 8 * goal.size-with_member g l + 1
+
+abbrev pub decreases-members_of : goal.decreases-members_of
+decreases-members_of g l = 8 * goal.size-members_of g l + 2
+
+abbrev pub decreases-object_literal : goal.decreases-object_literal
+decreases-object_literal g l = 8 * goal.size-object_literal g l + 3

@@ -4,7 +4,7 @@ use Rattle.std.proofs.lemmas.Result.{err_from_is_err_and}
 use Rattle.js_store.proofs.Laws.{grows_trans}
 use Rattle.eval_tree.specs.Tree.{block_tree}
 use Rattle.eval_tree.proofs.Trees.{tree_of_block, tree_of_let, tree_of_const, tree_of_assign, tree_of_append, tree_of_print, tree_of_if, tree_of_for}
-use Rattle.eval_values.specs.Seen.{seen}
+use Rattle.js_item.specs.Seen.{seen}
 use Rattle.js_eval.specs.Script.{Flow, block_flow, turn_flow, turns}
 use Rattle.js_eval.specs.Seen.{context_bindings, scope_of}
 use Rattle.js_eval.specs.Flows.{Went}

@@ -3,7 +3,7 @@ use Rattle.js_store.specs.State.{State, Grows}
 use Rattle.eval_tree.specs.declared.tree.Block.{size-Block}
 use Rattle.eval_tree.specs.Tree.{stmts_tree, block_tree, arm_tree, arms}
 use Rattle.eval_values.specs.declared.value.Stop.{Stop}
-use Rattle.eval_values.specs.Outcome.{Val}
+use Rattle.js_item.specs.Seen.{Val}
 use Rattle.eval_scopes.specs.Bindings.{Bindings}
 use Rattle.js_eval.specs.Script.{stmts_flow, block_flow, arms_flow, turn_flow, turns}
 use Rattle.js_eval.specs.Seen.{ContextFine, context_bindings, scope_of}

@@ -3,7 +3,8 @@ use Rattle.eval_values.specs.declared.value.Kind.TheVariants.{ReferenceError}
 use Rattle.eval_values.specs.declared.value.Stop.TheVariants.{Threw}
 use Rattle.eval_values.specs.Outcome.{bind}
 use Rattle.eval_values.specs.Operators.{plus}
-use Rattle.eval_values.specs.Seen.{seen, IsFine}
+use Rattle.js_item.specs.Seen.{seen}
+use Rattle.js_item.specs.Fine.{IsFine}
 use Rattle.eval_tree.specs.Tree.{expr_tree}
 use Rattle.eval_scopes.specs.Bindings.{meant}
 use Rattle.eval_scopes.specs.Seen.{bindings_of}

@@ -1,6 +1,6 @@
 use Rattle.std.proofs.Common.{◌≡◌, ◌∙◌, length, map, ap, arith}
 use Rattle.std.proofs.lemmas.List.{length-map}
-use Rattle.run_generate.specs.Texts.{generated, named_for}
+use Rattle.run_sources.specs.Texts.{generated, named_for}
 use Rattle.run_sources.specs.Answers.{source_for, sources_for}
 use Rattle.run_sources.specs.Program.{program_from}
 use Rattle.js_run.specs.Moment.{ended, sinks}

@@ -1,4 +1,5 @@
 use Rattle.std.proofs.Common.{◌≡◌, length, ◌+◌, ◌*◌, map}
+use Rattle.parse_syntax.specs.Tables.{tables_of}
 use Rattle.parse_laws.specs.Reader.{with_front}
 use Rattle.eval_tree.specs.Tree.{arm_tree, stmt_tree}
 use Rattle.parse_statements.specs.At.{others_at, statements_at}
@@ -26,13 +27,13 @@ abbrev pub decreases-list : goal.decreases-list
 decreases-list l = 16 * l.room + 4
 
 abbrev pub invariant-if_statement-loop-after : goal.invariant-if_statement-loop-after
-invariant-if_statement-loop-after l = with_front (map arm_tree l.arms.items) (others_at l.names l.prints l.room l.rest) ≡ with_front (map arm_tree l.initial.arms.items) (others_at l.names l.prints l.room l.initial.rest)
+invariant-if_statement-loop-after l = with_front (map arm_tree l.arms.items) (others_at (tables_of l.tables) l.prints l.room l.rest) ≡ with_front (map arm_tree l.initial.arms.items) (others_at (tables_of l.tables) l.prints l.room l.initial.rest)
 
 abbrev pub decreases-if_statement-loop-after : goal.decreases-if_statement-loop-after
 decreases-if_statement-loop-after l = length l.rest
 
 abbrev pub invariant-list-loop-alloc : goal.invariant-list-loop-alloc
-invariant-list-loop-alloc l = with_front (map stmt_tree l.items.items) (statements_at l.names l.prints l.room l.rest) ≡ statements_at l.names l.prints l.room l.tokens
+invariant-list-loop-alloc l = with_front (map stmt_tree l.items.items) (statements_at (tables_of l.tables) l.prints l.room l.rest) ≡ statements_at (tables_of l.tables) l.prints l.room l.tokens
 
 abbrev pub decreases-list-loop-alloc : goal.decreases-list-loop-alloc
 decreases-list-loop-alloc l = length l.rest

@@ -11,8 +11,9 @@ invariant-tokens l = record {
   within : l.at ≤ length l.fn.text;
   literals : length l.source.literals.items ≤ l.at;
   names : length l.source.names.items ≤ l.at;
+  keys : length l.source.keys.items ≤ l.at;
   agrees : Agrees l.numbers l.source.names.items;
-  goes : Goes l.fn.text l.at l.source.tokens.items (before_at l.source.tokens.items l.source.literals.items l.source.names.items l.at);
+  goes : Goes l.fn.text l.at l.source.tokens.items l.opened (before_at l.source.tokens.items l.source.literals.items l.source.names.items l.source.keys.items l.at);
   fails : (fault : LexFault) → Fails l.fn.text l.at fault → Fails l.fn.text 0 fault;
 }
 

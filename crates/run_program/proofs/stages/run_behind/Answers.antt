@@ -4,8 +4,8 @@ use Rattle.eval_tree.specs.Tree.{tree_of}
 use Rattle.eval_scopes.specs.declared.env.Binding.{Binding}
 use Rattle.eval_scopes.specs.Bindings.{Bound}
 use Rattle.eval_scopes.specs.Seen.{bounds_of}
-use Rattle.eval_values.specs.declared.value.Value.{Value}
-use Rattle.eval_values.specs.Outcome.{Val}
+use Rattle.js_item.specs.declared.item.Item.{Item}
+use Rattle.js_item.specs.Seen.{Val}
 use Rattle.js_eval.specs.Evaluates.{Evaluates}
 use Rattle.js_eval.specs.Script.{meaning}
 use Rattle.js_eval.specs.Seen.{bounds_seen}
@@ -24,7 +24,7 @@ returns-then-not-is_done-clause-ran g c = let a = state_in c.args.session.now in
     let after : List (Bound Val) = bounds_seen b number (bounds_of e.new.env) in
     subst (λ (os : List Outcome). HaveRunFrom a b (Some tree) (job_trees c.args.jobs.now) (Some o) os) (sym {A = List Outcome} c.clear.ensures.items)
     (have_stopped a b c.args.prelude.now o after c.requires.unused e.ensures.grows
-    (subst (λ (env : List (Binding (Value JsStr))). Evaluates a b [] e.new.lines after e.result (meaning tree (bounds_seen a number (bounds_of env)) a.limit)) c.new-env.ensures
+    (subst (λ (env : List (Binding (Item JsStr))). Evaluates a b [] e.new.lines after e.result (meaning tree (bounds_seen a number (bounds_of env)) a.limit)) c.new-env.ensures
     (subst (λ (x : List ℕ). Evaluates a b x e.new.lines after e.result (meaning tree (bounds_seen a number (bounds_of c.new-env.result)) a.limit)) c.new-lines.ensures e.ensures.meaning))
     (job_trees c.args.jobs.now)
     (λ done. let both : true ≡ false = sym (c.is_done.ensures.1 done) ∙ c.if-not-is_done.true in cc))
@@ -39,6 +39,6 @@ returns-clause-ran g c = let a = state_in c.args.session.now in let e = c.eval-e
     let back = take_at outs (drop (length outs) c.args.outcomes.now.items) c.args.outcomes.now.len (omega (arith, many, c.requires.lengths, places.ensures.len, room)) in
     subst (λ (os : List Outcome). HaveRunFrom a d (Some tree) (job_trees js) (Some o) os) (sym back)
     (have_behind a b c.args.prelude.now o after c.requires.unused e.ensures.grows
-    (subst (λ (env : List (Binding (Value JsStr))). Evaluates a b [] e.new.lines after e.result (meaning tree (bounds_seen a number (bounds_of env)) a.limit)) c.new-env.ensures
+    (subst (λ (env : List (Binding (Item JsStr))). Evaluates a b [] e.new.lines after e.result (meaning tree (bounds_seen a number (bounds_of env)) a.limit)) c.new-env.ensures
     (subst (λ (x : List ℕ). Evaluates a b x e.new.lines after e.result (meaning tree (bounds_seen a number (bounds_of c.new-env.result)) a.limit)) c.new-lines.ensures e.ensures.meaning))
     d e.new.env js outs refl (c.is_done.ensures.0 c.if-not-is_done.false) r c.requires.numbered)

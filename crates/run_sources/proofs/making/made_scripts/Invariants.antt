@@ -1,5 +1,5 @@
 use Rattle.std.proofs.Common.{◌≡◌, map, take}
-use Rattle.run_generate.specs.Texts.{named_for}
+use Rattle.run_sources.specs.Texts.{named_for}
 use Rattle.run_sources.specs.Answers.{source_for}
 use Rattle.run_sources.proofs.making.made_scripts.Given as goal
 

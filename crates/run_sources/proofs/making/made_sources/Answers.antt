@@ -1,5 +1,5 @@
 use Rattle.std.proofs.Common.{rules, ◌<◌, length, map, subst}
-use Rattle.run_generate.specs.Texts.{named_for}
+use Rattle.run_sources.specs.Texts.{named_for}
 use Rattle.run_sources.specs.Answers.{AreShort, source_for}
 use Rattle.run_sources.proofs.Stages.{small_short}
 use Rattle.run_sources.proofs.Turns.{begun}

@@ -6,6 +6,7 @@ use Rattle.heap_intern.specs.Sessions.{state_by, table_of}
 use Rattle.heap_intern.specs.Shares.{IsJoined}
 use Rattle.heap_intern.proofs.Shares.{belongs_here, sizes_are, state_joined}
 use Rattle.heap_intern.proofs.Lately.{kept_by}
+use Rattle.heap_intern.proofs.OneUnit.{singles_by}
 use Rattle.heap_intern.proofs.session.Session.join.Goals as goal
 
 pub join-requires-clause-belongs : goal.join-requires-clause-belongs
@@ -26,3 +27,6 @@ invariant_of-self-clause-last_kept c = let s = c.args.self.now in let v : View =
 
 pub invariant_of-self-clause-older_kept : goal.invariant_of-self-clause-older_kept
 invariant_of-self-clause-older_kept c = let s = c.args.self.now in let v : View = s.text.reader.agent.seat.me.0 in let w : View = c.join.new.self.seat.me.0 in kept_by v w (c.join.ensures.known) s.older s.older_kept
+
+pub invariant_of-self-clause-singles_kept : goal.invariant_of-self-clause-singles_kept
+invariant_of-self-clause-singles_kept c = let s = c.args.self.now in let v : View = s.text.reader.agent.seat.me.0 in let w : View = c.join.new.self.seat.me.0 in singles_by v w (c.join.ensures.known) s.singles.ids s.singles_kept

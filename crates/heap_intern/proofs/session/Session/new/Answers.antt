@@ -1,7 +1,4 @@
-use Rattle.std.proofs.Common.{◌∙◌, subst, sym, arith}
-use Rattle.heap_table.specs.declared.agent.Agent.{Agent}
-use Rattle.heap_table.specs.declared.heap.Heap.{Heap}
-use Rattle.heap_table.specs.Agents.{Belongs}
+use Rattle.std.proofs.Common.{◌∙◌, arith}
 use Rattle.heap_intern.specs.Sound.{limit_high}
 use Rattle.heap_intern.proofs.Lately.{kept_none}
 use Rattle.heap_intern.proofs.session.Session.new.Goals as goal
@@ -11,6 +8,7 @@ invariant_of-result c = record {
   one_limit = c.new.ensures.limit ∙ c.units.ensures;
   last_kept = kept_none c.new.result.reader.agent.seat.me.0 c.none.result c.none.ensures;
   older_kept = kept_none c.new.result.reader.agent.seat.me.0 c.none-2.result c.none-2.ensures;
+  singles_kept = c.none-3.ensures c.new.result.reader.agent.seat.me.0;
 }
 
 pub new-requires-clause-most : goal.new-requires-clause-most

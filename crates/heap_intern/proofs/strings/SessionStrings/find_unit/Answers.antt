@@ -1,5 +1,4 @@
-use Rattle.std.proofs.Common.{◌∙◌, ◌+◌, ◌≡◌, ℕ, List, None, length, ap, subst, sym, arith}
-use Rattle.std.specs.Prelude.{slice_range}
+use Rattle.std.proofs.Common.{◌∙◌, ℕ, List, None, length, ap, subst, sym, arith}
 use Rattle.heap_rule.specs.declared.view.View.{View}
 use Rattle.heap_rule.proofs.MapLemmas.{has_key}
 use Rattle.heap_read.proofs.Loaded.{reads_trans}
@@ -7,6 +6,7 @@ use Rattle.js_store.specs.Limits.{limit_units}
 use Rattle.js_store.specs.Units.{IsFirstUnit}
 use Rattle.heap_intern.specs.Sessions.{table_of}
 use Rattle.heap_intern.proofs.Lately.{kept_by}
+use Rattle.heap_intern.proofs.OneUnit.{singles_by}
 use Rattle.heap_intern.proofs.States.{history_reads, step_at, step_reads, text_is}
 use Rattle.heap_intern.proofs.strings.SessionStrings.find_unit.Goals as goal
 
@@ -38,3 +38,7 @@ invariant_of-self-clause-last_kept c = let s = c.args.self.now in let v : View =
 pub invariant_of-self-clause-older_kept : goal.invariant_of-self-clause-older_kept
 invariant_of-self-clause-older_kept c = let s = c.args.self.now in let v : View = s.text.reader.agent.seat.me.0 in let x : View = c.window-window.new.self.reader.agent.seat.me.0 in let w : View = c.find_in.new.self.reader.agent.seat.me.0 in
     kept_by v w ((reads_trans v x w c.window-window.ensures.reads c.find_in.ensures.reads).known) s.older s.older_kept
+
+pub invariant_of-self-clause-singles_kept : goal.invariant_of-self-clause-singles_kept
+invariant_of-self-clause-singles_kept c = let s = c.args.self.now in let v : View = s.text.reader.agent.seat.me.0 in let x : View = c.window-window.new.self.reader.agent.seat.me.0 in let w : View = c.find_in.new.self.reader.agent.seat.me.0 in
+    singles_by v w ((reads_trans v x w c.window-window.ensures.reads c.find_in.ensures.reads).known) s.singles.ids s.singles_kept

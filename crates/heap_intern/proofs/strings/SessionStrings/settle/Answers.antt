@@ -9,9 +9,11 @@ use Rattle.js_store.specs.Faults.{Step}
 use Rattle.js_store.specs.Limits.{limit_units}
 use Rattle.js_store.specs.Rows.{settle_words}
 use Rattle.heap_intern.specs.Faults.{fault_in_text}
-use Rattle.heap_intern.specs.Sessions.{is_settled, state_by, table_of}
+use Rattle.heap_intern.specs.Sessions.{state_by, table_of}
+use Rattle.heap_intern.specs.Settled.{is_settled}
 use Rattle.heap_intern.proofs.Calls.{never_slots, settle_refused, settled_step}
 use Rattle.heap_intern.proofs.Lately.{kept_by}
+use Rattle.heap_intern.proofs.OneUnit.{singles_by}
 use Rattle.heap_intern.proofs.States.{history_continues, settled_test, step_at, text_is}
 use Rattle.heap_intern.proofs.strings.SessionStrings.settle.Goals as goal
 
@@ -48,3 +50,6 @@ invariant_of-self-clause-last_kept c = let s = c.args.self.now in let v : View =
 
 pub invariant_of-self-clause-older_kept : goal.invariant_of-self-clause-older_kept
 invariant_of-self-clause-older_kept c = let s = c.args.self.now in let v : View = s.text.reader.agent.seat.me.0 in let w : View = c.settle.new.self.reader.agent.seat.me.0 in kept_by v w (c.settle.ensures.continues.known) s.older s.older_kept
+
+pub invariant_of-self-clause-singles_kept : goal.invariant_of-self-clause-singles_kept
+invariant_of-self-clause-singles_kept c = let s = c.args.self.now in let v : View = s.text.reader.agent.seat.me.0 in let w : View = c.settle.new.self.reader.agent.seat.me.0 in singles_by v w (c.settle.ensures.continues.known) s.singles.ids s.singles_kept

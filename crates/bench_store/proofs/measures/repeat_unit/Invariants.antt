@@ -1,5 +1,0 @@
-use Rattle.js_store.specs.State.{IsKnown}
-use Rattle.bench_store.proofs.measures.repeat_unit.Given as goal
-
-abbrev pub invariant-loop-turn : goal.invariant-loop-turn
-invariant-loop-turn g l = IsKnown (g.S.Strings.state l.store) (g.S.Strings.number l.unit)

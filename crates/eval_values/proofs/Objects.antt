@@ -1,0 +1,28 @@
+-- Objects as strings and as numbers, by whether they have an own property `toString`.
+use Rattle.std.proofs.Common.{arith, ◌≡◌, ℕ, true, false, None, Result, Err, refl, ap}
+use Rattle.std.specs.Prelude.{is_some, bytes_eq, codes, List}
+use Rattle.js_store.specs.State.{State}
+use Rattle.js_store.specs.Faults.{Step}
+use Rattle.js_item.specs.Contents.{Fields}
+use Rattle.js_item.specs.Puts.{place_by, has_units}
+use Rattle.js_item.specs.Seen.{says, fields_mapped}
+use Rattle.js_item.proofs.Values.{mapped_place}
+use Rattle.eval_values.specs.declared.value.Kind.TheVariants.{TypeError}
+use Rattle.eval_values.specs.declared.value.Stop.{Stop}
+use Rattle.eval_values.specs.declared.value.Stop.TheVariants.{Threw}
+use Rattle.js_store.specs.State.{IsKnown, text}
+use Rattle.eval_values.specs.Conversions.{own_to_string, object_string, spelled}
+use Rattle.eval_values.specs.Does.{GivesText}
+use Rattle.eval_values.proofs.Compose.{did_before, ran_of_step}
+
+-- the keys of the members, told by their references
+pub own_by_keys : {F R : Type 0} (s : State F) (name : R → ℕ) (fs : Fields R) → is_some (place_by (has_units s name (codes "toString")) fs) ≡ own_to_string (fields_mapped (says s name) fs)
+own_by_keys s name fs = ap is_some (mapped_place (says s name) (λ k. bytes_eq k (codes "toString")) fs)
+
+-- the keys were read, and then there is an error or a new string
+module _ {F R : Type 0} (name : R → ℕ) (a b : State F) (fs : Fields (List ℕ)) (s : Step a b None 0 0) (h : b.history ≡ a.history) where
+  pub string_throws : own_to_string fs ≡ true → GivesText name a b (Err (Threw TypeError)) (object_string fs)
+  string_throws e = rw e (refl, ran_of_step 0 0 s h (omega arith) (omega arith))
+
+  pub string_made : (c : State F) (r : Result R Stop) → own_to_string fs ≡ false → GivesText name b c r (spelled (codes "[object Object]")) → GivesText name a c r (object_string fs)
+  string_made c r e d = rw e (did_before a b c (λ q v. text q (name v)) (λ q v. IsKnown q (name v)) r (spelled (codes "[object Object]")) s h d)

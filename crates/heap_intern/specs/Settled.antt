@@ -1,0 +1,13 @@
+-- The test of a settled string, by the form that was seen of it.
+use Rattle.std.specs.Prelude.{Bool, true, false, Option, Some, None}
+use Rattle.js_header.specs.declared.form.Form.{Form}
+use Rattle.js_header.specs.declared.form.Form.TheVariants.{Unborn, Flat, Cons, Sliced, Thin}
+
+-- the form was seen, and is no Cons
+abbrev pub is_settled : Option Form → Bool
+is_settled None = false
+is_settled (Some Unborn) = true
+is_settled (Some (Flat wide start fixed)) = true
+is_settled (Some (Cons wide left right)) = false
+is_settled (Some (Sliced wide parent offset)) = true
+is_settled (Some (Thin target)) = true

@@ -1,0 +1,38 @@
+-- Object literals (ECMA-262, "Object Initializer").
+use Rattle.std.specs.Prelude.{ℕ, suc, ◌+◌, List, [], ◌∷◌, length, nat_le, ◌&&◌, if◌then◌else◌, bytes_eq}
+use Rattle.eval_tree.specs.Tree.{Entries, no_entries, entry}
+use Rattle.js_item.specs.Contents.{Fields, object, count}
+use Rattle.js_item.specs.Fine.{depth}
+use Rattle.js_item.specs.Puts.{put_by}
+use Rattle.js_item.specs.Seen.{Val}
+use Rattle.eval_values.specs.declared.value.Kind.TheVariants.{RangeError}
+use Rattle.eval_values.specs.Outcome.{Ledger, Out, gave, ended, threw, free, cost, refuses}
+use Rattle.eval_values.specs.Need.{parts}
+
+-- how many members a literal has, and the units of its keys
+abbrev pub members_in : Entries → ℕ
+members_in no_entries = 0
+members_in (entry key value rest) = members_in rest + 1
+
+abbrev pub key_units : Entries → ℕ
+key_units no_entries = 0
+key_units (entry key value rest) = length key + key_units rest
+
+-- what a literal needs, beside its values
+abbrev pub literal_cost : Entries → Ledger
+literal_cost members = cost (parts (members_in members) (key_units members))
+
+-- a key is interned, unless it is longer than a string may be
+abbrev pub key_interned : ℕ → List ℕ → Out (List ℕ)
+key_interned limit key =
+    if nat_le (length key) limit
+    then gave key (record { interned = key ∷ []; texts = []; ids = 0; words = 0 })
+    else ended (threw RangeError) free
+
+-- a property of the object gets a value, in its place where there is one of this key ("CreateDataPropertyOrThrow")
+abbrev pub with_property : List ℕ → Val → Fields (List ℕ) → Fields (List ℕ)
+with_property key value fs = put_by (λ k. bytes_eq k key) key value fs
+
+-- the object, where it is nested at most 200 deep and has at most 65,536 members in all its levels
+abbrev pub object_out : ℕ → Fields (List ℕ) → Out Val
+object_out at fs = if nat_le (suc (depth fs)) 200 && nat_le (count fs) 65536 then gave (object fs) free else refuses at

@@ -1,0 +1,150 @@
+// The fault of a token that can't stand where it stands.
+ghost use Rattle.std.specs.Prelude.{◌≡◌};
+ghost use Rattle.parse_laws.specs.Reader.{Wrong, TooDeep, is_some};
+ghost use Rattle.parse_syntax.specs.Terminals as terminals;
+ghost use Rattle.js_parse.specs.Spells as definition;
+ghost use Rattle.js_parse.specs.Spells.{front_of, misplaced};
+ghost use Rattle.js_parse.specs.Told as told;
+
+use crate::fault::ParseFault;
+use js_lex::Mark;
+use parse_look::next;
+use parse_statements::Fault;
+use parse_syntax::Token;
+
+// The offset of a token.
+pub(crate) fn place(token: &Token) -> u32
+    ensures { result ≡ terminals.place token.now }
+{
+    match token {
+        Token::Directive { at } => *at,
+        Token::Text { at, .. } => *at,
+        Token::Number { at, .. } => *at,
+        Token::Name { at, .. } => *at,
+        Token::Word { at, .. } => *at,
+        Token::Mark { at, .. } => *at,
+    }
+}
+
+// Whether a token that can't stand where it stands is a word.
+fn is_word(token: &Token) -> bool
+    ensures { result ≡ terminals.is_word token.now }
+{
+    match token {
+        Token::Name { .. } => true,
+        Token::Word { .. } => true,
+        Token::Directive { .. } => false,
+        Token::Text { .. } => false,
+        Token::Number { .. } => false,
+        Token::Mark { .. } => false,
+    }
+}
+
+fn is_opening(token: &Token) -> bool
+    ensures { result ≡ is_some (terminals.opening token.now) }
+{
+    matches!(
+        token,
+        Token::Mark {
+            mark: Mark::OpenParen,
+            ..
+        }
+    )
+}
+
+fn is_point(token: Token) -> bool
+    ensures { result ≡ is_some (terminals.point token) }
+{
+    matches!(
+        token,
+        Token::Mark {
+            mark: Mark::Point,
+            ..
+        }
+    )
+}
+
+// The tokens before the rest.
+fn front<'a>(tokens: &'a [Token], rest: &[Token]) -> &'a [Token]
+    ensures { result.now ≡ front_of tokens.now rest.now }
+{
+    let count = tokens.len().saturating_sub(rest.len());
+    &tokens[..count]
+}
+
+// Of two tokens that are a point and a word the place of the word.
+fn pointed(two: &[Token]) -> Option<u32>
+    ensures { result ≡ definition.pointed two.now }
+{
+    let (point, rest) = next(two)?;
+    let (word, rest) = next(rest)?;
+    if !rest.is_empty() {
+        return None;
+    }
+    if !is_point(point) {
+        return None;
+    }
+    if is_word(&word) {
+        Some(place(&word))
+    } else {
+        None
+    }
+}
+
+// The word behind a point that ends the front, where `(` follows.
+fn called(front: &[Token], token: &Token) -> Option<u32>
+    ensures { result ≡ definition.called front.now token.now }
+{
+    if !is_opening(token) {
+        return None;
+    }
+    let before = front.len().saturating_sub(2);
+    pointed(&front[before..])
+}
+
+fn misplaced_at(called: Option<u32>, token: &Token) -> ParseFault
+    ensures { result ≡ definition.misplaced_at called token.now }
+{
+    let at = place(token);
+    match called {
+        Some(at) => ParseFault::NotInProfile { at },
+        None => {
+            if is_word(token) {
+                ParseFault::NotInProfile { at }
+            } else {
+                ParseFault::Unexpected { at }
+            }
+        }
+    }
+}
+
+// The fault at a token that can't stand there, or at the end.
+fn wrong(tokens: &[Token], rest: &[Token], end: u32) -> ParseFault
+    ensures { result ≡ misplaced Wrong (front_of tokens.now rest.now) rest.now end }
+{
+    match rest {
+        [] => ParseFault::Unexpected { at: end },
+        [first, ..] => misplaced_at(called(front(tokens, rest), first), first),
+    }
+}
+
+// The fault at a token that opens one too many.
+fn too_deep(tokens: &[Token], rest: &[Token], end: u32) -> ParseFault
+    ensures { result ≡ misplaced TooDeep (front_of tokens.now rest.now) rest.now end }
+{
+    match rest {
+        [] => ParseFault::TooDeep { at: end },
+        [first, ..] => ParseFault::TooDeep { at: place(first) },
+    }
+}
+
+/// The fault of tokens of a text of this length.
+pub(crate) fn grammar_fault(fault: Fault<'_>, tokens: &[Token], end: u32) -> ParseFault
+    ensures { result ≡ told.grammar_fault fault.entry tokens.now end }
+{
+    match fault {
+        Fault::Memory => ParseFault::Memory,
+        Fault::Wrong { rest } => wrong(tokens, rest, end),
+        Fault::TooDeep { rest } => too_deep(tokens, rest, end),
+    }
+}

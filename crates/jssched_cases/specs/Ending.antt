@@ -1,9 +1,0 @@
--- How a call ended: its status, and what both sinks took.
-use Rattle.std.specs.Prelude.{◌≡◌}
-use Rattle.jssched_cases.specs.declared.case.Ending.{Ending}
-
--- the status is the same, and each sink took the same bytes
-pub record IsSame (one other : Ending) : Type 0 where
-  pub status : one.status ≡ other.status
-  pub out : one.out.items ≡ other.out.items
-  pub err : one.err.items ≡ other.err.items

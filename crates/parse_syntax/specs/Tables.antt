@@ -1,0 +1,11 @@
+-- What the numbers of tokens stand for.
+use Rattle.std.specs.Prelude.{ℕ, List}
+use Rattle.parse_syntax.specs.declared.token.Tables.{Tables as Kept}
+
+-- by their numbers, the letters of words, and the units of the strings that are keys of members
+pub record Tables : Type 0 where
+  pub names : List (List ℕ)
+  pub keys : List (List ℕ)
+
+abbrev pub tables_of : Kept → Tables
+tables_of t = record { names = t.names.items; keys = t.keys.items }

@@ -1,2 +1,0 @@
-mod Rounds
-mod Small
