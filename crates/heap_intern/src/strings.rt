@@ -111,6 +111,10 @@ impl<'h> Strings for Session<'h> {
         a.id == b.id
     }
 
+    fn id_of(&self, s: JsStr) -> Option<u32> {
+        Some(s.id)
+    }
+
     fn limit(&self) -> u32 {
         self.limit.units()
     }

@@ -1,5 +1,5 @@
 // The trait of all stores of strings.
-ghost use Rattle.std.specs.Prelude.{◌≡◌, ◌+◌, ◌<◌, ◌≤◌, ◌↔◌, ℕ, List, [], ◌∷◌, ◌++◌, length, slice_index, slice_range, IfOk, OnOk, OnErr, IsTrue};
+ghost use Rattle.std.specs.Prelude.{◌≡◌, ◌+◌, ◌<◌, ◌≤◌, ◌↔◌, ℕ, List, [], ◌∷◌, ◌++◌, length, slice_index, slice_range, IfOk, IfSome, OnOk, OnErr, IsTrue};
 ghost use Rattle.js_store.specs.State.{State, Has, IsKnown, IsSettled, text, Interned, Sound};
 
 use crate::faults::{ConcatFault, StoreFault};
@@ -152,6 +152,15 @@ pub trait Strings {
             (text (state self.old) (number a) ≡ text (state self.old) (number b)) }
         ensures step { Step (state self.old) (state self.new) None 0 0 }
         ensures history { (state self.new).history ≡ (state self.old).history };
+
+    /// The number as which the reference is seen, where the store tells it, as an engine's number
+    /// of a string. References with one number name one string, and interned strings of the same
+    /// units have one number.
+    fn id_of(&self, _s: Self::Ref) -> Option<u32>
+        ensures { IfSome result (λ n. n ≡ number _s) }
+    {
+        None
+    }
 
     /// The greatest length of a string that a call makes.
     fn limit(&self) -> u32

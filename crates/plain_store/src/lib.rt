@@ -176,6 +176,10 @@ impl Strings for PlainStore {
         a == b
     }
 
+    fn id_of(&self, s: u32) -> Option<u32> {
+        Some(s)
+    }
+
     fn limit(&self) -> u32 {
         self.limit.units()
     }
