@@ -8,7 +8,7 @@ use Rattle.js_store.specs.State.{State, Grows, IsKnown, text}
 use Rattle.js_store.specs.Rows.{wide_words}
 use Rattle.js_store.specs.Faults.{Step, NeverSlots}
 use Rattle.js_store.specs.declared.faults.StoreFault.{StoreFault}
-use Rattle.js_store.proofs.Laws.{text_still, step_after}
+use Rattle.js_store.proofs.Laws.{text_still, step_refl, step_after}
 use Rattle.js_item.specs.declared.item.Item.{Item}
 use Rattle.eval_values.specs.declared.value.Stop.{Stop}
 use Rattle.eval_values.specs.declared.value.Stop.TheVariants.{Store}
@@ -54,6 +54,10 @@ module _ {F : Type 0} (a b c : State F) (m n : ℕ) (k : IsKnown a m) (l : IsKno
 
   pub texts_order : (r : Ordering) → r ≡ units_cmp (text b m) (text b n) → Tells a c (Ok (Some r)) (compared (Some (units_cmp (text a m) (text a n))) (text a m) (text a n))
   texts_order r e = told (Some (units_cmp (text a m) (text a n))) (Some r) (ap Some (e ∙ cc (text_still s.grows m k, text_still s.grows n l)))
+
+-- two references that name one string
+pub one_same : {F : Type 0} (a : State F) (m n : ℕ) → m ≡ n → Tells a a (Ok true) (compared (bytes_eq (text a m) (text a n)) (text a m) (text a n))
+one_same a m n e = compared_given a a (bytes_eq (text a m) (text a n)) true (text a m) (text a n) (sym ((bytes_eq-Decides (text a m) (text a n)).1 (ap (text a) e))) (step_after (step_refl a) (step_refl a) (omega arith) (omega arith)) refl
 
 -- both sides as primitive values, and then their order
 module _ {F R : Type 0} (name : R → ℕ) (a b : State F) (at : ℕ) (v w : Item R) where

@@ -1,5 +1,5 @@
 // Comparisons of values (ECMA-262, "IsStrictlyEqual", "IsLessThan").
-ghost use Rattle.std.specs.Prelude.{◌≡◌, ◌+◌, length, OnOk, bytes_eq, Some};
+ghost use Rattle.std.specs.Prelude.{◌≡◌, ◌+◌, length, OnOk, bytes_eq, true, Some};
 ghost use Rattle.js_number.specs.Places.{IsLawful};
 ghost use Rattle.js_search.specs.Order.{units_cmp};
 ghost use Rattle.js_store.specs.State.{Grows, IsKnown, IsSettled, text};
@@ -206,8 +206,21 @@ fn same_texts<S: Strings>(store: &mut S, a: S::Ref, b: S::Ref) -> Result<bool, S
         (compared (bytes_eq (text (S.state store.old) (S.number a)) (text (S.state store.old) (S.number b)))
         (text (S.state store.old) (S.number a)) (text (S.state store.old) (S.number b))) }
 {
+    if is_one(store, a, b) {
+        return Ok(true);
+    }
     settle_both(store, a, b)?;
     Ok(js_search::equal(store, a, b))
+}
+
+// Whether the store tells one number of both, so that they name one string.
+fn is_one<S: Strings>(store: &S, a: S::Ref, b: S::Ref) -> bool
+    ensures { result ≡ true → S.number a ≡ S.number b }
+{
+    match store.id_of(a) {
+        Some(number) => store.id_of(b) == Some(number),
+        None => false,
+    }
 }
 
 // Both strings are settled afterwards.

@@ -87,7 +87,7 @@ module _ {F R : Type 0} (name : R → ℕ) (a : State F) (at : ℕ) (fs : Fields
 -- a member that was put in
 module _ {F R : Type 0} (name : R → ℕ) (a b : State F) (fs : Fields R) (key : R) (v : Item R) (step : Step a b None 0 0) (history : b.history ≡ a.history) where
   put_fine : FineFields (strings_of a) name fs → KeyFine (strings_of a) (name key) → IsFine a name v → FineFields (strings_of a) name (put_by (names_key a name key) key (content v) fs)
-  put_fine h k l = fine_put (strings_of a) name (names_key a name key) key (content v) fs k l h
+  put_fine h k l = fine_put (strings_of a) name key (content v) k l fs h
 
   pub put_does : (gs : Fields R) → FineFields (strings_of a) name fs → KeyFine (strings_of a) (name key) → IsFine a name v → gs ≡ put_by (names_key a name key) key (content v) fs → Makes name a b (Ok gs) (gave (with_property (text a (name key)) (seen a name v) (fields_mapped (says a name) fs)) free)
   put_does gs h k l e =

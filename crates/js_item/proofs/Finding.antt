@@ -8,7 +8,7 @@ use Rattle.js_item.specs.Contents.{Content, Fields, no_fields, field, add}
 use Rattle.js_item.proofs.Still.{key_still}
 use Rattle.js_item.specs.declared.item.Member.{Member}
 use Rattle.js_item.specs.Views.{content, fields_of}
-use Rattle.js_item.specs.Fine.{Strings, strings_of, KeyFine, KeysFine}
+use Rattle.js_item.specs.Fine.{Strings, strings_of, units_at, KeyFine, NoKey, KeysFine, KeysDiffer}
 use Rattle.js_item.specs.Puts.{width, one_on, place_by, value_by, put_by, has_units, with_value}
 
 none_head : (b : Bool) (o : Option ℕ) → (if b then Some 0 else one_on o) ≡ None → (b ≡ false) × (o ≡ None)
@@ -63,6 +63,48 @@ pub told_units : {F R : Type 0} (a b : State F) (name : R → ℕ) (g : Grows a 
 told_units a b name g key r t k l e =
     let s : t ≡ bytes_eq (text b (name r)) (text b (name key)) = same_is t (text b (name r)) (text b (name key)) e in
     cc (text_still g (name key) k.known, text_still g (name r) l.known)
+
+-- a member that has the key is the first one that has it, since keys differ
+no_key_at : {R : Type 0} (s : Strings) (name : R → ℕ) (u : List ℕ) (ms : List (Member R)) (i : ℕ) (m : Member R) → i < length ms → m ≡ get_or ms i m → NoKey s name u (fields_of ms) → units_at s (name m.key) ≡ u → ⊥
+no_key_at s name u [] i m h e k = absurd (omega arith)
+no_key_at s name u (n ∷ ms) zero m h e k = let P : Member _ → Type 0 = λ p. units_at s (name p.key) ≡ u → ⊥ in subst P (sym e) k.0
+no_key_at s name u (n ∷ ms) (suc i) m h e k = no_key_at s name u ms i m (omega arith) e k.1
+
+other_key : (u v w : List ℕ) → (v ≡ u → ⊥) → bytes_eq v w ≡ true → bytes_eq u w ≡ false
+other_key u v w n e = false_unless (bytes_eq u w) (λ t. absurd (n ((bytes_eq-Decides v w).0 e ∙ sym ((bytes_eq-Decides u w).0 t))))
+
+module _ {R : Type 0} (s : Strings) (name : R → ℕ) (w : List ℕ) where
+  abbrev named : R → Bool
+  named r = bytes_eq (units_at s (name r)) w
+
+  pub place_only : (ms : List (Member R)) (i : ℕ) (m : Member R) → i < length ms → m ≡ get_or ms i m → KeysDiffer s name (fields_of ms) → named m.key ≡ true → place_by named (fields_of ms) ≡ Some i
+  place_only [] i m h e d b = absurd (omega arith)
+  place_only (n ∷ ms) zero m h e d b = let same : named n.key ≡ true = ap (λ (p : Member R). named p.key) (sym e) ∙ b in if_true (named n.key) (place_by named (fields_of ms)) same
+  place_only (n ∷ ms) (suc i) m h e d b =
+      let apart : units_at s (name m.key) ≡ units_at s (name n.key) → ⊥ = no_key_at s name (units_at s (name n.key)) ms i m (omega arith) e d.0 in
+      if_false (named n.key) (place_by named (fields_of ms)) (Some i) (other_key (units_at s (name n.key)) (units_at s (name m.key)) w apart b) (place_only ms i m (omega arith) e d.1 b)
+
+-- the place of a key stays while the store grows
+module _ {F R : Type 0} (a b : State F) (name : R → ℕ) (g : Grows a b) (key : R) (k : KeyFine (strings_of a) (name key)) where
+  pub place_still : (fs : Fields R) → KeysFine (strings_of a) name fs → place_by (has_units b name (text b (name key))) fs ≡ place_by (has_units a name (text a (name key))) fs
+  place_still no_fields h = refl
+  place_still (field l v rest) h = rw (text_still g (name l) h.0.known, text_still g (name key) k.known, place_still rest h.1) refl
+
+-- the member at a place that an index told, in the object fs
+module _ {F R : Type 0} (a : State F) (name : R → ℕ) (fs : Fields R) (ms : List (Member R)) (are : fields_of ms ≡ fs) (i : ℕ) (m : Member R) (within : i < length ms) (there : m ≡ get_or ms i m) where
+  pub key_there : KeysFine (strings_of a) name fs → KeyFine (strings_of a) (name (get_or ms i m).key)
+  key_there keys =
+      let P : Fields R → Type 0 = λ f. KeysFine (strings_of a) name f in
+      let Q : Member R → Type 0 = λ q. KeyFine (strings_of a) (name q.key) in
+      subst Q there (keys_at (strings_of a) name ms i m within there (subst P (sym are) keys))
+
+  pub place_there : (key : R) (t : Bool) → KeysDiffer (strings_of a) name fs → (IsTrue t ↔ (text a (name (get_or ms i m).key) ≡ text a (name key))) → t ≡ true → place_by (has_units a name (text a (name key))) fs ≡ Some i
+  place_there key t differ e y =
+      let P : Fields R → Type 0 = λ f. KeysDiffer (strings_of a) name f in
+      let u = text a (name key) in
+      let same : text a (name m.key) ≡ u = ap (λ (q : Member R). text a (name q.key)) there ∙ e.0 y in
+      sym (ap (λ f. place_by (has_units a name u) f) are)
+      ∙ place_only (strings_of a) name u ms i m within there (subst P (sym are) differ) ((bytes_eq-Decides (text a (name m.key)) u).1 same)
 
 -- a turn of a search for a key, at the state a when it began and b within it; the members are those of the object fs
 module _ {F R : Type 0} (a b : State F) (name : R → ℕ) (g : Grows a b) (fs : Fields R) (ms : List (Member R)) (are : fields_of ms ≡ fs) (keys : KeysFine (strings_of a) name fs)

@@ -1,7 +1,8 @@
 -- What is fine stays fine while the store grows.
-use Rattle.std.proofs.Common.{◌≡◌, ℕ, zero, suc, ◌<◌, Bool, true, false, List, [], ◌∷◌, ◌++◌, length, get_or, refl, sym, subst, arith}
-use Rattle.std.specs.Prelude.{if◌then◌else◌, Contains, Option, Some}
+use Rattle.std.proofs.Common.{◌≡◌, ℕ, zero, suc, ◌<◌, Bool, true, false, List, [], ◌∷◌, ◌++◌, length, get_or, refl, sym, subst, ◌∙◌, arith}
+use Rattle.std.specs.Prelude.{if◌then◌else◌, bytes_eq, Contains, Option, Some}
 use Rattle.std.proofs.lemmas.List.Elements.{Contains-append_right}
+use Rattle.std.proofs.lemmas.Slice.Eq.{bytes_eq-Decides}
 use Rattle.js_store.specs.State.{State, Grows, Has, IsSettled, Interned, text}
 use Rattle.js_store.proofs.Laws.{known_still, text_still, has_known, has_text}
 use Rattle.js_texts.specs.Texts.{Every}
@@ -11,7 +12,17 @@ use Rattle.js_item.specs.declared.item.Item.{Item}
 use Rattle.js_item.specs.declared.item.Member.{Member}
 use Rattle.js_item.specs.Views.{content, fields_of}
 use Rattle.js_item.specs.Puts.{value_by, put_by}
-use Rattle.js_item.specs.Fine.{Strings, strings_of, SymbolFine, KeyFine, FineOf, FineFields, KeysFine, IsFine}
+use Rattle.js_item.specs.Fine.{Strings, strings_of, units_at, SymbolFine, KeyFine, NoKey, FineOf, FineFields, KeysFine, KeysDiffer, IsFine}
+
+-- the keys of a fine object are fine, and differ
+module _ {R : Type 0} (s : Strings) (name : R → ℕ) where
+  pub fine_keys : (fs : Fields R) → FineFields s name fs → KeysFine s name fs
+  fine_keys no_fields h = tt
+  fine_keys (field key value rest) h = (h.0, fine_keys rest h.2)
+
+  pub fine_differ : (fs : Fields R) → FineFields s name fs → KeysDiffer s name fs
+  fine_differ no_fields h = tt
+  fine_differ (field key value rest) h = (h.3, fine_differ rest h.2)
 
 module _ {F : Type 0} (a b : State F) (g : Grows a b) where
   symbol_still : (n : ℕ) → SymbolFine (strings_of a) n → SymbolFine (strings_of b) n
@@ -23,6 +34,14 @@ module _ {F : Type 0} (a b : State F) (g : Grows a b) where
       record { known = s.0; interned = s.1; settled = g.settled n h.settled }
 
   module _ {R : Type 0} (name : R → ℕ) where
+    no_key_still : (u : List ℕ) (fs : Fields R) → KeysFine (strings_of a) name fs → NoKey (strings_of a) name u fs → NoKey (strings_of b) name u fs
+    no_key_still u no_fields k h = tt
+    no_key_still u (field key value rest) k h = (λ e. h.0 (sym (text_still g (name key) k.0.known) ∙ e), no_key_still u rest k.1 h.1)
+
+    -- the same of the units of a key
+    no_other_still : (key : R) (fs : Fields R) → KeyFine (strings_of a) (name key) → KeysFine (strings_of a) name fs → NoKey (strings_of a) name (units_at (strings_of a) (name key)) fs → NoKey (strings_of b) name (units_at (strings_of b) (name key)) fs
+    no_other_still key fs l k h = subst (λ (u : List ℕ). NoKey (strings_of b) name u fs) (sym (text_still g (name key) l.known)) (no_key_still (units_at (strings_of a) (name key)) fs k h)
+
     mutual
       pub fine_of_still : (c : Content R) → FineOf (strings_of a) name c → FineOf (strings_of b) name c
       fine_of_still undefined h = tt
@@ -36,7 +55,7 @@ module _ {F : Type 0} (a b : State F) (g : Grows a b) where
 
       pub fine_fields_still : (fs : Fields R) → FineFields (strings_of a) name fs → FineFields (strings_of b) name fs
       fine_fields_still no_fields h = tt
-      fine_fields_still (field key value rest) h = (key_still (name key) h.0, fine_of_still value h.1, fine_fields_still rest h.2)
+      fine_fields_still (field key value rest) h = (key_still (name key) h.0, fine_of_still value h.1, fine_fields_still rest h.2, no_other_still key rest h.0 (fine_keys (strings_of a) name rest h.2) h.3)
 
     pub fine_still : (v : Item R) → IsFine a name v → IsFine b name v
     fine_still v h = fine_of_still (content v) h
@@ -45,12 +64,8 @@ module _ {F : Type 0} (a b : State F) (g : Grows a b) where
     keys_still no_fields h = tt
     keys_still (field key value rest) h = (key_still (name key) h.0, keys_still rest h.1)
 
--- the keys of a fine object are fine, and so is each value, also once one more was put in
+-- each value of a fine object is fine, also once one more was put in
 module _ {R : Type 0} (s : Strings) (name : R → ℕ) where
-  pub fine_keys : (fs : Fields R) → FineFields s name fs → KeysFine s name fs
-  fine_keys no_fields h = tt
-  fine_keys (field key value rest) h = (h.0, fine_keys rest h.2)
-
   pub fine_value : (ms : List (Member R)) (i : ℕ) (m : Member R) → i < length ms → m ≡ get_or ms i m → FineFields s name (fields_of ms) → FineOf s name (content m.value)
   fine_value [] i m l e h = absurd (omega arith)
   fine_value (n ∷ ms) zero m l e h = let P : Member R → Type 0 = λ p. FineOf s name (content p.value) in subst P (sym e) h.1
@@ -64,13 +79,31 @@ module _ {R : Type 0} (s : Strings) (name : R → ℕ) where
   fine_by is no_fields v h e = cc
   fine_by is (field k w rest) v h e = fine_pick (is k) w v (value_by is rest) e h.1 (λ r. fine_by is rest v h.2 r)
 
-  fine_if : (b : Bool) (fs gs : Fields R) → FineFields s name fs → FineFields s name gs → FineFields s name (if b then fs else gs)
-  fine_if true fs gs h k = h
-  fine_if false fs gs h k = k
+  fine_if : (b : Bool) (fs gs : Fields R) → (b ≡ true → FineFields s name fs) → (b ≡ false → FineFields s name gs) → FineFields s name (if b then fs else gs)
+  fine_if true fs gs h k = h refl
+  fine_if false fs gs h k = k refl
 
-  pub fine_put : (is : R → Bool) (key : R) (value : Content R) (fs : Fields R) → KeyFine s (name key) → FineOf s name value → FineFields s name fs → FineFields s name (put_by is key value fs)
-  fine_put is key value no_fields k v h = (k, v, tt)
-  fine_put is key value (field l w rest) k v h = fine_if (is l) (field l value rest) (field l w (put_by is key value rest)) (h.0, v, h.2) (h.0, h.1, fine_put is key value rest k v h.2)
+  no_key_if : (b : Bool) (u : List ℕ) (fs gs : Fields R) → NoKey s name u fs → NoKey s name u gs → NoKey s name u (if b then fs else gs)
+  no_key_if true u fs gs h k = h
+  no_key_if false u fs gs h k = k
+
+  no_key_put : (is : R → Bool) (key : R) (value : Content R) (u : List ℕ) (fs : Fields R) → (units_at s (name key) ≡ u → ⊥) → NoKey s name u fs → NoKey s name u (put_by is key value fs)
+  no_key_put is key value u no_fields n h = (n, tt)
+  no_key_put is key value u (field l w rest) n h = no_key_if (is l) u (field l value rest) (field l w (put_by is key value rest)) h (h.0, no_key_put is key value u rest n h.1)
+
+  apart : (u w : List ℕ) → bytes_eq u w ≡ false → w ≡ u → ⊥
+  apart u w h e = let t : false ≡ true = sym h ∙ (bytes_eq-Decides u w).1 (sym e) in cc
+
+  -- a member that is put in by its key leaves the keys different
+  module _ (key : R) (value : Content R) (k : KeyFine s (name key)) (v : FineOf s name value) where
+    abbrev names : R → Bool
+    names r = bytes_eq (units_at s (name r)) (units_at s (name key))
+
+    pub fine_put : (fs : Fields R) → FineFields s name fs → FineFields s name (put_by names key value fs)
+    fine_put no_fields h = (k, v, tt, tt)
+    fine_put (field l w rest) h = fine_if (names l) (field l value rest) (field l w (put_by names key value rest))
+        (λ t. (h.0, v, h.2, h.3))
+        (λ n. (h.0, h.1, fine_put rest h.2, no_key_put names key value (units_at s (name l)) rest (apart (units_at s (name l)) (units_at s (name key)) n) h.3))
 
 -- what was interned last is a key
 pub key_made : {F : Type 0} (s : State F) (n : ℕ) (u : List ℕ) (h : List (List ℕ × ℕ)) → Has s n u → IsSettled s n → s.history ≡ h ++ (u, n) ∷ [] → KeyFine (strings_of s) n

@@ -1,5 +1,5 @@
 -- When items may be used in a store.
-use Rattle.std.specs.Prelude.{ℕ, ◌≤◌, suc, max, List, Bool, Option, IsSome, IsTrue, Contains, unwrap_or, []}
+use Rattle.std.specs.Prelude.{◌≡◌, ℕ, ◌≤◌, suc, max, List, Bool, Option, IsSome, IsTrue, Contains, unwrap_or, []}
 use Rattle.js_number.specs.Places.{IsLawful}
 use Rattle.js_store.specs.State.{State}
 use Rattle.js_texts.specs.Texts.{Every}
@@ -52,7 +52,16 @@ pub record Bounded {R : Type 0} (fs : Fields R) : Type 0 where
   pub deep : suc (depth fs) ≤ 200
   pub many : count fs ≤ 65536
 
--- lawful numbers, known strings, symbols that were interned, and objects whose keys and values are fine and which are bounded
+-- the units of a number
+abbrev pub units_at : Strings → ℕ → List ℕ
+units_at s n = unwrap_or (s.known n) []
+
+-- no key of the members has these units
+abbrev pub NoKey : {R : Type 0} → Strings → (R → ℕ) → List ℕ → Fields R → Type 0
+NoKey s name u no_fields = Unit {0}
+NoKey s name u (field key value rest) = (units_at s (name key) ≡ u → ⊥) × NoKey s name u rest
+
+-- lawful numbers, known strings, symbols that were interned, and objects whose keys and values are fine, whose keys differ, and which are bounded
 abbrev mutual
   pub FineOf : {R : Type 0} → Strings → (R → ℕ) → Content R → Type 0
   FineOf s name undefined = Unit {0}
@@ -66,12 +75,17 @@ abbrev mutual
 
   pub FineFields : {R : Type 0} → Strings → (R → ℕ) → Fields R → Type 0
   FineFields s name no_fields = Unit {0}
-  FineFields s name (field key value rest) = KeyFine s (name key) × FineOf s name value × FineFields s name rest
+  FineFields s name (field key value rest) = KeyFine s (name key) × FineOf s name value × FineFields s name rest × NoKey s name (units_at s (name key)) rest
 
 -- the keys of the members of an object
 abbrev pub KeysFine : {R : Type 0} → Strings → (R → ℕ) → Fields R → Type 0
 KeysFine s name no_fields = Unit {0}
 KeysFine s name (field key value rest) = KeyFine s (name key) × KeysFine s name rest
+
+-- the keys of the members differ
+abbrev pub KeysDiffer : {R : Type 0} → Strings → (R → ℕ) → Fields R → Type 0
+KeysDiffer s name no_fields = Unit {0}
+KeysDiffer s name (field key value rest) = NoKey s name (units_at s (name key)) rest × KeysDiffer s name rest
 
 abbrev pub IsFine : {F R : Type 0} → State F → (R → ℕ) → Item R → Type 0
 IsFine s name v = FineOf (strings_of s) name (content v)

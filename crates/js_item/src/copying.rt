@@ -38,7 +38,7 @@ impl<R: Copy> Object<R> {
                 value,
             })?;
         }
-        Ok(Object::of(copies))
+        Ok(Object::of(copies, self.index().clone()?))
     }
 }
 

@@ -4,6 +4,7 @@ ghost use Rattle.js_item.specs.Contents.{no_fields, add};
 ghost use Rattle.js_item.specs.Puts.{width, with_value};
 ghost use Rattle.js_item.specs.Views.{content, fields_of};
 
+use crate::index::Index;
 use js_number::Num;
 use js_units::NoMemory;
 use std::alloc::Global;
@@ -31,11 +32,12 @@ pub struct Member<R> {
     pub value: Item<R>,
 }
 
-/// A list of members.
+/// A list of members, with an index of their places once there are many, which contracts don't see.
 #[cycle(item)]
 #[derive(Debug, Drop)]
 pub struct Object<R> {
     members: Vec<Member<R>>,
+    index: Index,
 }
 
 impl<R> Model for Object<R> {
@@ -64,14 +66,28 @@ impl<R: Copy> Object<R> {
     {
         Object {
             members: Vec::new(alloc),
+            index: Index::new(),
         }
     }
 
-    // An object of these members.
-    pub(crate) fn of(members: Vec<Member<R>>) -> Object<R>
+    // An object of these members, with an index of them.
+    pub(crate) fn of(members: Vec<Member<R>>, index: Index) -> Object<R>
         ensures { result ≡ fields_of members.items }
     {
-        Object { members }
+        Object { members, index }
+    }
+
+    // The index of the members.
+    pub(crate) fn index(&self) -> &Index {
+        &self.index
+    }
+
+    // Gives a number a place in the index.
+    pub(crate) fn note(&mut self, number: u32, place: u32) -> Result<(), NoMemory>
+        ensures { self.new ≡ self.old }
+    {
+        let alloc = self.alloc();
+        self.index.note(alloc, number, place)
     }
 
     // Adds a member at the end.

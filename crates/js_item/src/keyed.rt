@@ -1,19 +1,58 @@
 // The members of objects, by their keys.
-ghost use Rattle.std.specs.Prelude.{◌≡◌, ◌<◌, OnOk, OnErr, MatchOption, None, Some, is_some, bytes_eq};
+ghost use Rattle.std.specs.Prelude.{◌≡◌, ◌<◌, OnOk, OnErr, MatchOption, IfSome, None, Some, is_some, bytes_eq};
 ghost use Rattle.js_store.specs.State.{text};
 ghost use Rattle.js_store.specs.Faults.{Step};
-ghost use Rattle.js_item.specs.Fine.{strings_of, KeyFine, KeysFine};
+ghost use Rattle.js_item.specs.Fine.{strings_of, KeyFine, KeysFine, KeysDiffer};
 ghost use Rattle.js_item.specs.Puts.{width, has_units, names_key, place_by, value_by, put_by};
 ghost use Rattle.js_item.specs.Views.{content, fields_of};
 
+use crate::index::FEW;
 use crate::item::{Item, Member, Object};
 use js_store::Strings;
 use js_units::NoMemory;
 
 impl<R: Copy> Object<R> {
     /// The place of the member whose key has the units of `key`, if there is one. It compares
-    /// numbers alone.
+    /// numbers alone, and where the store tells these and there is such a member, as many in a large
+    /// object as in a small one.
     pub fn find<S: Strings<Ref = R>>(&self, store: &mut S, key: R) -> Option<u32>
+        requires few { width self.now < 4294967296 }
+        requires keys { KeysFine (strings_of (S.state store.old)) S.number self.now }
+        requires apart { KeysDiffer (strings_of (S.state store.old)) S.number self.now }
+        requires key { KeyFine (strings_of (S.state store.old)) (S.number key) }
+        ensures place { result ≡ place_by (names_key (S.state store.old) S.number key) self.now }
+        ensures step { Step (S.state store.old) (S.state store.new) None 0 0 }
+        ensures history { (S.state store.new).history ≡ (S.state store.old).history }
+    {
+        match self.find_by_index(store, key) {
+            Some(place) => Some(place),
+            None => self.find_one_by_one(store, key),
+        }
+    }
+
+    // The place that the index has for the key's number, if the member there has the key.
+    fn find_by_index<S: Strings<Ref = R>>(&self, store: &mut S, key: R) -> Option<u32>
+        requires keys { KeysFine (strings_of (S.state store.old)) S.number self.now }
+        requires apart { KeysDiffer (strings_of (S.state store.old)) S.number self.now }
+        requires key { KeyFine (strings_of (S.state store.old)) (S.number key) }
+        ensures place { IfSome result
+            (λ place. place_by (names_key (S.state store.old) S.number key) self.now ≡ Some place) }
+        ensures step { Step (S.state store.old) (S.state store.new) None 0 0 }
+        ensures history { (S.state store.new).history ≡ (S.state store.old).history }
+    {
+        let number = store.id_of(key)?;
+        let place = self.index().place(number)?;
+        let members = self.members();
+        if place as usize >= members.len() {
+            return None;
+        }
+        if store.same(members[place as usize].key, key) {
+            return Some(place);
+        }
+        None
+    }
+
+    fn find_one_by_one<S: Strings<Ref = R>>(&self, store: &mut S, key: R) -> Option<u32>
         requires few { width self.now < 4294967296 }
         requires keys { KeysFine (strings_of (S.state store.old)) S.number self.now }
         requires key { KeyFine (strings_of (S.state store.old)) (S.number key) }
@@ -33,6 +72,7 @@ impl<R: Copy> Object<R> {
     pub fn get<S: Strings<Ref = R>>(&self, store: &mut S, key: R) -> Option<&Item<R>>
         requires few { width self.now < 4294967296 }
         requires keys { KeysFine (strings_of (S.state store.old)) S.number self.now }
+        requires apart { KeysDiffer (strings_of (S.state store.old)) S.number self.now }
         requires key { KeyFine (strings_of (S.state store.old)) (S.number key) }
         ensures value { MatchOption result
             (value_by (names_key (S.state store.old) S.number key) self.now ≡ None)
@@ -57,6 +97,7 @@ impl<R: Copy> Object<R> {
     ) -> Result<(), NoMemory>
         requires few { width self.old < 4294967295 }
         requires keys { KeysFine (strings_of (S.state store.old)) S.number self.old }
+        requires apart { KeysDiffer (strings_of (S.state store.old)) S.number self.old }
         requires key { KeyFine (strings_of (S.state store.old)) (S.number key) }
         ensures added { OnOk result
             (self.new ≡ put_by (names_key (S.state store.old) S.number key) key (content value) self.old) }
@@ -69,7 +110,43 @@ impl<R: Copy> Object<R> {
                 self.replace(place, value);
                 Ok(())
             }
-            None => self.push(Member { key, value }),
+            None => {
+                self.enter(store, key)?;
+                self.push(Member { key, value })
+            }
+        }
+    }
+
+    // Enters a key in the index as that of the next member, which is behind the first few. With the
+    // first such member those before it are entered.
+    fn enter<S: Strings<Ref = R>>(&mut self, store: &S, key: R) -> Result<(), NoMemory>
+        requires { width self.old < 4294967295 }
+        ensures { self.new ≡ self.old }
+    {
+        let next = self.members().len() as u32;
+        if next < FEW {
+            return Ok(());
+        }
+        if next == FEW {
+            for place in 0..FEW {
+                let first = self.members()[place as usize].key;
+                self.enter_at(store, first, place)?;
+            }
+        }
+        self.enter_at(store, key, next)
+    }
+
+    fn enter_at<S: Strings<Ref = R>>(
+        &mut self,
+        store: &S,
+        key: R,
+        place: u32,
+    ) -> Result<(), NoMemory>
+        ensures { self.new ≡ self.old }
+    {
+        match store.id_of(key) {
+            Some(number) => self.note(number, place),
+            None => Ok(()),
         }
     }
 

@@ -10,6 +10,7 @@
 
 mod bounds;
 mod copying;
+mod index;
 mod item;
 mod keyed;
 

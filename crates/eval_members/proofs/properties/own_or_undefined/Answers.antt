@@ -1,6 +1,6 @@
 use Rattle.std.proofs.Common.{arith}
 use Rattle.js_item.specs.Fine.{strings_of}
-use Rattle.js_item.proofs.Still.{fine_keys}
+use Rattle.js_item.proofs.Still.{fine_keys, fine_differ}
 use Rattle.js_item.proofs.Sizes.{width_most}
 use Rattle.eval_members.proofs.Lookups.{fine_given, plain_given, plain_none}
 use Rattle.eval_members.proofs.properties.own_or_undefined.Goals as goal
@@ -10,6 +10,9 @@ get-requires-clause-few g c = omega (arith, width_most c.args.object.now, c.requ
 
 pub get-requires-clause-keys : goal.get-requires-clause-keys
 get-requires-clause-keys g c = fine_keys (strings_of (g.S.Strings.state c.args.store.now)) g.S.Strings.number c.args.object.now c.requires.fine
+
+pub get-requires-clause-apart : goal.get-requires-clause-apart
+get-requires-clause-apart g c = fine_differ (strings_of (g.S.Strings.state c.args.store.now)) g.S.Strings.number c.args.object.now c.requires.fine
 
 pub returns-in_ok-copy-in-Some-clause-fine : goal.returns-in_ok-copy-in-Some-clause-fine
 returns-in_ok-copy-in-Some-clause-fine g c =

@@ -3,7 +3,7 @@ use Rattle.std.proofs.lemmas.Result.{err_from_is_err_and}
 use Rattle.js_store.specs.State.{text}
 use Rattle.js_item.specs.Fine.{strings_of}
 use Rattle.js_item.specs.Seen.{says, fields_mapped}
-use Rattle.js_item.proofs.Still.{fine_keys}
+use Rattle.js_item.proofs.Still.{fine_keys, fine_differ}
 use Rattle.js_item.proofs.Sizes.{width_most}
 use Rattle.eval_members.specs.Properties.{own, got}
 use Rattle.eval_members.proofs.Lookups.{fine_given, got_given, got_none, no_memory}
@@ -14,6 +14,9 @@ get-requires-clause-few g c = omega (arith, width_most c.args.object.now, c.requ
 
 pub get-requires-clause-keys : goal.get-requires-clause-keys
 get-requires-clause-keys g c = fine_keys (strings_of (g.S.Strings.state c.args.store.now)) g.S.Strings.number c.args.object.now c.requires.fine
+
+pub get-requires-clause-apart : goal.get-requires-clause-apart
+get-requires-clause-apart g c = fine_differ (strings_of (g.S.Strings.state c.args.store.now)) g.S.Strings.number c.args.object.now c.requires.fine
 
 pub returns-in_ok-copy-in-Some-clause-fine : goal.returns-in_ok-copy-in-Some-clause-fine
 returns-in_ok-copy-in-Some-clause-fine g c =

@@ -1,7 +1,7 @@
 use Rattle.std.proofs.lemmas.Result.{err_from_is_err_and}
 use Rattle.std.specs.Prelude.{bytes_eq}
 use Rattle.js_store.specs.State.{text}
-use Rattle.eval_values.proofs.Orders.{texts_same, compared_cut}
+use Rattle.eval_values.proofs.Orders.{texts_same, one_same, compared_cut}
 use Rattle.eval_values.proofs.comparing.same_texts.Goals as goal
 
 pub returns-in_err-settle_both-clause-did : goal.returns-in_err-settle_both-clause-did
@@ -21,3 +21,8 @@ returns-clause-did g c =
     let e = c.in_ok-settle_both.ensures in
     let q = c.equal.ensures in
     texts_same (state c.args.store.now) (state c.settle_both.new.store) (state c.equal.new.store) (number c.args.a) (number c.args.b) c.requires.left c.requires.right e.step e.history q.step q.history c.equal.result q.value
+
+pub returns-then-is_one-clause-did : goal.returns-then-is_one-clause-did
+returns-then-is_one-clause-did g c =
+    let number = g.S.Strings.number in
+    one_same (g.S.Strings.state c.args.store.now) (number c.args.a) (number c.args.b) (c.is_one.ensures c.if-is_one.true)

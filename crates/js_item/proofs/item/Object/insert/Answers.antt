@@ -15,8 +15,8 @@ returns-in-Some-clause-added g c =
     let a = g.S.Strings.state c.args.store.now in
     c.replace.ensures ∙ put_there (has_units a g.S.Strings.number (text a (g.S.Strings.number c.args.key))) c.args.key (content c.args.value) c.args.self.now c.in-Some.place (sym c.in-Some.ensures.place)
 
-pub returns-in-None-clause-added : goal.returns-in-None-clause-added
-returns-in-None-clause-added g c =
+pub returns-in_ok-enter-in-None-clause-added : goal.returns-in_ok-enter-in-None-clause-added
+returns-in_ok-enter-in-None-clause-added g c =
     let a = g.S.Strings.state c.args.store.now in
     let e = put_last (has_units a g.S.Strings.number (text a (g.S.Strings.number c.args.key))) c.args.key (content c.args.value) c.args.self.now (sym c.in-None.ensures.place) in
-    rw (← e) c.push.ensures.added
+    rw (← e, ← c.enter.ensures) c.push.ensures.added

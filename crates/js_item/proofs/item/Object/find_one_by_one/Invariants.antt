@@ -3,7 +3,7 @@ use Rattle.js_store.specs.State.{text}
 use Rattle.js_store.specs.Faults.{Step}
 use Rattle.js_item.specs.Puts.{has_units, place_by}
 use Rattle.js_item.specs.Views.{fields_of}
-use Rattle.js_item.proofs.item.Object.find.Given as goal
+use Rattle.js_item.proofs.item.Object.find_one_by_one.Given as goal
 
 abbrev pub invariant-loop-i : goal.invariant-loop-i
 invariant-loop-i g l =
