@@ -1,3 +1,4 @@
+mod Hollows
 mod Places
 mod Indexes
 mod Stacked

@@ -10,7 +10,8 @@ use Rattle.eval_scopes.specs.declared.frames.Frame.{Frame as CodeFrame}
 use Rattle.eval_scopes.specs.declared.scope.Scope.{Scope}
 use Rattle.eval_scopes.specs.declared.scope.Place.TheVariants.{Top, Block}
 use Rattle.eval_scopes.specs.Bindings.{Bound, Frame, Bindings, bound_in, changed, is_among, look, write, with_bound, inside, declare}
-use Rattle.eval_scopes.specs.Seen.{bound_of, bounds_of, names_of, frame_of, frames_of, IsPlace, IsAt, put, put_in, got, InBlock}
+use Rattle.eval_scopes.specs.Seen.{bound_of, bounds_of, names_of, frame_of, frames_of, outsides_of, blocks_of, IsPlace, IsAt, put, put_in, got, InBlock}
+use Rattle.eval_scopes.proofs.Hollows.{hollowed, spread, look_blocks, write_blocks}
 
 front : {T : Type 0} (b : Bound T) (bs : List (Bound T)) (x : List ℕ) → bytes_eq b.name x ≡ true → IsAt (b ∷ bs) x 0
 front b bs x e = record { within = omega arith; reads = rw e refl; writes = λ v. rw e refl }
@@ -86,7 +87,7 @@ whole_split [] k y l p = absurd (omega (arith, l))
 whole_split (x ∷ xs) zero y l p = cc p
 whole_split (x ∷ xs) (suc k) y l p = ap (λ q. x ∷ q) (whole_split xs k y (omega (arith, l)) p)
 
-take_split : {X : Type 0} (xs : List X) (k : ℕ) (y : X) → k < length xs → y ≡ get_or xs k y → take (suc k) xs ≡ take k xs ++ y ∷ []
+pub take_split : {X : Type 0} (xs : List X) (k : ℕ) (y : X) → k < length xs → y ≡ get_or xs k y → take (suc k) xs ≡ take k xs ++ y ∷ []
 take_split [] k y l p = absurd (omega (arith, l))
 take_split (x ∷ xs) zero y l p = cc p
 take_split (x ∷ xs) (suc k) y l p = ap (λ q. x ∷ q) (take_split xs k y (omega (arith, l)) p)
@@ -182,12 +183,17 @@ module _ {T : Type 0} (fs : List (CodeFrame T)) (top : List (Bound T)) (x : List
             ∙ ap (λ q. record { blocks = q; top = top }) (sym three))),
       )
 
-pub block_place : {T : Type 0} (s : Scope T) (x : List ℕ) (n k i : ℕ) (f : CodeFrame T) → n ≡ suc k → k < length s.blocks → f ≡ get_or s.blocks k f → Sought s.blocks (bounds_of s.env) x n → IsAt (bounds_of f.bound) x i → IsPlace s x (Block k i)
+pub block_place : {T : Type 0} (s : Scope T) (x : List ℕ) (n k i : ℕ) (f : CodeFrame T) → n ≡ suc k → k < length s.blocks.frames → f ≡ get_or s.blocks.frames k f → Sought s.blocks.frames (bounds_of s.env) x n → IsAt (bounds_of f.bound) x i → IsPlace s x (Block k i)
 block_place s x n k i f e l p h a =
-    let h' : Sought s.blocks (bounds_of s.env) x (suc k) = subst (λ q. Sought s.blocks (bounds_of s.env) x q) e h in
-    let t = sought_block s.blocks (bounds_of s.env) x k f l p i h' a in
+    let b = s.blocks in
+    let h' : Sought b.frames (bounds_of s.env) x (suc k) = subst (λ q. Sought b.frames (bounds_of s.env) x q) e h in
+    let t = sought_block b.frames (bounds_of s.env) x k f l p i h' a in
     let w : i < length f.bound = subst (λ q. i < q) (length-map f.bound bound_of) a.within in
-    record { within = block_has s.blocks k i f l p w; reads = t.0; writes = t.1 }
+    record {
+      within = block_has b.frames k i f l p w;
+      reads = look_blocks b (bounds_of s.env) x ∙ t.0;
+      writes = λ v. write_blocks b (bounds_of s.env) x v ∙ ap (λ q. hollowed b.hollow (spread (outsides_of b.frames) q)) (t.1 v);
+    }
 
 sought_top : {T : Type 0} (fs : List (CodeFrame T)) (top : List (Bound T)) (x : List ℕ) (n : ℕ) → n ≡ 0 → Sought fs top x n → (look (frames_of fs) top x ≡ bound_in top x) × ((v : T) → write (frames_of fs) top x v ≡ record { blocks = frames_of fs; top = changed top x v })
 sought_top fs top x n e h =
@@ -211,14 +217,19 @@ one_more P xs i x l p e h = λ j y k g. elim (leb_tells i j) [
       subst P one e)
 ]
 
-pub top_place : {T : Type 0} (s : Scope T) (x : List ℕ) (n i : ℕ) → n ≡ 0 → Sought s.blocks (bounds_of s.env) x n → IsAt (bounds_of s.env) x i → IsPlace s x (Top i)
+pub top_place : {T : Type 0} (s : Scope T) (x : List ℕ) (n i : ℕ) → n ≡ 0 → Sought s.blocks.frames (bounds_of s.env) x n → IsAt (bounds_of s.env) x i → IsPlace s x (Top i)
 top_place s x n i e h a =
-    let t = sought_top s.blocks (bounds_of s.env) x n e h in
+    let b = s.blocks in
+    let t = sought_top b.frames (bounds_of s.env) x n e h in
     let w : i < length s.env = subst (λ q. i < q) (length-map s.env bound_of) a.within in
-    record { within = w; reads = t.0 ∙ a.reads; writes = λ v. t.1 v ∙ ap (λ q. record { blocks = frames_of s.blocks; top = q }) (a.writes v) }
+    record {
+      within = w;
+      reads = look_blocks b (bounds_of s.env) x ∙ (t.0 ∙ a.reads);
+      writes = λ v. write_blocks b (bounds_of s.env) x v ∙ ap (λ q. hollowed b.hollow (spread (outsides_of b.frames) q)) (t.1 v ∙ ap (λ q. record { blocks = frames_of b.frames; top = q }) (a.writes v));
+    }
 
-pub no_place : {T : Type 0} (s : Scope T) (x : List ℕ) (n : ℕ) → n ≡ 0 → Sought s.blocks (bounds_of s.env) x n → bound_in (bounds_of s.env) x ≡ None → look (frames_of s.blocks) (bounds_of s.env) x ≡ None
-no_place s x n e h a = (sought_top s.blocks (bounds_of s.env) x n e h).0 ∙ a
+pub no_place : {T : Type 0} (s : Scope T) (x : List ℕ) (n : ℕ) → n ≡ 0 → Sought s.blocks.frames (bounds_of s.env) x n → bound_in (bounds_of s.env) x ≡ None → look (blocks_of s.blocks) (bounds_of s.env) x ≡ None
+no_place s x n e h a = look_blocks s.blocks (bounds_of s.env) x ∙ ((sought_top s.blocks.frames (bounds_of s.env) x n e h).0 ∙ a)
 
 -- a list with the same block in one place
 frame_kept : {T : Type 0} (fs : List (CodeFrame T)) (k : ℕ) (f g : CodeFrame T) → k < length fs → f ≡ get_or fs k f → frame_of g ≡ frame_of f → map frame_of (set fs k g) ≡ map frame_of fs

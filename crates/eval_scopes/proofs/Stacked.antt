@@ -1,12 +1,13 @@
 -- The blocks that were entered, in front of those that were left.
-use Rattle.std.proofs.Common.{arith, ◌≡◌, ℕ, ◌+◌, ◌-◌, ◌<◌, ◌≤◌, zero, suc, true, false, List, [], ◌∷◌, ◌++◌, length, map, refl, ap, sym, ◌∙◌, subst, get_or, set, take, bytes_eq}
+use Rattle.std.proofs.Common.{arith, ◌≡◌, ℕ, ◌+◌, ◌-◌, ◌<◌, ◌≤◌, zero, suc, true, false, List, [], ◌∷◌, ◌++◌, length, map, refl, ap, sym, ◌∙◌, subst, get_or, set, take, bytes_eq, reverse}
 use Rattle.std.specs.Prelude.{OnOk, OnErr, Result}
 use Rattle.std.proofs.lemmas.Slice.Eq.{bytes_eq-Decides}
 use Rattle.eval_scopes.specs.declared.env.Binding.{Binding}
 use Rattle.eval_scopes.specs.declared.frames.Frame.{Frame as CodeFrame}
 use Rattle.eval_scopes.specs.Bindings.{Bound, Frame, declare, all_but_first}
-use Rattle.eval_scopes.specs.Seen.{bound_of, bounds_of, frame_of, frames_of, put_in, InBlock, IsOnly}
-use Rattle.eval_scopes.proofs.Places.{frames_split, declare_on, declare_kept}
+use Rattle.eval_scopes.specs.Seen.{bound_of, bounds_of, frame_of, frames_of, outsides_of, hollows, with_hollows, stacked, put_in, InBlock, IsOnly}
+use Rattle.eval_scopes.proofs.Hollows.{stacked_behind, stacked_declared, stacked_same}
+use Rattle.eval_scopes.proofs.Places.{take_split, declare_on, declare_kept}
 
 -- the first n of a list
 pub map_taken : {X Y : Type 0} (f : X → Y) (n : ℕ) (xs : List X) → map f (take n xs) ≡ take n (map f xs)
@@ -52,40 +53,57 @@ put_taken (suc n) (f ∷ fs) (suc k) i v = ap (λ q. f ∷ q) (put_taken n fs k 
 pub put_stacked : {T : Type 0} (n : ℕ) (fs gs : List (CodeFrame T)) (k i : ℕ) (v : T) → map frame_of gs ≡ put_in (map frame_of fs) k i v → map frame_of (take n gs) ≡ put_in (map frame_of (take n fs)) k i v
 put_stacked n fs gs k i v e = map_taken frame_of n gs ∙ (ap (λ q. take n q) e ∙ (put_taken n (map frame_of fs) k i v ∙ ap (λ q. put_in q k i v) (sym (map_taken frame_of n fs))))
 
--- one more binding of the block that was entered last
-pub declare_taken : {T E : Type 0} (r : Result (Unit {0}) E) (fs : List (CodeFrame T)) (k : ℕ) (f g : CodeFrame T) (b : Binding T) → k < length fs → f ≡ get_or fs k f → g.names ≡ f.names → OnOk r (g.bound ≡ f.bound ++ b ∷ []) → OnOk r ((top : List (Bound T)) → record { blocks = frames_of (take (k + 1) (set fs k g)); top = top } ≡ declare (frames_of (take (k + 1) fs)) top (bound_of b))
-declare_taken {T} r fs k f g b l p m e =
-    subst (λ (q : List (CodeFrame T)). OnOk r ((top : List (Bound T)) → record { blocks = frames_of q; top = top } ≡ declare (frames_of (take (k + 1) fs)) top (bound_of b))) (sym (set_taken (k + 1) fs k g))
-    (declare_on r (take (k + 1) fs) k f g b (length_taken (k + 1) fs (omega (arith, l))) (p ∙ sym (get_taken (k + 1) fs k f (omega arith))) m e)
+-- a block with another binding stays inside as many
+pub outsides_kept : {T : Type 0} (fs : List (CodeFrame T)) (k : ℕ) (f g : CodeFrame T) → k < length fs → f ≡ get_or fs k f → g.outside ≡ f.outside → map (λ (h : CodeFrame T). h.outside) (set fs k g) ≡ map (λ (h : CodeFrame T). h.outside) fs
+outsides_kept [] k f g l p e = absurd (omega (arith, l))
+outsides_kept {T} (h ∷ fs) zero f g l p e = ap (λ q. q ∷ map (λ (h : CodeFrame T). h.outside) fs) (e ∙ ap (λ (q : CodeFrame T). q.outside) p)
+outsides_kept (h ∷ fs) (suc k) f g l p e = ap (λ q. h.outside ∷ q) (outsides_kept fs k f g (omega (arith, l)) p e)
 
-pub declare_taken_kept : {T E : Type 0} (r : Result (Unit {0}) E) (fs : List (CodeFrame T)) (k : ℕ) (f g : CodeFrame T) → k < length fs → f ≡ get_or fs k f → g.names ≡ f.names → OnErr r (g.bound ≡ f.bound) → OnErr r (frames_of (take (k + 1) (set fs k g)) ≡ frames_of (take (k + 1) fs))
-declare_taken_kept {T} r fs k f g l p m e =
-    subst (λ (q : List (CodeFrame T)). OnErr r (frames_of q ≡ frames_of (take (k + 1) fs))) (sym (set_taken (k + 1) fs k g))
-    (declare_kept r (take (k + 1) fs) k f g (length_taken (k + 1) fs (omega (arith, l))) (p ∙ sym (get_taken (k + 1) fs k f (omega arith))) m e)
+outsides_taken : {T : Type 0} (n : ℕ) (fs gs : List (CodeFrame T)) → map (λ (h : CodeFrame T). h.outside) gs ≡ map (λ (h : CodeFrame T). h.outside) fs → outsides_of (take n gs) ≡ outsides_of (take n fs)
+outsides_taken {T} n fs gs e =
+    let of : CodeFrame T → ℕ = λ h. h.outside in
+    ap (λ q. reverse q) (map_taken of n gs ∙ (ap (λ q. take n q) e ∙ sym (map_taken of n fs)))
+
+pub put_in_stack : {T : Type 0} (n : ℕ) (fs gs : List (CodeFrame T)) (k i : ℕ) (v : T) → map frame_of gs ≡ put_in (map frame_of fs) k i v → map (λ (h : CodeFrame T). h.outside) gs ≡ map (λ (h : CodeFrame T). h.outside) fs → stacked (take n gs) ≡ with_hollows (outsides_of (take n fs)) (reverse (put_in (map frame_of (take n fs)) k i v))
+put_in_stack n fs gs k i v p e =
+    ap (λ q. with_hollows q (frames_of (take n gs))) (outsides_taken n fs gs e)
+    ∙ ap (λ q. with_hollows (outsides_of (take n fs)) (reverse q)) (put_stacked n fs gs k i v p)
+
+-- one more binding of the block that was entered last
+pub declare_taken : {T E : Type 0} (r : Result (Unit {0}) E) (fs : List (CodeFrame T)) (k : ℕ) (f g : CodeFrame T) (b : Binding T) → k < length fs → f ≡ get_or fs k f → g.names ≡ f.names → g.outside ≡ f.outside → OnOk r (g.bound ≡ f.bound ++ b ∷ []) → OnOk r ((top : List (Bound T)) → record { blocks = stacked (take (k + 1) (set fs k g)); top = top } ≡ declare (stacked (take (k + 1) fs)) top (bound_of b))
+declare_taken {T} r fs k f g b l p m o e =
+    stacked_declared r (take (k + 1) fs) (take (k + 1) (set fs k g)) (bound_of b) (outsides_taken (k + 1) fs (set fs k g) (outsides_kept fs k f g l p o))
+    (subst (λ (q : List (CodeFrame T)). OnOk r ((top : List (Bound T)) → record { blocks = frames_of q; top = top } ≡ declare (frames_of (take (k + 1) fs)) top (bound_of b))) (sym (set_taken (k + 1) fs k g))
+    (declare_on r (take (k + 1) fs) k f g b (length_taken (k + 1) fs (omega (arith, l))) (p ∙ sym (get_taken (k + 1) fs k f (omega arith))) m e))
+
+pub declare_taken_kept : {T E : Type 0} (r : Result (Unit {0}) E) (fs : List (CodeFrame T)) (k : ℕ) (f g : CodeFrame T) → k < length fs → f ≡ get_or fs k f → g.names ≡ f.names → g.outside ≡ f.outside → OnErr r (g.bound ≡ f.bound) → OnErr r (stacked (take (k + 1) (set fs k g)) ≡ stacked (take (k + 1) fs))
+declare_taken_kept {T} r fs k f g l p m o e =
+    stacked_same r (take (k + 1) fs) (take (k + 1) (set fs k g)) (outsides_taken (k + 1) fs (set fs k g) (outsides_kept fs k f g l p o))
+    (subst (λ (q : List (CodeFrame T)). OnErr r (frames_of q ≡ frames_of (take (k + 1) fs))) (sym (set_taken (k + 1) fs k g))
+    (declare_kept r (take (k + 1) fs) k f g (length_taken (k + 1) fs (omega (arith, l))) (p ∙ sym (get_taken (k + 1) fs k f (omega arith))) m e))
 
 -- the block that comes next
-one_taken : {X : Type 0} (xs : List X) (k : ℕ) → k < length xs → (x : X) × (take (suc k) xs ≡ take k xs ++ x ∷ [])
-one_taken [] k l = absurd (omega (arith, l))
-one_taken (x ∷ xs) zero l = (x, refl)
-one_taken (x ∷ xs) (suc k) l = let t = one_taken xs k (omega (arith, l)) in (t.0, ap (λ q. x ∷ q) t.1)
-
 set_next : {X : Type 0} (xs : List X) (k : ℕ) (y : X) → k < length xs → take (suc k) (set xs k y) ≡ take k xs ++ y ∷ []
 set_next [] k y l = absurd (omega (arith, l))
 set_next (x ∷ xs) zero y l = refl
 set_next (x ∷ xs) (suc k) y l = ap (λ q. x ∷ q) (set_next xs k y (omega (arith, l)))
 
-pub entered_on : {T : Type 0} (fs : List (CodeFrame T)) (k : ℕ) (g : CodeFrame T) (f : Frame T) → k < length fs → frame_of g ≡ f → frames_of (take (k + 1) (set fs k g)) ≡ f ∷ frames_of (take k fs)
-entered_on {T} fs k g f l e =
-    let n : k + 1 ≡ suc k = omega arith in
-    ap (λ (q : ℕ). frames_of (take q (set fs k g))) n ∙ (ap frames_of (set_next fs k g l) ∙ (frames_split (take k fs) [] g ∙ ap (λ (q : Frame T). q ∷ frames_of (take k fs)) e))
+pub entered_on : {T : Type 0} (fs : List (CodeFrame T)) (k : ℕ) (g : CodeFrame T) (f : Frame T) (n : ℕ) → k < length fs → frame_of g ≡ f → g.outside ≡ n → stacked (take (k + 1) (set fs k g)) ≡ f ∷ hollows n (stacked (take k fs))
+entered_on {T} fs k g f n l e o =
+    let m : k + 1 ≡ suc k = omega arith in
+    ap (λ (q : ℕ). stacked (take q (set fs k g))) m
+    ∙ (ap stacked (set_next fs k g l)
+    ∙ (stacked_behind (take k fs) g
+    ∙ (ap (λ (q : Frame T). q ∷ hollows g.outside (stacked (take k fs))) e ∙ ap (λ q. f ∷ hollows q (stacked (take k fs))) o)))
 
--- the innermost block is left
-pub left_one : {T : Type 0} (fs : List (CodeFrame T)) (n : ℕ) → 0 < n → n ≤ length fs → frames_of (take (n - 1) fs) ≡ all_but_first (frames_of (take n fs))
-left_one fs n z l =
+-- the innermost block that has a frame is left
+pub left_one : {T : Type 0} (fs : List (CodeFrame T)) (n : ℕ) (f : CodeFrame T) → 0 < n → n ≤ length fs → f ≡ get_or fs (n - 1) f → hollows f.outside (stacked (take (n - 1) fs)) ≡ all_but_first (stacked (take n fs))
+left_one fs n f z l p =
     let k = n - 1 in
     let e : n ≡ suc k = omega (arith, z) in
-    let t = one_taken fs k (omega (arith, z, l)) in
-    sym (ap (λ (q : ℕ). all_but_first (frames_of (take q fs))) e ∙ (ap (λ q. all_but_first (frames_of q)) t.1 ∙ ap all_but_first (frames_split (take k fs) [] t.0)))
+    sym (ap (λ (q : ℕ). all_but_first (stacked (take q fs))) e
+    ∙ (ap (λ q. all_but_first (stacked q)) (take_split fs k f (omega (arith, z, l)) p)
+    ∙ ap all_but_first (stacked_behind (take k fs) f)))
 
 -- a turn's one binding
 pub only_one : {T : Type 0} (bs : List (Binding T)) (b : Binding T) (x : List ℕ) → length bs ≡ 1 → b ≡ get_or bs 0 b → b.constant ≡ false → bytes_eq b.name x ≡ true → IsOnly (bounds_of bs) x

@@ -2,6 +2,7 @@
 use Rattle.std.specs.Prelude.{◌≡◌, ℕ, zero, suc, ◌<◌, length, List, [], ◌∷◌, false, map, reverse, Option, slice_get, option_and_then, unwrap_or}
 use Rattle.eval_scopes.specs.declared.env.Binding.{Binding}
 use Rattle.eval_scopes.specs.declared.frames.Frame.{Frame as CodeFrame}
+use Rattle.eval_scopes.specs.declared.blocks.Blocks.{Blocks}
 use Rattle.eval_scopes.specs.declared.scope.Scope.{Scope}
 use Rattle.eval_scopes.specs.declared.scope.Place.{Place}
 use Rattle.eval_scopes.specs.declared.scope.Place.TheVariants.{Top, Block}
@@ -23,8 +24,29 @@ frame_of f = record { names = names_of f; bound = bounds_of f.bound }
 abbrev pub frames_of : {T : Type 0} → List (CodeFrame T) → List (Frame T)
 frames_of fs = reverse (map frame_of fs)
 
+abbrev pub outsides_of : {T : Type 0} → List (CodeFrame T) → List ℕ
+outsides_of fs = reverse (map (λ f. f.outside) fs)
+
+-- so many blocks that have no frame, since they declare nothing, inside others
+abbrev pub hollows : {T : Type 0} → ℕ → List (Frame T) → List (Frame T)
+hollows zero fs = fs
+hollows (suc n) fs = record { names = []; bound = [] } ∷ hollows n fs
+
+-- blocks that have a frame, and as many as these numbers say right outside each
+abbrev pub with_hollows : {T : Type 0} → List ℕ → List (Frame T) → List (Frame T)
+with_hollows [] fs = fs
+with_hollows (n ∷ ns) [] = []
+with_hollows (n ∷ ns) (f ∷ fs) = f ∷ hollows n (with_hollows ns fs)
+
+abbrev pub stacked : {T : Type 0} → List (CodeFrame T) → List (Frame T)
+stacked fs = with_hollows (outsides_of fs) (frames_of fs)
+
+-- all blocks that were entered, the innermost first
+abbrev pub blocks_of : {T : Type 0} → Blocks T → List (Frame T)
+blocks_of b = hollows b.hollow (stacked b.frames)
+
 abbrev pub bindings_of : {T : Type 0} → Scope T → Bindings T
-bindings_of s = record { blocks = frames_of s.blocks; top = bounds_of s.env }
+bindings_of s = record { blocks = blocks_of s.blocks; top = bounds_of s.env }
 
 -- the binding at a place of a list, and the list with another value there
 abbrev pub put : {T : Type 0} → List (Bound T) → ℕ → T → List (Bound T)
@@ -48,16 +70,20 @@ put_in [] k i v = []
 put_in (f ∷ fs) zero i v = with_bound f (put f.bound i v) ∷ fs
 put_in (f ∷ fs) (suc k) i v = f ∷ put_in fs k i v
 
+-- the blocks with another value at a place of a frame
+abbrev pub put_in_frame : {T : Type 0} → Blocks T → ℕ → ℕ → T → List (Frame T)
+put_in_frame b k i v = hollows b.hollow (with_hollows (outsides_of b.frames) (reverse (put_in (map frame_of b.frames) k i v)))
+
 abbrev pub got : {T : Type 0} → Option (Frame T) → ℕ → Option (Bound T)
 got f i = option_and_then (λ g. slice_get g.bound i) f
 
 abbrev pub bound_at : {T : Type 0} → Scope T → Place → Option (Bound T)
 bound_at s (Top i) = slice_get (bounds_of s.env) i
-bound_at s (Block k i) = got (slice_get (map frame_of s.blocks) k) i
+bound_at s (Block k i) = got (slice_get (map frame_of s.blocks.frames) k) i
 
 abbrev pub put_at : {T : Type 0} → Scope T → Place → T → Bindings T
-put_at s (Top i) v = record { blocks = frames_of s.blocks; top = put (bounds_of s.env) i v }
-put_at s (Block k i) v = record { blocks = reverse (put_in (map frame_of s.blocks) k i v); top = bounds_of s.env }
+put_at s (Top i) v = record { blocks = blocks_of s.blocks; top = put (bounds_of s.env) i v }
+put_at s (Block k i) v = record { blocks = put_in_frame s.blocks k i v; top = bounds_of s.env }
 
 abbrev pub InBlock : {T : Type 0} → List (CodeFrame T) → ℕ → ℕ → Type 0
 InBlock [] k i = ⊥
@@ -66,7 +92,7 @@ InBlock (f ∷ fs) (suc k) i = InBlock fs k i
 
 abbrev pub Within : {T : Type 0} → Scope T → Place → Type 0
 Within s (Top i) = i < length s.env
-Within s (Block k i) = InBlock s.blocks k i
+Within s (Block k i) = InBlock s.blocks.frames k i
 
 pub record IsPlace {T : Type 0} (s : Scope T) (x : List ℕ) (p : Place) : Type 0 where
   pub within : Within s p

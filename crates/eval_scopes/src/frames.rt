@@ -1,8 +1,8 @@
-// Frames: the blocks that were entered. Those that were left stay in their places, so that one that is
-// entered there later takes their memory over.
-ghost use Rattle.std.specs.Prelude.{◌≡◌, ◌<◌, ◌≤◌, ◌+◌, ◌∷◌, [], true, false, length, map, take, List, OnOk, OnErr};
+// Frames: the blocks that were entered and have one. Those that were left stay in their places, so that
+// one that is entered there later takes their memory over.
+ghost use Rattle.std.specs.Prelude.{◌≡◌, ◌<◌, ◌≤◌, ◌+◌, ◌∷◌, [], true, false, length, map, reverse, take, unwrap_or, List, OnOk, OnErr};
 ghost use Rattle.eval_scopes.specs.Bindings.{Bound, declare, all_but_first};
-ghost use Rattle.eval_scopes.specs.Seen.{bound_of, bounds_of, names_of, frame_of, frames_of, put_in, InBlock, IsOnly};
+ghost use Rattle.eval_scopes.specs.Seen.{bound_of, bounds_of, names_of, frame_of, outsides_of, hollows, with_hollows, stacked, put_in, InBlock, IsOnly};
 
 use crate::env::{Binding, Env, bind_name};
 use crate::index::Declared;
@@ -11,30 +11,35 @@ use js_units::NoMemory;
 use std::alloc::Global;
 use std::marker::Model;
 
-/// A block that was entered: the names that it declares, and those that were evaluated. A turn of a
-/// `for` has no names beside the one that is bound.
+/// A block that was entered: the names that it declares, those that were evaluated, and how many blocks
+/// without a frame stand right outside it. A turn of a `for` has no names beside the one that is bound.
 #[derive(Drop)]
 pub struct Frame<'a, T> {
     pub names: Option<Declared<'a>>,
     pub bound: Env<T>,
+    pub outside: usize,
 }
 
 impl<'a, T: Drop> Frame<'a, T> {
     // A block is entered in the place of this one.
-    fn enter(&mut self, names: Declared<'a>)
-        ensures { frame_of self.new ≡ record { names = names.entry; bound = [] } }
+    fn enter(&mut self, outside: usize, names: Option<Declared<'a>>)
+        ensures frame { frame_of self.new ≡ record { names = unwrap_or names.entry []; bound = [] } }
+        ensures outside { self.new.outside ≡ outside }
     {
-        self.names = Some(names);
+        self.outside = outside;
+        self.names = names;
         self.bound.clear();
     }
 
     // The same with a turn of a `for`. Where the one before was a turn of the same name, it takes no memory.
-    fn enter_turn(&mut self, name: &Name, value: T) -> Result<(), NoMemory>
-        ensures { OnOk result (frame_of self.new ≡ record {
+    fn enter_turn(&mut self, outside: usize, name: &Name, value: T) -> Result<(), NoMemory>
+        ensures frame { OnOk result (frame_of self.new ≡ record {
           names = [];
           bound = record { name = name.now; constant = false; value = value } ∷ [];
         }) }
+        ensures outside { self.new.outside ≡ outside }
     {
+        self.outside = outside;
         if self.is_turn_of(name) {
             self.bound.set(0, value);
             return Ok(());
@@ -57,7 +62,7 @@ impl<'a, T: Drop> Frame<'a, T> {
     }
 }
 
-/// The blocks that were entered, the innermost at the end. Contracts see them as a list.
+/// The frames of the blocks that were entered, the innermost at the end. Contracts see them as a list.
 #[derive(Drop)]
 pub struct Frames<'a, T> {
     all: Vec<Frame<'a, T>>,
@@ -87,7 +92,11 @@ impl<'a, T: Drop> Frames<'a, T> {
         }
     }
 
-    /// The blocks.
+    pub(crate) fn allocator(&self) -> Global {
+        *self.all.allocator()
+    }
+
+    /// The frames.
     pub fn as_slice(&self) -> &[Frame<'a, T>]
         ensures { result.now ≡ self.now }
     {
@@ -97,7 +106,8 @@ impl<'a, T: Drop> Frames<'a, T> {
     // Another value for a binding of a block.
     pub(crate) fn set(&mut self, block: usize, index: usize, value: T)
         requires { InBlock self.old block index }
-        ensures { map frame_of self.new ≡ put_in (map frame_of self.old) block index value }
+        ensures { stacked self.new ≡ with_hollows (outsides_of self.old)
+            (reverse (put_in (map frame_of self.old) block index value)) }
     {
         set_in_block(&mut self.all, block, index, value)
     }
@@ -106,21 +116,26 @@ impl<'a, T: Drop> Frames<'a, T> {
     pub(crate) fn declare(&mut self, last: usize, binding: Binding<T>) -> Result<(), NoMemory>
         requires { length self.old ≡ last + 1 }
         ensures declared { OnOk result ((top : List (Bound T)) →
-            (record { blocks = frames_of self.new; top = top }) ≡ declare
-            (frames_of self.old) top (bound_of binding)) }
-        ensures refused { OnErr result (frames_of self.new ≡ frames_of self.old) }
+            (record { blocks = stacked self.new; top = top }) ≡ declare
+            (stacked self.old) top (bound_of binding)) }
+        ensures refused { OnErr result (stacked self.new ≡ stacked self.old) }
     {
         declare_in_block(&mut self.all, last, binding)
     }
 
-    // One more block, with its names.
-    pub(crate) fn enter(&mut self, alloc: Global, names: Declared<'a>) -> Result<(), NoMemory>
-        ensures entered { OnOk result (frames_of self.new
-            ≡ record { names = names.entry; bound = [] } ∷ frames_of self.old) }
+    // One more block, with its names, inside so many without a frame.
+    pub(crate) fn enter(
+        &mut self,
+        alloc: Global,
+        outside: usize,
+        names: Option<Declared<'a>>,
+    ) -> Result<(), NoMemory>
+        ensures entered { OnOk result (stacked self.new
+            ≡ record { names = unwrap_or names.entry []; bound = [] } ∷ hollows outside (stacked self.old)) }
         ensures refused { OnErr result (self.new ≡ self.old) }
     {
         make_room(alloc, &mut self.all, self.entered)?;
-        enter_at(&mut self.all, self.entered, names);
+        enter_at(&mut self.all, self.entered, outside, names);
         self.entered += 1;
         Ok(())
     }
@@ -129,28 +144,31 @@ impl<'a, T: Drop> Frames<'a, T> {
     pub(crate) fn enter_turn(
         &mut self,
         alloc: Global,
+        outside: usize,
         name: &Name,
         value: T,
     ) -> Result<(), NoMemory>
-        ensures entered { OnOk result (frames_of self.new ≡ record {
+        ensures entered { OnOk result (stacked self.new ≡ record {
           names = [];
           bound = record { name = name.now; constant = false; value = value } ∷ [];
-        } ∷ frames_of self.old) }
+        } ∷ hollows outside (stacked self.old)) }
         ensures refused { OnErr result (self.new ≡ self.old) }
     {
         make_room(alloc, &mut self.all, self.entered)?;
-        enter_turn_at(&mut self.all, self.entered, name, value)?;
+        enter_turn_at(&mut self.all, self.entered, outside, name, value)?;
         self.entered += 1;
         Ok(())
     }
 
-    // The innermost block is left.
-    pub(crate) fn leave(&mut self)
-        ensures { frames_of self.new ≡ all_but_first (frames_of self.old) }
+    // The innermost block is left: how many without a frame stand right outside it.
+    pub(crate) fn leave(&mut self) -> usize
+        ensures { hollows result (stacked self.new) ≡ all_but_first (stacked self.old) }
     {
-        if self.entered > 0 {
-            self.entered -= 1;
+        if self.entered == 0 {
+            return 0;
         }
+        self.entered -= 1;
+        self.all[self.entered].outside
     }
 }
 
@@ -158,6 +176,7 @@ impl<'a, T: Drop> Frames<'a, T> {
 fn set_in_block<T: Drop>(blocks: &mut Vec<Frame<T>>, block: usize, index: usize, value: T)
     requires { InBlock blocks.old.items block index }
     ensures put { map frame_of blocks.new.items ≡ put_in (map frame_of blocks.old.items) block index value }
+    ensures outsides { map (λ f. f.outside) blocks.new.items ≡ map (λ f. f.outside) blocks.old.items }
     ensures as_many { length blocks.new.items ≡ length blocks.old.items }
 {
     blocks[block].bound.set(index, value)
@@ -171,10 +190,10 @@ fn declare_in_block<T: Drop>(
 ) -> Result<(), NoMemory>
     requires { last < length blocks.old.items }
     ensures declared { OnOk result ((top : List (Bound T)) →
-        (record { blocks = frames_of (take (last + 1) blocks.new.items); top = top }) ≡ declare
-        (frames_of (take (last + 1) blocks.old.items)) top (bound_of binding)) }
-    ensures refused { OnErr result (frames_of (take (last + 1) blocks.new.items)
-        ≡ frames_of (take (last + 1) blocks.old.items)) }
+        (record { blocks = stacked (take (last + 1) blocks.new.items); top = top }) ≡ declare
+        (stacked (take (last + 1) blocks.old.items)) top (bound_of binding)) }
+    ensures refused { OnErr result (stacked (take (last + 1) blocks.new.items)
+        ≡ stacked (take (last + 1) blocks.old.items)) }
     ensures as_many { length blocks.new.items ≡ length blocks.old.items }
 {
     blocks[last].bound.push(binding)
@@ -197,6 +216,7 @@ fn make_room<'a, T: Drop>(
     match all.push(Frame {
         names: None,
         bound: Env::new(alloc),
+        outside: 0,
     }) {
         Ok(()) => Ok(()),
         Err(_) => Err(NoMemory),
@@ -204,28 +224,35 @@ fn make_room<'a, T: Drop>(
 }
 
 // A block is entered in the place of one that was left.
-fn enter_at<'a, T: Drop>(all: &mut Vec<Frame<'a, T>>, place: usize, names: Declared<'a>)
+fn enter_at<'a, T: Drop>(
+    all: &mut Vec<Frame<'a, T>>,
+    place: usize,
+    outside: usize,
+    names: Option<Declared<'a>>,
+)
     requires { place < length all.old.items }
-    ensures entered { frames_of (take (place + 1) all.new.items)
-        ≡ record { names = names.entry; bound = [] } ∷ frames_of (take place all.old.items) }
+    ensures entered { stacked (take (place + 1) all.new.items)
+        ≡ record { names = unwrap_or names.entry []; bound = [] }
+        ∷ hollows outside (stacked (take place all.old.items)) }
     ensures as_many { length all.new.items ≡ length all.old.items }
 {
-    all[place].enter(names)
+    all[place].enter(outside, names)
 }
 
 fn enter_turn_at<T: Drop>(
     all: &mut Vec<Frame<T>>,
     place: usize,
+    outside: usize,
     name: &Name,
     value: T,
 ) -> Result<(), NoMemory>
     requires { place < length all.old.items }
-    ensures entered { OnOk result (frames_of (take (place + 1) all.new.items) ≡ record {
+    ensures entered { OnOk result (stacked (take (place + 1) all.new.items) ≡ record {
       names = [];
       bound = record { name = name.now; constant = false; value = value } ∷ [];
-    } ∷ frames_of (take place all.old.items)) }
+    } ∷ hollows outside (stacked (take place all.old.items))) }
     ensures kept { take place all.new.items ≡ take place all.old.items }
     ensures as_many { length all.new.items ≡ length all.old.items }
 {
-    all[place].enter_turn(name, value)
+    all[place].enter_turn(outside, name, value)
 }

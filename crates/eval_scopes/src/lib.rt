@@ -4,12 +4,14 @@
 //! What names mean stands in `specs/Bindings.antt`.
 #![tactic(auto)]
 
+mod blocks;
 mod env;
 mod frames;
 mod index;
 mod scope;
 
+pub use blocks::Blocks;
 pub use env::{Binding, Env};
-pub use frames::{Frame, Frames};
+pub use frames::Frame;
 pub use index::Declared;
 pub use scope::{Place, Scope};

@@ -3,9 +3,9 @@ ghost use Rattle.std.specs.Prelude.{◌≡◌, Some, None, MatchOption, OnOk, On
 ghost use Rattle.eval_scopes.specs.Bindings.{is_among, meant, declared, entered, turned, outer};
 ghost use Rattle.eval_scopes.specs.Seen.{bound_of, names_of, bindings_of, bound_at, put_at, Within, IsPlace};
 
+use crate::blocks::Blocks;
 use crate::env::{Binding, Env, bind_name};
-use crate::frames::{Frame, Frames};
-use crate::index::Declared;
+use crate::frames::Frame;
 use eval_tree::{Name, Names};
 use js_units::NoMemory;
 use std::alloc::Global;
@@ -13,7 +13,7 @@ use std::alloc::Global;
 /// The blocks that were entered, the innermost at the end, and the top.
 #[derive(Drop)]
 pub struct Scope<'a, T> {
-    pub blocks: Frames<'a, T>,
+    pub blocks: Blocks<'a, T>,
     pub env: Env<T>,
 }
 
@@ -31,9 +31,9 @@ impl<'a, T: Drop> Scope<'a, T> {
         ensures { MatchOption result (meant (bindings_of self.now) name.now ≡ None)
             (λ p. IsPlace self.now name.now p) }
     {
-        let blocks = self.blocks.as_slice();
-        for block in (0..blocks.len()).rev() {
-            let frame = &blocks[block];
+        let frames = self.blocks.frames();
+        for block in (0..frames.len()).rev() {
+            let frame = &frames[block];
             if let Some(index) = frame.bound.position(name) {
                 return Some(Place::Block { block, index });
             }
@@ -54,7 +54,7 @@ impl<'a, T: Drop> Scope<'a, T> {
     {
         match place {
             Place::Top { index } => &self.env.list()[index],
-            Place::Block { block, index } => &self.blocks.as_slice()[block].bound.list()[index],
+            Place::Block { block, index } => &self.blocks.frames()[block].bound.list()[index],
         }
     }
 
@@ -76,11 +76,12 @@ impl<'a, T: Drop> Scope<'a, T> {
         ensures refused { OnErr result (bindings_of self.new ≡ bindings_of self.old) }
     {
         let binding = bind_name(name, constant, value)?;
-        let blocks = self.blocks.as_slice().len();
-        if blocks == 0 {
+        self.blocks.fill()?;
+        let frames = self.blocks.frames().len();
+        if frames == 0 {
             self.env.push(binding)
         } else {
-            self.blocks.declare(blocks - 1, binding)
+            self.blocks.declare(frames - 1, binding)
         }
     }
 
@@ -89,7 +90,6 @@ impl<'a, T: Drop> Scope<'a, T> {
         ensures entered { OnOk result (bindings_of self.new ≡ entered names.now (bindings_of self.old)) }
         ensures refused { OnErr result (bindings_of self.new ≡ bindings_of self.old) }
     {
-        let names = Declared::new(alloc, names)?;
         self.blocks.enter(alloc, names)
     }
 

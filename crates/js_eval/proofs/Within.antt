@@ -10,7 +10,7 @@ use Rattle.eval_scopes.specs.declared.scope.Scope.{Scope}
 use Rattle.eval_scopes.specs.declared.scope.Place.{Place}
 use Rattle.eval_scopes.specs.declared.scope.Place.TheVariants.{Top, Block}
 use Rattle.eval_scopes.specs.Bindings.{Bound, Frame}
-use Rattle.eval_scopes.specs.Seen.{bounds_of, frame_of, bindings_of, got, bound_at, put, put_in, put_at}
+use Rattle.eval_scopes.specs.Seen.{bounds_of, frame_of, outsides_of, hollows, with_hollows, stacked, bindings_of, got, bound_at, put, put_in, put_at}
 use Rattle.js_eval.specs.Seen.{BoundsFine, BindingsFine}
 
 every_parts : {A : Type 0} (P : A → Type 0) (xs ys : List A) → Every P (xs ++ ys) → Every P xs × Every P ys
@@ -32,6 +32,34 @@ every_reversed P [] h = tt
 every_reversed {A} P (x ∷ xs) h = subst (λ (q : List A). Every P q) (sym (reverse-append (x ∷ []) xs)) (every_joined P (reverse xs) (x ∷ []) (every_reversed P xs h.1) (h.0, tt))
 
 module _ {F R : Type 0} (s : State F) (name : R → ℕ) where
+  AllBound : List (Frame (Item R)) → Type 0
+  AllBound fs = Every (λ f. BoundsFine s name f.bound) fs
+
+  -- blocks without a frame have no values
+  below_hollows : (n : ℕ) (fs : List (Frame (Item R))) → AllBound (hollows n fs) → AllBound fs
+  below_hollows zero fs h = h
+  below_hollows (suc n) fs h = below_hollows n fs h.1
+
+  among_hollows : (ns : List ℕ) (fs : List (Frame (Item R))) → AllBound (with_hollows ns fs) → AllBound fs
+  among_hollows [] fs h = h
+  among_hollows (n ∷ ns) [] h = tt
+  among_hollows (n ∷ ns) (f ∷ fs) h = (h.0, among_hollows ns fs (below_hollows n (with_hollows ns fs) h.1))
+
+  over_hollows : (n : ℕ) (fs : List (Frame (Item R))) → AllBound fs → AllBound (hollows n fs)
+  over_hollows zero fs h = h
+  over_hollows (suc n) fs h = (tt, over_hollows n fs h)
+
+  and_hollows : (ns : List ℕ) (fs : List (Frame (Item R))) → AllBound fs → AllBound (with_hollows ns fs)
+  and_hollows [] fs h = h
+  and_hollows (n ∷ ns) [] h = tt
+  and_hollows (n ∷ ns) (f ∷ fs) h = (h.0, over_hollows n (with_hollows ns fs) (and_hollows ns fs h.1))
+
+  framed : (scope : Scope (Item R)) → BindingsFine s name (bindings_of scope) → AllBound (map frame_of scope.blocks.frames)
+  framed scope h =
+      let b = scope.blocks in
+      let fs : List (Frame (Item R)) = map frame_of b.frames in
+      every_unreversed (λ (f : Frame (Item R)). BoundsFine s name f.bound) fs (among_hollows (outsides_of b.frames) (reverse fs) (below_hollows b.hollow (stacked b.frames) h.blocks))
+
   got_fine : (fs : List (Frame (Item R))) (k i : ℕ) (b : Bound (Item R)) → Every (λ f. BoundsFine s name f.bound) fs → Some b ≡ got (slice_get fs k) i → IsFine s name b.value
   got_fine [] k i b h e = cc
   got_fine (f ∷ fs) zero i b h e = every_get (λ c. IsFine s name c.value) f.bound i b h.0 (sym e)
@@ -39,7 +67,7 @@ module _ {F R : Type 0} (s : State F) (name : R → ℕ) where
 
   pub place_fine : (scope : Scope (Item R)) (p : Place) (b : Bound (Item R)) → BindingsFine s name (bindings_of scope) → Some b ≡ bound_at scope p → IsFine s name b.value
   place_fine scope (Top i) b h e = every_get (λ c. IsFine s name c.value) (bounds_of scope.env) i b h.top (sym e)
-  place_fine scope (Block k i) b h e = got_fine (map frame_of scope.blocks) k i b (every_unreversed (λ (f : Frame (Item R)). BoundsFine s name f.bound) (map frame_of scope.blocks) h.blocks) e
+  place_fine scope (Block k i) b h e = got_fine (map frame_of scope.blocks.frames) k i b (framed scope h) e
 
   put_fine : (bs : List (Bound (Item R))) (i : ℕ) (v : Item R) → IsFine s name v → BoundsFine s name bs → BoundsFine s name (put bs i v)
   put_fine [] i v f h = tt
@@ -56,5 +84,7 @@ module _ {F R : Type 0} (s : State F) (name : R → ℕ) where
   put_at_fine scope (Top i) v f h = record { blocks = h.blocks; top = put_fine (bounds_of scope.env) i v f h.top }
   put_at_fine scope (Block k i) v f h =
       let P : Frame (Item R) → Type 0 = λ g. BoundsFine s name g.bound in
-      let fs : List (Frame (Item R)) = map frame_of scope.blocks in
-      record { blocks = every_reversed P (put_in fs k i v) (put_in_fine fs k i v f (every_unreversed P fs h.blocks)); top = h.top }
+      let b = scope.blocks in
+      let fs : List (Frame (Item R)) = put_in (map frame_of b.frames) k i v in
+      let fine : AllBound (reverse fs) = every_reversed P fs (put_in_fine (map frame_of b.frames) k i v f (framed scope h)) in
+      record { blocks = over_hollows b.hollow (with_hollows (outsides_of b.frames) (reverse fs)) (and_hollows (outsides_of b.frames) (reverse fs) fine); top = h.top }

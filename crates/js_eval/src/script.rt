@@ -24,7 +24,7 @@ use crate::ending::End;
 use crate::env::Env;
 use crate::expr::{expr, exprs};
 use crate::literals::intern_literals;
-use eval_scopes::{Frames, Place, Scope};
+use eval_scopes::{Blocks, Place, Scope};
 use eval_tree::{Arm, Block, Expr, Name, Script, Stmt};
 use eval_values::{Kind, Stop, Value, plus, texts, truth};
 use js_number::Num;
@@ -80,7 +80,7 @@ fn run<S: Strings>(
     let mut context = Context {
         literals,
         scope: Scope {
-            blocks: Frames::new(alloc),
+            blocks: Blocks::new(alloc),
             env: mem::replace(&mut env.top, eval_scopes::Env::new(alloc)),
         },
     };

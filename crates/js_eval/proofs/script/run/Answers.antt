@@ -1,7 +1,7 @@
 use Rattle.std.proofs.Common.{◌≡◌, ◌∙◌, [], ap}
 use Rattle.std.proofs.lemmas.Result.{err_from_is_err_and}
 use Rattle.eval_tree.specs.Tree.{tree_of}
-use Rattle.eval_scopes.specs.Seen.{bounds_of, frames_of}
+use Rattle.eval_scopes.specs.Seen.{bounds_of, blocks_of}
 use Rattle.js_eval.specs.Seen.{context_bindings}
 use Rattle.js_eval.proofs.Stays.{bounds_fine_still}
 use Rattle.js_eval.proofs.Scripts.{script_went, script_halts}
@@ -33,6 +33,6 @@ returns-clause-went g c =
     let d = c.in_ok-literals.ensures.did in
     let r = c.statements-result in
     let w = r.ensures.went in
-    let none : c.new.result ≡ [] = c.new.ensures in
-    let begun : record { blocks = frames_of c.new.result; top = bounds_of c.replace.result } ≡ record { blocks = []; top = bounds_of c.args.env.now } = cc (ap frames_of none, ap bounds_of (c.replace.ensures.value ∙ c.env.view_is)) in
+    let none : blocks_of c.new.result ≡ [] = c.new.ensures in
+    let begun : record { blocks = blocks_of c.new.result; top = bounds_of c.replace.result } ≡ record { blocks = []; top = bounds_of c.args.env.now } = cc (none, ap bounds_of (c.replace.ensures.value ∙ c.env.view_is)) in
     script_went number (state c.args.store.now) (state c.intern_literals.new.store) c.args.lines.now (bounds_of c.args.env.now) (tree_of c.args.script.now) c.in_ok-literals.ensures.grows c.requires (state r.new.store) r.new.lines (record { literals = c.in_ok-literals.literals; scope = record { blocks = c.new.result; env = c.replace.result } }) r.result (context_bindings (state r.new.store) number r.new.context) begun (rw e at d) (rw q at w)

@@ -1,7 +1,7 @@
-use Rattle.std.proofs.Common.{◌≡◌, List, map, take, subst, sym}
+use Rattle.std.proofs.Common.{◌≡◌, List, map, reverse, take, subst, sym}
 use Rattle.eval_scopes.specs.declared.frames.Frame.{Frame as CodeFrame}
-use Rattle.eval_scopes.specs.Seen.{frame_of, put_in, InBlock}
-use Rattle.eval_scopes.proofs.Stacked.{in_taken, put_stacked}
+use Rattle.eval_scopes.specs.Seen.{frame_of, outsides_of, with_hollows, stacked, put_in, InBlock}
+use Rattle.eval_scopes.proofs.Stacked.{in_taken, put_in_stack}
 use Rattle.eval_scopes.proofs.frames.Frames.set.Goals as goal
 
 pub set_in_block-requires : goal.set_in_block-requires
@@ -11,6 +11,8 @@ set_in_block-requires g c =
 
 pub returns : goal.returns
 returns g c =
+    let old = c.self.inside.all.items in
     let new = c.set_in_block.new.blocks.items in
-    subst (λ (q : List (CodeFrame g.row.T.Denot)). map frame_of (take c.self.inside.entered new) ≡ put_in (map frame_of q) c.args.block c.args.index c.args.value) c.self.view_is
-    (put_stacked c.self.inside.entered c.self.inside.all.items new c.args.block c.args.index c.args.value c.set_in_block.ensures.put)
+    let n = c.self.inside.entered in
+    subst (λ (q : List (CodeFrame g.row.T.Denot)). stacked (take n new) ≡ with_hollows (outsides_of q) (reverse (put_in (map frame_of q) c.args.block c.args.index c.args.value))) c.self.view_is
+    (put_in_stack n old new c.args.block c.args.index c.args.value c.set_in_block.ensures.put c.set_in_block.ensures.outsides)
