@@ -8,7 +8,7 @@ holds it are made: one of the scripts, `jobs` or `start-up`. It belongs to no ga
 Each figure is the median time of whole processes, from their start to their end, with large pages as tools/jsstr asks for them. The other
 engines are those of bench/language.py, each where it is installed; one that prints other lines than the program, or takes over 20 seconds,
 is named and not measured.
-`x 2.0` behind a time says that the program takes twice as long.
+`x 2.0` behind a time says that the program takes twice as long. In parentheses stands the same without the time of an empty script.
 """
 
 import os
@@ -26,6 +26,19 @@ LARGE_PAGES = {"GLIBC_TUNABLES": "glibc.malloc.hugetlb=1"}
 DEFAULT_BYTES = 8 * 4_784_130
 SMALL = ["--ids", "1", "--heap-words", "1", "--slots", "1"]
 LESS = ["--ids", "2048", "--heap-words", "8192", "--slots", "512"]
+
+# A search that goes to the end of a long text; braces of a script are written twice here.
+TEN_MILLION = "let s = '{}'.repeat(1000000); s += 'x'; let n = 0; for (let i = 0; i < 10; i++) {{ n += s.{}('{}'); }} print(n);"
+TEN_MILLION_BACK = "let s = 'x'; s += 'abcdefghij'.repeat(1000000); let n = 0; for (let i = 0; i < 10; i++) {{ n += s.{}('{}'); }} print(n);"
+WIDE = ["--heap-words", "8000000"]
+MEMBERS = ["--ids", "1000000", "--heap-words", "2000000"]
+
+
+def read_object(count):
+    """An object of so many members, of which the one in the middle is read again and again."""
+    members = ", ".join(f"m{number}: {number}" for number in range(count))
+    return f"let o = {{ {members} }}; let n = 0; for (let i = 0; i < 100000; i++) {{ n += o.m{count // 2}; }} print(n);"
+
 
 # The name of a script, the sizes of its heap where they are not the usual ones, and its text.
 SCRIPTS = [
@@ -46,6 +59,17 @@ SCRIPTS = [
     ("1,000,000 units encoded and decoded, of which every third has three bytes", [],
      "let s = 'ab\\u20ac'.repeat(333333) + 'c'; let e = encodeURI(s); print(e.length, decodeURI(e).length);"),
     ("100,000 printed lines", ["--ids", "900000"], "for (let i = 0; i < 100000; i++) { print('line', i, 'of a hundred thousand'); }"),
+    ("indexOf of one unit, ten times in 10,000,000", [], TEN_MILLION.format("abcdefghij", "indexOf", "x")),
+    ("indexOf of two units, ten times in 10,000,000", [], TEN_MILLION.format("abcdefghij", "indexOf", "jx")),
+    ("lastIndexOf of one unit, ten times in 10,000,000", [], TEN_MILLION_BACK.format("lastIndexOf", "x")),
+    ("indexOf of one unit, ten times in 10,000,000 of two bytes", WIDE, TEN_MILLION.format("abcdefgh\\u20acj", "indexOf", "x")),
+    ("indexOf of two units, ten times in 10,000,000 of two bytes", WIDE, TEN_MILLION.format("abcdefgh\\u20acj", "indexOf", "jx")),
+    ("a needle of 900 units in 200,000 of one letter", [], "let s = 'a'.repeat(200000); let w = 'a'.repeat(450) + 'b' + 'a'.repeat(449); print(s.indexOf(w), s.lastIndexOf(w));"),
+    ("two strings of 4,000,000 units compared, ten times", [],
+     "let a = 'abcdefgh'.repeat(500000); let b = 'abcdefgh'.repeat(499999) + 'abcdefgx'; let n = 0; for (let i = 0; i < 10; i++) { if (a < b) { n += 1; } if (a === b) { n += 9; } } print(n);"),
+    ("a text grown by 500,000 appends and then read", ["--ids", "600000"], "let s = ''; for (let i = 0; i < 500000; i++) { s += 'a'; } print(s.length, s.at(-1));"),
+    ("an object of 8 members, read 100,000 times", MEMBERS, read_object(8)),
+    ("an object of 10,000 members, read 100,000 times", MEMBERS, read_object(10_000)),
 ]
 
 # What 32 scripts do of which each takes about a second, behind this prelude, which makes the text flat.
@@ -77,13 +101,25 @@ def put(folder, name, text):
     return path
 
 
+STARTS = {}
+
+
+def start_of(folder, engine, words):
+    """The time of an empty script, measured once for each engine and each heap."""
+    key = (engine, *words[1:])
+    if key not in STARTS:
+        STARTS[key] = seconds(words + [put(folder, "empty.js", "")], RUNS, 0)
+    return STARTS[key]
+
+
 def measure_script(folder, name, sizes, text, program, others):
     """One line: the program's time, and beside it that of each other engine, with the ratio."""
     wanted = printed([program, *sizes, put(folder, "script.js", text)])
     if wanted[0] != 0:
         sys.exit(f"{name}: status {wanted[0]}")
     own = seconds([program, *sizes, put(folder, "script.js", text)], RUNS, 0)
-    figures = [f"jsstr {milliseconds(own)}"]
+    beyond = own - start_of(folder, "jsstr", [program, *sizes])
+    figures = [f"jsstr {milliseconds(own)} (beyond start-up {milliseconds(beyond)})"]
     for engine, words, change in others:
         path = put(folder, "script.js", change(text))
         lines = printed(words + [path])
@@ -91,7 +127,8 @@ def measure_script(folder, name, sizes, text, program, others):
             figures.append(f"{engine} takes over 20 s" if lines[0] is None else f"{engine} prints otherwise")
             continue
         time = seconds(words + [path], RUNS, 0)
-        figures.append(f"{engine} {milliseconds(time)} x {own / time:.2f}")
+        left = max(time - start_of(folder, engine, words), 1e-4)
+        figures.append(f"{engine} {milliseconds(time)} x {own / time:.2f} (beyond start-up {milliseconds(left)} x {beyond / left:.1f})")
     print(f"{name}: {', '.join(figures)}", flush=True)
 
 
