@@ -65,6 +65,8 @@ SCRIPTS = [
     ("an empty loop of 1,000,000 turns", [], "for (let i = 0; i < 1000000; i++) { } print('done');"),
     ("1,000,000 turns of n = n + i", [], "let n = 0; for (let i = 0; i < 1000000; i++) { n = n + i; } print(n);"),
     ("1,000,000 units looked at by s[i] === 'x'", ["--ids", "1100000", "--heap-words", "1300000"], UNITS),
+    ("1,000,000 turns of three nested blocks", [], "let n = 0; for (let i = 0; i < 1000000; i++) { let a = i; { let b = a; { let c = b; n = n + c; } } } print(n);"),
+    ("1,000,000 turns of four arms", [], "let n = 0; for (let i = 0; i < 1000000; i++) { if (i < 0) { n = n + 1; } else if (i < 1) { n = n + 2; } else if (i < 2) { n = n + 3; } else { n = n + 4; } } print(n);"),
     ("100,000 parts of a split, by list[i]", [], PARTS),
     ("1,000 names, each read 1,000 times", [], many_names(1000, 1000)),
     ("10,000 names at the top, each read once", [], top_names(10000)),
