@@ -4,4 +4,5 @@ pub mod Calls
 pub mod Shares
 pub mod Lately
 pub mod OneUnit
+pub mod MadeLately
 pub mod Whole

@@ -8,3 +8,4 @@ pub mod Ranges
 pub mod Sound
 pub mod Lately
 pub mod Singles
+pub mod Recent

@@ -3,9 +3,11 @@ ghost use Rattle.std.specs.Prelude.{◌≡◌};
 ghost use Rattle.js_store.specs.Limits.{limit_units};
 ghost use Rattle.heap_table.specs.Agents.{view_of};
 ghost use Rattle.heap_intern.specs.Lately.{IsKept};
+ghost use Rattle.heap_intern.specs.Recent.{AreRecent};
 ghost use Rattle.heap_intern.specs.Singles.{AreSingles};
 
 use crate::kept::Kept;
+use crate::recent::Recent;
 use crate::singles::Singles;
 use heap_text::Text;
 use js_store::Limit;
@@ -14,8 +16,9 @@ use js_store::Limit;
 /// one thread at a time and can be moved to another.
 ///
 /// It keeps a word of each of the two strings that it read last, so that a run of reads
-/// costs few loads, and the strings of single units below 256 that it made, so that such a string
-/// takes an id and a content word once.
+/// costs few loads, the strings of single units below 256 that it made, so that such a string
+/// takes an id and a content word once, and 64 of the short strings that it made last, so that
+/// these take nothing when they are made again.
 #[derive(Drop)]
 pub struct Session<'h> {
     pub(crate) text: Text<'h>,
@@ -23,8 +26,10 @@ pub struct Session<'h> {
     pub(crate) last: Kept,
     pub(crate) older: Kept,
     pub(crate) singles: Singles,
+    pub(crate) recent: Recent,
     ghost one_limit: { text.limit ≡ limit_units limit },
     ghost last_kept: { IsKept (view_of text.reader.agent) last },
     ghost older_kept: { IsKept (view_of text.reader.agent) older },
     ghost singles_kept: { AreSingles (view_of text.reader.agent) singles.ids },
+    ghost recent_kept: { AreRecent (view_of text.reader.agent) recent.ids },
 }

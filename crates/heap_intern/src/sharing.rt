@@ -10,6 +10,7 @@ ghost use Rattle.heap_intern.specs.Sessions.{state_by, state_in, table_of, view_
 ghost use Rattle.heap_intern.specs.Shares.{BelongsAs, IsJoined, IsWhole, MayJoin, left_by, right_by, total_by};
 
 use crate::kept::Kept;
+use crate::recent::Recent;
 use crate::session::Session;
 use crate::singles::Singles;
 use heap_read::Reader;
@@ -31,6 +32,7 @@ impl<'h> Session<'h> {
             last: Kept::none(),
             older: Kept::none(),
             singles: Singles::none(),
+            recent: Recent::none(),
         }
     }
 
@@ -54,6 +56,7 @@ impl<'h> Session<'h> {
             last: Kept::none(),
             older: Kept::none(),
             singles: Singles::none(),
+            recent: Recent::none(),
         }
     }
 

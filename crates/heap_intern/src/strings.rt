@@ -1,6 +1,7 @@
 // A session as a store of strings.
 use crate::faults::{join_fault, text_fault};
 use crate::session::Session;
+use crate::short::SHORT;
 use heap_text::JsStr;
 use js_store::{ConcatFault, StoreFault, Strings};
 use std::marker::Brand;
@@ -30,6 +31,9 @@ impl<'h> Strings for Session<'h> {
     fn from_units(&mut self, units: &[u16]) -> Result<JsStr, StoreFault> {
         if units.len() == 1 {
             return self.one_of(units);
+        }
+        if units.len() <= SHORT {
+            return self.short_of(units);
         }
         self.flat_of(units)
     }

@@ -9,6 +9,8 @@ mod forwarding;
 #[cfg(test)]
 mod reads;
 #[cfg(test)]
+mod recent;
+#[cfg(test)]
 mod sessions;
 #[cfg(test)]
 mod singles;

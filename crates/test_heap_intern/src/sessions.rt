@@ -30,7 +30,7 @@ pub(crate) fn interned(session: &mut Session, units: &[u16]) -> Result<(JsStr, J
     }
 }
 
-fn made(session: &mut Session, units: &[u16]) -> Result<JsStr, StoreFault>
+pub(crate) fn made(session: &mut Session, units: &[u16]) -> Result<JsStr, StoreFault>
     requires short { length units.now ≤ 100 }
     ensures goes_on { GoesOn (state_in session.old) (state_in session.new) }
     ensures known { IfOk result (λ s. IsKnown (state_in session.new) s.id) }

@@ -8,6 +8,7 @@ use Rattle.heap_intern.proofs.States.{step_at, step_looks}
 use Rattle.heap_rule.specs.declared.view.View.{View}
 use Rattle.heap_intern.proofs.Lately.{kept_by}
 use Rattle.heap_intern.proofs.OneUnit.{singles_by}
+use Rattle.heap_intern.proofs.MadeLately.{recent_by}
 use Rattle.heap_intern.proofs.session.Session.count_interned.Goals as goal
 
 pub returns-clause-step : goal.returns-clause-step
@@ -24,6 +25,9 @@ invariant_of-self-clause-older_kept c = let s = c.args.self.now in let v : View 
 
 pub invariant_of-self-clause-singles_kept : goal.invariant_of-self-clause-singles_kept
 invariant_of-self-clause-singles_kept c = let s = c.args.self.now in let v : View = s.text.reader.agent.seat.me.0 in let w : View = c.count_interned.new.reader.agent.seat.me.0 in singles_by v w (c.count_interned.ensures.looks.goes.known) s.singles.ids s.singles_kept
+
+pub invariant_of-self-clause-recent_kept : goal.invariant_of-self-clause-recent_kept
+invariant_of-self-clause-recent_kept c = let s = c.args.self.now in let v : View = s.text.reader.agent.seat.me.0 in let w : View = c.count_interned.new.reader.agent.seat.me.0 in recent_by v w (c.count_interned.ensures.looks.goes.known) s.recent.ids s.recent_kept
 
 pub returns-clause-used : goal.returns-clause-used
 returns-clause-used c = let w : View = c.count_interned.new.reader.agent.seat.me.0 in

@@ -13,6 +13,7 @@ use Rattle.heap_intern.proofs.Calls.{flat_is, never_slots, step_refused, step_us
 use Rattle.heap_intern.proofs.States.{history_continues, settled_test, step_at}
 use Rattle.heap_intern.proofs.Lately.{kept_by}
 use Rattle.heap_intern.proofs.OneUnit.{singles_by}
+use Rattle.heap_intern.proofs.MadeLately.{recent_by}
 use Rattle.heap_intern.proofs.session.Session.flat_of.Goals as goal
 
 pub make_flat-requires : goal.make_flat-requires
@@ -50,3 +51,6 @@ invariant_of-self-clause-older_kept c = let s = c.args.self.now in let v : View 
 
 pub invariant_of-self-clause-singles_kept : goal.invariant_of-self-clause-singles_kept
 invariant_of-self-clause-singles_kept c = let s = c.args.self.now in let v : View = s.text.reader.agent.seat.me.0 in let w : View = c.make_flat.new.self.reader.agent.seat.me.0 in singles_by v w (c.make_flat.ensures.continues.known) s.singles.ids s.singles_kept
+
+pub invariant_of-self-clause-recent_kept : goal.invariant_of-self-clause-recent_kept
+invariant_of-self-clause-recent_kept c = let s = c.args.self.now in let v : View = s.text.reader.agent.seat.me.0 in let w : View = c.make_flat.new.self.reader.agent.seat.me.0 in recent_by v w (c.make_flat.ensures.continues.known) s.recent.ids s.recent_kept

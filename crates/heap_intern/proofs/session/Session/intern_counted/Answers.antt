@@ -28,6 +28,7 @@ use Rattle.heap_intern.proofs.Rows.{settle_part}
 use Rattle.heap_read.proofs.Loaded.{known_trans}
 use Rattle.heap_intern.proofs.Lately.{interns_known, kept_by}
 use Rattle.heap_intern.proofs.OneUnit.{singles_by}
+use Rattle.heap_intern.proofs.MadeLately.{recent_by}
 use Rattle.heap_intern.proofs.States.{history_continues, history_goes, settled_test, step_at, text_is}
 use Rattle.heap_intern.proofs.session.Session.intern_counted.Goals as goal
 
@@ -144,12 +145,18 @@ invariant_of-self-2-clause-singles_kept g c = let s = c.args.self.now in let v :
     let e = c.settle.ensures in let u = has_key v.units c.args.s.id c.requires in
     (let found = c.intern_counted.ensures.interns u.0 (e.continues.known.units c.args.s.id u.0 u.1) in singles_by v w (known_trans v x w e.continues.known (interns_known x w u.0 found.0 c.intern_counted.result found.2)) s.singles.ids s.singles_kept)
 
+pub invariant_of-self-2-clause-recent_kept : goal.invariant_of-self-2-clause-recent_kept
+invariant_of-self-2-clause-recent_kept g c = let s = c.args.self.now in let v : View = s.text.reader.agent.seat.me.0 in let x : View = c.settle.new.self.reader.agent.seat.me.0 in let w : View = c.intern_counted.new.reader.agent.seat.me.0 in
+    let e = c.settle.ensures in let u = has_key v.units c.args.s.id c.requires in
+    (let found = c.intern_counted.ensures.interns u.0 (e.continues.known.units c.args.s.id u.0 u.1) in recent_by v w (known_trans v x w e.continues.known (interns_known x w u.0 found.0 c.intern_counted.result found.2)) s.recent.ids s.recent_kept)
+
 pub invariant_of-self : goal.invariant_of-self
 invariant_of-self g c = let s = c.args.self.now in let v : View = s.text.reader.agent.seat.me.0 in let w : View = c.settle.new.self.reader.agent.seat.me.0 in let k = c.settle.ensures.continues.known in record {
   one_limit = c.settle.ensures.limit ∙ s.one_limit;
   last_kept = kept_by v w k s.last s.last_kept;
   older_kept = kept_by v w k s.older s.older_kept;
   singles_kept = singles_by v w k s.singles.ids s.singles_kept;
+  recent_kept = recent_by v w k s.recent.ids s.recent_kept;
 }
 
 pub returns-in-Ok-intern_counted-clause-grown : goal.returns-in-Ok-intern_counted-clause-grown

@@ -7,6 +7,7 @@ use Rattle.heap_intern.specs.Shares.{IsJoined}
 use Rattle.heap_intern.proofs.Shares.{belongs_here, sizes_are, state_joined}
 use Rattle.heap_intern.proofs.Lately.{kept_by}
 use Rattle.heap_intern.proofs.OneUnit.{singles_by}
+use Rattle.heap_intern.proofs.MadeLately.{recent_by}
 use Rattle.heap_intern.proofs.session.Session.join.Goals as goal
 
 pub join-requires-clause-belongs : goal.join-requires-clause-belongs
@@ -30,3 +31,6 @@ invariant_of-self-clause-older_kept c = let s = c.args.self.now in let v : View 
 
 pub invariant_of-self-clause-singles_kept : goal.invariant_of-self-clause-singles_kept
 invariant_of-self-clause-singles_kept c = let s = c.args.self.now in let v : View = s.text.reader.agent.seat.me.0 in let w : View = c.join.new.self.seat.me.0 in singles_by v w (c.join.ensures.known) s.singles.ids s.singles_kept
+
+pub invariant_of-self-clause-recent_kept : goal.invariant_of-self-clause-recent_kept
+invariant_of-self-clause-recent_kept c = let s = c.args.self.now in let v : View = s.text.reader.agent.seat.me.0 in let w : View = c.join.new.self.seat.me.0 in recent_by v w (c.join.ensures.known) s.recent.ids s.recent_kept

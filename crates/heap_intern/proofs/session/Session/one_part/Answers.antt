@@ -18,4 +18,5 @@ invariant_of-self-in-Ok c = let p = c.part_of.new.self in let x : View = c.unit_
       last_kept = p.last_kept;
       older_kept = p.older_kept;
       singles_kept = c.keep.ensures w p.singles_kept (one, ok.1);
+      recent_kept = p.recent_kept;
     }

@@ -15,6 +15,7 @@ use Rattle.heap_intern.proofs.Calls.{cut_err, cut_ok}
 use Rattle.heap_intern.proofs.States.{settled_test, step_at, test_settled, text_is}
 use Rattle.heap_intern.proofs.Lately.{kept_by}
 use Rattle.heap_intern.proofs.OneUnit.{singles_by}
+use Rattle.heap_intern.proofs.MadeLately.{recent_by}
 use Rattle.heap_intern.proofs.session.Session.part_of.Goals as goal
 
 pub slice-requires-clause-settled : goal.slice-requires-clause-settled
@@ -54,3 +55,6 @@ invariant_of-self-clause-older_kept c = let s = c.args.self.now in let v : View 
 
 pub invariant_of-self-clause-singles_kept : goal.invariant_of-self-clause-singles_kept
 invariant_of-self-clause-singles_kept c = let s = c.args.self.now in let v : View = s.text.reader.agent.seat.me.0 in let w : View = c.slice.new.self.reader.agent.seat.me.0 in singles_by v w (c.slice.ensures.continues.known) s.singles.ids s.singles_kept
+
+pub invariant_of-self-clause-recent_kept : goal.invariant_of-self-clause-recent_kept
+invariant_of-self-clause-recent_kept c = let s = c.args.self.now in let v : View = s.text.reader.agent.seat.me.0 in let w : View = c.slice.new.self.reader.agent.seat.me.0 in recent_by v w (c.slice.ensures.continues.known) s.recent.ids s.recent_kept

@@ -8,6 +8,7 @@ use Rattle.heap_intern.proofs.Shares.{state_left, state_right}
 use Rattle.heap_intern.proofs.Lately.{kept_none}
 use Rattle.heap_intern.specs.Lately.{IsKept}
 use Rattle.heap_intern.specs.Singles.{AreSingles}
+use Rattle.heap_intern.specs.Recent.{AreRecent}
 use Rattle.heap_intern.proofs.session.Session.split.Goals as goal
 
 pub invariant_of-result : goal.invariant_of-result
@@ -16,6 +17,7 @@ invariant_of-result c = record {
   last_kept = kept_none c.new.result.reader.agent.seat.me.0 c.none.result c.none.ensures;
   older_kept = kept_none c.new.result.reader.agent.seat.me.0 c.none-2.result c.none-2.ensures;
   singles_kept = c.none-3.ensures c.new.result.reader.agent.seat.me.0;
+  recent_kept = c.none-4.ensures c.new.result.reader.agent.seat.me.0;
 }
 
 pub returns-clause-left : goal.returns-clause-left
@@ -35,6 +37,9 @@ invariant_of-self-clause-older_kept c = let s = c.args.self.now in subst (λ (w 
 
 pub invariant_of-self-clause-singles_kept : goal.invariant_of-self-clause-singles_kept
 invariant_of-self-clause-singles_kept c = let s = c.args.self.now in subst (λ (w : View). AreSingles w s.singles.ids) (sym c.split-agent.ensures.left) s.singles_kept
+
+pub invariant_of-self-clause-recent_kept : goal.invariant_of-self-clause-recent_kept
+invariant_of-self-clause-recent_kept c = let s = c.args.self.now in subst (λ (w : View). AreRecent w s.recent.ids) (sym c.split-agent.ensures.left) s.recent_kept
 
 pub new-requires-clause-most : goal.new-requires-clause-most
 new-requires-clause-most c = let a = limit_high c.args.self.now.limit in let e = c.units.ensures in omega arith

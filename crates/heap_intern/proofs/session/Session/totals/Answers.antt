@@ -5,6 +5,7 @@ use Rattle.heap_intern.specs.Sessions.{state_by, table_of}
 use Rattle.heap_intern.proofs.Shares.{state_total}
 use Rattle.heap_intern.specs.Lately.{IsKept}
 use Rattle.heap_intern.specs.Singles.{AreSingles}
+use Rattle.heap_intern.specs.Recent.{AreRecent}
 use Rattle.std.proofs.Common.{subst, sym}
 use Rattle.heap_intern.proofs.session.Session.totals.Goals as goal
 
@@ -21,3 +22,6 @@ invariant_of-self-clause-older_kept c = let s = c.args.self.now in subst (λ (w 
 
 pub invariant_of-self-clause-singles_kept : goal.invariant_of-self-clause-singles_kept
 invariant_of-self-clause-singles_kept c = let s = c.args.self.now in subst (λ (w : View). AreSingles w s.singles.ids) (sym c.totals.ensures.view) s.singles_kept
+
+pub invariant_of-self-clause-recent_kept : goal.invariant_of-self-clause-recent_kept
+invariant_of-self-clause-recent_kept c = let s = c.args.self.now in subst (λ (w : View). AreRecent w s.recent.ids) (sym c.totals.ensures.view) s.recent_kept

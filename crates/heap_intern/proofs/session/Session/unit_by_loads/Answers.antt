@@ -2,6 +2,7 @@ use Rattle.std.proofs.Common.{◌∙◌}
 use Rattle.heap_rule.specs.declared.view.View.{View}
 use Rattle.heap_intern.proofs.Lately.{kept_by}
 use Rattle.heap_intern.proofs.OneUnit.{singles_by}
+use Rattle.heap_intern.proofs.MadeLately.{recent_by}
 use Rattle.heap_intern.proofs.session.Session.unit_by_loads.Goals as goal
 
 pub invariant_of-self : goal.invariant_of-self
@@ -10,6 +11,7 @@ invariant_of-self c = let s = c.args.self.now in let v : View = s.text.reader.ag
   last_kept = e.kept;
   older_kept = kept_by v w e.reads.known s.older s.older_kept;
   singles_kept = singles_by v w e.reads.known s.singles.ids s.singles_kept;
+  recent_kept = recent_by v w e.reads.known s.recent.ids s.recent_kept;
 }
 
 pub invariant_of-self-2 : goal.invariant_of-self-2
@@ -18,4 +20,5 @@ invariant_of-self-2 c = let s = c.args.self.now in let v : View = s.text.reader.
   last_kept = e.kept;
   older_kept = kept_by v w e.reads.known s.last s.last_kept;
   singles_kept = singles_by v w e.reads.known s.singles.ids s.singles_kept;
+  recent_kept = recent_by v w e.reads.known s.recent.ids s.recent_kept;
 }

@@ -12,6 +12,7 @@ use Rattle.heap_intern.proofs.Calls.{joined_fits, joined_in, joined_ok, joined_s
 use Rattle.heap_intern.proofs.States.{has_text, step_at}
 use Rattle.heap_intern.proofs.Lately.{kept_by}
 use Rattle.heap_intern.proofs.OneUnit.{singles_by}
+use Rattle.heap_intern.proofs.MadeLately.{recent_by}
 use Rattle.heap_intern.proofs.strings.SessionStrings.concat.Goals as goal
 
 pub returns-in-Ok-clause-ok : goal.returns-in-Ok-clause-ok
@@ -60,3 +61,6 @@ invariant_of-self-clause-older_kept c = let s = c.args.self.now in let v : View 
 
 pub invariant_of-self-clause-singles_kept : goal.invariant_of-self-clause-singles_kept
 invariant_of-self-clause-singles_kept c = let s = c.args.self.now in let v : View = s.text.reader.agent.seat.me.0 in let w : View = c.concat.new.self.reader.agent.seat.me.0 in singles_by v w c.concat.ensures.continues.known s.singles.ids s.singles_kept
+
+pub invariant_of-self-clause-recent_kept : goal.invariant_of-self-clause-recent_kept
+invariant_of-self-clause-recent_kept c = let s = c.args.self.now in let v : View = s.text.reader.agent.seat.me.0 in let w : View = c.concat.new.self.reader.agent.seat.me.0 in recent_by v w c.concat.ensures.continues.known s.recent.ids s.recent_kept

@@ -7,6 +7,7 @@ use Rattle.heap_intern.specs.Sessions.{table_of}
 use Rattle.heap_intern.proofs.States.{history_reads, step_at, step_reads, text_is}
 use Rattle.heap_intern.proofs.Lately.{kept_by}
 use Rattle.heap_intern.proofs.OneUnit.{singles_by}
+use Rattle.heap_intern.proofs.MadeLately.{recent_by}
 use Rattle.heap_intern.proofs.strings.SessionStrings.len.Goals as goal
 
 pub returns-clause-value : goal.returns-clause-value
@@ -30,3 +31,6 @@ invariant_of-self-clause-older_kept c = let s = c.args.self.now in let v : View 
 
 pub invariant_of-self-clause-singles_kept : goal.invariant_of-self-clause-singles_kept
 invariant_of-self-clause-singles_kept c = let s = c.args.self.now in let v : View = s.text.reader.agent.seat.me.0 in let w : View = c.len.new.self.reader.agent.seat.me.0 in singles_by v w (c.len.ensures.reads.known) s.singles.ids s.singles_kept
+
+pub invariant_of-self-clause-recent_kept : goal.invariant_of-self-clause-recent_kept
+invariant_of-self-clause-recent_kept c = let s = c.args.self.now in let v : View = s.text.reader.agent.seat.me.0 in let w : View = c.len.new.self.reader.agent.seat.me.0 in recent_by v w (c.len.ensures.reads.known) s.recent.ids s.recent_kept

@@ -14,6 +14,7 @@ use Rattle.heap_intern.specs.Settled.{is_settled}
 use Rattle.heap_intern.proofs.Calls.{never_slots, settle_refused, settled_step}
 use Rattle.heap_intern.proofs.Lately.{kept_by}
 use Rattle.heap_intern.proofs.OneUnit.{singles_by}
+use Rattle.heap_intern.proofs.MadeLately.{recent_by}
 use Rattle.heap_intern.proofs.States.{history_continues, settled_test, step_at, text_is}
 use Rattle.heap_intern.proofs.strings.SessionStrings.settle.Goals as goal
 
@@ -53,3 +54,6 @@ invariant_of-self-clause-older_kept c = let s = c.args.self.now in let v : View 
 
 pub invariant_of-self-clause-singles_kept : goal.invariant_of-self-clause-singles_kept
 invariant_of-self-clause-singles_kept c = let s = c.args.self.now in let v : View = s.text.reader.agent.seat.me.0 in let w : View = c.settle.new.self.reader.agent.seat.me.0 in singles_by v w (c.settle.ensures.continues.known) s.singles.ids s.singles_kept
+
+pub invariant_of-self-clause-recent_kept : goal.invariant_of-self-clause-recent_kept
+invariant_of-self-clause-recent_kept c = let s = c.args.self.now in let v : View = s.text.reader.agent.seat.me.0 in let w : View = c.settle.new.self.reader.agent.seat.me.0 in recent_by v w (c.settle.ensures.continues.known) s.recent.ids s.recent_kept
