@@ -1,5 +1,5 @@
 -- The strings that a session made lately stay what they are over each call.
-use Rattle.std.proofs.Common.{◌≡◌, ◌∙◌, ℕ, ◌+◌, ◌-◌, ◌<◌, List, get_or, set, length, take, subst, sym, ap, arith}
+use Rattle.std.proofs.Common.{◌≡◌, ◌∙◌, ◌↔◌, ℕ, Bool, IsTrue, ◌+◌, ◌-◌, ◌<◌, List, get_or, set, length, take, subst, sym, ap, arith}
 use Rattle.std.proofs.lemmas.List.{get_or-set_same, get_or-set_other, take_all}
 use Rattle.std.specs.Prelude.{slice_index, slice_range}
 use mathlib.Core.Logic.{dite}
@@ -26,6 +26,10 @@ recent_with v ids place id less h one other some = dite (ℕ_discrete other plac
     (λ ne. let same : slice_index (set ids place id) other ≡ slice_index ids other = get_or-set_other ids place other id 0 ne in
     subst (λ i. IsRecent v i) (sym same) (h other (subst (λ i. 0 < i) same some)))
 
--- a list from its first unit to its last
-pub whole_range : (us : List ℕ) (n : ℕ) → n ≡ length us → slice_range us 0 (0 + n) ≡ us
-whole_range us n e = subst (λ m. take m us ≡ us) (let d : n ≡ 0 + n - 0 = omega arith in d) (take_all n us (omega arith))
+-- what was read of a list, from its first unit to its last
+pub read_whole : (us into : List ℕ) (n : ℕ) → n ≡ length us → into ≡ slice_range us 0 (0 + n) → into ≡ us
+read_whole us into n e read = read ∙ subst (λ m. take m us ≡ us) (let d : n ≡ 0 + n - 0 = omega arith in d) (take_all n us (omega arith))
+
+-- so a test of what was read is one of the list
+pub same_by : (b : Bool) (us into ws : List ℕ) → into ≡ us → IsTrue b ↔ (into ≡ ws) → IsTrue b ↔ (us ≡ ws)
+same_by b us into ws e same = (λ t. sym e ∙ same.0 t, λ w. same.1 (e ∙ w))

@@ -7,10 +7,12 @@ ghost use Rattle.heap_rule.specs.Maps as maps;
 ghost use Rattle.heap_rule.specs.Views as views;
 ghost use Rattle.heap_table.specs.Agents.{view_of};
 ghost use Rattle.heap_read.specs.Reads.{Reads};
+ghost use Rattle.heap_read.specs.Windows.{IsWindow};
 ghost use Rattle.heap_intern.specs.Sessions.{state_in};
 
 use crate::recent::Mark;
 use crate::session::Session;
+use heap_read::Window;
 use heap_text::{JsStr, Text};
 use js_store::StoreFault;
 
@@ -78,9 +80,22 @@ fn has_units(text: &mut Text, s: JsStr, units: &[u16]) -> bool
         return false;
     }
     let mut read = [0; SHORT];
-    let part = &mut read[..count];
-    text.read_in(window, 0, part);
-    is_same(part, units)
+    shows(text, window, units, &mut read[..count])
+}
+
+// Whether a window shows these units, which are as many; there is room to read as many.
+fn shows(text: &mut Text, window: Window, units: &[u16], read: &mut [u16]) -> bool
+    requires window { (us : List ℕ) × IsWindow (view_of text.old.reader.agent) window us }
+    requires long { window.len ≡ length units.now }
+    requires room { length read.old ≡ length units.now }
+    ensures heap { text.new.reader.heap ≡ text.old.reader.heap }
+    ensures limit { text.new.limit ≡ text.old.limit }
+    ensures reads { Reads (view_of text.old.reader.agent) (view_of text.new.reader.agent) }
+    ensures shows { (us : List ℕ) → IsWindow (view_of text.old.reader.agent) window us
+        → window.len ≡ length us → IsTrue result ↔ (us ≡ units.now) }
+{
+    text.read_in(window, 0, read);
+    is_same(read, units)
 }
 
 // Whether both lists have the same units.

@@ -1,13 +1,14 @@
-use Rattle.std.proofs.Common.{◌≡◌, ◌∙◌, ℕ, List, length, sym}
 use Rattle.heap_rule.specs.declared.view.View.{View}
 use Rattle.heap_rule.proofs.MapLemmas.{has_key}
 use Rattle.heap_read.proofs.Loaded.{reads_trans}
-use Rattle.heap_intern.proofs.MadeLately.{read_whole}
 use Rattle.heap_intern.proofs.short.has_units.Goals as goal
 
-pub read_in-requires-clause-window : goal.read_in-requires-clause-window
-read_in-requires-clause-window c = let v : View = c.args.text.now.reader.agent.seat.me.0 in let u = has_key v.units c.args.s.id c.requires.known in
+pub shows-requires-clause-window : goal.shows-requires-clause-window
+shows-requires-clause-window c = let v : View = c.args.text.now.reader.agent.seat.me.0 in let u = has_key v.units c.args.s.id c.requires.known in
     (u.0, (c.window-window.ensures.shows u.0 u.1).0)
 
 pub returns-clause-reads : goal.returns-clause-reads
-returns-clause-reads c = reads_trans c.args.text.now.reader.agent.seat.me.0 c.window-window.new.self.reader.agent.seat.me.0 c.read_in.new.self.reader.agent.seat.me.0 c.window-window.ensures.reads c.read_in.ensures.reads
+returns-clause-reads c = reads_trans c.args.text.now.reader.agent.seat.me.0 c.window-window.new.self.reader.agent.seat.me.0 c.shows.new.text.reader.agent.seat.me.0 c.window-window.ensures.reads c.shows.ensures.reads
+
+pub returns-clause-has : goal.returns-clause-has
+returns-clause-has c us h = let shown = c.window-window.ensures.shows us h in c.shows.ensures.shows us shown.0 shown.1

@@ -1,0 +1,29 @@
+use Rattle.std.proofs.Common.{◌∙◌, None, ap}
+use Rattle.js_store.specs.Limits.{limit_units}
+use Rattle.heap_rule.specs.declared.view.View.{View}
+use Rattle.heap_intern.specs.Sessions.{table_of}
+use Rattle.heap_intern.proofs.Lately.{kept_by}
+use Rattle.heap_intern.proofs.OneUnit.{singles_by}
+use Rattle.heap_intern.proofs.MadeLately.{recent_by}
+use Rattle.heap_intern.proofs.States.{step_at, step_reads, test_settled}
+use Rattle.heap_intern.proofs.session.Session.recent_of.Goals as goal
+
+pub has_units-requires-clause-settled : goal.has_units-requires-clause-settled
+has_units-requires-clause-settled c = let s = c.args.self.now in let v : View = s.text.reader.agent.seat.me.0 in test_settled v c.in-Some.kept.id (c.in-Some.ensures v s.recent_kept).1
+
+pub invariant_of-self : goal.invariant_of-self
+invariant_of-self c = let s = c.args.self.now in let v : View = s.text.reader.agent.seat.me.0 in let w : View = c.has_units.new.text.reader.agent.seat.me.0 in let k = c.has_units.ensures.reads.known in record {
+  one_limit = c.has_units.ensures.limit ∙ s.one_limit;
+  last_kept = kept_by v w k s.last s.last_kept;
+  older_kept = kept_by v w k s.older s.older_kept;
+  singles_kept = singles_by v w k s.singles.ids s.singles_kept;
+  recent_kept = recent_by v w k s.recent.ids s.recent_kept;
+}
+
+pub returns-then-has_units-clause-step : goal.returns-then-has_units-clause-step
+returns-then-has_units-clause-step c = let s = c.args.self.now in let v : View = s.text.reader.agent.seat.me.0 in let w : View = c.has_units.new.text.reader.agent.seat.me.0 in let l = limit_units s.limit in let t = table_of s.text.reader.heap.now in let e = c.has_units.ensures in
+    step_at v w l t (table_of c.has_units.new.text.reader.heap.now) None 0 0 (ap (λ x. table_of x.now) e.heap) (step_reads v w l t s.text.reader.belongs.5 e.reads)
+
+pub returns-clause-step : goal.returns-clause-step
+returns-clause-step c = let s = c.args.self.now in let v : View = s.text.reader.agent.seat.me.0 in let w : View = c.has_units.new.text.reader.agent.seat.me.0 in let l = limit_units s.limit in let t = table_of s.text.reader.heap.now in let e = c.has_units.ensures in
+    step_at v w l t (table_of c.has_units.new.text.reader.heap.now) None 0 0 (ap (λ x. table_of x.now) e.heap) (step_reads v w l t s.text.reader.belongs.5 e.reads)
