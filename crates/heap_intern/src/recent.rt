@@ -1,10 +1,13 @@
 // The short strings that a session made lately, so that a key which is read again takes no new one.
-ghost use Rattle.std.specs.Prelude.{◌≡◌, ◌≤◌, length, IfSome};
+ghost use Rattle.std.specs.Prelude.{◌≡◌, ◌+◌, ◌<◌, ◌≤◌, length, IfSome};
 ghost use Rattle.heap_rule.specs.declared.view.View.{View};
 ghost use Rattle.heap_intern.specs.Recent.{AreRecent, IsRecent};
 
 use heap_read::JsStr;
-use js_units::hash_step;
+use js_units::hash_units;
+
+// An odd number whose product with another depends on all its bits in the upper ones.
+const MIX: u64 = 11400714819323198485;
 
 // Which of the places a list of units has, and what tells most other lists there from it.
 #[derive(Clone, Copy)]
@@ -23,19 +26,43 @@ pub(crate) struct Recent {
 }
 
 impl Mark {
-    // It goes by all of fewer than 12 units, else by each second or third.
+    // It goes by all the units, four at a time.
     pub(crate) fn new(units: &[u16]) -> Mark
         requires { length units.now ≤ 32 }
     {
-        let step = 1 + units.len() / 12;
-        let mut hash = 0;
-        let mut i = 0;
-        while i < units.len() {
-            hash = hash_step(hash, units[i]);
-            i += step;
+        let count = units.len();
+        if count < 4 {
+            return Mark {
+                hash: hash_units(0, units),
+            };
         }
-        Mark { hash }
+        let last = count - 4;
+        let mut all = four_from(units, last);
+        let mut i = 0;
+        while i < last {
+            all = all.wrapping_mul(MIX).wrapping_add(four_from(units, i));
+            i += 4;
+        }
+        Mark {
+            hash: (all.wrapping_mul(MIX) >> 32) as u32,
+        }
     }
+
+    // The place of such units.
+    fn place(self) -> usize
+        ensures { result < 64 }
+    {
+        (self.hash >> 26) as usize
+    }
+}
+
+// Four units as one number.
+fn four_from(units: &[u16], i: usize) -> u64
+    requires { i + 4 ≤ length units.now }
+{
+    let upper = u64::from(units[i + 3]) * 65536 + u64::from(units[i + 2]);
+    let lower = u64::from(units[i + 1]) * 65536 + u64::from(units[i]);
+    upper.wrapping_mul(4294967296).wrapping_add(lower)
 }
 
 impl Recent {
@@ -53,7 +80,7 @@ impl Recent {
     pub(crate) fn get(&self, mark: Mark) -> Option<JsStr>
         ensures { IfSome result (λ s. (v : View) → AreRecent v self.now.ids → IsRecent v s.id) }
     {
-        let place = (mark.hash % 64) as usize;
+        let place = mark.place();
         let id = self.ids[place];
         if id == 0 || self.marks[place] != mark.hash {
             return None;
@@ -65,7 +92,7 @@ impl Recent {
     pub(crate) fn keep(&mut self, mark: Mark, s: JsStr)
         ensures { (v : View) → AreRecent v self.old.ids → IsRecent v s.id → AreRecent v self.new.ids }
     {
-        let place = (mark.hash % 64) as usize;
+        let place = mark.place();
         self.ids[place] = s.id;
         self.marks[place] = mark.hash;
     }

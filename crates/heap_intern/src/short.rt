@@ -64,6 +64,7 @@ impl<'h> Session<'h> {
 }
 
 // Whether a settled string has these units, by loads.
+#[inline(never)]
 fn has_units(text: &mut Text, s: JsStr, units: &[u16]) -> bool
     requires known { maps.HasKey (view_of text.old.reader.agent).units s.id }
     requires settled { views.IsSettled (view_of text.old.reader.agent) s.id }
