@@ -54,13 +54,18 @@ enum jsstr_status {
   JSSTR_NO_IDS = 3,    /* no id is left: the counter is at `at`, `want` are wanted, `end` there are */
   JSSTR_NO_WORDS = 4,  /* not enough words are left: the same of the words */
   JSSTR_NO_SLOTS = 5,  /* all `end` slots of the string table are used by other units */
-  JSSTR_TOO_LONG = 6   /* the sides, `at` and `want` units long, are longer together than the limit */
+  JSSTR_TOO_LONG = 6,  /* the sides, `at` and `want` units long, are longer together than the limit */
+  JSSTR_NONE = 7,      /* there is no such place */
+  JSSTR_NOT_UTF8 = 8   /* the first `at` bytes are UTF-8, and no more of them are; nothing has changed */
 };
 
 /* A status, and the string or the report; what isn't told is 0. After a refusal each string is what it
    was, and what the call had claimed by then is lost. NO_IDS, NO_WORDS and NO_SLOTS are final: the same
    want is refused from then on, to every agent. */
 typedef struct jsstr_answer { uint32_t status; jsstr_id id; uint32_t at, want, end; } jsstr_answer;
+
+/* A place in a string: JSSTR_DONE and the place, counted from 0, or JSSTR_NONE and 0. */
+typedef struct jsstr_place { uint32_t status, at; } jsstr_place;
 
 /* A heap, and in `out` its first agent, with the whole share: `agents`, 1 to 64, is how many agents there
    may be at one time. Joined strings are at most `limit` units long, which is at most JSSTR_MAX_LENGTH.
@@ -94,6 +99,12 @@ jsstr_answer jsstr_from_units(jsstr_agent *agent, const uint16_t *units, size_t 
    Condition: len is at most JSSTR_MAX_LENGTH. */
 jsstr_answer jsstr_from_latin1(jsstr_agent *agent, const uint8_t *bytes, size_t len);
 
+/* The text whose UTF-8 these bytes are, in UTF-16: no unit is an unpaired surrogate. It wants memory for
+   the time of the call, and may answer JSSTR_NO_MEMORY; it answers JSSTR_NOT_UTF8 exactly where the bytes
+   are none, as where they end within a character, spell a surrogate, or have more bytes than it takes.
+   Condition: len is at most JSSTR_MAX_LENGTH. */
+jsstr_answer jsstr_from_utf8(jsstr_agent *agent, const uint8_t *bytes, size_t len);
+
 /* The units of a, and then those of b. Fewer than 13 units are copied; from 13 on the answer is a rope,
    which takes an id and no word. Where one side is empty, the answer is the other side.
    Condition: a and b are known. */
@@ -114,6 +125,26 @@ jsstr_answer jsstr_settle(jsstr_agent *agent, jsstr_id s);
 /* The units of s from number `from` on, `len` of them, into `out`.
    Condition: s is settled, and from + len is at most its length. */
 void jsstr_read(jsstr_agent *agent, jsstr_id s, uint32_t from, uint16_t *out, size_t len);
+
+/* The order of two strings by their units, where a proper prefix comes first: -1 where a comes before b,
+   0 where both have the same units, 1 where a comes after b.
+   Condition: a and b are settled. */
+int32_t jsstr_compare(jsstr_agent *agent, jsstr_id a, jsstr_id b);
+
+/* Whether two strings have the same units. Condition: a and b are settled. */
+bool jsstr_equal(jsstr_agent *agent, jsstr_id a, jsstr_id b);
+
+/* Whether the units of `needle` stand in `hay` from number `at` on; where it has no room they don't.
+   Condition: hay and needle are settled. */
+bool jsstr_starts_with(jsstr_agent *agent, jsstr_id hay, jsstr_id needle, uint32_t at);
+
+/* The least place at or after `from` at which `needle` stands in `hay`. An empty one stands at each place.
+   Condition: hay and needle are settled, and from is at most the length of hay. */
+jsstr_place jsstr_index_of(jsstr_agent *agent, jsstr_id hay, jsstr_id needle, uint32_t from);
+
+/* The greatest place at most `limit` at which `needle` stands in `hay`; any limit will do.
+   Condition: hay and needle are settled. */
+jsstr_place jsstr_last_index_of(jsstr_agent *agent, jsstr_id hay, jsstr_id needle, uint32_t limit);
 
 /* The one string of the string table with the units of s: every agent gets the same one for equal units.
    It is known, and settled. It takes at most an id, and words where s is a slice.

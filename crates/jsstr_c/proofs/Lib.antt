@@ -3,3 +3,5 @@ pub mod Boxed
 pub mod Ready
 pub mod Interned
 pub mod Settled
+pub mod Decoded
+pub mod Searched

@@ -3,3 +3,5 @@ pub mod Ready
 pub mod Kept
 pub mod Interned
 pub mod Reports
+pub mod Searched
+pub mod Decoded

@@ -32,6 +32,12 @@ NO_SLOTS = 5
 abbrev pub TOO_LONG : ℕ
 TOO_LONG = 6
 
+abbrev pub NONE : ℕ
+NONE = 7
+
+abbrev pub NOT_UTF8 : ℕ
+NOT_UTF8 = 8
+
 abbrev pub done : ℕ → JsAnswer
 done id = record { status = DONE; id = id; at = 0; want = 0; end = 0 }
 
@@ -62,6 +68,10 @@ table_answer (Err f) = table_report f
 
 abbrev pub no_memory : JsAnswer
 no_memory = record { status = NO_MEMORY; id = 0; at = 0; want = 0; end = 0 }
+
+-- the bytes stop to be UTF-8 at this place
+abbrev pub not_utf8 : ℕ → JsAnswer
+not_utf8 n = record { status = NOT_UTF8; id = 0; at = n; want = 0; end = 0 }
 
 -- the sizes that C gives, as those of a heap
 abbrev pub size_for : JsSize → HeapSize

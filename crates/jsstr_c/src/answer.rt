@@ -2,10 +2,12 @@
 ghost use Rattle.std.specs.Prelude.{◌≡◌};
 ghost use Rattle.jsstr_c.specs.Reports as reports;
 ghost use Rattle.jsstr_c.specs.Reports.{join_answer, table_answer, text_answer};
+ghost use Rattle.jsstr_c.specs.Searched.{order_number, place_answer};
 
 use heap_string_table::TableFull;
 use heap_table::CounterFull;
 use heap_text::{JoinFault, JsStr, TextFull};
+use std::cmp::Ordering;
 
 pub(crate) const DONE: u32 = 0;
 
@@ -21,8 +23,13 @@ const NO_SLOTS: u32 = 5;
 
 const TOO_LONG: u32 = 6;
 
+const NONE: u32 = 7;
+
+const NOT_UTF8: u32 = 8;
+
 /// A status, and at 0 the string. Where a counter was full, `at`, `want` and `end` are its report;
-/// where two strings would be too long, `at` and `want` are their lengths.
+/// where two strings would be too long, `at` and `want` are their lengths; where bytes are no UTF-8,
+/// `at` is how many of them are.
 #[repr(C)]
 #[derive(Clone, Copy)]
 pub struct JsAnswer {
@@ -31,6 +38,14 @@ pub struct JsAnswer {
     pub at: u32,
     pub want: u32,
     pub end: u32,
+}
+
+/// A status, and at 0 the place; where there is none, `at` is 0.
+#[repr(C)]
+#[derive(Clone, Copy)]
+pub struct JsPlace {
+    pub status: u32,
+    pub at: u32,
 }
 
 fn done(s: JsStr) -> JsAnswer
@@ -118,6 +133,40 @@ pub(crate) fn no_memory() -> JsAnswer
         status: NO_MEMORY,
         id: 0,
         at: 0,
+        want: 0,
+        end: 0,
+    }
+}
+
+pub(crate) fn of_place(answer: Option<u32>) -> JsPlace
+    ensures { result ≡ place_answer answer }
+{
+    match answer {
+        Some(at) => JsPlace { status: DONE, at },
+        None => JsPlace {
+            status: NONE,
+            at: 0,
+        },
+    }
+}
+
+pub(crate) fn of_order(answer: Ordering) -> i32
+    ensures { result ≡ order_number answer }
+{
+    match answer {
+        Ordering::Less => -1,
+        Ordering::Equal => 0,
+        Ordering::Greater => 1,
+    }
+}
+
+pub(crate) fn not_utf8(at: u32) -> JsAnswer
+    ensures { result ≡ reports.not_utf8 at }
+{
+    JsAnswer {
+        status: NOT_UTF8,
+        id: 0,
+        at,
         want: 0,
         end: 0,
     }

@@ -8,11 +8,13 @@
 
 mod answer;
 mod counts;
+mod decoding;
 mod handle;
 mod held;
 mod life;
 mod making;
 mod parts;
 mod reading;
+mod search;
 mod table;
 mod uses;

@@ -46,7 +46,7 @@ pub extern "C" fn jsstr_from_units(alloc: Global, agent: &mut JsAgent, units: &[
     of_text(answer)
 }
 
-fn from_units(held: &mut Held, units: &[u16]) -> Result<JsStr, TextFull>
+pub(crate) fn from_units(held: &mut Held, units: &[u16]) -> Result<JsStr, TextFull>
     requires whole { IsWhole held.old }
     requires short { length units.now ≤ MAX }
     ensures leaves { Leaves held.old held.new }
