@@ -82,7 +82,7 @@ impl<'a, T> Model for Frames<'a, T> {
 }
 
 impl<'a, T: Drop> Frames<'a, T> {
-    /// No block. It takes no memory.
+    /// No frame. It takes no memory.
     pub fn new(alloc: Global) -> Frames<'a, T>
         ensures { result ≡ [] }
     {
@@ -131,7 +131,8 @@ impl<'a, T: Drop> Frames<'a, T> {
         names: Option<Declared<'a>>,
     ) -> Result<(), NoMemory>
         ensures entered { OnOk result (stacked self.new
-            ≡ record { names = unwrap_or names.entry []; bound = [] } ∷ hollows outside (stacked self.old)) }
+            ≡ record { names = unwrap_or names.entry []; bound = [] }
+            ∷ hollows outside (stacked self.old)) }
         ensures refused { OnErr result (self.new ≡ self.old) }
     {
         make_room(alloc, &mut self.all, self.entered)?;

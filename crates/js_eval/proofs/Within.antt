@@ -32,7 +32,7 @@ every_reversed P [] h = tt
 every_reversed {A} P (x ∷ xs) h = subst (λ (q : List A). Every P q) (sym (reverse-append (x ∷ []) xs)) (every_joined P (reverse xs) (x ∷ []) (every_reversed P xs h.1) (h.0, tt))
 
 module _ {F R : Type 0} (s : State F) (name : R → ℕ) where
-  AllBound : List (Frame (Item R)) → Type 0
+  abbrev AllBound : List (Frame (Item R)) → Type 0
   AllBound fs = Every (λ f. BoundsFine s name f.bound) fs
 
   -- blocks without a frame have no values
