@@ -2,7 +2,8 @@
 //! tree: units and words, forms of strings, files and sinks in memory and of the process, numbers, the
 //! plain store, the URI functions, the order of strings, and the words of the command line. Of reading
 //! and running scripts: lexical and grammatical tokens with their spans, texts made from a number, a run
-//! over the plain store, copies of names, and the laws of files that were run on one heap. Which texts are
+//! over the plain store, copies of names, the laws of files that were run on one heap, and what a session
+//! keeps of strings that it read and of strings of one unit. Which texts are
 //! scripts, the kind and place of each fault, and what scripts print are cases of `jsstr_cases`.
 //!
 //! A table is one text, a row a line: what is given, an arrow, and what is wanted; one loop goes through
@@ -24,7 +25,11 @@ mod names;
 #[cfg(test)]
 mod number;
 #[cfg(test)]
+mod reads;
+#[cfg(test)]
 mod rows;
+#[cfg(test)]
+mod singles;
 #[cfg(test)]
 mod store;
 #[cfg(test)]

@@ -7,13 +7,9 @@ mod counted;
 #[cfg(test)]
 mod forwarding;
 #[cfg(test)]
-mod reads;
-#[cfg(test)]
 mod recent;
 #[cfg(test)]
 mod sessions;
-#[cfg(test)]
-mod singles;
 #[cfg(test)]
 mod slices;
 #[cfg(test)]

@@ -10,7 +10,7 @@ use heap_intern::Session;
 use heap_rule::HeapSize;
 use heap_table::Heap;
 use js_store::Limit;
-use std::alloc::Global;
+use std::test::Fail;
 
 const KEY: [u16; 5] = [118, 97, 108, 117, 101];
 
@@ -40,36 +40,28 @@ fn twice(session: &mut Session, units: &[u16]) -> [u32; 2]
     [first, second]
 }
 
-// Two lists in turn, each made twice.
-fn in_turn(session: &mut Session) -> [u32; 4] {
-    let a = id_of(session, &FIRST);
-    let b = id_of(session, &SECOND);
-    let c = id_of(session, &FIRST);
-    let d = id_of(session, &SECOND);
-    [a, b, c, d]
-}
-
 // String 0 is not kept. A key takes one id; lists of one hash never have one string, and take each
 // other's place, so that each takes an id whenever the other was made between.
-fn keys(alloc: Global) -> bool {
+fn keys(session: &mut Session) -> bool {
+    if twice(session, &SECOND) != [0, 1] || twice(session, &KEY) != [2, 2] {
+        return false;
+    }
+    let first = [id_of(session, &FIRST), id_of(session, &SECOND)];
+    let again = [id_of(session, &FIRST), id_of(session, &SECOND)];
+    (first, again) == ([3, 4], [5, 6]) && twice(session, &KEY) == [2, 2]
+}
+
+#[test]
+fn a_key_made_again(rt: HostRuntime) -> Result<(), Fail> {
     let size = HeapSize {
         ids: 7,
         words: 7,
         slots: 1,
     };
-    let Ok((heap, agent)) = Heap::make(alloc, size, 1) else {
-        return false;
-    };
+    let (heap, agent) = Heap::make(rt.alloc(), size, 1)?;
     let mut session = Session::new(&heap, agent, Limit::Bits64);
-    if twice(&mut session, &SECOND) != [0, 1] || twice(&mut session, &KEY) != [2, 2] {
-        return false;
-    }
-    in_turn(&mut session) == [3, 4, 5, 6] && twice(&mut session, &KEY) == [2, 2]
-}
-
-#[test]
-fn a_key_made_again(rt: HostRuntime) {
-    assert!(rt; keys(rt.alloc()));
+    assert!(rt; keys(&mut session));
+    Ok(())
 }
 
 // A session that is split off keeps no string at first, and then those that it made. Joined
@@ -96,20 +88,15 @@ fn keys_of_both(left: &mut Session) -> bool
     twice(left, &KEY) == [1, 1] && twice(left, &FIRST) == [5, 5]
 }
 
-fn split_and_joined(alloc: Global) -> bool {
+#[test]
+fn keys_of_a_session_that_is_split_off(rt: HostRuntime) -> Result<(), Fail> {
     let size = HeapSize {
         ids: 6,
         words: 6,
         slots: 1,
     };
-    let Ok((heap, agent)) = Heap::make(alloc, size, 2) else {
-        return false;
-    };
+    let (heap, agent) = Heap::make(rt.alloc(), size, 2)?;
     let mut left = Session::new(&heap, agent, Limit::Bits64);
-    keys_of_both(&mut left)
-}
-
-#[test]
-fn keys_of_a_session_that_is_split_off(rt: HostRuntime) {
-    assert!(rt; split_and_joined(rt.alloc()));
+    assert!(rt; keys_of_both(&mut left));
+    Ok(())
 }

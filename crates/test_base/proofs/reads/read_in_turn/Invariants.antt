@@ -1,6 +1,6 @@
 use Rattle.std.proofs.Common.{◌≡◌, length}
 use Rattle.js_store.specs.State.{IsKnown, IsSettled, text}
-use Rattle.test_heap_intern.proofs.reads.read_in_turn.Given as goal
+use Rattle.test_base.proofs.reads.read_in_turn.Given as goal
 
 abbrev pub invariant-loop-turn : goal.invariant-loop-turn
 invariant-loop-turn g l =
