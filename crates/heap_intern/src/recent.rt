@@ -32,9 +32,7 @@ impl Mark {
     {
         let count = units.len();
         if count < 4 {
-            return Mark {
-                hash: hash_units(0, units),
-            };
+            return Mark::mixed(u64::from(hash_units(0, units)));
         }
         let last = count - 4;
         let mut all = four_from(units, last);
@@ -43,6 +41,11 @@ impl Mark {
             all = all.wrapping_mul(MIX).wrapping_add(four_from(units, i));
             i += 4;
         }
+        Mark::mixed(all)
+    }
+
+    // The upper bits of a product, on which all bits of the number have a part.
+    fn mixed(all: u64) -> Mark {
         Mark {
             hash: (all.wrapping_mul(MIX) >> 32) as u32,
         }
