@@ -101,7 +101,7 @@ jsstr_answer jsstr_from_latin1(jsstr_agent *agent, const uint8_t *bytes, size_t 
 
 /* The text whose UTF-8 these bytes are, in UTF-16: no unit is an unpaired surrogate. It wants memory for
    the time of the call, and may answer JSSTR_NO_MEMORY; it answers JSSTR_NOT_UTF8 exactly where the bytes
-   are none, as where they end within a character, spell a surrogate, or have more bytes than it takes.
+   are none, as where they end within a character, spell a surrogate, or spell one by too many bytes.
    Condition: len is at most JSSTR_MAX_LENGTH. */
 jsstr_answer jsstr_from_utf8(jsstr_agent *agent, const uint8_t *bytes, size_t len);
 
