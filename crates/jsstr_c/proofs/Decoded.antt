@@ -1,5 +1,5 @@
 -- A text has no more units than it has bytes.
-use Rattle.std.proofs.Common.{arith, ℕ, ◌≤◌, List, [], ◌∷◌, ◌++◌, length, length-append, subst}
+use Rattle.std.proofs.Common.{arith, ℕ, ◌≤◌, List, [], ◌∷◌, length, length-append, subst}
 use Rattle.std.proofs.lemmas.Bool.Decides.{nat_tests}
 use Rattle.std.proofs.lemmas.Str.{encodes-chars, length-encode}
 use Rattle.std.specs.Char.{encode_utf8, len_utf8}

@@ -1,6 +1,6 @@
 -- What a search through a session leaves of what an agent knows, and what it says of the strings.
-use Rattle.std.proofs.Common.{◌≡◌, ◌↔◌, ℕ, ◌≤◌, List, refl, sym, ◌∙◌, subst, arith, Option, Some, None, IsTrue}
-use Rattle.std.specs.Prelude.{IsSome, length}
+use Rattle.std.proofs.Common.{◌≡◌, ◌↔◌, ℕ, ◌≤◌, List, refl, sym, ◌∙◌, subst, arith, Option, Some, None}
+use Rattle.std.specs.Prelude.{IsSome}
 use Rattle.std.specs.declared.cmp.Ordering.{Ordering}
 use Rattle.std.specs.declared.cmp.Ordering.TheVariants.{Less, Equal, Greater}
 use Rattle.std.specs.FinMap.{get}
@@ -10,9 +10,8 @@ use Rattle.js_store.specs.Limits.{limit_units}
 use Rattle.js_store.specs.State as store
 use Rattle.heap_rule.specs.declared.view.View.{View}
 use Rattle.heap_rule.specs.Layout.{MAX}
-use Rattle.heap_rule.specs.Maps.{Has, HasKey}
-use Rattle.heap_rule.specs.Views.{IsSettled, history}
-use Rattle.heap_rule.proofs.MapLemmas.{has_key}
+use Rattle.heap_rule.specs.Maps.{Has}
+use Rattle.heap_rule.specs.Views.{history}
 use Rattle.heap_table.specs.declared.agent.Agent.{Agent}
 use Rattle.heap_table.specs.declared.heap.Heap.{Heap}
 use Rattle.heap_table.specs.Agents.{Belongs, view_of}
@@ -23,7 +22,7 @@ use Rattle.heap_intern.proofs.States.{settled_test, test_settled, text_is}
 use Rattle.js_search.specs.Order.{Precedes}
 use Rattle.jsstr_c.specs.declared.held.Held.{Held}
 use Rattle.jsstr_c.specs.Ready.{IsWhole, heap_of, view_if}
-use Rattle.jsstr_c.specs.Searched.{IsOrder, IsReadable, KeepsStrings, Searched}
+use Rattle.jsstr_c.specs.Searched.{IsOrder, KeepsStrings, Searched}
 
 is_some : (o : Option (List ℕ)) (us : List ℕ) → o ≡ Some us → IsSome o
 is_some o us e = subst (λ (p : Option (List ℕ)). IsSome p) (sym e) refl
@@ -45,8 +44,10 @@ strings s t p h = let g = p.grows in let v : View = view_in s in let w : View = 
 }
 
 belongs : (h : Heap) (a b : Agent) (s t : Session) → Belongs a h → state_in s ≡ state_by (view_of a) (limit_units Bits64) (table_of h) → Step (state_in s) (state_in t) None 0 0 → BelongsAs (state_in t) b → Belongs b h
-belongs h a b s t is e k of = of h ((λ i. (k.grows.frame i).table) ∙ (λ i. (e i).frame.table),
-    k.grows.sizes ∙ (λ i. (e i).sizes) ∙ (λ i. record { ids = (is.1 i).ids; words = (is.1 i).words; slots = (is.1 i).slots }))
+belongs h a b s t is e k of = of h (
+  (λ i. (k.grows.frame i).table) ∙ (λ i. (e i).frame.table),
+  k.grows.sizes ∙ (λ i. (e i).sizes) ∙ (λ i. record { ids = (is.1 i).ids; words = (is.1 i).words; slots = (is.1 i).slots }),
+)
 
 pub order_of : (us vs : List ℕ) (o : Ordering) → (o ≡ Less) ↔ Precedes us vs → (o ≡ Equal) ↔ (us ≡ vs) → (o ≡ Greater) ↔ Precedes vs us → IsOrder us vs o
 order_of us vs Less a b d = a.0 refl

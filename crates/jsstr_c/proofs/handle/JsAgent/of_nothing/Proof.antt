@@ -1,6 +1,6 @@
 -- A handle of nothing owns its two fields alone, whatever its pointer is.
 use contract.Running.{tables, tables_of}
-use Rattle.jsstr_c.proofs.Walks.{refl, sym, List, [], ◌∷◌, ◌++◌, T, lit<, Ura, Val, vstruct, vcons, vnil, has_ty, WT, SProp, ent, emp, ftrue, fsep, Fun, Memory, Routine, WpFn, Tables, WpFn-mono, Logic, ‵, raw, ◌⊛◌, prop, ◌$◌, ◌∵◌, !, qed, done, move, keep, drop, use1, split, join, fsplit, fjoin, fpack, feq_l, feq_i, regoal, suffices, id⊢, agg, no_more, and_then, enter, returns, alloc_all, pass_all, free_all, look_at, get, sets, yes, Valss, Ptr, RawPtr, block_ptr, null_ptr, ptr_val, Slot, plain, nothing, within, shape, to, Clauses, triple_of, entered, says, Stays, stay_dropped, walk_of, ends_at, Goes-dropped, walk_Meets, α, Fits, handle_tells, box_ty}
+use Rattle.jsstr_c.proofs.Walks.{refl, List, [], ◌∷◌, ◌++◌, T, lit<, Ura, Val, vstruct, vcons, vnil, has_ty, WT, SProp, ent, emp, ftrue, fsep, Fun, Memory, Routine, WpFn, Tables, WpFn-mono, Logic, ‵, raw, ◌⊛◌, prop, ◌$◌, ◌∵◌, !, qed, done, move, keep, drop, use1, split, join, fsplit, fjoin, fpack, feq_l, feq_i, regoal, suffices, id⊢, agg, no_more, and_then, enter, returns, alloc_all, pass_all, free_all, look_at, get, sets, yes, Valss, Ptr, RawPtr, block_ptr, null_ptr, ptr_val, Slot, plain, nothing, within, shape, to, Clauses, triple_of, entered, says, Stays, stay_dropped, walk_of, ends_at, Goes-dropped, walk_Meets, α, Fits, handle_tells, box_ty}
 use Rattle.core.proofs.atomic.Steps.{Ptr-Good}
 use Rattle.std.specs.Prelude.{None}
 use Rattle.std_alloc.proofs.ResultValues.{and_tt}
