@@ -21,8 +21,8 @@ use Rattle.heap_intern.specs.Shares.{BelongsAs}
 use Rattle.heap_intern.proofs.States.{settled_test, test_settled, text_is}
 use Rattle.js_search.specs.Order.{Precedes}
 use Rattle.jsstr_c.specs.declared.held.Held.{Held}
-use Rattle.jsstr_c.specs.Ready.{IsWhole, heap_of, view_if}
-use Rattle.jsstr_c.specs.Searched.{IsOrder, KeepsStrings, Searched}
+use Rattle.jsstr_c.specs.Ready.{IsWhole, heap_of, view_if, view_in as handle_view}
+use Rattle.jsstr_c.specs.Searched.{IsOrder, KeepsStrings, Searched, Searches}
 
 is_some : (o : Option (List ℕ)) (us : List ℕ) → o ≡ Some us → IsSome o
 is_some o us e = subst (λ (p : Option (List ℕ)). IsSome p) (sym e) refl
@@ -78,3 +78,9 @@ module _ (x : Held) (a : Agent) (s : Session) (own : x.agent ≡ Some a) (same :
         (subst (λ (v : View). KeepsStrings v (view_of b)) same (subst (λ (w : View). KeepsStrings (view_in s) w) (sym view)
         (strings s t k calls)));
   }
+
+-- what a search leaves of a handle's strings
+pub searches_strings : (o p : Option Held) → Searches o p → KeepsStrings (handle_view o) (handle_view p)
+searches_strings None p g = absurd g
+searches_strings (Some x) None g = absurd g
+searches_strings (Some x) (Some y) g = g.strings

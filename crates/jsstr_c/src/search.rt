@@ -24,9 +24,11 @@ pub extern "C" fn jsstr_compare(alloc: Global, agent: &mut JsAgent, a: u32, b: u
     requires left { IsReadable (view_in agent.old.value) a }
     requires right { IsReadable (view_in agent.old.value) b }
     ensures searches { Searches agent.old.value agent.new.value }
-    ensures order { (us vs : List ℕ) → Has (view_in agent.old.value).units a us → Has (view_in agent.old.value).units b vs
+    ensures order { (us vs : List ℕ) → Has (view_in agent.old.value).units a us
+        → Has (view_in agent.old.value).units b vs
         → result ≡ order_number (units_cmp us vs) }
-    ensures means { (us vs : List ℕ) → Has (view_in agent.old.value).units a us → Has (view_in agent.old.value).units b vs
+    ensures means { (us vs : List ℕ) → Has (view_in agent.old.value).units a us
+        → Has (view_in agent.old.value).units b vs
         → (o : ordering.Ordering) × (result ≡ order_number o) × IsOrder us vs o }
 {
     let mut held = agent.take(alloc);
@@ -40,9 +42,11 @@ fn compare(held: &mut Held, a: JsStr, b: JsStr) -> Ordering
     requires left { IsReadable (view_if held.old.agent) a.id }
     requires right { IsReadable (view_if held.old.agent) b.id }
     ensures searched { Searched held.old held.new }
-    ensures order { (us vs : List ℕ) → Has (view_if held.old.agent).units a.id us → Has (view_if held.old.agent).units b.id vs
+    ensures order { (us vs : List ℕ) → Has (view_if held.old.agent).units a.id us
+        → Has (view_if held.old.agent).units b.id vs
         → result ≡ units_cmp us vs }
-    ensures means { (us vs : List ℕ) → Has (view_if held.old.agent).units a.id us → Has (view_if held.old.agent).units b.id vs
+    ensures means { (us vs : List ℕ) → Has (view_if held.old.agent).units a.id us
+        → Has (view_if held.old.agent).units b.id vs
         → IsOrder us vs result }
 {
     let agent = held.take_agent();
@@ -59,7 +63,8 @@ pub extern "C" fn jsstr_equal(alloc: Global, agent: &mut JsAgent, a: u32, b: u32
     requires left { IsReadable (view_in agent.old.value) a }
     requires right { IsReadable (view_in agent.old.value) b }
     ensures searches { Searches agent.old.value agent.new.value }
-    ensures value { (us vs : List ℕ) → Has (view_in agent.old.value).units a us → Has (view_in agent.old.value).units b vs
+    ensures value { (us vs : List ℕ) → Has (view_in agent.old.value).units a us
+        → Has (view_in agent.old.value).units b vs
         → IsTrue result ↔ (us ≡ vs) }
 {
     let mut held = agent.take(alloc);
@@ -73,7 +78,8 @@ fn equal(held: &mut Held, a: JsStr, b: JsStr) -> bool
     requires left { IsReadable (view_if held.old.agent) a.id }
     requires right { IsReadable (view_if held.old.agent) b.id }
     ensures searched { Searched held.old held.new }
-    ensures value { (us vs : List ℕ) → Has (view_if held.old.agent).units a.id us → Has (view_if held.old.agent).units b.id vs
+    ensures value { (us vs : List ℕ) → Has (view_if held.old.agent).units a.id us
+        → Has (view_if held.old.agent).units b.id vs
         → IsTrue result ↔ (us ≡ vs) }
 {
     let agent = held.take_agent();
@@ -97,9 +103,11 @@ pub extern "C" fn jsstr_starts_with(
     requires left { IsReadable (view_in agent.old.value) hay }
     requires right { IsReadable (view_in agent.old.value) needle }
     ensures searches { Searches agent.old.value agent.new.value }
-    ensures stands { (us vs : List ℕ) → Has (view_in agent.old.value).units hay us → Has (view_in agent.old.value).units needle vs
+    ensures stands { (us vs : List ℕ) → Has (view_in agent.old.value).units hay us
+        → Has (view_in agent.old.value).units needle vs
         → IsTrue result ↔ Stands us vs at }
-    ensures test { (us vs : List ℕ) → Has (view_in agent.old.value).units hay us → Has (view_in agent.old.value).units needle vs
+    ensures test { (us vs : List ℕ) → Has (view_in agent.old.value).units hay us
+        → Has (view_in agent.old.value).units needle vs
         → result ≡ stands us vs at }
 {
     let mut held = agent.take(alloc);
@@ -113,9 +121,11 @@ fn starts_with(held: &mut Held, hay: JsStr, needle: JsStr, at: u32) -> bool
     requires left { IsReadable (view_if held.old.agent) hay.id }
     requires right { IsReadable (view_if held.old.agent) needle.id }
     ensures searched { Searched held.old held.new }
-    ensures stands { (us vs : List ℕ) → Has (view_if held.old.agent).units hay.id us → Has (view_if held.old.agent).units needle.id vs
+    ensures stands { (us vs : List ℕ) → Has (view_if held.old.agent).units hay.id us
+        → Has (view_if held.old.agent).units needle.id vs
         → IsTrue result ↔ Stands us vs at }
-    ensures test { (us vs : List ℕ) → Has (view_if held.old.agent).units hay.id us → Has (view_if held.old.agent).units needle.id vs
+    ensures test { (us vs : List ℕ) → Has (view_if held.old.agent).units hay.id us
+        → Has (view_if held.old.agent).units needle.id vs
         → result ≡ stands us vs at }
 {
     let agent = held.take_agent();
@@ -140,9 +150,11 @@ pub extern "C" fn jsstr_index_of(
     requires right { IsReadable (view_in agent.old.value) needle }
     requires within { (us : List ℕ) × Has (view_in agent.old.value).units hay us × (from ≤ length us) }
     ensures searches { Searches agent.old.value agent.new.value }
-    ensures least { (us vs : List ℕ) → Has (view_in agent.old.value).units hay us → Has (view_in agent.old.value).units needle vs
+    ensures least { (us vs : List ℕ) → Has (view_in agent.old.value).units hay us
+        → Has (view_in agent.old.value).units needle vs
         → (r : Option ℕ) × (result ≡ place_answer r) × IsFirst us vs from r }
-    ensures place { (us vs : List ℕ) → Has (view_in agent.old.value).units hay us → Has (view_in agent.old.value).units needle vs
+    ensures place { (us vs : List ℕ) → Has (view_in agent.old.value).units hay us
+        → Has (view_in agent.old.value).units needle vs
         → result ≡ place_answer (first us vs from) }
 {
     let mut held = agent.take(alloc);
@@ -157,9 +169,11 @@ fn index_of(held: &mut Held, hay: JsStr, needle: JsStr, from: u32) -> Option<u32
     requires right { IsReadable (view_if held.old.agent) needle.id }
     requires within { (us : List ℕ) × Has (view_if held.old.agent).units hay.id us × (from ≤ length us) }
     ensures searched { Searched held.old held.new }
-    ensures least { (us vs : List ℕ) → Has (view_if held.old.agent).units hay.id us → Has (view_if held.old.agent).units needle.id vs
+    ensures least { (us vs : List ℕ) → Has (view_if held.old.agent).units hay.id us
+        → Has (view_if held.old.agent).units needle.id vs
         → IsFirst us vs from result }
-    ensures place { (us vs : List ℕ) → Has (view_if held.old.agent).units hay.id us → Has (view_if held.old.agent).units needle.id vs
+    ensures place { (us vs : List ℕ) → Has (view_if held.old.agent).units hay.id us
+        → Has (view_if held.old.agent).units needle.id vs
         → result ≡ first us vs from }
 {
     let agent = held.take_agent();
@@ -183,9 +197,11 @@ pub extern "C" fn jsstr_last_index_of(
     requires left { IsReadable (view_in agent.old.value) hay }
     requires right { IsReadable (view_in agent.old.value) needle }
     ensures searches { Searches agent.old.value agent.new.value }
-    ensures greatest { (us vs : List ℕ) → Has (view_in agent.old.value).units hay us → Has (view_in agent.old.value).units needle vs
+    ensures greatest { (us vs : List ℕ) → Has (view_in agent.old.value).units hay us
+        → Has (view_in agent.old.value).units needle vs
         → (r : Option ℕ) × (result ≡ place_answer r) × IsLast us vs limit r }
-    ensures place { (us vs : List ℕ) → Has (view_in agent.old.value).units hay us → Has (view_in agent.old.value).units needle vs
+    ensures place { (us vs : List ℕ) → Has (view_in agent.old.value).units hay us
+        → Has (view_in agent.old.value).units needle vs
         → result ≡ place_answer (last us vs limit) }
 {
     let mut held = agent.take(alloc);
@@ -199,9 +215,11 @@ fn last_index_of(held: &mut Held, hay: JsStr, needle: JsStr, limit: u32) -> Opti
     requires left { IsReadable (view_if held.old.agent) hay.id }
     requires right { IsReadable (view_if held.old.agent) needle.id }
     ensures searched { Searched held.old held.new }
-    ensures greatest { (us vs : List ℕ) → Has (view_if held.old.agent).units hay.id us → Has (view_if held.old.agent).units needle.id vs
+    ensures greatest { (us vs : List ℕ) → Has (view_if held.old.agent).units hay.id us
+        → Has (view_if held.old.agent).units needle.id vs
         → IsLast us vs limit result }
-    ensures place { (us vs : List ℕ) → Has (view_if held.old.agent).units hay.id us → Has (view_if held.old.agent).units needle.id vs
+    ensures place { (us vs : List ℕ) → Has (view_if held.old.agent).units hay.id us
+        → Has (view_if held.old.agent).units needle.id vs
         → result ≡ last us vs limit }
 {
     let agent = held.take_agent();
