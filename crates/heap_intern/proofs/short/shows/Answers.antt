@@ -1,4 +1,4 @@
-use Rattle.std.proofs.Common.{◌≡◌, ℕ, List, length, arith}
+use Rattle.std.proofs.Common.{◌≡◌, length, arith}
 use Rattle.heap_intern.proofs.MadeLately.{read_whole, same_by}
 use Rattle.heap_intern.proofs.short.shows.Goals as goal
 
