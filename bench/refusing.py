@@ -34,6 +34,7 @@ SHARED = {"p.js": "let s = 'abcdefgh'.concat('ijklmnop');\n", **{f"{it}.js": "pr
 PAIR = "print(Symbol.for('k' + 'ey') === Symbol.for('key'));\n"
 URI = "let s = 'a b/\\u00e9\\ud83d\\ude00?';\nfor (let i = 0; i < 3; i++) {\n  print(encodeURIComponent(s), encodeURI(s));\n  s = s + i;\n}\nprint(decodeURIComponent('%F0%9F%98%80x'), decodeURI('%41%2F'));\n"
 OBJECTS = "let o = { name: 'apple', count: 3, tags: { ripe: true }, parts: 'a,b'.split(',') };\nlet p = { 2: 'two', b: o, a: 'red' + o.name, 1: 'one' };\nprint(o.name.padEnd(8) + o['count'], p.a, o.tags.ripe, p.b.parts[1], p.q);\nprint(Object.keys(p).join(), p + '');\nprint(JSON.stringify(p));\n"
+MANY = "let o = { a: 1, b: 2, c: 3, d: 4, e: 5, f: 6, g: 7, h: 8, i: 9, j: 10, k: 11, a: 12 };\nlet p = { o: o, x: o.k };\nprint(o.a, o.k, p.o.j, p.o.z);\nprint(JSON.stringify(p));\n"
 METHODS = "let s = 'a,b;c d'.repeat(9);\nfor (let i = 0; i < 4; i++) {\n  print(s.split(',').join(';').padStart(80, 'xy').trim().slice(i, 40), s.replaceAll(';', '[$&]').length);\n  s = String(JSON.stringify(s.split(';'))) + String.fromCharCode(65 + i, 8364);\n}\nprint(s.toWellFormed().lastIndexOf('b'), s < s.concat('!', i0));\n".replace("i0", "true")
 ROWS = {
     "report": Row([], "", ["report.js"], {}),
@@ -44,6 +45,7 @@ ROWS = {
     "methods": Row(["--jobs", "1"], "", ["m.js"], {"m.js": METHODS}),
     "uri": Row([], "", ["u.js"], {"u.js": URI}),
     "objects": Row([], "", ["o.js"], {"o.js": OBJECTS}),
+    "many members": Row([], "", ["o.js"], {"o.js": MANY}),
 }
 NAMES = re.compile(r"(.*): (out of memory|uncaught \w+|unsupported at \d+|heap full: \w+)")
 
