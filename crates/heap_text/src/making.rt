@@ -10,7 +10,7 @@ ghost use Rattle.heap_table.specs.Agents.{Belongs, size_of, view_of};
 ghost use Rattle.heap_read.specs.Readers.{Moves, view_in};
 ghost use Rattle.heap_read.specs.Reads.{Continues, HoldsForms, Reads};
 ghost use Rattle.heap_read.specs.Sides.{KnowsSide};
-ghost use Rattle.heap_text.specs.Texts.{IsSpared, Told, Uses};
+ghost use Rattle.heap_text.specs.Texts.{IsSpared, KeepsOwn, Told, Uses};
 ghost use Rattle.heap_text.specs.Joins.{AreJoinable, IsCopied, IsCut, IsJoined, IsLinked, IsPartCut, IsWideIn, MIN_CONS, wide_bit};
 ghost use Rattle.heap_text.specs.Joins as joins;
 
@@ -32,6 +32,7 @@ impl<'h> Text<'h> {
         ensures heap { self.new.reader.heap ≡ self.old.reader.heap }
         ensures limit { self.new.limit ≡ self.old.limit }
         ensures continues { Continues (view_of self.old.reader.agent) (view_of self.new.reader.agent) }
+        ensures own { KeepsOwn (view_of self.old.reader.agent) (view_of self.new.reader.agent) }
         ensures units { IfOk result (λ s. Has (view_of self.new.reader.agent).units s.id units.now) }
         ensures form { IfOk result
             (λ s. (start : ℕ)
@@ -60,6 +61,7 @@ impl<'h> Text<'h> {
         ensures heap { self.new.reader.heap ≡ self.old.reader.heap }
         ensures limit { self.new.limit ≡ self.old.limit }
         ensures continues { Continues (view_of self.old.reader.agent) (view_of self.new.reader.agent) }
+        ensures own { KeepsOwn (view_of self.old.reader.agent) (view_of self.new.reader.agent) }
         ensures units { IfOk result
             (λ s. (us vs : List ℕ) → Has (view_of self.old.reader.agent).units a.id us
             → Has (view_of self.old.reader.agent).units b.id vs
@@ -98,6 +100,7 @@ impl<'h> Text<'h> {
         ensures heap { self.new.reader.heap ≡ self.old.reader.heap }
         ensures limit { self.new.limit ≡ self.old.limit }
         ensures continues { Continues (view_of self.old.reader.agent) (view_of self.new.reader.agent) }
+        ensures own { KeepsOwn (view_of self.old.reader.agent) (view_of self.new.reader.agent) }
         ensures units { IfOk result
             (λ t. (us : List ℕ) → Has (view_of self.old.reader.agent).units s.id us
             → Has (view_of self.new.reader.agent).units t.id (part from (to - from) us)) }
@@ -119,6 +122,7 @@ fn copy_both(reader: &mut Reader, a: JsStr, b: JsStr, n: u32) -> Result<JsStr, T
     requires known { AreJoinable (view_in reader.old) a b n }
     requires short { n < MIN_CONS }
     ensures continues { Moves Continues reader.old reader.new }
+    ensures own { KeepsOwn (view_in reader.old) (view_in reader.new) }
     ensures copied { (us vs : List ℕ) → Has (view_in reader.old).units a.id us
         → Has (view_in reader.old).units b.id vs
         → IsCopied (view_in reader.old) (view_in reader.new) (size_of reader.old.heap.now)
@@ -179,6 +183,7 @@ fn link(reader: &mut Reader, a: JsStr, b: JsStr, n: u32) -> Result<JsStr, TextFu
     requires known { AreJoinable (view_in reader.old) a b n }
     requires long { (MIN_CONS ≤ n) × (n ≤ MAX) }
     ensures continues { Moves Continues reader.old reader.new }
+    ensures own { KeepsOwn (view_in reader.old) (view_in reader.new) }
     ensures linked { (us vs : List ℕ) → Has (view_in reader.old).units a.id us
         → Has (view_in reader.old).units b.id vs
         → IsLinked (view_in reader.old) (view_in reader.new) (size_of reader.old.heap.now) a b
@@ -207,6 +212,7 @@ fn join(reader: &mut Reader, a: JsStr, b: JsStr, n: u32) -> Result<JsStr, TextFu
     requires known { AreJoinable (view_in reader.old) a b n }
     requires most { n ≤ MAX }
     ensures continues { Moves Continues reader.old reader.new }
+    ensures own { KeepsOwn (view_in reader.old) (view_in reader.new) }
     ensures copied { n < MIN_CONS → (us vs : List ℕ) → Has (view_in reader.old).units a.id us
         → Has (view_in reader.old).units b.id vs
         → IsCopied (view_in reader.old) (view_in reader.new) (size_of reader.old.heap.now)
@@ -228,6 +234,7 @@ fn copy_part(reader: &mut Reader, s: JsStr, from: u32, n: u32) -> Result<JsStr, 
     requires within { (us : List ℕ) × Has (view_in reader.old).units s.id us
         × (from + n ≤ length us) }
     ensures continues { Moves Continues reader.old reader.new }
+    ensures own { KeepsOwn (view_in reader.old) (view_in reader.new) }
     ensures copied { (us : List ℕ) → Has (view_in reader.old).units s.id us
         → IsCopied (view_in reader.old) (view_in reader.new) (size_of reader.old.heap.now)
         (part from n us) result }
@@ -254,6 +261,7 @@ fn link_part(reader: &mut Reader, s: JsStr, from: u32, n: u32) -> Result<JsStr, 
         × (from + n ≤ length us) }
     requires long { MIN_CONS ≤ n }
     ensures continues { Moves Continues reader.old reader.new }
+    ensures own { KeepsOwn (view_in reader.old) (view_in reader.new) }
     ensures linked { (us : List ℕ) → Has (view_in reader.old).units s.id us
         → IsPartCut (view_in reader.old) (view_in reader.new) (size_of reader.old.heap.now) s from
         (part from n us) result }
@@ -282,6 +290,7 @@ fn cut(reader: &mut Reader, s: JsStr, from: u32, n: u32) -> Result<JsStr, TextFu
     requires within { (us : List ℕ) × Has (view_in reader.old).units s.id us
         × (from + n ≤ length us) }
     ensures continues { Moves Continues reader.old reader.new }
+    ensures own { KeepsOwn (view_in reader.old) (view_in reader.new) }
     ensures copied { n < MIN_CONS → (us : List ℕ) → Has (view_in reader.old).units s.id us
         → IsCopied (view_in reader.old) (view_in reader.new) (size_of reader.old.heap.now)
         (part from n us) result }

@@ -8,6 +8,7 @@ ghost use Rattle.heap_table.specs.Agents.{Belongs, size_of, view_of};
 ghost use Rattle.heap_read.specs.Readers.{Moves, view_in};
 ghost use Rattle.heap_read.specs.Reads.{Continues, Reads};
 ghost use Rattle.heap_read.specs.Sides.{LoadsForms};
+ghost use Rattle.heap_text.specs.Texts.{KeepsOwn};
 ghost use Rattle.heap_text.specs.Settling.{HasSides, IsBitOf, IsFlattened, IsNoRoom, IsSeenLater, IsSettling};
 
 use crate::faults::TextFull;
@@ -33,6 +34,7 @@ impl<'h> Text<'h> {
         ensures heap { self.new.reader.heap ≡ self.old.reader.heap }
         ensures limit { self.new.limit ≡ self.old.limit }
         ensures continues { Continues (view_of self.old.reader.agent) (view_of self.new.reader.agent) }
+        ensures own { KeepsOwn (view_of self.old.reader.agent) (view_of self.new.reader.agent) }
         ensures settled { IfOk result (λ u. IsSettled (view_of self.new.reader.agent) s.id) }
         ensures used { IfOk result
             (λ u. (us : List ℕ) → Has (view_of self.old.reader.agent).units s.id us
@@ -79,6 +81,7 @@ impl<'h> Text<'h> {
         ensures heap { self.new.reader.heap ≡ self.old.reader.heap }
         ensures limit { self.new.limit ≡ self.old.limit }
         ensures continues { Continues (view_of self.old.reader.agent) (view_of self.new.reader.agent) }
+        ensures own { KeepsOwn (view_of self.old.reader.agent) (view_of self.new.reader.agent) }
         ensures settled { IfOk result (λ u. IsSettled (view_of self.new.reader.agent) s.id) }
         ensures used { IfOk result
             (λ u. (us : List ℕ) → Has (view_of self.old.reader.agent).units s.id us
@@ -109,6 +112,7 @@ impl<'h> Text<'h> {
         ensures heap { self.new.reader.heap ≡ self.old.reader.heap }
         ensures limit { self.new.limit ≡ self.old.limit }
         ensures continues { Continues (view_of self.old.reader.agent) (view_of self.new.reader.agent) }
+        ensures own { KeepsOwn (view_of self.old.reader.agent) (view_of self.new.reader.agent) }
         ensures settled { IfOk result (λ u. IsSettled (view_of self.new.reader.agent) s.id) }
         ensures used { IfOk result
             (λ u. (us : List ℕ) → Has (view_of self.old.reader.agent).units s.id us
@@ -145,6 +149,7 @@ fn flatten<L: Ledger>(
     requires seen { Has (view_in reader.old).forms s.id (Cons wide left right) }
     requires side { IsKnown (view_in reader.old) left }
     ensures continues { Moves Continues reader.old reader.new }
+    ensures own { KeepsOwn (view_in reader.old) (view_in reader.new) }
     ensures settled { IfOk result (λ u. IsSettled (view_in reader.new) s.id) }
     ensures flat { IfOk result
         (λ u. (us : List ℕ) → Has (view_in reader.old).units s.id us
