@@ -6,13 +6,14 @@ ghost use Rattle.heap_rule.specs.Layout.{MAX};
 ghost use Rattle.heap_rule.specs.Births.{part};
 ghost use Rattle.heap_rule.specs.Maps.{Has, HasKey};
 ghost use Rattle.heap_rule.specs.Views.{IsSettled};
-ghost use Rattle.heap_table.specs.Agents.{Belongs, size_of, view_of};
+ghost use Rattle.heap_table.specs.Agents.{size_of, view_of};
 ghost use Rattle.heap_read.specs.Readers.{Moves, view_in};
 ghost use Rattle.heap_read.specs.Reads.{Continues, HoldsForms, Reads};
 ghost use Rattle.heap_read.specs.Sides.{KnowsSide};
 ghost use Rattle.heap_text.specs.Texts.{IsSpared, KeepsOwn, Told, Uses};
 ghost use Rattle.heap_text.specs.Joins.{AreJoinable, IsCopied, IsCut, IsJoined, IsLinked, IsPartCut, IsWideIn, MIN_CONS, wide_bit};
 ghost use Rattle.heap_text.specs.Joins as joins;
+ghost use Rattle.heap_text.specs.Keeping.{Keeps};
 
 use crate::copying::copy;
 use crate::faults::{JoinFault, TextFull};
@@ -28,9 +29,7 @@ impl<'h> Text<'h> {
     /// one id, and the content words that hold the units.
     pub fn make_flat(&mut self, units: &[u16]) -> Result<JsStr, TextFull>
         requires short { length units.now ≤ MAX }
-        ensures text { Belongs self.new.reader.agent self.new.reader.heap.now }
-        ensures heap { self.new.reader.heap ≡ self.old.reader.heap }
-        ensures limit { self.new.limit ≡ self.old.limit }
+        ensures kept { Keeps self.old self.new }
         ensures continues { Continues (view_of self.old.reader.agent) (view_of self.new.reader.agent) }
         ensures own { KeepsOwn (view_of self.old.reader.agent) (view_of self.new.reader.agent) }
         ensures units { IfOk result (λ s. Has (view_of self.new.reader.agent).units s.id units.now) }
@@ -57,9 +56,7 @@ impl<'h> Text<'h> {
     pub fn concat(&mut self, a: JsStr, b: JsStr) -> Result<JsStr, JoinFault>
         requires known { HasKey (view_of self.old.reader.agent).units a.id
             × HasKey (view_of self.old.reader.agent).units b.id }
-        ensures text { Belongs self.new.reader.agent self.new.reader.heap.now }
-        ensures heap { self.new.reader.heap ≡ self.old.reader.heap }
-        ensures limit { self.new.limit ≡ self.old.limit }
+        ensures kept { Keeps self.old self.new }
         ensures continues { Continues (view_of self.old.reader.agent) (view_of self.new.reader.agent) }
         ensures own { KeepsOwn (view_of self.old.reader.agent) (view_of self.new.reader.agent) }
         ensures units { IfOk result
@@ -96,9 +93,7 @@ impl<'h> Text<'h> {
         requires settled { IsSettled (view_of self.old.reader.agent) s.id }
         requires within { (us : List ℕ) × Has (view_of self.old.reader.agent).units s.id us × (from ≤ to)
             × (to ≤ length us) }
-        ensures text { Belongs self.new.reader.agent self.new.reader.heap.now }
-        ensures heap { self.new.reader.heap ≡ self.old.reader.heap }
-        ensures limit { self.new.limit ≡ self.old.limit }
+        ensures kept { Keeps self.old self.new }
         ensures continues { Continues (view_of self.old.reader.agent) (view_of self.new.reader.agent) }
         ensures own { KeepsOwn (view_of self.old.reader.agent) (view_of self.new.reader.agent) }
         ensures units { IfOk result

@@ -4,6 +4,7 @@ ghost use Rattle.heap_rule.specs.Agents.{MayJoin, joined, left_after_split, righ
 ghost use Rattle.heap_rule.specs.Claims.{loaded_counter};
 ghost use Rattle.heap_table.specs.Agents.{Belongs, share_of, view_of};
 ghost use Rattle.heap_table.specs.Known.{KeepsKnown};
+ghost use Rattle.heap_text.specs.Keeping.{Keeps};
 
 use crate::text::Text;
 use heap_read::Reader;
@@ -19,9 +20,9 @@ impl<'h> Text<'h> {
         ensures right { view_of result.reader.agent ≡ right_after_split (view_of self.old.reader.agent) give }
         ensures shares { (share_of self.new.reader.agent + give ≡ share_of self.old.reader.agent)
             × (share_of result.reader.agent ≡ give) }
-        ensures heaps { (self.new.reader.heap ≡ self.old.reader.heap)
-            × (result.reader.heap.now ≡ self.old.reader.heap.now) }
-        ensures limits { (self.new.limit ≡ self.old.limit) × (result.limit ≡ self.old.limit) }
+        ensures kept { Keeps self.old self.new }
+        ensures alike { (result.reader.heap.now ≡ self.old.reader.heap.now)
+            × (result.limit ≡ self.old.limit) }
     {
         let reader = &mut self.reader;
         let heap = reader.heap;
@@ -41,8 +42,7 @@ impl<'h> Text<'h> {
             × KeepsKnown (view_of other.entry.reader.agent) (view_of self.new.reader.agent) }
         ensures share { share_of self.new.reader.agent
             ≡ share_of self.old.reader.agent + share_of other.entry.reader.agent }
-        ensures heap { self.new.reader.heap ≡ self.old.reader.heap }
-        ensures limit { self.new.limit ≡ self.old.limit }
+        ensures kept { Keeps self.old self.new }
     {
         let Text {
             reader: Reader { agent, .. },
@@ -60,8 +60,7 @@ impl<'h> Text<'h> {
             × (result.1 ≡ (view_of self.old.reader.agent).used.words) }
         ensures view { view_of self.new.reader.agent ≡ loaded_counter
             (loaded_counter (view_of self.old.reader.agent) Counter.Ids result.0) Counter.Words result.1 }
-        ensures heap { self.new.reader.heap ≡ self.old.reader.heap }
-        ensures limit { self.new.limit ≡ self.old.limit }
+        ensures kept { Keeps self.old self.new }
     {
         let reader = &mut self.reader;
         reader.agent.totals(reader.heap)

@@ -20,7 +20,7 @@ join-requires-clause-may c = let m = c.requires.may in (c.args.other.text.reader
 
 pub returns-clause-joined : goal.returns-clause-joined
 returns-clause-joined c = let s = c.args.self.now in let o = c.args.other in let m = c.requires.may in let v : View = s.text.reader.agent.seat.me.0 in let b : View = o.text.reader.agent.seat.me.0 in let e = c.join.ensures in
-    let l = limit_units s.limit in let t = table_of s.text.reader.heap.now in let same : table_of c.join.new.self.reader.heap.now ≡ t = ap (λ x. table_of x.now) e.heap in
+    let l = limit_units s.limit in let t = table_of s.text.reader.heap.now in let same : table_of c.join.new.self.reader.heap.now ≡ t = ap (λ x. table_of x.now) e.kept.heap in
     subst (λ (x : TableId). IsJoined (state_by v l t) (state_by b (limit_units o.limit) (table_of o.text.reader.heap.now)) (state_by c.join.new.self.reader.agent.seat.me.0 l x)) (sym same) (subst (λ (w : View). IsJoined (state_by v l t) (state_by b (limit_units o.limit) (table_of o.text.reader.heap.now)) (state_by w l t)) (sym e.view)
     (state_joined v b l (limit_units o.limit) t (table_of o.text.reader.heap.now) s.text.reader.belongs.5 o.text.reader.belongs.5 (subst (KeepsKnown v) e.view e.known.0) (subst (KeepsKnown b) e.view e.known.1) (sizes_are b.sizes v.sizes m.sizes)))
 

@@ -11,7 +11,7 @@ use Rattle.heap_intern.proofs.session.Session.split.Goals as goal
 
 pub invariant_of-result : goal.invariant_of-result
 invariant_of-result c = record {
-  one_limit = c.split.ensures.limits.1 ∙ c.args.self.now.one_limit;
+  one_limit = c.split.ensures.alike.1 ∙ c.args.self.now.one_limit;
   last_kept = kept_none c.split.result.reader.agent.seat.me.0 c.none.result c.none.ensures;
   older_kept = kept_none c.split.result.reader.agent.seat.me.0 c.none-2.result c.none-2.ensures;
   singles_kept = c.none-3.ensures c.split.result.reader.agent.seat.me.0;
@@ -20,11 +20,11 @@ invariant_of-result c = record {
 
 pub returns-clause-left : goal.returns-clause-left
 returns-clause-left c = let s = c.args.self.now in let v : View = s.text.reader.agent.seat.me.0 in
-    (λ i. state_by (c.split.ensures.left i) (limit_units s.limit) (table_of (c.split.ensures.heaps.0 i).now)) ∙ state_left v c.args.give (limit_units s.limit) (table_of s.text.reader.heap.now)
+    (λ i. state_by (c.split.ensures.left i) (limit_units s.limit) (table_of (c.split.ensures.kept.heap i).now)) ∙ state_left v c.args.give (limit_units s.limit) (table_of s.text.reader.heap.now)
 
 pub returns-clause-right : goal.returns-clause-right
 returns-clause-right c = let s = c.args.self.now in let v : View = s.text.reader.agent.seat.me.0 in let l = limit_units s.limit in
-    (λ i. state_by (c.split.ensures.right i) l (table_of (c.split.ensures.heaps.1 i))) ∙ state_right v c.args.give l (table_of s.text.reader.heap.now)
+    (λ i. state_by (c.split.ensures.right i) l (table_of (c.split.ensures.alike.0 i))) ∙ state_right v c.args.give l (table_of s.text.reader.heap.now)
 
 pub invariant_of-self-clause-last_kept : goal.invariant_of-self-clause-last_kept
 invariant_of-self-clause-last_kept c = let s = c.args.self.now in subst (λ (w : View). IsKept w s.last) (sym c.split.ensures.left) s.last_kept
