@@ -8,7 +8,6 @@ ghost use Rattle.heap_text.specs.Turns.{GoesOn};
 ghost use Rattle.heap_example.specs.Greeting.{Greets};
 
 use crate::refusal::Refusal;
-use heap_read::Reader;
 use heap_rule::{HeapSize, MAX};
 use heap_table::Heap;
 use heap_text::{JsStr, Text};
@@ -35,13 +34,9 @@ pub fn greetings(
     let (heap, agent) = Heap::make(alloc, size, 2)?;
     let mut left = Text::new(&heap, agent, MAX);
     let hello = left.make_flat(hello)?;
-    let reader = &mut left.reader;
-    let agent = reader.agent.split(&heap, 1);
-    let mut right = Text::new(&heap, agent, MAX);
+    let mut right = left.split(1);
     let (one, other) = greet_both(rt, &mut left, &mut right, hello, first, second);
-    let Reader { agent, .. } = right.reader;
-    let reader = &mut left.reader;
-    reader.agent.join(&heap, agent);
+    left.join(right);
     let first = read(alloc, &mut left, one?)?;
     let second = read(alloc, &mut left, other?)?;
     Ok((first, second))

@@ -46,12 +46,8 @@ impl<'h> Session<'h> {
         ensures left { state_in self.new ≡ left_by (state_in self.old) give }
         ensures right { state_in result ≡ right_by (state_in self.old) give }
     {
-        let text = &mut self.text;
-        let reader = &mut text.reader;
-        let heap = reader.heap;
-        let agent = reader.agent.split(heap, give);
         Session {
-            text: Text::new(heap, agent, self.limit.units()),
+            text: self.text.split(give),
             limit: self.limit,
             last: Kept::none(),
             older: Kept::none(),
@@ -68,11 +64,7 @@ impl<'h> Session<'h> {
         ensures joined { IsJoined (state_in self.old) (state_in other.entry) (state_in self.new) }
     {
         let Session { text, .. } = other;
-        let Text { reader, .. } = text;
-        let Reader { agent, .. } = reader;
-        let text = &mut self.text;
-        let reader = &mut text.reader;
-        reader.agent.join(reader.heap, agent);
+        self.text.join(text);
     }
 
     /// The number of different lists of units in its history, by a session that has the whole
@@ -97,9 +89,7 @@ impl<'h> Session<'h> {
         ensures words { result.1 ≡ (state_in self.old).used_words }
         ensures state { state_in self.new ≡ total_by (state_in self.old) }
     {
-        let text = &mut self.text;
-        let reader = &mut text.reader;
-        reader.agent.totals(reader.heap)
+        self.text.totals()
     }
 
     /// Its agent.

@@ -8,11 +8,11 @@ use Rattle.heap_rule.specs.declared.view.View.{View}
 use Rattle.heap_rule.specs.Births.{stored_word}
 use Rattle.heap_rule.specs.Learning.{learned_all}
 use Rattle.heap_rule.specs.Loads.{loaded_length, loaded_word}
-use Rattle.heap_rule.specs.Maps.{HasKey}
+use Rattle.heap_rule.specs.Maps.{Has, HasKey}
 use Rattle.heap_rule.specs.Views.{shown}
 use Rattle.heap_rule.proofs.MapLemmas.{has_key, insert_other, insert_same}
 use Rattle.heap_read.specs.Filling.{own_word}
-use Rattle.heap_read.specs.Reads.{Continues, KeepsForms, Reads, Writes}
+use Rattle.heap_read.specs.Reads.{Continues, KeepsBelow, KeepsForms, Reads, Writes}
 use Rattle.heap_read.proofs.Going.{known_stored}
 use Rattle.heap_read.proofs.Loaded.{key_more, known_refl, known_trans}
 use Rattle.heap_read.proofs.Placing.{IsStored}
@@ -93,3 +93,6 @@ continues_writes v w r = record {
   mine = r.mine;
   slot_loads = r.slot_loads;
 }
+
+pub below_reads : (start : ℕ) (v w : View) → Reads v w → KeepsBelow start v w
+below_reads start v w r q x l h = subst (λ (m : FinMap nat_cmp ℕ). Has m q x) (sym r.own_words) h

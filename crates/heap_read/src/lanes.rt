@@ -5,7 +5,7 @@ ghost use Rattle.heap_rule.specs.Layout.{MAX};
 ghost use Rattle.heap_rule.specs.Maps.{HasKey};
 ghost use Rattle.heap_read.specs.Filling.{IsFilled, IsPlaced, own_word};
 ghost use Rattle.heap_read.specs.Readers.{Moves, view_in};
-ghost use Rattle.heap_read.specs.Reads.{KeepsForms, Reads, Writes};
+ghost use Rattle.heap_read.specs.Reads.{KeepsBelow, KeepsForms, Reads, Writes};
 ghost use Rattle.heap_read.specs.Sources.{FitsLanes, Shows, listed_in};
 
 use crate::reader::Reader;
@@ -63,6 +63,7 @@ impl<'h> Reader<'h> {
         requires fits { to.wide ≡ false → (k : ℕ) → k < n
             → slice_index (listed_in self.old source.now) k < 256 }
         ensures writes { Moves Writes self.old self.new }
+        ensures below { KeepsBelow to.start (view_in self.old) (view_in self.new) }
         ensures forms { KeepsForms (view_in self.old) (view_in self.new) }
         ensures filled { IsFilled to.wide to.start (own_word (view_in self.old).own_words)
             (own_word (view_in self.new).own_words) at n (slice_index (listed_in self.old source.now)) }

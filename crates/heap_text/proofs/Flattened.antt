@@ -26,7 +26,8 @@ use Rattle.heap_table.specs.Known.{KeepsKnown}
 use Rattle.heap_table.specs.declared.stores.Step.{Step}
 use Rattle.heap_table.specs.declared.stores.Step.TheVariants.{Won, Lost}
 use Rattle.heap_read.specs.Filling.{IsFilled, own_word}
-use Rattle.heap_read.specs.Reads.{Continues}
+use Rattle.heap_read.specs.Reads.{Continues, KeepsBelow}
+use Rattle.heap_text.proofs.Owned.{without_other}
 use Rattle.js_units.proofs.PackedWords.{lane_past}
 use Rattle.heap_read.proofs.Storing.{shown_own}
 
@@ -89,6 +90,7 @@ pub record IsMoving (v w : View) (start : ℕ) : Type 0 where
   pub own_ids : w.own_ids ≡ v.own_ids
   pub loads : w.form_loads ≡ v.form_loads
   pub own_words : (c : ℕ) → c < start → HasKey v.own_words c → HasKey w.own_words c
+  pub below : KeepsBelow start v w
 
 module _ (v : View) (i n : ℕ) (wide : Bool) (start : ℕ) where
   abbrev moved : Bool → Option Form → View
@@ -101,6 +103,7 @@ module _ (v : View) (i n : ℕ) (wide : Bool) (start : ℕ) where
     own_ids = refl;
     loads = refl;
     own_words = λ c l h. key_without v.own_words start (words_over wide n) c l h;
+    below = λ c x l h. without_other v.own_words start (words_over wide n) c x (λ k m e. omega arith) h;
   }
   moving_by false None k = record {
     continues = record { known = k; sizes = refl; agents = refl; live = refl; share = refl; ids_used = omega arith; words_used = omega arith; ids_low = omega arith; words_low = omega arith; slots = refl; seen = refl; mine = refl; slot_loads = refl };
@@ -108,6 +111,7 @@ module _ (v : View) (i n : ℕ) (wide : Bool) (start : ℕ) where
     own_ids = refl;
     loads = refl;
     own_words = λ c l h. h;
+    below = λ c x l h. h;
   }
   moving_by false (Some f) k = record {
     continues = record { known = k; sizes = refl; agents = refl; live = refl; share = refl; ids_used = omega arith; words_used = omega arith; ids_low = omega arith; words_low = omega arith; slots = refl; seen = refl; mine = refl; slot_loads = refl };
@@ -115,6 +119,7 @@ module _ (v : View) (i n : ℕ) (wide : Bool) (start : ℕ) where
     own_ids = refl;
     loads = refl;
     own_words = λ c l h. h;
+    below = λ c x l h. h;
   }
 
   lost_by : (b : Bool) (o : Option Form) → b ≡ false → (learned_all (moved b o)).own_words ≡ v.own_words

@@ -10,3 +10,4 @@ pub mod Cutting
 pub mod Flattened
 pub mod Joined
 pub mod Settled
+pub mod Owned

@@ -3,3 +3,4 @@ pub mod Joins
 pub mod Turns
 pub mod Filling
 pub mod Settling
+pub mod Keeping

@@ -2,7 +2,7 @@
 use Rattle.std.specs.Prelude.{◌≡◌, ℕ, ◌+◌, ◌<◌, ◌≤◌}
 use Rattle.heap_rule.specs.declared.view.View.{View}
 use Rattle.heap_rule.specs.declared.size.HeapSize.{HeapSize}
-use Rattle.heap_rule.specs.Maps.{HasKey}
+use Rattle.heap_rule.specs.Maps.{Has, HasKey}
 use Rattle.heap_table.specs.Full.{IsFull}
 use Rattle.heap_text.specs.declared.faults.TextFull.{TextFull}
 use Rattle.heap_text.specs.declared.faults.TextFull.TheVariants.{Ids, Words}
@@ -30,3 +30,8 @@ pub record IsSpared (v w : View) (words : ℕ) (f : TextFull) : Type 0 where
   pub own_words : (c : ℕ) → HasKey v.own_words c → HasKey w.own_words c
   pub claimed : (start : ℕ) × (n : ℕ) × (w.used.words ≡ v.used.words + n) × ((q : ℕ) → q < n → HasKey w.own_words (start + q))
       × ((q : ℕ) → q < n → HasKey v.own_words (start + q) → ⊥)
+
+-- What the agent owned it owns still, with what it stored there: each own id with its length, each own content word with its word.
+pub record KeepsOwn (v w : View) : Type 0 where
+  pub ids : (i n : ℕ) → Has v.own_ids i n → Has w.own_ids i n
+  pub words : (c x : ℕ) → Has v.own_words c x → Has w.own_words c x

@@ -8,7 +8,7 @@ ghost use Rattle.heap_table.specs.Agents.{size_of};
 ghost use Rattle.heap_read.specs.Readers.{Moves, view_in};
 ghost use Rattle.heap_read.specs.Reads.{Continues};
 ghost use Rattle.heap_read.specs.Sources.{Shows, listed_in};
-ghost use Rattle.heap_text.specs.Texts.{IsSpared, Told, Uses};
+ghost use Rattle.heap_text.specs.Texts.{IsSpared, KeepsOwn, Told, Uses};
 
 use crate::faults::TextFull;
 use heap_read::{JsStr, Reader, Source};
@@ -21,6 +21,7 @@ pub(crate) fn copy(reader: &mut Reader, source: &Source, n: u32) -> Result<JsStr
     requires count { length (listed_in reader.old source.now) ≡ n }
     requires short { n ≤ MAX }
     ensures continues { Moves Continues reader.old reader.new }
+    ensures own { KeepsOwn (view_in reader.old) (view_in reader.new) }
     ensures units { IfOk result
         (λ s. Has (view_in reader.new).units s.id (listed_in reader.old source.now)) }
     ensures form { IfOk result

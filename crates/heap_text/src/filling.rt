@@ -9,7 +9,7 @@ ghost use Rattle.heap_rule.specs.Maps.{Has, HasKey};
 ghost use Rattle.heap_rule.specs.Views.{IsKnown};
 ghost use Rattle.heap_read.specs.Filling.{IsFilled, own_word};
 ghost use Rattle.heap_read.specs.Readers.{Moves, view_in};
-ghost use Rattle.heap_read.specs.Reads.{KeepsForms, Reads, Writes};
+ghost use Rattle.heap_read.specs.Reads.{KeepsBelow, KeepsForms, Reads, Writes};
 ghost use Rattle.heap_read.specs.Sides.{KnowsSide, LoadsForms, target_loads};
 ghost use Rattle.heap_read.specs.Windows.{IsWindow, ShowsAll};
 ghost use Rattle.heap_text.specs.Filling.{HoldsAbove, IsBoth, units_at};
@@ -77,6 +77,7 @@ fn fill_leaf(reader: &mut Reader, of: JsStr, window: Window, at: u32, n: u32, to
     requires fits { to.wide ≡ false → (k : ℕ) → k < n
         → slice_index (units_at (view_in reader.old) of.id) k < 256 }
     ensures writes { Moves Writes reader.old reader.new }
+    ensures below { KeepsBelow to.start (view_in reader.old) (view_in reader.new) }
     ensures forms { KeepsForms (view_in reader.old) (view_in reader.new) }
     ensures filled { IsFilled to.wide to.start (own_word (view_in reader.old).own_words)
         (own_word (view_in reader.new).own_words) at n
@@ -110,6 +111,7 @@ pub(crate) fn fill<L: Ledger>(
     requires fits { to.wide ≡ false → (k : ℕ) → k < n
         → slice_index (units_at (view_in reader.old) id) k < 256 }
     ensures writes { Moves Writes reader.old reader.new }
+    ensures below { KeepsBelow to.start (view_in reader.old) (view_in reader.new) }
     ensures above { HoldsAbove (view_in reader.old) (view_in reader.new) id }
     ensures filled { IsFilled to.wide to.start (own_word (view_in reader.old).own_words)
         (own_word (view_in reader.new).own_words) at n

@@ -15,6 +15,7 @@ mod filling;
 mod making;
 mod reading;
 mod settling;
+mod sharing;
 mod text;
 
 pub use faults::{JoinFault, TextFull};

@@ -6,13 +6,14 @@ ghost use Rattle.heap_rule.specs.Layout.{MAX};
 ghost use Rattle.heap_rule.specs.Births.{part};
 ghost use Rattle.heap_rule.specs.Maps.{Has, HasKey};
 ghost use Rattle.heap_rule.specs.Views.{IsSettled};
-ghost use Rattle.heap_table.specs.Agents.{Belongs, size_of, view_of};
+ghost use Rattle.heap_table.specs.Agents.{size_of, view_of};
 ghost use Rattle.heap_read.specs.Readers.{Moves, view_in};
 ghost use Rattle.heap_read.specs.Reads.{Continues, HoldsForms, Reads};
 ghost use Rattle.heap_read.specs.Sides.{KnowsSide};
-ghost use Rattle.heap_text.specs.Texts.{IsSpared, Told, Uses};
+ghost use Rattle.heap_text.specs.Texts.{IsSpared, KeepsOwn, Told, Uses};
 ghost use Rattle.heap_text.specs.Joins.{AreJoinable, IsCopied, IsCut, IsJoined, IsLinked, IsPartCut, IsWideIn, MIN_CONS, wide_bit};
 ghost use Rattle.heap_text.specs.Joins as joins;
+ghost use Rattle.heap_text.specs.Keeping.{Keeps};
 
 use crate::copying::copy;
 use crate::faults::{JoinFault, TextFull};
@@ -28,10 +29,9 @@ impl<'h> Text<'h> {
     /// one id, and the content words that hold the units.
     pub fn make_flat(&mut self, units: &[u16]) -> Result<JsStr, TextFull>
         requires short { length units.now ≤ MAX }
-        ensures text { Belongs self.new.reader.agent self.new.reader.heap.now }
-        ensures heap { self.new.reader.heap ≡ self.old.reader.heap }
-        ensures limit { self.new.limit ≡ self.old.limit }
+        ensures kept { Keeps self.old self.new }
         ensures continues { Continues (view_of self.old.reader.agent) (view_of self.new.reader.agent) }
+        ensures own { KeepsOwn (view_of self.old.reader.agent) (view_of self.new.reader.agent) }
         ensures units { IfOk result (λ s. Has (view_of self.new.reader.agent).units s.id units.now) }
         ensures form { IfOk result
             (λ s. (start : ℕ)
@@ -56,10 +56,9 @@ impl<'h> Text<'h> {
     pub fn concat(&mut self, a: JsStr, b: JsStr) -> Result<JsStr, JoinFault>
         requires known { HasKey (view_of self.old.reader.agent).units a.id
             × HasKey (view_of self.old.reader.agent).units b.id }
-        ensures text { Belongs self.new.reader.agent self.new.reader.heap.now }
-        ensures heap { self.new.reader.heap ≡ self.old.reader.heap }
-        ensures limit { self.new.limit ≡ self.old.limit }
+        ensures kept { Keeps self.old self.new }
         ensures continues { Continues (view_of self.old.reader.agent) (view_of self.new.reader.agent) }
+        ensures own { KeepsOwn (view_of self.old.reader.agent) (view_of self.new.reader.agent) }
         ensures units { IfOk result
             (λ s. (us vs : List ℕ) → Has (view_of self.old.reader.agent).units a.id us
             → Has (view_of self.old.reader.agent).units b.id vs
@@ -94,10 +93,9 @@ impl<'h> Text<'h> {
         requires settled { IsSettled (view_of self.old.reader.agent) s.id }
         requires within { (us : List ℕ) × Has (view_of self.old.reader.agent).units s.id us × (from ≤ to)
             × (to ≤ length us) }
-        ensures text { Belongs self.new.reader.agent self.new.reader.heap.now }
-        ensures heap { self.new.reader.heap ≡ self.old.reader.heap }
-        ensures limit { self.new.limit ≡ self.old.limit }
+        ensures kept { Keeps self.old self.new }
         ensures continues { Continues (view_of self.old.reader.agent) (view_of self.new.reader.agent) }
+        ensures own { KeepsOwn (view_of self.old.reader.agent) (view_of self.new.reader.agent) }
         ensures units { IfOk result
             (λ t. (us : List ℕ) → Has (view_of self.old.reader.agent).units s.id us
             → Has (view_of self.new.reader.agent).units t.id (part from (to - from) us)) }
@@ -119,6 +117,7 @@ fn copy_both(reader: &mut Reader, a: JsStr, b: JsStr, n: u32) -> Result<JsStr, T
     requires known { AreJoinable (view_in reader.old) a b n }
     requires short { n < MIN_CONS }
     ensures continues { Moves Continues reader.old reader.new }
+    ensures own { KeepsOwn (view_in reader.old) (view_in reader.new) }
     ensures copied { (us vs : List ℕ) → Has (view_in reader.old).units a.id us
         → Has (view_in reader.old).units b.id vs
         → IsCopied (view_in reader.old) (view_in reader.new) (size_of reader.old.heap.now)
@@ -179,6 +178,7 @@ fn link(reader: &mut Reader, a: JsStr, b: JsStr, n: u32) -> Result<JsStr, TextFu
     requires known { AreJoinable (view_in reader.old) a b n }
     requires long { (MIN_CONS ≤ n) × (n ≤ MAX) }
     ensures continues { Moves Continues reader.old reader.new }
+    ensures own { KeepsOwn (view_in reader.old) (view_in reader.new) }
     ensures linked { (us vs : List ℕ) → Has (view_in reader.old).units a.id us
         → Has (view_in reader.old).units b.id vs
         → IsLinked (view_in reader.old) (view_in reader.new) (size_of reader.old.heap.now) a b
@@ -207,6 +207,7 @@ fn join(reader: &mut Reader, a: JsStr, b: JsStr, n: u32) -> Result<JsStr, TextFu
     requires known { AreJoinable (view_in reader.old) a b n }
     requires most { n ≤ MAX }
     ensures continues { Moves Continues reader.old reader.new }
+    ensures own { KeepsOwn (view_in reader.old) (view_in reader.new) }
     ensures copied { n < MIN_CONS → (us vs : List ℕ) → Has (view_in reader.old).units a.id us
         → Has (view_in reader.old).units b.id vs
         → IsCopied (view_in reader.old) (view_in reader.new) (size_of reader.old.heap.now)
@@ -228,6 +229,7 @@ fn copy_part(reader: &mut Reader, s: JsStr, from: u32, n: u32) -> Result<JsStr, 
     requires within { (us : List ℕ) × Has (view_in reader.old).units s.id us
         × (from + n ≤ length us) }
     ensures continues { Moves Continues reader.old reader.new }
+    ensures own { KeepsOwn (view_in reader.old) (view_in reader.new) }
     ensures copied { (us : List ℕ) → Has (view_in reader.old).units s.id us
         → IsCopied (view_in reader.old) (view_in reader.new) (size_of reader.old.heap.now)
         (part from n us) result }
@@ -254,6 +256,7 @@ fn link_part(reader: &mut Reader, s: JsStr, from: u32, n: u32) -> Result<JsStr, 
         × (from + n ≤ length us) }
     requires long { MIN_CONS ≤ n }
     ensures continues { Moves Continues reader.old reader.new }
+    ensures own { KeepsOwn (view_in reader.old) (view_in reader.new) }
     ensures linked { (us : List ℕ) → Has (view_in reader.old).units s.id us
         → IsPartCut (view_in reader.old) (view_in reader.new) (size_of reader.old.heap.now) s from
         (part from n us) result }
@@ -282,6 +285,7 @@ fn cut(reader: &mut Reader, s: JsStr, from: u32, n: u32) -> Result<JsStr, TextFu
     requires within { (us : List ℕ) × Has (view_in reader.old).units s.id us
         × (from + n ≤ length us) }
     ensures continues { Moves Continues reader.old reader.new }
+    ensures own { KeepsOwn (view_in reader.old) (view_in reader.new) }
     ensures copied { n < MIN_CONS → (us : List ℕ) → Has (view_in reader.old).units s.id us
         → IsCopied (view_in reader.old) (view_in reader.new) (size_of reader.old.heap.now)
         (part from n us) result }

@@ -3,10 +3,11 @@ ghost use Rattle.std.specs.Prelude.{◌≡◌, ℕ, List, ◌+◌, ◌≤◌, �
 ghost use Rattle.heap_rule.specs.Contents.{lane_in};
 ghost use Rattle.heap_rule.specs.Maps.{Has, HasKey};
 ghost use Rattle.heap_rule.specs.Views.{IsSettled, shown};
-ghost use Rattle.heap_table.specs.Agents.{Belongs, view_of};
+ghost use Rattle.heap_table.specs.Agents.{view_of};
 ghost use Rattle.heap_read.specs.Reads.{KeepsForms, Reads};
 ghost use Rattle.heap_read.specs.Spans.{IsFirstUnit};
 ghost use Rattle.heap_read.specs.Windows.{IsFrozenWindow, IsWindow};
+ghost use Rattle.heap_text.specs.Keeping.{Keeps};
 
 use crate::text::Text;
 use heap_read::{JsStr, Window};
@@ -15,9 +16,7 @@ impl<'h> Text<'h> {
     /// The length of a string, in units.
     pub fn len(&mut self, s: JsStr) -> u32
         requires known { HasKey (view_of self.old.reader.agent).units s.id }
-        ensures text { Belongs self.new.reader.agent self.new.reader.heap.now }
-        ensures heap { self.new.reader.heap ≡ self.old.reader.heap }
-        ensures limit { self.new.limit ≡ self.old.limit }
+        ensures kept { Keeps self.old self.new }
         ensures reads { Reads (view_of self.old.reader.agent) (view_of self.new.reader.agent) }
         ensures forms { KeepsForms (view_of self.old.reader.agent) (view_of self.new.reader.agent) }
         ensures length { (us : List ℕ) → Has (view_of self.old.reader.agent).units s.id us
@@ -30,9 +29,7 @@ impl<'h> Text<'h> {
     pub fn window(&mut self, s: JsStr) -> Window
         requires known { HasKey (view_of self.old.reader.agent).units s.id }
         requires settled { IsSettled (view_of self.old.reader.agent) s.id }
-        ensures text { Belongs self.new.reader.agent self.new.reader.heap.now }
-        ensures heap { self.new.reader.heap ≡ self.old.reader.heap }
-        ensures limit { self.new.limit ≡ self.old.limit }
+        ensures kept { Keeps self.old self.new }
         ensures reads { Reads (view_of self.old.reader.agent) (view_of self.new.reader.agent) }
         ensures shows { (us : List ℕ) → Has (view_of self.old.reader.agent).units s.id us
             → IsWindow (view_of self.new.reader.agent) result us × (result.len ≡ length us) }
@@ -45,9 +42,7 @@ impl<'h> Text<'h> {
     pub fn unit_in(&mut self, w: Window, i: u32) -> u16
         requires frozen { IsFrozenWindow (view_of self.old.reader.agent) w }
         requires within { i < w.len }
-        ensures text { Belongs self.new.reader.agent self.new.reader.heap.now }
-        ensures heap { self.new.reader.heap ≡ self.old.reader.heap }
-        ensures limit { self.new.limit ≡ self.old.limit }
+        ensures kept { Keeps self.old self.new }
         ensures reads { Reads (view_of self.old.reader.agent) (view_of self.new.reader.agent) }
         ensures forms { KeepsForms (view_of self.old.reader.agent) (view_of self.new.reader.agent) }
         ensures lane { result ≡ lane_in (shown (view_of self.new.reader.agent)) w.wide w.start
@@ -63,9 +58,7 @@ impl<'h> Text<'h> {
         requires settled { IsSettled (view_of self.old.reader.agent) s.id }
         requires within { (us : List ℕ) × Has (view_of self.old.reader.agent).units s.id us
             × (i < length us) }
-        ensures text { Belongs self.new.reader.agent self.new.reader.heap.now }
-        ensures heap { self.new.reader.heap ≡ self.old.reader.heap }
-        ensures limit { self.new.limit ≡ self.old.limit }
+        ensures kept { Keeps self.old self.new }
         ensures reads { Reads (view_of self.old.reader.agent) (view_of self.new.reader.agent) }
         ensures unit { (us : List ℕ) → Has (view_of self.old.reader.agent).units s.id us
             → result ≡ slice_index us i }
@@ -77,9 +70,7 @@ impl<'h> Text<'h> {
     pub fn read_in(&mut self, w: Window, from: u32, into: &mut [u16])
         requires window { (us : List ℕ) × IsWindow (view_of self.old.reader.agent) w us }
         requires within { from + length into.old ≤ w.len }
-        ensures text { Belongs self.new.reader.agent self.new.reader.heap.now }
-        ensures heap { self.new.reader.heap ≡ self.old.reader.heap }
-        ensures limit { self.new.limit ≡ self.old.limit }
+        ensures kept { Keeps self.old self.new }
         ensures reads { Reads (view_of self.old.reader.agent) (view_of self.new.reader.agent) }
         ensures forms { KeepsForms (view_of self.old.reader.agent) (view_of self.new.reader.agent) }
         ensures units { (us : List ℕ) → IsWindow (view_of self.old.reader.agent) w us
@@ -92,9 +83,7 @@ impl<'h> Text<'h> {
     pub fn find_in(&mut self, w: Window, unit: u16, from: u32) -> Option<u32>
         requires window { (us : List ℕ) × IsWindow (view_of self.old.reader.agent) w us }
         requires within { from ≤ w.len }
-        ensures text { Belongs self.new.reader.agent self.new.reader.heap.now }
-        ensures heap { self.new.reader.heap ≡ self.old.reader.heap }
-        ensures limit { self.new.limit ≡ self.old.limit }
+        ensures kept { Keeps self.old self.new }
         ensures reads { Reads (view_of self.old.reader.agent) (view_of self.new.reader.agent) }
         ensures forms { KeepsForms (view_of self.old.reader.agent) (view_of self.new.reader.agent) }
         ensures least { (us : List ℕ) → IsWindow (view_of self.old.reader.agent) w us

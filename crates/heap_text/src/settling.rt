@@ -4,11 +4,13 @@ ghost use Rattle.js_header.specs.declared.form.Form.TheVariants.{Cons};
 ghost use Rattle.heap_rule.specs.Loads.{added_loads};
 ghost use Rattle.heap_rule.specs.Maps.{Has, HasKey};
 ghost use Rattle.heap_rule.specs.Views.{IsKnown, IsSettled};
-ghost use Rattle.heap_table.specs.Agents.{Belongs, size_of, view_of};
+ghost use Rattle.heap_table.specs.Agents.{size_of, view_of};
 ghost use Rattle.heap_read.specs.Readers.{Moves, view_in};
 ghost use Rattle.heap_read.specs.Reads.{Continues, Reads};
 ghost use Rattle.heap_read.specs.Sides.{LoadsForms};
+ghost use Rattle.heap_text.specs.Texts.{KeepsOwn};
 ghost use Rattle.heap_text.specs.Settling.{HasSides, IsBitOf, IsFlattened, IsNoRoom, IsSeenLater, IsSettling};
+ghost use Rattle.heap_text.specs.Keeping.{Keeps};
 
 use crate::faults::TextFull;
 use crate::filling::{fill, left_length};
@@ -29,10 +31,9 @@ impl<'h> Text<'h> {
         steps: &mut Steps<L>,
     ) -> Result<(), TextFull>
         requires known { HasKey (view_of self.old.reader.agent).units s.id }
-        ensures text { Belongs self.new.reader.agent self.new.reader.heap.now }
-        ensures heap { self.new.reader.heap ≡ self.old.reader.heap }
-        ensures limit { self.new.limit ≡ self.old.limit }
+        ensures kept { Keeps self.old self.new }
         ensures continues { Continues (view_of self.old.reader.agent) (view_of self.new.reader.agent) }
+        ensures own { KeepsOwn (view_of self.old.reader.agent) (view_of self.new.reader.agent) }
         ensures settled { IfOk result (λ u. IsSettled (view_of self.new.reader.agent) s.id) }
         ensures used { IfOk result
             (λ u. (us : List ℕ) → Has (view_of self.old.reader.agent).units s.id us
@@ -75,10 +76,9 @@ impl<'h> Text<'h> {
         requires parts { blank.parts ≡ L.parts }
         requires some { 0 < blank.parts }
         requires known { HasKey (view_of self.old.reader.agent).units s.id }
-        ensures text { Belongs self.new.reader.agent self.new.reader.heap.now }
-        ensures heap { self.new.reader.heap ≡ self.old.reader.heap }
-        ensures limit { self.new.limit ≡ self.old.limit }
+        ensures kept { Keeps self.old self.new }
         ensures continues { Continues (view_of self.old.reader.agent) (view_of self.new.reader.agent) }
+        ensures own { KeepsOwn (view_of self.old.reader.agent) (view_of self.new.reader.agent) }
         ensures settled { IfOk result (λ u. IsSettled (view_of self.new.reader.agent) s.id) }
         ensures used { IfOk result
             (λ u. (us : List ℕ) → Has (view_of self.old.reader.agent).units s.id us
@@ -105,10 +105,9 @@ impl<'h> Text<'h> {
     /// Sees to it that the string is settled, as `settle_counted` does, with no count.
     pub fn settle(&mut self, s: JsStr) -> Result<(), TextFull>
         requires known { HasKey (view_of self.old.reader.agent).units s.id }
-        ensures text { Belongs self.new.reader.agent self.new.reader.heap.now }
-        ensures heap { self.new.reader.heap ≡ self.old.reader.heap }
-        ensures limit { self.new.limit ≡ self.old.limit }
+        ensures kept { Keeps self.old self.new }
         ensures continues { Continues (view_of self.old.reader.agent) (view_of self.new.reader.agent) }
+        ensures own { KeepsOwn (view_of self.old.reader.agent) (view_of self.new.reader.agent) }
         ensures settled { IfOk result (λ u. IsSettled (view_of self.new.reader.agent) s.id) }
         ensures used { IfOk result
             (λ u. (us : List ℕ) → Has (view_of self.old.reader.agent).units s.id us
@@ -145,6 +144,7 @@ fn flatten<L: Ledger>(
     requires seen { Has (view_in reader.old).forms s.id (Cons wide left right) }
     requires side { IsKnown (view_in reader.old) left }
     ensures continues { Moves Continues reader.old reader.new }
+    ensures own { KeepsOwn (view_in reader.old) (view_in reader.new) }
     ensures settled { IfOk result (λ u. IsSettled (view_in reader.new) s.id) }
     ensures flat { IfOk result
         (λ u. (us : List ℕ) → Has (view_in reader.old).units s.id us

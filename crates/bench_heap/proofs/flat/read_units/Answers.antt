@@ -6,7 +6,7 @@ unit_at-unit-requires-clause-within c = let k = c.loop-i.invariant.known in let 
 
 pub loop-i-preserved : goal.loop-i-preserved
 loop-i-preserved c = let k = c.loop-i.invariant.known in let t = c.unit_at-unit.ensures in record {
-  text = t.text;
+  text = c.unit_at-unit.new.self.reader.belongs;
   settled = t.reads.known.settled c.args.s.id c.loop-i.invariant.settled;
   known = (k.0, t.reads.known.units c.args.s.id k.0 k.1, k.2);
 }

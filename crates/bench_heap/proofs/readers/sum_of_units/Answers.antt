@@ -5,7 +5,7 @@ use Rattle.bench_heap.proofs.readers.sum_of_units.Goals as goal
 
 pub loop-i-init : goal.loop-i-init
 loop-i-init c = record {
-  text = c.window-window.ensures.text;
+  text = c.window-window.new.self.reader.belongs;
   shows = λ us h. (c.window-window.ensures.shows us (c.settle.ensures.continues.known.units c.args.s.id us h)).0;
 }
 
@@ -15,6 +15,6 @@ unit_in-unit-requires-clause-frozen c = let v : View = c.args.text.now.reader.ag
 
 pub loop-i-preserved : goal.loop-i-preserved
 loop-i-preserved c = let u : View = c.loop-i.text.reader.agent.seat.me.0 in let w : View = c.unit_in-unit.new.self.reader.agent.seat.me.0 in let i = c.loop-i.invariant in record {
-  text = c.unit_in-unit.ensures.text;
+  text = c.unit_in-unit.new.self.reader.belongs;
   shows = λ us h. window_kept u w (forms_held u w c.unit_in-unit.ensures.forms.0) c.window-window.result us c.unit_in-unit.ensures.reads.known (i.shows us h);
 }

@@ -6,7 +6,7 @@ slice-requires-clause-within c = let k = c.loop-i.invariant.known in let n = k.2
 
 pub loop-i-preserved : goal.loop-i-preserved
 loop-i-preserved c = let k = c.loop-i.invariant.known in let t = c.slice.ensures in record {
-  text = t.text;
+  text = c.slice.new.self.reader.belongs;
   settled = t.continues.known.settled c.args.s.id c.loop-i.invariant.settled;
   known = (k.0, t.continues.known.units c.args.s.id k.0 k.1, k.2);
 }

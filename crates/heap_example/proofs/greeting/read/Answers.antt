@@ -9,7 +9,7 @@ use Rattle.heap_example.proofs.greeting.read.Goals as goal
 
 pub loop-i-init : goal.loop-i-init
 loop-i-init c = record {
-  heap = c.window-window.ensures.heap ∙ c.settle.ensures.heap;
+  heap = c.window-window.ensures.kept.heap ∙ c.settle.ensures.kept.heap;
   known = known_trans _ _ _ c.settle.ensures.continues.known c.window-window.ensures.reads.known;
   shows = λ us h. (c.window-window.ensures.shows us (c.settle.ensures.continues.known.units c.args.s.id us h)).0;
   copied = λ us h. c.new-units.ensures.items;
@@ -21,7 +21,7 @@ unit_in-requires-clause-frozen c = let v : View = c.args.text.now.reader.agent.s
 
 pub loop-i-preserved : goal.loop-i-preserved
 loop-i-preserved c = let u : View = c.loop-i.text.reader.agent.seat.me.0 in let w : View = c.unit_in.new.self.reader.agent.seat.me.0 in let i = c.loop-i.invariant in record {
-  heap = c.unit_in.ensures.heap ∙ i.heap;
+  heap = c.unit_in.ensures.kept.heap ∙ i.heap;
   known = known_trans _ _ _ i.known c.unit_in.ensures.reads.known;
   shows = λ us h. window_kept u w (forms_held u w c.unit_in.ensures.forms.0) c.window-window.result us c.unit_in.ensures.reads.known (i.shows us h);
   copied = λ us h. let n = window_length u c.window-window.result us (i.shows us h) in let more = c.loop-i-test.true in let within : c.loop-i.i < length us = omega arith in

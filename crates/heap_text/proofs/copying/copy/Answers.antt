@@ -10,10 +10,11 @@ use Rattle.heap_table.specs.Known.{KeepsKnown}
 use Rattle.heap_read.specs.Sources.{listed}
 use Rattle.heap_text.specs.declared.faults.TextFull.TheVariants as fault
 use Rattle.heap_read.specs.Reads.{Continues}
-use Rattle.heap_text.specs.Texts.{IsSpared}
+use Rattle.heap_text.specs.Texts.{IsSpared, KeepsOwn}
 use Rattle.js_units.specs.Lanes.{is_wide, words_over}
 use Rattle.heap_text.proofs.Pieces.{spared_ids, spared_words}
 use Rattle.heap_read.specs.Written.{IsWritten}
+use Rattle.heap_text.proofs.Owned.{own_flat, own_full, own_reads, own_trans, own_written}
 use Rattle.heap_text.proofs.Bearing.{born_form, born_units, continues_born, written_fits, written_still}
 use Rattle.heap_read.proofs.Going.{continues_full_ids, continues_ids, continues_length, continues_reads, continues_trans}
 use Rattle.heap_text.proofs.copying.copy.Goals as goal
@@ -77,3 +78,19 @@ returns-in-Err-claim_id-clause-spared c = let v : View = c.args.reader.now.agent
 
 pub returns-in-Err-clause-continues : goal.returns-in-Err-clause-continues
 returns-in-Err-clause-continues c = let v : View = c.args.reader.now.agent.seat.me.0 in let u : View = c.has_wide-wide.new.self.agent.seat.me.0 in record { heap = c.write.ensures.continues.heap ∙ c.has_wide-wide.ensures.reads.heap; view = continues_trans v u c.write.new.self.agent.seat.me.0 (continues_reads v u c.has_wide-wide.ensures.reads.view) c.write.ensures.continues.view }
+
+pub returns-in-Err-clause-own : goal.returns-in-Err-clause-own
+returns-in-Err-clause-own c = let v : View = c.args.reader.now.agent.seat.me.0 in let u : View = c.has_wide-wide.new.self.agent.seat.me.0 in let w : View = c.write.new.self.agent.seat.me.0 in
+    own_trans v u w (own_reads v u c.has_wide-wide.ensures.reads.view) (own_written u w c.write.ensures.own_ids c.write.ensures.stays)
+
+pub returns-in-Err-claim_id-clause-own : goal.returns-in-Err-claim_id-clause-own
+returns-in-Err-claim_id-clause-own c = let v : View = c.args.reader.now.agent.seat.me.0 in let u : View = c.has_wide-wide.new.self.agent.seat.me.0 in let w : View = c.write.new.self.agent.seat.me.0 in
+    own_full v w c.claim_id.new.self.seat.me.0 Ids c.in-Err-claim_id.full.at c.in-Err-claim_id.ensures.refused.0 (own_trans v u w (own_reads v u c.has_wide-wide.ensures.reads.view) (own_written u w c.write.ensures.own_ids c.write.ensures.stays))
+
+pub returns-clause-own : goal.returns-clause-own
+returns-clause-own c = let v : View = c.args.reader.now.agent.seat.me.0 in let u : View = c.has_wide-wide.new.self.agent.seat.me.0 in let w : View = c.write.new.self.agent.seat.me.0 in let y : View = c.store_length.new.self.seat.me.0 in
+    let id = c.in-Ok-claim_id.id in let n = c.args.n in let wide = c.has_wide-wide.result in let start = c.in-Ok.start in let f = Flat wide start false in
+    let is : y ≡ stored_length (won_claim w Ids id 1) id n = c.store_length.ensures.view ∙ ap (λ (a : View). stored_length a id n) c.in-Ok-claim_id.ensures.view in
+    let kept : KeepsOwn u w = own_written u w c.write.ensures.own_ids c.write.ensures.stays in
+    let after : KeepsOwn u (born (stored_length (won_claim w Ids id 1) id n) id f) = own_flat u w id n kept c.in-Ok-claim_id.ensures.above_own wide start c.in-Ok.ensures.fresh in
+    subst (KeepsOwn v) (sym c.birth.ensures.view) (subst (λ (a : View). KeepsOwn v (born a id f)) (sym is) (own_trans v u (born (stored_length (won_claim w Ids id 1) id n) id f) (own_reads v u c.has_wide-wide.ensures.reads.view) after))

@@ -13,7 +13,7 @@ use Rattle.heap_text.proofs.Progress.{left_fits, right_fits}
 use Rattle.heap_read.specs.Windows.{IsWindow}
 use Rattle.heap_text.proofs.Sides.{units_there}
 use Rattle.heap_read.proofs.Solids.{no_cons}
-use Rattle.heap_read.proofs.Storing.{writes_reads, writes_refl, writes_trans}
+use Rattle.heap_read.proofs.Storing.{below_reads, writes_reads, writes_refl, writes_trans}
 use Rattle.heap_text.proofs.Turning.{both_here, turn_left, turn_right, units_kept}
 use Rattle.heap_read.proofs.Loaded.{key_kept}
 use Rattle.heap_text.proofs.filling.+fill.Goals as goal
@@ -22,6 +22,7 @@ pub loop-left-init : goal.loop-left-init
 loop-left-init g t c = let v : View = c.args.reader.now.agent.seat.me.0 in record {
   heap = refl;
   writes = writes_refl v;
+  below = λ q y l h. h;
   above = λ i b l r less h. h;
   lower = omega arith;
   known = c.requires.known;
@@ -223,6 +224,7 @@ loop-left-preserved-then-m-n g t c = let v : View = c.args.reader.now.agent.seat
     let hh : View = c.fill.new.reader.agent.seat.me.0 in let r = c.fill.ensures in record {
       heap = r.writes.heap ∙ (d.reads.heap ∙ (e.reads.heap ∙ i.heap));
       writes = writes_trans v uu hh i.writes (writes_trans uu gg hh (writes_trans uu ff gg (writes_reads uu ff e.reads.view) (writes_reads ff gg d.reads.view)) r.writes.view);
+      below = λ q y l h. r.below q y l (below_reads start ff gg d.reads.view q y l (below_reads start uu ff e.reads.view q y l (i.below q y l h)));
       above = λ q b l o less h. r.above q b l o (omega (arith, less, i.lower, d.below.0, d.below.1)) (subst (λ (m : FinMap nat_cmp Form). Has m q (Cons b l o)) (sym d.forms.0) (e.others q (λ is. absurd (omega (arith, is, less, i.lower))) ∙ i.above q b l o less h));
       lower = omega (arith, i.lower, d.below.0, d.below.1);
       known = key_kept gg hh right r.writes.view.known d.known.1;
@@ -241,6 +243,7 @@ loop-left-preserved g t c = let v : View = c.args.reader.now.agent.seat.me.0 in 
     let hh : View = c.fill-else-m-n.new.reader.agent.seat.me.0 in let r = c.fill-else-m-n.ensures in record {
       heap = r.writes.heap ∙ (d.reads.heap ∙ (e.reads.heap ∙ i.heap));
       writes = writes_trans v uu hh i.writes (writes_trans uu gg hh (writes_trans uu ff gg (writes_reads uu ff e.reads.view) (writes_reads ff gg d.reads.view)) r.writes.view);
+      below = λ q y l h. r.below q y l (below_reads start ff gg d.reads.view q y l (below_reads start uu ff e.reads.view q y l (i.below q y l h)));
       above = λ q b l o less h. r.above q b l o (omega (arith, less, i.lower, d.below.0, d.below.1)) (subst (λ (m : FinMap nat_cmp Form). Has m q (Cons b l o)) (sym d.forms.0) (e.others q (λ is. absurd (omega (arith, is, less, i.lower))) ∙ i.above q b l o less h));
       lower = omega (arith, i.lower, d.below.0, d.below.1);
       known = key_kept gg hh left r.writes.view.known d.known.0;
@@ -250,3 +253,8 @@ loop-left-preserved g t c = let v : View = c.args.reader.now.agent.seat.me.0 in 
       more = omega (arith, r.more, i.more, c.tick.ensures);
       steps = omega (arith, r.steps, c.tick.ensures, i.steps, both.right_some);
     }
+
+pub returns-in_default-clause-below : goal.returns-in_default-clause-below
+returns-in_default-clause-below g t c q y l h = let uu : View = c.loop-left.reader.agent.seat.me.0 in let ff : View = c.form_now-form.new.self.agent.seat.me.0 in let gg : View = c.leaf_window-window.new.reader.agent.seat.me.0 in
+    let start : ℕ = c.args.to.start in
+    c.fill_leaf.ensures.below q y l (below_reads start ff gg c.leaf_window-window.ensures.reads.view q y l (below_reads start uu ff c.form_now-form.ensures.reads.view q y l (c.loop-left.invariant.below q y l h)))

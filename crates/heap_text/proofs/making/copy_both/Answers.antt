@@ -9,6 +9,7 @@ use Rattle.heap_read.specs.declared.source.Source.TheVariants as source
 use Rattle.heap_text.specs.Joins.{IsCopied}
 use Rattle.heap_read.specs.Sources.{listed}
 use Rattle.heap_read.proofs.Going.{continues_reads, continues_trans}
+use Rattle.heap_text.proofs.Owned.{own_reads, own_trans}
 use Rattle.heap_text.proofs.Leading.{short_solid}
 use Rattle.heap_text.proofs.Linking.{side_kept}
 use Rattle.heap_read.proofs.Loaded.{reads_trans}
@@ -75,3 +76,7 @@ returns-clause-copied c us vs h k = let v : View = c.args.reader.now.agent.seat.
     let same : size_of c.solid_window-back.new.self.heap.now ≡ size_of c.args.reader.now.heap.now = ap (λ x. size_of x.now) (c.solid_window-back.ensures.reads.heap ∙ (c.solid_window-front.ensures.reads.heap ∙ c.side_forms-left.ensures.reads.heap)) in
     subst (λ (z : HeapSize). IsCopied v w5 z (us ++ vs) c.copy.result) same
     (copy_answer v w4 w5 (size_of c.solid_window-back.new.self.heap.now) c.copy.result xs (us ++ vs) c.args.n all (λ i. words_over (is_wide (all i)) (count i)) r4 e.units e.form e.used e.refused e.spared)
+
+pub returns-clause-own : goal.returns-clause-own
+returns-clause-own c = let v : View = c.args.reader.now.agent.seat.me.0 in let w2 : View = c.side_forms-left.new.reader.agent.seat.me.0 in let w3 : View = c.solid_window-front.new.self.agent.seat.me.0 in let w4 : View = c.solid_window-back.new.self.agent.seat.me.0 in
+    own_trans v w4 c.copy.new.reader.agent.seat.me.0 (own_reads v w4 (reads_trans v w3 w4 (reads_trans v w2 w3 c.side_forms-left.ensures.reads.view c.solid_window-front.ensures.reads.view) c.solid_window-back.ensures.reads.view)) c.copy.ensures.own

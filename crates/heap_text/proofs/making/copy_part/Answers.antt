@@ -13,6 +13,7 @@ use Rattle.heap_read.specs.declared.source.Source.TheVariants as source
 use Rattle.heap_read.specs.Sources.{listed}
 use Rattle.heap_text.specs.Texts.{Told}
 use Rattle.heap_read.proofs.Going.{continues_reads, continues_trans}
+use Rattle.heap_text.proofs.Owned.{own_reads, own_trans}
 use Rattle.heap_text.proofs.Pieces.{copy_answer, length_part, part_shows, piece_is, piece_shows}
 use Rattle.heap_text.proofs.making.copy_part.Goals as goal
 
@@ -51,3 +52,7 @@ returns-clause-copied c us h = let v : View = c.args.reader.now.agent.seat.me.0 
     let same : size_of c.window_on-window.new.self.heap.now ≡ size_of c.args.reader.now.heap.now = ap (λ y. size_of y.now) c.window_on-window.ensures.reads.heap in let e = c.copy.ensures in
     copy_answer v w x (size_of c.args.reader.now.heap.now) c.copy.result xs (part c.args.from n us) n all (λ i. words_over (is_wide (all i)) (count i)) c.window_on-window.ensures.reads.view e.units e.form e.used
     (subst (λ (y : HeapSize). IfErr c.copy.result (λ f. Told x y (words_over (is_wide xs) n) f)) same e.refused) e.spared
+
+pub returns-clause-own : goal.returns-clause-own
+returns-clause-own c = let v : View = c.args.reader.now.agent.seat.me.0 in let w : View = c.window_on-window.new.self.agent.seat.me.0 in
+    own_trans v w c.copy.new.reader.agent.seat.me.0 (own_reads v w c.window_on-window.ensures.reads.view) c.copy.ensures.own

@@ -4,7 +4,7 @@ use Rattle.heap_rule.specs.declared.size.Counter.TheVariants.{Ids}
 use Rattle.heap_rule.specs.declared.size.Counters.{Counters}
 use Rattle.heap_rule.specs.declared.size.HeapSize.{HeapSize}
 use Rattle.heap_rule.specs.declared.view.View.{View}
-use Rattle.heap_rule.specs.Births.{stored_length}
+use Rattle.heap_rule.specs.Births.{born, stored_length}
 use Rattle.heap_rule.specs.Claims.{won_claim}
 use Rattle.heap_rule.specs.Forms.{IsNarrow}
 use Rattle.heap_rule.specs.Maps.{Has, HasKey}
@@ -15,6 +15,8 @@ use Rattle.heap_table.specs.Known.{KeepsKnown}
 use Rattle.heap_text.specs.declared.faults.TextFull.TheVariants as fault
 use Rattle.heap_read.specs.Reads.{Continues}
 use Rattle.heap_read.proofs.Going.{continues_full_ids, continues_ids, continues_length, continues_reads, continues_trans, known_ids, known_length}
+use Rattle.heap_text.specs.Texts.{KeepsOwn}
+use Rattle.heap_text.proofs.Owned.{own_full, own_reads, own_rope}
 use Rattle.heap_text.proofs.Linking.{born_cons, born_other, born_rope, continues_rope, narrow_both, narrow_side, side_kept, wide_kept}
 use Rattle.heap_read.proofs.Loaded.{known_trans, reads_trans}
 use Rattle.heap_text.proofs.Pieces.{spared_ids}
@@ -123,3 +125,15 @@ returns-clause-linked c us vs h k = let v : View = c.args.reader.now.agent.seat.
         (ids, omega (arith, words)),
       ),
     )
+
+pub returns-in-Err-clause-own : goal.returns-in-Err-clause-own
+returns-in-Err-clause-own c = let v : View = c.args.reader.now.agent.seat.me.0 in let u0 : View = c.side_forms-front.new.reader.agent.seat.me.0 in let u1 : View = c.is_wide_side-left.new.reader.agent.seat.me.0 in let u : View = c.is_wide_side-right.new.reader.agent.seat.me.0 in
+    let reads = reads_trans v u1 u (reads_trans v u0 u1 c.side_forms-front.ensures.reads.view c.is_wide_side-left.ensures.reads.view) c.is_wide_side-right.ensures.reads.view in
+    own_full v u c.claim_id.new.self.seat.me.0 Ids c.in-Err.full.at c.in-Err.ensures.refused.0 (own_reads v u reads)
+
+pub returns-clause-own : goal.returns-clause-own
+returns-clause-own c = let v : View = c.args.reader.now.agent.seat.me.0 in let u0 : View = c.side_forms-front.new.reader.agent.seat.me.0 in let u1 : View = c.is_wide_side-left.new.reader.agent.seat.me.0 in let u : View = c.is_wide_side-right.new.reader.agent.seat.me.0 in
+    let reads = reads_trans v u1 u (reads_trans v u0 u1 c.side_forms-front.ensures.reads.view c.is_wide_side-left.ensures.reads.view) c.is_wide_side-right.ensures.reads.view in
+    let y : View = c.store_length.new.self.seat.me.0 in let id = c.in-Ok.id in let n = c.args.n in let f = Cons c.is_either-wide.result c.args.a.id c.args.b.id in
+    let is : y ≡ stored_length (won_claim u Ids id 1) id n = c.store_length.ensures.view ∙ ap (λ (w : View). stored_length w id n) c.in-Ok.ensures.view in
+    subst (KeepsOwn v) (sym c.birth.ensures.view) (subst (λ (a : View). KeepsOwn v (born a id f)) (sym is) (own_rope v u id n (own_reads v u reads) c.in-Ok.ensures.above_own c.is_either-wide.result c.args.a.id c.args.b.id))

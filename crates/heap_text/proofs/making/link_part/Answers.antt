@@ -5,7 +5,7 @@ use Rattle.heap_rule.specs.declared.size.Counter.TheVariants.{Ids}
 use Rattle.heap_rule.specs.declared.size.Counters.{Counters}
 use Rattle.heap_rule.specs.declared.size.HeapSize.{HeapSize}
 use Rattle.heap_rule.specs.declared.view.View.{View}
-use Rattle.heap_rule.specs.Births.{part, stored_length}
+use Rattle.heap_rule.specs.Births.{born, part, stored_length}
 use Rattle.heap_rule.specs.Claims.{won_claim}
 use Rattle.heap_rule.specs.Maps.{Has, HasKey}
 use Rattle.heap_rule.proofs.MapLemmas.{insert_same, key_of}
@@ -16,6 +16,8 @@ use Rattle.heap_table.specs.Known.{KeepsKnown}
 use Rattle.heap_text.specs.declared.faults.TextFull.TheVariants as fault
 use Rattle.heap_text.specs.Joins.{offset_of, parent_of}
 use Rattle.heap_read.specs.Reads.{Continues}
+use Rattle.heap_text.specs.Texts.{KeepsOwn}
+use Rattle.heap_text.proofs.Owned.{own_full, own_part, own_reads}
 use Rattle.heap_text.proofs.Cutting.{born_sliced, continues_part, cut_parent, may_part, narrow_part, offset_small, parent_known, part_units, sliced_other, told_part}
 use Rattle.heap_read.proofs.Going.{continues_full_ids, continues_ids, continues_length, continues_reads, continues_trans, known_ids, known_length}
 use Rattle.heap_text.proofs.Linking.{narrow_side, side_kept, wide_kept}
@@ -105,3 +107,15 @@ returns-clause-linked c us h = let v : View = c.args.reader.now.agent.seat.me.0 
         (ids, omega (arith, words)),
       ),
     )
+
+pub returns-in-Err-clause-own : goal.returns-in-Err-clause-own
+returns-in-Err-clause-own c = let v : View = c.args.reader.now.agent.seat.me.0 in let u0 : View = c.form_now-whole.new.self.agent.seat.me.0 in let u : View = c.is_wide_side-wide.new.reader.agent.seat.me.0 in
+    let reads = reads_trans v u0 u c.form_now-whole.ensures.reads.view c.is_wide_side-wide.ensures.reads.view in
+    own_full v u c.claim_id.new.self.seat.me.0 Ids c.in-Err.full.at c.in-Err.ensures.refused.0 (own_reads v u reads)
+
+pub returns-clause-own : goal.returns-clause-own
+returns-clause-own c = let v : View = c.args.reader.now.agent.seat.me.0 in let u0 : View = c.form_now-whole.new.self.agent.seat.me.0 in let u : View = c.is_wide_side-wide.new.reader.agent.seat.me.0 in
+    let reads = reads_trans v u0 u c.form_now-whole.ensures.reads.view c.is_wide_side-wide.ensures.reads.view in let y : View = c.store_length.new.self.seat.me.0 in let id = c.in-Ok.id in let n = c.args.n in
+    let wide = c.is_wide_side-wide.result in let parent : ℕ = c.parent_of-parent.result in let offset : ℕ = c.offset_of.result + c.args.from in
+    let is : y ≡ stored_length (won_claim u Ids id 1) id n = c.store_length.ensures.view ∙ ap (λ (w : View). stored_length w id n) c.in-Ok.ensures.view in
+    subst (KeepsOwn v) (sym c.birth.ensures.view) (subst (λ (a : View). KeepsOwn v (born a id (Sliced wide parent offset))) (sym is) (own_part v u id n (own_reads v u reads) c.in-Ok.ensures.above_own wide parent offset))

@@ -21,6 +21,8 @@ use Rattle.heap_read.proofs.Going.{continues_full_words, continues_reads, contin
 use Rattle.heap_text.proofs.Joined.{both_filled, narrow_units, some_words}
 use Rattle.heap_text.proofs.Linking.{narrow_cons}
 use Rattle.heap_read.proofs.Loaded.{reads_length, reads_trans, key_kept}
+use Rattle.heap_text.proofs.Owned.{own_full, own_moved, own_reads, own_trans}
+use Rattle.heap_rule.specs.declared.size.Counter.TheVariants as counter
 use Rattle.heap_text.proofs.Pieces.{spared_words}
 use Rattle.heap_text.proofs.Progress.{left_fits, right_fits}
 use Rattle.heap_text.proofs.Settled.{sides_of}
@@ -477,3 +479,18 @@ returns-clause-steps g c xs h = let v : View = c.args.reader.now.agent.seat.me.0
     let f2 : View = c.fill-2.new.reader.agent.seat.me.0 in let r2 = c.fill-2.ensures in
     let own : (q : ℕ) → q < words_over wide (length us) → HasKey f2.own_words (start + q) = λ q l. r2.writes.view.own_words (start + q) (r1.writes.view.own_words (start + q) (run q l)) in
     let is : xs ≡ us = sym (units_are v i xs h) in let k : length xs ≡ length us = ap length is in omega (arith, k, r1.steps, r2.steps, count, both.right_some)
+
+pub returns-in-Err-clause-own : goal.returns-in-Err-clause-own
+returns-in-Err-clause-own g c = let v : View = c.args.reader.now.agent.seat.me.0 in let a : View = c.load_length-n.new.self.seat.me.0 in let b : View = c.left_length-m.new.reader.agent.seat.me.0 in
+    let e = c.load_length-n.ensures in let ra = reads_length v a c.args.s.id c.load_length-n.result e.known e.view in
+    own_full v b c.claim_words.new.self.seat.me.0 counter.Words c.in-Err.full.at c.in-Err.ensures.refused.0 (own_reads v b (reads_trans v a b ra c.left_length-m.ensures.reads.view))
+
+pub returns-clause-own : goal.returns-clause-own
+returns-clause-own g c = let v : View = c.args.reader.now.agent.seat.me.0 in let a : View = c.load_length-n.new.self.seat.me.0 in let b : View = c.left_length-m.new.reader.agent.seat.me.0 in
+    let i = c.args.s.id in let wide = c.args.wide in let e = c.load_length-n.ensures in let ra = reads_length v a i c.load_length-n.result e.known e.view in
+    let w : View = c.claim_words.new.self.seat.me.0 in let start = c.in-Ok.start in let ok = c.in-Ok.ensures in
+    let f1 : View = c.fill.new.reader.agent.seat.me.0 in let r1 = c.fill.ensures in let f2 : View = c.fill-2.new.reader.agent.seat.me.0 in let r2 = c.fill-2.ensures in
+    let x : View = c.flatten_step.new.self.seat.me.0 in let st = c.flatten_step.ensures in let cons = Cons wide c.args.left c.args.right in
+    let moving = is_moving f2 x i cons wide start (header_found cons c.flatten_step.result) st.view st.known in
+    own_trans v b x (own_reads v b (reads_trans v a b ra c.left_length-m.ensures.reads.view))
+    (own_moved b w f2 x start c.words_for.result ok.view ok.above_own (r2.writes.view.own_ids ∙ r1.writes.view.own_ids) (λ q y l h. r2.below q y l (r1.below q y l h)) moving.own_ids moving.below)

@@ -25,7 +25,7 @@ returns-in-Ok-clause-ok c = let w : View = c.make_flat.new.self.reader.agent.sea
 
 pub returns-in-Ok-clause-step : goal.returns-in-Ok-clause-step
 returns-in-Ok-clause-step c = let s = c.args.self.now in let v : View = s.text.reader.agent.seat.me.0 in let w : View = c.make_flat.new.self.reader.agent.seat.me.0 in let us : List ℕ = c.args.units.now in let l = limit_units s.limit in let t = table_of s.text.reader.heap.now in
-    step_at v w l t (table_of c.make_flat.new.self.reader.heap.now) None 1 (flat_words us) (ap (λ x. table_of x.now) c.make_flat.ensures.heap)
+    step_at v w l t (table_of c.make_flat.new.self.reader.heap.now) None 1 (flat_words us) (ap (λ x. table_of x.now) c.make_flat.ensures.kept.heap)
     (step_used v w l t 1 (words_over (texts.is_wide us) (length us)) 1 (flat_words us) (omega arith) (let e = flat_is us in omega arith) s.text.reader.belongs.5 c.make_flat.ensures.continues c.in-Ok.ensures.used)
 
 pub returns-in-Ok-clause-history : goal.returns-in-Ok-clause-history
@@ -33,8 +33,8 @@ returns-in-Ok-clause-history c = history_continues c.args.self.now.text.reader.a
 
 pub returns-in-Err-clause-step : goal.returns-in-Err-clause-step
 returns-in-Err-clause-step c = let s = c.args.self.now in let v : View = s.text.reader.agent.seat.me.0 in let w : View = c.make_flat.new.self.reader.agent.seat.me.0 in let us : List ℕ = c.args.units.now in let l = limit_units s.limit in let t = table_of s.text.reader.heap.now in
-    let words : ℕ = words_over (texts.is_wide us) (length us) in let sizes : w.sizes ≡ size_of s.text.reader.heap.now = c.make_flat.ensures.text.1 ∙ ap (λ x. size_of x.now) c.make_flat.ensures.heap in
-    rw c.text_fault.ensures (step_at v w l t (table_of c.make_flat.new.self.reader.heap.now) (Some (fault_in_text c.in-Err.full)) 1 (flat_words us) (ap (λ x. table_of x.now) c.make_flat.ensures.heap)
+    let words : ℕ = words_over (texts.is_wide us) (length us) in let sizes : w.sizes ≡ size_of s.text.reader.heap.now = c.make_flat.new.self.reader.belongs.1 ∙ ap (λ x. size_of x.now) c.make_flat.ensures.kept.heap in
+    rw c.text_fault.ensures (step_at v w l t (table_of c.make_flat.new.self.reader.heap.now) (Some (fault_in_text c.in-Err.full)) 1 (flat_words us) (ap (λ x. table_of x.now) c.make_flat.ensures.kept.heap)
     (step_refused v w l t words (flat_words us) c.in-Err.full (let e = flat_is us in omega arith) s.text.reader.belongs.5 c.make_flat.ensures.continues (told_here w (size_of s.text.reader.heap.now) words c.in-Err.full sizes c.in-Err.ensures.refused) c.in-Err.ensures.spared))
 
 pub returns-in-Err-clause-no_slots : goal.returns-in-Err-clause-no_slots

@@ -45,8 +45,8 @@ returns-in-Ok-intern_counted-clause-step g c = let s = c.args.self.now in let v 
     let u = has_key v.units c.args.s.id c.requires in let e = c.settle.ensures in let l = limit_units s.limit in let t = table_of s.text.reader.heap.now in
     let found = c.in-Ok-intern_counted.ensures.interns u.0 (e.continues.known.units c.args.s.id u.0 u.1) in let i = found.2 in let most = header_most x w c.args.s.id u.0 found.0 found.1 in
     let settling = subst (λ (us : List ℕ). Step (state_by v l t) (state_by x l t) None 0 (settle_words (is_settled (get v.forms c.args.s.id)) (length us))) (sym (text_is v.units c.args.s.id u.0 u.1)) (settled_step v x l t c.args.s.id u.0 s.text.reader.belongs.5 e.continues (λ h. (e.again h).1) (c.in-Ok.ensures.used u.0 u.1)) in
-    let interning = subst (λ (us : List ℕ). Step (state_by x l t) (state_by w l t) None 1 (wide_words (length us))) (sym (text_is v.units c.args.s.id u.0 u.1)) (interned_ok x w l t ((u.0, c.in-Ok-intern_counted.id) ∷ []) found.0.words (wide_words (length u.0)) most e.text.5 i.0 i.1 i.2) in
-    step_at v w l t (table_of c.intern_counted.new.reader.heap.now) None 1 (intern_words (is_settled (get v.forms c.args.s.id)) (length (unwrap_or (get v.units c.args.s.id) []))) (ap (λ y. table_of y.now) (c.intern_counted.ensures.heap ∙ e.heap))
+    let interning = subst (λ (us : List ℕ). Step (state_by x l t) (state_by w l t) None 1 (wide_words (length us))) (sym (text_is v.units c.args.s.id u.0 u.1)) (interned_ok x w l t ((u.0, c.in-Ok-intern_counted.id) ∷ []) found.0.words (wide_words (length u.0)) most c.settle.new.self.reader.belongs.5 i.0 i.1 i.2) in
+    step_at v w l t (table_of c.intern_counted.new.reader.heap.now) None 1 (intern_words (is_settled (get v.forms c.args.s.id)) (length (unwrap_or (get v.units c.args.s.id) []))) (ap (λ y. table_of y.now) (c.intern_counted.ensures.heap ∙ e.kept.heap))
     (step_after settling interning (omega arith) (settle_part (is_settled (get v.forms c.args.s.id)) (length (unwrap_or (get v.units c.args.s.id) []))))
 
 pub returns-in-Err-intern_counted-clause-step : goal.returns-in-Err-intern_counted-clause-step
@@ -54,19 +54,19 @@ returns-in-Err-intern_counted-clause-step g c = let s = c.args.self.now in let v
     let u = has_key v.units c.args.s.id c.requires in let e = c.settle.ensures in let l = limit_units s.limit in let t = table_of s.text.reader.heap.now in let f = c.in-Err-intern_counted.full in
     let found = c.in-Err-intern_counted.ensures.interns u.0 (e.continues.known.units c.args.s.id u.0 u.1) in let i = found.2 in let most = header_most x w c.args.s.id u.0 found.0 found.1 in
     let settling = subst (λ (us : List ℕ). Step (state_by v l t) (state_by x l t) None 0 (settle_words (is_settled (get v.forms c.args.s.id)) (length us))) (sym (text_is v.units c.args.s.id u.0 u.1)) (settled_step v x l t c.args.s.id u.0 s.text.reader.belongs.5 e.continues (λ h. (e.again h).1) (c.in-Ok.ensures.used u.0 u.1)) in
-    let interning = subst (λ (us : List ℕ). Step (state_by x l t) (state_by w l t) (Some (fault_in_table f)) 1 (wide_words (length us))) (sym (text_is v.units c.args.s.id u.0 u.1)) (interned_err x w u.0 found.0 l t f (wide_words (length u.0)) most e.text.5 i.0 i.1) in
-    rw c.table_fault.ensures (step_at v w l t (table_of c.intern_counted.new.reader.heap.now) (Some (fault_in_table f)) 1 (intern_words (is_settled (get v.forms c.args.s.id)) (length (unwrap_or (get v.units c.args.s.id) []))) (ap (λ y. table_of y.now) (c.intern_counted.ensures.heap ∙ e.heap))
+    let interning = subst (λ (us : List ℕ). Step (state_by x l t) (state_by w l t) (Some (fault_in_table f)) 1 (wide_words (length us))) (sym (text_is v.units c.args.s.id u.0 u.1)) (interned_err x w u.0 found.0 l t f (wide_words (length u.0)) most c.settle.new.self.reader.belongs.5 i.0 i.1) in
+    rw c.table_fault.ensures (step_at v w l t (table_of c.intern_counted.new.reader.heap.now) (Some (fault_in_table f)) 1 (intern_words (is_settled (get v.forms c.args.s.id)) (length (unwrap_or (get v.units c.args.s.id) []))) (ap (λ y. table_of y.now) (c.intern_counted.ensures.heap ∙ e.kept.heap))
     (step_after settling interning (omega arith) (settle_part (is_settled (get v.forms c.args.s.id)) (length (unwrap_or (get v.units c.args.s.id) [])))))
 
 -- the string wasn't settled, and there is no room to settle it
 pub returns-in-Err-clause-step : goal.returns-in-Err-clause-step
 returns-in-Err-clause-step g c = let s = c.args.self.now in let v : View = s.text.reader.agent.seat.me.0 in let w : View = c.settle.new.self.reader.agent.seat.me.0 in let i = c.args.s.id in let l = limit_units s.limit in let t = table_of s.text.reader.heap.now in
     let p = has_key v.units i c.requires in let e = c.settle.ensures in let f = c.in-Err.full in
-    let sizes : w.sizes ≡ size_of s.text.reader.heap.now = e.text.1 ∙ ap (λ x. size_of x.now) e.heap in
+    let sizes : w.sizes ≡ size_of s.text.reader.heap.now = c.settle.new.self.reader.belongs.1 ∙ ap (λ x. size_of x.now) e.kept.heap in
     let room : (wide : Bool) × IsBitOf v c.args.s.id wide × IsNoRoom v w w.sizes p.0 f wide = subst (λ (z : HeapSize). (wide : Bool) × IsBitOf v c.args.s.id wide × IsNoRoom v w z p.0 f wide) (sym sizes) (c.in-Err.ensures.refused p.0 p.1) in
     let part = settle_part (is_settled (get v.forms i)) (length p.0) in
     rw c.text_fault.ensures (subst (λ (us : List ℕ). Step (state_by v l t) (state_by w l (table_of c.settle.new.self.reader.heap.now)) (Some (fault_in_text f)) 1 (intern_words (is_settled (get v.forms i)) (length us))) (sym (text_is v.units i p.0 p.1))
-    (step_at v w l t (table_of c.settle.new.self.reader.heap.now) (Some (fault_in_text f)) 1 (intern_words (is_settled (get v.forms i)) (length p.0)) (ap (λ x. table_of x.now) e.heap)
+    (step_at v w l t (table_of c.settle.new.self.reader.heap.now) (Some (fault_in_text f)) 1 (intern_words (is_settled (get v.forms i)) (length p.0)) (ap (λ x. table_of x.now) e.kept.heap)
     (step_within (settle_refused v w l t i p.0 s.text.reader.belongs.5 e.continues f (λ h. let bad = (c.in-Err.ensures.again h).0 in absurd (cc)) room) (omega arith) (omega arith))))
 
 pub returns-in-Err-clause-kept : goal.returns-in-Err-clause-kept
@@ -78,7 +78,7 @@ returns-in-Err-clause-shut g c = let s = c.args.self.now in rw c.text_fault.ensu
 pub returns-in-Err-clause-free : goal.returns-in-Err-clause-free
 returns-in-Err-clause-free g c = let s = c.args.self.now in let v : View = s.text.reader.agent.seat.me.0 in let w : View = c.settle.new.self.reader.agent.seat.me.0 in
     let p = has_key v.units c.args.s.id c.requires in let e = c.settle.ensures in
-    let sizes : w.sizes ≡ size_of s.text.reader.heap.now = e.text.1 ∙ ap (λ x. size_of x.now) e.heap in
+    let sizes : w.sizes ≡ size_of s.text.reader.heap.now = c.settle.new.self.reader.belongs.1 ∙ ap (λ x. size_of x.now) e.kept.heap in
     let room : (wide : Bool) × IsBitOf v c.args.s.id wide × IsNoRoom v w w.sizes p.0 c.in-Err.full wide = subst (λ (z : HeapSize). (wide : Bool) × IsBitOf v c.args.s.id wide × IsNoRoom v w z p.0 c.in-Err.full wide) (sym sizes) (c.in-Err.ensures.refused p.0 p.1) in
     rw c.text_fault.ensures (subst (λ (us : List ℕ). FoundFree v w us (Some (fault_in_text c.in-Err.full))) (sym (text_is v.units c.args.s.id p.0 p.1)) (settle_free v w p.0 room.0 c.in-Err.full room.2 e.continues.slot_loads))
 
@@ -152,7 +152,7 @@ invariant_of-self-2-clause-recent_kept g c = let s = c.args.self.now in let v : 
 
 pub invariant_of-self : goal.invariant_of-self
 invariant_of-self g c = let s = c.args.self.now in let v : View = s.text.reader.agent.seat.me.0 in let w : View = c.settle.new.self.reader.agent.seat.me.0 in let k = c.settle.ensures.continues.known in record {
-  one_limit = c.settle.ensures.limit ∙ s.one_limit;
+  one_limit = c.settle.ensures.kept.limit ∙ s.one_limit;
   last_kept = kept_by v w k s.last s.last_kept;
   older_kept = kept_by v w k s.older s.older_kept;
   singles_kept = singles_by v w k s.singles.ids s.singles_kept;

@@ -31,20 +31,20 @@ returns-in-Ok-clause-ok c = let v : View = c.args.self.now.text.reader.agent.sea
 
 pub returns-in-Ok-clause-step : goal.returns-in-Ok-clause-step
 returns-in-Ok-clause-step c = let s = c.args.self.now in let v : View = s.text.reader.agent.seat.me.0 in let w : View = c.slice.new.self.reader.agent.seat.me.0 in let u = has_key v.units c.args.s.id c.requires.known in let e = c.slice.ensures in
-    let l = limit_units s.limit in let t = table_of s.text.reader.heap.now in let sizes : w.sizes ≡ size_of s.text.reader.heap.now = e.text.1 ∙ ap (λ x. size_of x.now) e.heap in
+    let l = limit_units s.limit in let t = table_of s.text.reader.heap.now in let sizes : w.sizes ≡ size_of s.text.reader.heap.now = c.slice.new.self.reader.belongs.1 ∙ ap (λ x. size_of x.now) e.kept.heap in
     let within = subst (λ (xs : List ℕ). c.args.to ≤ length xs) (text_is v.units c.args.s.id u.0 u.1) c.requires.within in
     let cut : IsCut v w w.sizes c.args.s c.args.from c.args.to u.0 (Ok c.in-Ok.part) = subst (λ (z : HeapSize). IsCut v w z c.args.s c.args.from c.args.to u.0 (Ok c.in-Ok.part)) (sym sizes) (c.in-Ok.ensures.cut u.0 u.1) in
     subst (λ (xs : List ℕ). Step (state_by v l t) (state_by w l (table_of c.slice.new.self.reader.heap.now)) None (cut_ids c.args.from c.args.to (length xs)) (cut_words c.args.from c.args.to (length xs))) (sym (text_is v.units c.args.s.id u.0 u.1))
-    (step_at v w l t (table_of c.slice.new.self.reader.heap.now) None (cut_ids c.args.from c.args.to (length u.0)) (cut_words c.args.from c.args.to (length u.0)) (ap (λ x. table_of x.now) e.heap)
+    (step_at v w l t (table_of c.slice.new.self.reader.heap.now) None (cut_ids c.args.from c.args.to (length u.0)) (cut_words c.args.from c.args.to (length u.0)) (ap (λ x. table_of x.now) e.kept.heap)
     (cut_ok v w l t c.args.s u.0 c.args.from c.args.to s.text.reader.belongs.5 e.continues c.requires.order within c.in-Ok.part cut))
 
 pub returns-in-Err-clause-step : goal.returns-in-Err-clause-step
 returns-in-Err-clause-step c = let s = c.args.self.now in let v : View = s.text.reader.agent.seat.me.0 in let w : View = c.slice.new.self.reader.agent.seat.me.0 in let u = has_key v.units c.args.s.id c.requires.known in let e = c.slice.ensures in
-    let l = limit_units s.limit in let t = table_of s.text.reader.heap.now in let sizes : w.sizes ≡ size_of s.text.reader.heap.now = e.text.1 ∙ ap (λ x. size_of x.now) e.heap in
+    let l = limit_units s.limit in let t = table_of s.text.reader.heap.now in let sizes : w.sizes ≡ size_of s.text.reader.heap.now = c.slice.new.self.reader.belongs.1 ∙ ap (λ x. size_of x.now) e.kept.heap in
     let within = subst (λ (xs : List ℕ). c.args.to ≤ length xs) (text_is v.units c.args.s.id u.0 u.1) c.requires.within in
     let cut : IsCut v w w.sizes c.args.s c.args.from c.args.to u.0 (Err c.in-Err.full) = subst (λ (z : HeapSize). IsCut v w z c.args.s c.args.from c.args.to u.0 (Err c.in-Err.full)) (sym sizes) (c.in-Err.ensures.cut u.0 u.1) in
     rw c.text_fault.ensures (subst (λ (xs : List ℕ). Step (state_by v l t) (state_by w l (table_of c.slice.new.self.reader.heap.now)) (Some (fault_in_text c.in-Err.full)) (cut_ids c.args.from c.args.to (length xs)) (cut_words c.args.from c.args.to (length xs))) (sym (text_is v.units c.args.s.id u.0 u.1))
-    (step_at v w l t (table_of c.slice.new.self.reader.heap.now) (Some (fault_in_text c.in-Err.full)) (cut_ids c.args.from c.args.to (length u.0)) (cut_words c.args.from c.args.to (length u.0)) (ap (λ x. table_of x.now) e.heap)
+    (step_at v w l t (table_of c.slice.new.self.reader.heap.now) (Some (fault_in_text c.in-Err.full)) (cut_ids c.args.from c.args.to (length u.0)) (cut_words c.args.from c.args.to (length u.0)) (ap (λ x. table_of x.now) e.kept.heap)
     (cut_err v w l t c.args.s u.0 c.args.from c.args.to s.text.reader.belongs.5 e.continues c.requires.order within c.in-Err.full cut)))
 
 pub invariant_of-self-clause-last_kept : goal.invariant_of-self-clause-last_kept

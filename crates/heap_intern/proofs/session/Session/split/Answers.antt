@@ -1,8 +1,6 @@
-use Rattle.std.proofs.Common.{◌∙◌, ap, subst, sym, arith}
+use Rattle.std.proofs.Common.{◌∙◌, subst, sym}
 use Rattle.js_store.specs.Limits.{limit_units}
 use Rattle.heap_rule.specs.declared.view.View.{View}
-use Rattle.heap_table.specs.Agents.{view_of}
-use Rattle.heap_intern.specs.Sound.{limit_high}
 use Rattle.heap_intern.specs.Sessions.{state_by, table_of}
 use Rattle.heap_intern.proofs.Shares.{state_left, state_right}
 use Rattle.heap_intern.proofs.Lately.{kept_none}
@@ -13,33 +11,29 @@ use Rattle.heap_intern.proofs.session.Session.split.Goals as goal
 
 pub invariant_of-result : goal.invariant_of-result
 invariant_of-result c = record {
-  one_limit = c.new.ensures.limit ∙ c.units.ensures;
-  last_kept = kept_none c.new.result.reader.agent.seat.me.0 c.none.result c.none.ensures;
-  older_kept = kept_none c.new.result.reader.agent.seat.me.0 c.none-2.result c.none-2.ensures;
-  singles_kept = c.none-3.ensures c.new.result.reader.agent.seat.me.0;
-  recent_kept = c.none-4.ensures c.new.result.reader.agent.seat.me.0;
+  one_limit = c.split.ensures.alike.1 ∙ c.args.self.now.one_limit;
+  last_kept = kept_none c.split.result.reader.agent.seat.me.0 c.none.result c.none.ensures;
+  older_kept = kept_none c.split.result.reader.agent.seat.me.0 c.none-2.result c.none-2.ensures;
+  singles_kept = c.none-3.ensures c.split.result.reader.agent.seat.me.0;
+  recent_kept = c.none-4.ensures c.split.result.reader.agent.seat.me.0;
 }
 
 pub returns-clause-left : goal.returns-clause-left
 returns-clause-left c = let s = c.args.self.now in let v : View = s.text.reader.agent.seat.me.0 in
-    ap (λ (w : View). state_by w (limit_units s.limit) (table_of s.text.reader.heap.now)) c.split-agent.ensures.left ∙ state_left v c.args.give (limit_units s.limit) (table_of s.text.reader.heap.now)
+    (λ i. state_by (c.split.ensures.left i) (limit_units s.limit) (table_of (c.split.ensures.kept.heap i).now)) ∙ state_left v c.args.give (limit_units s.limit) (table_of s.text.reader.heap.now)
 
 pub returns-clause-right : goal.returns-clause-right
 returns-clause-right c = let s = c.args.self.now in let v : View = s.text.reader.agent.seat.me.0 in let l = limit_units s.limit in
-    (λ i. state_by (view_of (c.new.ensures.agent i)) l (table_of (c.new.ensures.heap i)))
-    ∙ (ap (λ (w : View). state_by w l (table_of s.text.reader.heap.now)) c.split-agent.ensures.right ∙ state_right v c.args.give l (table_of s.text.reader.heap.now))
+    (λ i. state_by (c.split.ensures.right i) l (table_of (c.split.ensures.alike.0 i))) ∙ state_right v c.args.give l (table_of s.text.reader.heap.now)
 
 pub invariant_of-self-clause-last_kept : goal.invariant_of-self-clause-last_kept
-invariant_of-self-clause-last_kept c = let s = c.args.self.now in subst (λ (w : View). IsKept w s.last) (sym c.split-agent.ensures.left) s.last_kept
+invariant_of-self-clause-last_kept c = let s = c.args.self.now in subst (λ (w : View). IsKept w s.last) (sym c.split.ensures.left) s.last_kept
 
 pub invariant_of-self-clause-older_kept : goal.invariant_of-self-clause-older_kept
-invariant_of-self-clause-older_kept c = let s = c.args.self.now in subst (λ (w : View). IsKept w s.older) (sym c.split-agent.ensures.left) s.older_kept
+invariant_of-self-clause-older_kept c = let s = c.args.self.now in subst (λ (w : View). IsKept w s.older) (sym c.split.ensures.left) s.older_kept
 
 pub invariant_of-self-clause-singles_kept : goal.invariant_of-self-clause-singles_kept
-invariant_of-self-clause-singles_kept c = let s = c.args.self.now in subst (λ (w : View). AreSingles w s.singles.ids) (sym c.split-agent.ensures.left) s.singles_kept
+invariant_of-self-clause-singles_kept c = let s = c.args.self.now in subst (λ (w : View). AreSingles w s.singles.ids) (sym c.split.ensures.left) s.singles_kept
 
 pub invariant_of-self-clause-recent_kept : goal.invariant_of-self-clause-recent_kept
-invariant_of-self-clause-recent_kept c = let s = c.args.self.now in subst (λ (w : View). AreRecent w s.recent.ids) (sym c.split-agent.ensures.left) s.recent_kept
-
-pub new-requires-clause-most : goal.new-requires-clause-most
-new-requires-clause-most c = let a = limit_high c.args.self.now.limit in let e = c.units.ensures in omega arith
+invariant_of-self-clause-recent_kept c = let s = c.args.self.now in subst (λ (w : View). AreRecent w s.recent.ids) (sym c.split.ensures.left) s.recent_kept

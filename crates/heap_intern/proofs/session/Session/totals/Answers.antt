@@ -1,4 +1,4 @@
-use Rattle.std.proofs.Common.{◌∙◌, ap}
+use Rattle.std.proofs.Common.{◌∙◌}
 use Rattle.js_store.specs.Limits.{limit_units}
 use Rattle.heap_rule.specs.declared.view.View.{View}
 use Rattle.heap_intern.specs.Sessions.{state_by, table_of}
@@ -11,7 +11,7 @@ use Rattle.heap_intern.proofs.session.Session.totals.Goals as goal
 
 pub returns-clause-state : goal.returns-clause-state
 returns-clause-state c = let s = c.args.self.now in let v : View = s.text.reader.agent.seat.me.0 in let e = c.totals.ensures in
-    ap (λ (w : View). state_by w (limit_units s.limit) (table_of s.text.reader.heap.now)) e.view
+    (λ i. state_by (e.view i) (limit_units s.limit) (table_of (e.kept.heap i).now))
     ∙ state_total v (limit_units s.limit) (table_of s.text.reader.heap.now) c.totals.result.0 c.totals.result.1 e.used.0 e.used.1
 
 pub invariant_of-self-clause-last_kept : goal.invariant_of-self-clause-last_kept

@@ -24,7 +24,7 @@ returns-in-Ok-clause-answer c = let s = c.args.self.now in let v : View = s.text
     let us : List ℕ = unwrap_or (get v.units c.args.a.id) [] in let vs : List ℕ = unwrap_or (get v.units c.args.b.id) [] in
     let h = has_text v.units c.args.a.id c.requires.left in let k = has_text v.units c.args.b.id c.requires.right in
     let l = limit_units s.limit in let t = table_of s.text.reader.heap.now in
-    let j = joined_in v w (size_of s.text.reader.heap.now) s.text.limit l c.args.a c.args.b us vs (Ok c.in-Ok.s) (e.text.1 ∙ ap (λ x. size_of x.now) e.heap) s.one_limit (c.in-Ok.ensures.joined us vs h k) in
+    let j = joined_in v w (size_of s.text.reader.heap.now) s.text.limit l c.args.a c.args.b us vs (Ok c.in-Ok.s) (c.concat.new.self.reader.belongs.1 ∙ ap (λ x. size_of x.now) e.kept.heap) s.one_limit (c.in-Ok.ensures.joined us vs h k) in
     joined_fits v w l t c.args.a c.args.b us vs s.text.reader.belongs.5 e.continues l c.in-Ok.s j
 
 pub returns-in-Ok-clause-step : goal.returns-in-Ok-clause-step
@@ -32,8 +32,8 @@ returns-in-Ok-clause-step c = let s = c.args.self.now in let v : View = s.text.r
     let us : List ℕ = unwrap_or (get v.units c.args.a.id) [] in let vs : List ℕ = unwrap_or (get v.units c.args.b.id) [] in
     let h = has_text v.units c.args.a.id c.requires.left in let k = has_text v.units c.args.b.id c.requires.right in
     let l = limit_units s.limit in let t = table_of s.text.reader.heap.now in
-    let j = joined_in v w (size_of s.text.reader.heap.now) s.text.limit l c.args.a c.args.b us vs (Ok c.in-Ok.s) (e.text.1 ∙ ap (λ x. size_of x.now) e.heap) s.one_limit (c.in-Ok.ensures.joined us vs h k) in
-    step_at v w l t (table_of c.concat.new.self.reader.heap.now) None (join_ids (length us) (length vs)) (join_words (length us) (length vs)) (ap (λ x. table_of x.now) e.heap)
+    let j = joined_in v w (size_of s.text.reader.heap.now) s.text.limit l c.args.a c.args.b us vs (Ok c.in-Ok.s) (c.concat.new.self.reader.belongs.1 ∙ ap (λ x. size_of x.now) e.kept.heap) s.one_limit (c.in-Ok.ensures.joined us vs h k) in
+    step_at v w l t (table_of c.concat.new.self.reader.heap.now) None (join_ids (length us) (length vs)) (join_words (length us) (length vs)) (ap (λ x. table_of x.now) e.kept.heap)
     (joined_ok v w l t c.args.a c.args.b us vs s.text.reader.belongs.5 e.continues l c.in-Ok.s j)
 
 pub returns-in-Err-clause-answer : goal.returns-in-Err-clause-answer
@@ -41,7 +41,7 @@ returns-in-Err-clause-answer c = let s = c.args.self.now in let v : View = s.tex
     let us : List ℕ = unwrap_or (get v.units c.args.a.id) [] in let vs : List ℕ = unwrap_or (get v.units c.args.b.id) [] in
     let h = has_text v.units c.args.a.id c.requires.left in let k = has_text v.units c.args.b.id c.requires.right in
     let l = limit_units s.limit in let t = table_of s.text.reader.heap.now in
-    let j = joined_in v w (size_of s.text.reader.heap.now) s.text.limit l c.args.a c.args.b us vs (Err c.in-Err.fault) (e.text.1 ∙ ap (λ x. size_of x.now) e.heap) s.one_limit (c.in-Err.ensures.joined us vs h k) in
+    let j = joined_in v w (size_of s.text.reader.heap.now) s.text.limit l c.args.a c.args.b us vs (Err c.in-Err.fault) (c.concat.new.self.reader.belongs.1 ∙ ap (λ x. size_of x.now) e.kept.heap) s.one_limit (c.in-Err.ensures.joined us vs h k) in
     rw c.join_fault.ensures (joined_told v w l t c.args.a c.args.b us vs s.text.reader.belongs.5 e.continues l c.in-Err.fault j)
 
 pub returns-in-Err-clause-step : goal.returns-in-Err-clause-step
@@ -49,8 +49,8 @@ returns-in-Err-clause-step c = let s = c.args.self.now in let v : View = s.text.
     let us : List ℕ = unwrap_or (get v.units c.args.a.id) [] in let vs : List ℕ = unwrap_or (get v.units c.args.b.id) [] in
     let h = has_text v.units c.args.a.id c.requires.left in let k = has_text v.units c.args.b.id c.requires.right in
     let l = limit_units s.limit in let t = table_of s.text.reader.heap.now in
-    let j = joined_in v w (size_of s.text.reader.heap.now) s.text.limit l c.args.a c.args.b us vs (Err c.in-Err.fault) (e.text.1 ∙ ap (λ x. size_of x.now) e.heap) s.one_limit (c.in-Err.ensures.joined us vs h k) in
-    rw c.join_fault.ensures (step_at v w l t (table_of c.concat.new.self.reader.heap.now) (concat_part (fault_in_join c.in-Err.fault)) (join_ids (length us) (length vs)) (join_words (length us) (length vs)) (ap (λ x. table_of x.now) e.heap)
+    let j = joined_in v w (size_of s.text.reader.heap.now) s.text.limit l c.args.a c.args.b us vs (Err c.in-Err.fault) (c.concat.new.self.reader.belongs.1 ∙ ap (λ x. size_of x.now) e.kept.heap) s.one_limit (c.in-Err.ensures.joined us vs h k) in
+    rw c.join_fault.ensures (step_at v w l t (table_of c.concat.new.self.reader.heap.now) (concat_part (fault_in_join c.in-Err.fault)) (join_ids (length us) (length vs)) (join_words (length us) (length vs)) (ap (λ x. table_of x.now) e.kept.heap)
     (joined_step v w l t c.args.a c.args.b us vs s.text.reader.belongs.5 e.continues l c.in-Err.fault j))
 
 pub invariant_of-self-clause-last_kept : goal.invariant_of-self-clause-last_kept

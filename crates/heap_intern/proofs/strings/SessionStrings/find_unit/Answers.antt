@@ -25,7 +25,7 @@ returns-clause-least c = let v : View = c.args.self.now.text.reader.agent.seat.m
 
 pub returns-clause-step : goal.returns-clause-step
 returns-clause-step c = let s = c.args.self.now in let v : View = s.text.reader.agent.seat.me.0 in let x : View = c.window-window.new.self.reader.agent.seat.me.0 in let w : View = c.find_in.new.self.reader.agent.seat.me.0 in
-    step_at v w (limit_units s.limit) (table_of s.text.reader.heap.now) (table_of c.find_in.new.self.reader.heap.now) None 0 0 (ap (λ y. table_of y.now) (c.find_in.ensures.heap ∙ c.window-window.ensures.heap))
+    step_at v w (limit_units s.limit) (table_of s.text.reader.heap.now) (table_of c.find_in.new.self.reader.heap.now) None 0 0 (ap (λ y. table_of y.now) (c.find_in.ensures.kept.heap ∙ c.window-window.ensures.kept.heap))
     (step_reads v w (limit_units s.limit) (table_of s.text.reader.heap.now) s.text.reader.belongs.5 (reads_trans v x w c.window-window.ensures.reads c.find_in.ensures.reads))
 
 pub returns-clause-history : goal.returns-clause-history

@@ -18,7 +18,7 @@ returns-clause-most c = let v : View = c.args.self.now.text.reader.agent.seat.me
 
 pub returns-clause-step : goal.returns-clause-step
 returns-clause-step c = let s = c.args.self.now in let v : View = s.text.reader.agent.seat.me.0 in let w : View = c.len.new.self.reader.agent.seat.me.0 in
-    step_at v w (limit_units s.limit) (table_of s.text.reader.heap.now) (table_of c.len.new.self.reader.heap.now) None 0 0 (ap (λ x. table_of x.now) c.len.ensures.heap) (step_reads v w (limit_units s.limit) (table_of s.text.reader.heap.now) s.text.reader.belongs.5 c.len.ensures.reads)
+    step_at v w (limit_units s.limit) (table_of s.text.reader.heap.now) (table_of c.len.new.self.reader.heap.now) None 0 0 (ap (λ x. table_of x.now) c.len.ensures.kept.heap) (step_reads v w (limit_units s.limit) (table_of s.text.reader.heap.now) s.text.reader.belongs.5 c.len.ensures.reads)
 
 pub returns-clause-history : goal.returns-clause-history
 returns-clause-history c = history_reads c.args.self.now.text.reader.agent.seat.me.0 c.len.new.self.reader.agent.seat.me.0 c.len.ensures.reads

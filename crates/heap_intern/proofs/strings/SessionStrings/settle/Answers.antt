@@ -25,7 +25,7 @@ pub returns-in-Ok-clause-step : goal.returns-in-Ok-clause-step
 returns-in-Ok-clause-step c = let s = c.args.self.now in let v : View = s.text.reader.agent.seat.me.0 in let w : View = c.settle.new.self.reader.agent.seat.me.0 in let i = c.args.s.id in let l = limit_units s.limit in let t = table_of s.text.reader.heap.now in
     let p = has_key v.units i c.requires in let e = c.settle.ensures in
     subst (λ (us : List ℕ). Step (state_by v l t) (state_by w l (table_of c.settle.new.self.reader.heap.now)) None 0 (settle_words (is_settled (get v.forms i)) (length us))) (sym (text_is v.units i p.0 p.1))
-    (step_at v w l t (table_of c.settle.new.self.reader.heap.now) None 0 (settle_words (is_settled (get v.forms i)) (length p.0)) (ap (λ x. table_of x.now) e.heap)
+    (step_at v w l t (table_of c.settle.new.self.reader.heap.now) None 0 (settle_words (is_settled (get v.forms i)) (length p.0)) (ap (λ x. table_of x.now) e.kept.heap)
     (settled_step v w l t i p.0 s.text.reader.belongs.5 e.continues (λ h. (e.again h).1) (c.in-Ok.ensures.used p.0 p.1)))
 
 pub returns-in-Ok-clause-history : goal.returns-in-Ok-clause-history
@@ -34,10 +34,10 @@ returns-in-Ok-clause-history c = history_continues c.args.self.now.text.reader.a
 pub returns-in-Err-clause-step : goal.returns-in-Err-clause-step
 returns-in-Err-clause-step c = let s = c.args.self.now in let v : View = s.text.reader.agent.seat.me.0 in let w : View = c.settle.new.self.reader.agent.seat.me.0 in let i = c.args.s.id in let l = limit_units s.limit in let t = table_of s.text.reader.heap.now in
     let p = has_key v.units i c.requires in let e = c.settle.ensures in let f = c.in-Err.full in
-    let sizes : w.sizes ≡ size_of s.text.reader.heap.now = e.text.1 ∙ ap (λ x. size_of x.now) e.heap in
+    let sizes : w.sizes ≡ size_of s.text.reader.heap.now = c.settle.new.self.reader.belongs.1 ∙ ap (λ x. size_of x.now) e.kept.heap in
     let room : (wide : Bool) × IsBitOf v c.args.s.id wide × IsNoRoom v w w.sizes p.0 f wide = subst (λ (z : HeapSize). (wide : Bool) × IsBitOf v c.args.s.id wide × IsNoRoom v w z p.0 f wide) (sym sizes) (c.in-Err.ensures.refused p.0 p.1) in
     rw c.text_fault.ensures (subst (λ (us : List ℕ). Step (state_by v l t) (state_by w l (table_of c.settle.new.self.reader.heap.now)) (Some (fault_in_text f)) 0 (settle_words (is_settled (get v.forms i)) (length us))) (sym (text_is v.units i p.0 p.1))
-    (step_at v w l t (table_of c.settle.new.self.reader.heap.now) (Some (fault_in_text f)) 0 (settle_words (is_settled (get v.forms i)) (length p.0)) (ap (λ x. table_of x.now) e.heap)
+    (step_at v w l t (table_of c.settle.new.self.reader.heap.now) (Some (fault_in_text f)) 0 (settle_words (is_settled (get v.forms i)) (length p.0)) (ap (λ x. table_of x.now) e.kept.heap)
     (settle_refused v w l t i p.0 s.text.reader.belongs.5 e.continues f (λ h. let bad = (c.in-Err.ensures.again h).0 in absurd (cc)) room)))
 
 pub returns-in-Err-clause-no_slots : goal.returns-in-Err-clause-no_slots

@@ -3,7 +3,8 @@ use Rattle.std.specs.FinMap.{FinMap, insert}
 use Rattle.std.specs.Ordering.{nat_cmp}
 use Rattle.js_units.specs.Lanes.{lane_count}
 use Rattle.heap_rule.specs.declared.view.View.{View}
-use Rattle.heap_rule.specs.Maps.{HasKey}
+use Rattle.heap_rule.specs.Maps.{Has, HasKey}
+use Rattle.heap_rule.proofs.MapLemmas.{insert_other}
 use Rattle.heap_rule.proofs.Possible.{possible_lawful}
 use Rattle.heap_rule.proofs.Steps.{possible_within}
 use Rattle.heap_table.specs.Known.{KeepsKnown}
@@ -21,6 +22,7 @@ pub loop-done-init : goal.loop-done-init
 loop-done-init c = let v : View = c.args.self.now.agent.seat.me.0 in let us : List ℕ = listed v c.args.source.now in record {
   heap = refl;
   writes = writes_refl v;
+  below = λ q y l h. h;
   forms = (refl, refl);
   shows = c.requires.shows;
   same = refl;
@@ -64,6 +66,8 @@ loop-done-preserved c = let v : View = c.args.self.now.agent.seat.me.0 in let u 
     let next : IsFilled wide start (own_word u.own_words) (own_word w.own_words) o count (λ k. get_or us (done + k) 0) = placed_filled wide start (own_word u.own_words) (own_word w.own_words) o count x (λ k. get_or us (done + k) 0) room stored here in record {
       heap = e.reads.heap ∙ i.heap;
       writes = writes_trans v u w i.writes (writes_trans u p w (writes_reads u p e.reads.view) (subst (Writes p) (sym f.view) (writes_stored p (start + number) x)));
+      below = λ q y l h. let old : Has p.own_words q y = subst (λ (m : FinMap nat_cmp ℕ). Has m q y) (sym e.reads.view.own_words) (i.below q y l h) in
+          subst (λ (a : View). Has a.own_words q y) (sym f.view) (insert_other p.own_words (start + number) q x (λ d. omega arith) ∙ old);
       forms = (ap (λ (y : View). y.forms) f.view ∙ (e.forms.0 ∙ i.forms.0), ap (λ (y : View). y.form_loads) f.view ∙ (e.forms.1 ∙ i.forms.1));
       shows = shows_kept p w c.args.source.now known (forms_held p w (ap (λ (y : View). y.forms) f.view)) e.shows;
       same = listed_same p w c.args.source.now known e.shows ∙ (e.listed ∙ i.same);

@@ -1,7 +1,7 @@
 use Rattle.std.proofs.Common.{◌≡◌, ◌-◌, ◌≤◌, get_or}
 use Rattle.heap_read.specs.Filling.{IsFilled, own_word}
 use Rattle.heap_read.specs.Readers.{view_in}
-use Rattle.heap_read.specs.Reads.{KeepsForms, Writes}
+use Rattle.heap_read.specs.Reads.{KeepsBelow, KeepsForms, Writes}
 use Rattle.heap_read.specs.Sources.{Shows, listed}
 use Rattle.heap_read.proofs.reader.Reader.copy_lanes.Given as goal
 
@@ -9,6 +9,7 @@ abbrev pub invariant-loop-done : goal.invariant-loop-done
 invariant-loop-done l = record {
   heap : l.self.heap ≡ l.fn.self.heap;
   writes : Writes (view_in l.fn.self) (view_in l.self);
+  below : KeepsBelow l.to.start (view_in l.fn.self) (view_in l.self);
   forms : KeepsForms (view_in l.fn.self) (view_in l.self);
   shows : Shows (view_in l.self) l.source;
   same : listed (view_in l.self) l.source ≡ listed (view_in l.fn.self) l.source;

@@ -6,6 +6,7 @@ use Rattle.heap_rule.proofs.Possible.{possible_short}
 use Rattle.heap_table.specs.Agents.{size_of}
 use Rattle.heap_text.specs.declared.faults.JoinFault.TheVariants.{TooLong}
 use Rattle.heap_text.specs.Joins.{IsCopied, IsLinked}
+use Rattle.heap_text.proofs.Owned.{own_reads, own_trans}
 use Rattle.heap_text.proofs.Answered.{joined_units}
 use Rattle.heap_read.proofs.Going.{continues_reads, continues_trans}
 use Rattle.heap_text.proofs.Linking.{copied_after, copied_lifted, linked_after, linked_lifted}
@@ -112,3 +113,23 @@ returns-then-left-right-clause-joined c us vs h k =
 
 pub join-requires-clause-most : goal.join-requires-clause-most
 join-requires-clause-most c = let room = c.if-left-right.false in let most = c.args.self.now.within in omega arith
+
+pub returns-in-Ok-clause-own : goal.returns-in-Ok-clause-own
+returns-in-Ok-clause-own c = let v : View = c.args.self.now.reader.agent.seat.me.0 in let w1 : View = c.len-left.new.self.agent.seat.me.0 in let w2 : View = c.len-right.new.self.agent.seat.me.0 in let r2 = reads_trans v w1 w2 c.len-left.ensures.reads.view c.len-right.ensures.reads.view in
+    own_trans v w2 c.join.new.reader.agent.seat.me.0 (own_reads v w2 r2) c.join.ensures.own
+
+pub returns-in-Err-clause-own : goal.returns-in-Err-clause-own
+returns-in-Err-clause-own c = let v : View = c.args.self.now.reader.agent.seat.me.0 in let w1 : View = c.len-left.new.self.agent.seat.me.0 in let w2 : View = c.len-right.new.self.agent.seat.me.0 in let r2 = reads_trans v w1 w2 c.len-left.ensures.reads.view c.len-right.ensures.reads.view in
+    own_trans v w2 c.join.new.reader.agent.seat.me.0 (own_reads v w2 r2) c.join.ensures.own
+
+pub returns-then-left-right-clause-own : goal.returns-then-left-right-clause-own
+returns-then-left-right-clause-own c = let v : View = c.args.self.now.reader.agent.seat.me.0 in let w1 : View = c.len-left.new.self.agent.seat.me.0 in let w2 : View = c.len-right.new.self.agent.seat.me.0 in let r2 = reads_trans v w1 w2 c.len-left.ensures.reads.view c.len-right.ensures.reads.view in
+    own_reads v w2 r2
+
+pub returns-then-left-eq0-clause-own : goal.returns-then-left-eq0-clause-own
+returns-then-left-eq0-clause-own c = let v : View = c.args.self.now.reader.agent.seat.me.0 in let w1 : View = c.len-left.new.self.agent.seat.me.0 in let w2 : View = c.len-right.new.self.agent.seat.me.0 in let r2 = reads_trans v w1 w2 c.len-left.ensures.reads.view c.len-right.ensures.reads.view in
+    own_reads v w2 r2
+
+pub returns-then-right-eq0-clause-own : goal.returns-then-right-eq0-clause-own
+returns-then-right-eq0-clause-own c = let v : View = c.args.self.now.reader.agent.seat.me.0 in let w1 : View = c.len-left.new.self.agent.seat.me.0 in let w2 : View = c.len-right.new.self.agent.seat.me.0 in let r2 = reads_trans v w1 w2 c.len-left.ensures.reads.view c.len-right.ensures.reads.view in
+    own_reads v w2 r2

@@ -8,6 +8,7 @@ use Rattle.heap_rule.specs.Maps.{Has}
 use Rattle.heap_table.specs.Agents.{size_of}
 use Rattle.heap_text.specs.Settling.{HasSides, IsBitOf, IsFlattened, IsNoRoom, IsSettling}
 use Rattle.heap_read.proofs.Going.{continues_reads, continues_trans}
+use Rattle.heap_text.proofs.Owned.{own_reads, own_trans}
 use Rattle.heap_text.proofs.Settled.{err_then, flattened_after, no_room_after, ok_then, same_bit}
 use Rattle.heap_text.proofs.text.Text.settle_counted.Goals as goal
 
@@ -39,3 +40,10 @@ returns-in-Cons-clause-refused g c = let v : View = c.args.self.now.reader.agent
 pub returns-in-Cons-clause-rope : goal.returns-in-Cons-clause-rope
 returns-in-Cons-clause-rope g c = let v : View = c.args.self.now.reader.agent.seat.me.0 in let u : View = c.form_now-form.new.self.agent.seat.me.0 in let w : View = c.flatten.new.reader.agent.seat.me.0 in let i = c.args.s.id in let r = c.form_now-form.ensures.reads.view in
     err_then c.flatten.result (λ f. (us : List ℕ) → Has u.units i us → HasSides w i us) (λ f. (us : List ℕ) → Has v.units i us → HasSides w i us) (λ f h us k. h us (r.known.units i us k)) c.flatten.ensures.rope
+
+pub returns-in-Cons-clause-own : goal.returns-in-Cons-clause-own
+returns-in-Cons-clause-own g c = let v : View = c.args.self.now.reader.agent.seat.me.0 in let u : View = c.form_now-form.new.self.agent.seat.me.0 in
+    own_trans v u c.flatten.new.reader.agent.seat.me.0 (own_reads v u c.form_now-form.ensures.reads.view) c.flatten.ensures.own
+
+pub returns-in_default-clause-own : goal.returns-in_default-clause-own
+returns-in_default-clause-own g c = let v : View = c.args.self.now.reader.agent.seat.me.0 in let u : View = c.form_now-form.new.self.agent.seat.me.0 in own_reads v u c.form_now-form.ensures.reads.view

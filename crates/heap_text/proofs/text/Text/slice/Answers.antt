@@ -5,6 +5,7 @@ use Rattle.heap_rule.specs.Births.{part}
 use Rattle.heap_rule.proofs.MapLemmas.{key_of}
 use Rattle.heap_table.specs.Agents.{size_of}
 use Rattle.heap_text.specs.Joins.{IsCopied, IsPartCut}
+use Rattle.heap_text.proofs.Owned.{own_reads, own_trans}
 use Rattle.heap_text.proofs.Answered.{cut_all, cut_settled}
 use Rattle.heap_text.proofs.Cutting.{part_after}
 use Rattle.heap_read.proofs.Going.{continues_reads, continues_trans}
@@ -48,3 +49,7 @@ returns-clause-settled c = let v : View = c.args.self.now.reader.agent.seat.me.0
 pub returns-clause-continues : goal.returns-clause-continues
 returns-clause-continues c = let v : View = c.args.self.now.reader.agent.seat.me.0 in let w : View = c.len-n.new.self.agent.seat.me.0 in
     continues_trans v w c.cut.new.reader.agent.seat.me.0 (continues_reads v w c.len-n.ensures.reads.view) c.cut.ensures.continues.view
+
+pub returns-clause-own : goal.returns-clause-own
+returns-clause-own c = let v : View = c.args.self.now.reader.agent.seat.me.0 in let w : View = c.len-n.new.self.agent.seat.me.0 in
+    own_trans v w c.cut.new.reader.agent.seat.me.0 (own_reads v w c.len-n.ensures.reads.view) c.cut.ensures.own

@@ -1,0 +1,7 @@
+-- What each call of a text keeps of it. That its agent is one of its heap is a fact of the type.
+use Rattle.std.specs.Prelude.{◌≡◌}
+use Rattle.heap_text.specs.declared.text.Text.{Text}
+
+pub record Keeps (a b : Text) : Type 0 where
+  pub heap : b.reader.heap ≡ a.reader.heap
+  pub limit : b.limit ≡ a.limit
