@@ -6,3 +6,4 @@ pub mod Spans
 pub mod MarkReader
 pub mod Reader
 pub mod Steps
+pub mod Faults

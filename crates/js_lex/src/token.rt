@@ -1,4 +1,7 @@
 // Tokens, and the faults of a text that has none.
+ghost use Rattle.std.specs.Prelude.{◌≡◌};
+ghost use Rattle.js_lex.specs.Faults.{lexical_offset, lexical_words};
+
 use js_literal::{LiteralFault, NumberFault};
 use js_units::Units;
 
@@ -93,4 +96,34 @@ pub enum LexFault {
     Number(NumberFault),
     /// Out of memory.
     Memory,
+}
+
+impl LexFault {
+    /// The byte offset at which it stands; 0 where memory ran out.
+    pub fn offset(self) -> u32
+        ensures { result ≡ lexical_offset self }
+    {
+        match self {
+            LexFault::NotUtf8 { at } => at,
+            LexFault::BadCharacter { at } => at,
+            LexFault::OpenComment { at } => at,
+            LexFault::Literal(fault) => fault.offset(),
+            LexFault::Number(fault) => fault.offset(),
+            LexFault::Memory => 0,
+        }
+    }
+
+    /// The words for it, in ASCII.
+    pub fn words(self) -> &'static [u8]
+        ensures { result.now ≡ lexical_words self }
+    {
+        match self {
+            LexFault::NotUtf8 { at: _ } => b"not utf-8",
+            LexFault::BadCharacter { at: _ } => b"bad character",
+            LexFault::OpenComment { at: _ } => b"open comment",
+            LexFault::Literal(fault) => fault.words(),
+            LexFault::Number(fault) => fault.words(),
+            LexFault::Memory => b"out of memory",
+        }
+    }
 }

@@ -1,4 +1,6 @@
 // Faults of literals, each with the byte of the text at which it stands.
+ghost use Rattle.std.specs.Prelude.{◌≡◌};
+ghost use Rattle.js_literal.specs.Faults.{literal_offset, literal_words, number_offset, number_words};
 
 /// Why a text has no string literal at a place.
 #[derive(Clone, Copy, Debug, PartialEq, Eq)]
@@ -26,4 +28,58 @@ pub enum NumberFault {
     OtherForm { at: u32 },
     /// A value over 2^53 - 1.
     TooLarge { at: u32 },
+}
+
+impl LiteralFault {
+    /// The byte offset at which it stands; 0 where memory ran out.
+    pub fn offset(self) -> u32
+        ensures { result ≡ literal_offset self }
+    {
+        match self {
+            LiteralFault::Unclosed { at } => at,
+            LiteralFault::RawLineEnd { at } => at,
+            LiteralFault::BadEscape { at } => at,
+            LiteralFault::CodePointTooLarge { at } => at,
+            LiteralFault::LegacyOctal { at } => at,
+            LiteralFault::Memory => 0,
+        }
+    }
+
+    /// The words for it, in ASCII.
+    pub fn words(self) -> &'static [u8]
+        ensures { result.now ≡ literal_words self }
+    {
+        match self {
+            LiteralFault::Unclosed { at: _ } => b"unclosed string",
+            LiteralFault::RawLineEnd { at: _ } => b"line end in string",
+            LiteralFault::BadEscape { at: _ } => b"bad escape",
+            LiteralFault::CodePointTooLarge { at: _ } => b"code point too large",
+            LiteralFault::LegacyOctal { at: _ } => b"legacy octal",
+            LiteralFault::Memory => b"out of memory",
+        }
+    }
+}
+
+impl NumberFault {
+    /// The byte offset at which it stands.
+    pub fn offset(self) -> u32
+        ensures { result ≡ number_offset self }
+    {
+        match self {
+            NumberFault::Fraction { at } => at,
+            NumberFault::OtherForm { at } => at,
+            NumberFault::TooLarge { at } => at,
+        }
+    }
+
+    /// The words for it, in ASCII.
+    pub fn words(self) -> &'static [u8]
+        ensures { result.now ≡ number_words self }
+    {
+        match self {
+            NumberFault::Fraction { at: _ } => b"fraction",
+            NumberFault::OtherForm { at: _ } => b"number form",
+            NumberFault::TooLarge { at: _ } => b"number too large",
+        }
+    }
 }

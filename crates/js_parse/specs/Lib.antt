@@ -5,3 +5,4 @@ pub mod Names
 pub mod ProtoKeys
 pub mod Spells
 pub mod Told
+pub mod Faults

@@ -1,5 +1,6 @@
 // Why a text is no script.
 ghost use Rattle.std.specs.Prelude.{◌≡◌};
+ghost use Rattle.js_parse.specs.Faults.{fault_offset, fault_words};
 ghost use Rattle.js_parse.specs.declared.fault.ParseFault.TheVariants.{Memory};
 
 use js_lex::LexFault;
@@ -30,6 +31,38 @@ pub enum ParseFault {
     /// The name of a `for` that is assigned in its body.
     LoopName { at: u32 },
     Memory,
+}
+
+impl ParseFault {
+    /// The byte offset at which it stands; 0 where memory ran out.
+    pub fn offset(self) -> u32
+        ensures { result ≡ fault_offset self }
+    {
+        match self {
+            ParseFault::Lex(fault) => fault.offset(),
+            ParseFault::Unexpected { at } => at,
+            ParseFault::NotInProfile { at } => at,
+            ParseFault::TooDeep { at } => at,
+            ParseFault::Duplicate { at } => at,
+            ParseFault::LoopName { at } => at,
+            ParseFault::Memory => 0,
+        }
+    }
+
+    /// The words for it, in ASCII.
+    pub fn words(self) -> &'static [u8]
+        ensures { result.now ≡ fault_words self }
+    {
+        match self {
+            ParseFault::Lex(fault) => fault.words(),
+            ParseFault::Unexpected { at: _ } => b"unexpected",
+            ParseFault::NotInProfile { at: _ } => b"not in profile",
+            ParseFault::TooDeep { at: _ } => b"too deep",
+            ParseFault::Duplicate { at: _ } => b"duplicate",
+            ParseFault::LoopName { at: _ } => b"loop name",
+            ParseFault::Memory => b"out of memory",
+        }
+    }
 }
 
 impl From<AllocError> for ParseFault {

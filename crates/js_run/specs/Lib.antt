@@ -1,6 +1,5 @@
 pub mod Asked
 pub mod Meant
-pub mod Fault
 pub mod Verdict
 pub mod Moment
 pub mod Cause

@@ -12,7 +12,7 @@ use Rattle.run_sources.specs.Program.{Name, Program, in_order}
 use Rattle.run_program.specs.declared.ran.Kept.{Kept}
 use Rattle.run_program.specs.declared.ran.Ran.{Ran}
 use Rattle.run_program.specs.Ran.{outcomes_in}
-use Rattle.js_run.specs.Fault.{fault_at, fault_text}
+use Rattle.js_parse.specs.Faults.{fault_offset, fault_words}
 
 pub data Verdict : Type 0 where
   BadWords : Verdict
@@ -95,9 +95,9 @@ unread_line name = name ++ codes ": cannot be read\n"
 abbrev pub large_line : Name → List ℕ
 large_line name = name ++ codes ": larger than 1048576 bytes\n"
 
--- the place of the fault, and its words
+-- the byte offset of the fault, and its words
 abbrev pub refused_line : Name → ParseFault → List ℕ
-refused_line name fault = name ++ (58 ∷ [] ++ (decimal (fault_at fault) ++ fault_text fault))
+refused_line name fault = (name ++ (58 ∷ [] ++ (decimal (fault_offset fault) ++ codes ": refused: "))) ++ (fault_words fault ++ 10 ∷ [])
 
 abbrev pub memory_line : List ℕ
 memory_line = codes "jsstr: out of memory\n"

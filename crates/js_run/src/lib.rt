@@ -8,7 +8,6 @@
 //! An engine that has sessions of its own runs scripts by [`run_group`] and [`run_all`].
 #![tactic(auto)]
 
-mod refusing;
 mod run;
 mod stages;
 mod status;

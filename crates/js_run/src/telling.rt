@@ -5,14 +5,14 @@ ghost use Rattle.run_sources.specs.Answers.{sources_for};
 ghost use Rattle.run_program.specs.Ran.{outcomes_in};
 ghost use Rattle.js_run.specs.Answer.{HasNames, outcome_ends, source_names, stop_report};
 ghost use Rattle.js_run.specs.Cause.{names_in};
-ghost use Rattle.js_run.specs.Verdict.{BadWords, WasRun, count_line, end_line, end_lines, ends_of, err_of, full_text, kind_text, out_of, printed_by, report_of, status_of, status_or};
+ghost use Rattle.js_run.specs.Verdict.{BadWords, WasRun, count_line, end_line, end_lines, ends_of, err_of, full_text, kind_text, refused_line, out_of, printed_by, report_of, status_of, status_or};
 ghost use Rattle.js_run.specs.Moment.{sinks};
 ghost use Rattle.js_run.specs.Ending.{IsEnd};
 
-use crate::refusing::{place, words};
 use itoa::Buffer;
 use js_eval::{End, Kind};
 use js_io::{Failed, Sink, write_all};
+use js_parse::ParseFault;
 use js_store::FullReport;
 use run_jobs::Outcome;
 use run_program::Ran;
@@ -233,6 +233,16 @@ pub(crate) fn tell_words<E: Sink>(err: &mut E) -> u8
     2
 }
 
+// Writes the line of a file that is no script.
+fn write_refusal<E: Sink>(err: &mut E, name: &str, fault: ParseFault) -> Result<(), Failed>
+    ensures { WritesAll result (E.state err.old) (E.state err.new) (refused_line name.now fault) }
+{
+    match write_place(err, name, b":", fault.offset(), b": refused: ") {
+        Ok(()) => write_both(err, fault.words(), b"\n"),
+        Err(Failed) => Err(Failed),
+    }
+}
+
 /// Tells why nothing was run, whatever the other sink took, and gives the status.
 pub(crate) fn tell_stop<E: Sink>(stop: Stop<'_>, err: &mut E) -> u8
     ensures { (out : SinkState) → IsEnd (stop_report stop.entry) result
@@ -249,7 +259,7 @@ pub(crate) fn tell_stop<E: Sink>(stop: Stop<'_>, err: &mut E) -> u8
             3
         }
         Stop::Refused(name, fault) => {
-            let _ = write_place(err, name, b":", place(fault), words(fault));
+            let _ = write_refusal(err, name, fault);
             4
         }
         Stop::NoMemory => {
