@@ -50,6 +50,14 @@ module _ (w : Window) (us : List ℕ) (i word lane : ℕ) (shows : ShowsOn w us 
       let f : i + (j - i) ≡ j = omega arith in
       none (j - i) (omega arith) (omega arith) (lane_on (j - i) (omega arith) (omega arith) ∙ (ap (λ k. get_or us k 0) f ∙ e))
 
+  -- nor where that lane is the word's first
+  pub none_in_word_on : lane ≡ 0 → (unit at : ℕ) → ((k : ℕ) → k < at → 0 + k < lane_count w.wide → lane_of w.wide word (0 + k) ≡ unit → ⊥)
+      → (j : ℕ) → i ≤ j → j < i + at → j < i + lane_count w.wide → j < w.len → get_or us j 0 ≡ unit → ⊥
+  none_in_word_on z unit at none j a b l m e =
+      let f : i + (j - i) ≡ j = omega arith in
+      let g : 0 + (j - i) ≡ j - i = omega arith in
+      none (j - i) (omega arith) (omega arith) (ap (lane_of w.wide word) g ∙ (first_on z (j - i) (omega arith) (omega arith) ∙ (ap (λ k. get_or us k 0) f ∙ e)))
+
 -- what was searched before, and the word
 pub none_on : (us : List ℕ) (unit from i next : ℕ) → ((k : ℕ) → from ≤ k → k < i → get_or us k 0 ≡ unit → ⊥) → ((k : ℕ) → i ≤ k → k < next → get_or us k 0 ≡ unit → ⊥) → (k : ℕ) → from ≤ k → k < next → get_or us k 0 ≡ unit → ⊥
 none_on us unit from i next old new k a b e = ⊎_elim (λ l. old k a l e) (λ l. new k l b e) (cases_lt k i)

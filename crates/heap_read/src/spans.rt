@@ -1,5 +1,5 @@
 // Reading and searching the units of a window, a word at a time.
-ghost use Rattle.std.specs.Prelude.{◌≡◌, ℕ, List, ◌+◌, ◌≤◌, ◌<◌, false, length, slice_index, slice_range};
+ghost use Rattle.std.specs.Prelude.{◌≡◌, ℕ, List, ◌+◌, ◌≤◌, ◌<◌, false, true, length, slice_index, slice_range};
 ghost use Rattle.js_units.specs.Lanes.{lane_count, lane_of};
 ghost use Rattle.heap_read.specs.Readers.{Moves, view_in};
 ghost use Rattle.heap_read.specs.Reads.{KeepsForms, Reads};
@@ -28,7 +28,7 @@ impl<'h> Reader<'h> {
             let i = from + done as u32;
             let (_, lane) = word_and_lane(w.wide, w.offset + i);
             let word = self.word_with(w, i);
-            if lane == 0 && into.len() - done >= 8 {
+            if lane == 0 && into.len() - done >= size as usize {
                 put_word(into, done, word, w.wide);
                 done += size as usize;
                 continue;
@@ -52,6 +52,14 @@ impl<'h> Reader<'h> {
         while i < w.len {
             let (_, lane) = word_and_lane(w.wide, w.offset + i);
             let word = self.word_with(w, i);
+            if lane == 0 && w.len - i >= size {
+                let at = first_from(word, w.wide, 0, unit);
+                if at < size {
+                    return Some(i + at);
+                }
+                i += size;
+                continue;
+            }
             let left = (size - lane).min(w.len - i);
             let at = first_from(word, w.wide, lane, unit);
             if at < left {
@@ -87,19 +95,31 @@ fn put(into: &mut [u16], at: usize, units: &[u16], count: usize)
     into[at..at + count].copy_from_slice(&units[..count]);
 }
 
-// Puts all lanes of a word into a slice, from place `at` on. The four places behind wide lanes get
-// any units.
+// Puts all lanes of a word into a slice, from place `at` on.
 #[inline(always)]
 fn put_word(into: &mut [u16], at: usize, word: u64, wide: bool)
-    requires { at + 8 ≤ length into.old }
+    requires { at + lane_count wide ≤ length into.old }
     ensures before { (k : ℕ) → k < at → slice_index into.new k ≡ slice_index into.old k }
     ensures inside { (k : ℕ) → k < lane_count wide → slice_index into.new (at + k) ≡ lane_of wide word k }
 {
     if wide {
-        put(into, at, &lanes_from(word, true, 0), 8);
+        put(into, at, &wide_lanes(word), 4);
         return;
     }
     put(into, at, &narrow_lanes(word), 8);
+}
+
+// The two-byte lanes of a word.
+#[inline(always)]
+fn wide_lanes(word: u64) -> [u16; 4]
+    ensures { (k : ℕ) → k < 4 → slice_index result k ≡ lane_of true word k }
+{
+    [
+        (word % 65536) as u16,
+        (word / 65536 % 65536) as u16,
+        (word / 4294967296 % 65536) as u16,
+        (word / 281474976710656 % 65536) as u16,
+    ]
 }
 
 // The one-byte lanes of a word, by one move of them all.

@@ -101,6 +101,9 @@ fn same_front(left: &[u16], right: &[u16]) -> usize
     ensures same { (k : ℕ) → k < result → slice_index left.now k ≡ slice_index right.now k }
     ensures differs { result < length left.now → slice_index left.now result ≢ slice_index right.now result }
 {
+    if left == right {
+        return left.len();
+    }
     for k in 0..left.len() {
         if left[k] != right[k] {
             return k;

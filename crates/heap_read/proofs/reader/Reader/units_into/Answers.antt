@@ -22,8 +22,8 @@ pub overflow_add-w : goal.overflow_add-w
 overflow_add-w c = let v : View = c.args.self.now.agent.seat.me.0 in let u : View = c.loop-done.self.agent.seat.me.0 in let s = c.loop-done.invariant in
     let a = place_small u c.args.w (c.args.from + c.loop-done.done) c.loop-done.self.belongs.5 (frozen_later v u c.args.w c.requires.window.0 s.reads s.forms c.requires.window.1) (omega (arith, c.requires.within, c.loop-done-test.true)) in omega arith
 
-pub loop-done-preserved-then-into-done-ge8 : goal.loop-done-preserved-then-into-done-ge8
-loop-done-preserved-then-into-done-ge8 c =
+pub loop-done-preserved-then-into-done : goal.loop-done-preserved-then-into-done
+loop-done-preserved-then-into-done c =
     let v : View = c.args.self.now.agent.seat.me.0 in
     let u : View = c.loop-done.self.agent.seat.me.0 in
     let x : View = c.word_with-word.new.self.agent.seat.me.0 in
@@ -34,7 +34,7 @@ loop-done-preserved-then-into-done-ge8 c =
     let i = c.args.from + c.loop-done.done in
     let within = c.requires.within in
     let most = s.most in
-    let room = c.if-into-done-ge8.true in
+    let room = c.if-into-done.true in
     record {
       most = omega arith;
       same = λ us window.
