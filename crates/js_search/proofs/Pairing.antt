@@ -1,6 +1,6 @@
 -- Pairs of units in a block of a string.
 use Rattle.std.proofs.Common.{◌≡◌, ℕ, ◌+◌, ◌-◌, ◌<◌, ◌≤◌, List, get_or, ap, subst, sym, ◌∙◌, arith, ⊎_elim}
-use Rattle.std.specs.Prelude.{◌↔◌, Option, Some, None}
+use Rattle.std.specs.Prelude.{Option, Some, None}
 use Rattle.std.proofs.lemmas.Bool.{cases_lt}
 use Rattle.js_search.specs.declared.blocks.Block.{Block}
 use Rattle.js_search.specs.declared.pairs.Pair.{Pair}

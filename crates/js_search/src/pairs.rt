@@ -1,5 +1,6 @@
 // Places at which two units of a needle stand where they would, sought by blocks of the haystack.
-ghost use Rattle.std.specs.Prelude.{◌≡◌, ℕ, ◌+◌, ◌<◌, ◌≤◌, None, length};
+ghost use Rattle.std.specs.Prelude.{◌≡◌, ◌↔◌, ℕ, ◌+◌, ◌<◌, ◌≤◌, IsTrue, None, length, slice_index};
+ghost use Rattle.std.specs.Int.{bit_at};
 ghost use Rattle.js_store.specs.State.{IsKnown, IsSettled, text};
 ghost use Rattle.js_store.specs.Faults.{Step};
 ghost use Rattle.js_search.specs.Blocks.{IsPart};
@@ -7,6 +8,7 @@ ghost use Rattle.js_search.specs.Pairs.{HasPair, IsFirstPair, IsLastPair, IsPair
 
 use crate::blocks::{Block, SIZE};
 use js_store::Strings;
+use std::simd::prelude::*;
 
 // The first unit of a needle, and the one so many places behind it.
 #[derive(Clone, Copy)]
@@ -117,7 +119,11 @@ fn first_in(units: &[u16], pair: Pair, from: u32, end: u32) -> u32
     ensures high { result ≤ end }
     ensures none { (k : ℕ) → from ≤ k → k < result → HasPair units.now pair k → ⊥ }
 {
-    for k in from..end {
+    let mut start = from;
+    while 8 <= end - start && !has_some(units, pair, start) {
+        start += 8;
+    }
+    for k in start..end {
         if units[k as usize] == pair.first && units[(k + pair.apart) as usize] == pair.other {
             return k;
         }
@@ -131,10 +137,37 @@ fn last_in(units: &[u16], pair: Pair, end: u32) -> Option<u32>
     requires short { length units.now ≤ 256 }
     ensures { IsLastPair units.now pair end result }
 {
-    for k in (0..end).rev() {
+    let mut left = end;
+    while 8 <= left && !has_some(units, pair, left - 8) {
+        left -= 8;
+    }
+    for k in (0..left).rev() {
         if units[k as usize] == pair.first && units[(k + pair.apart) as usize] == pair.other {
             return Some(k);
         }
     }
     None
+}
+
+// Whether a pair stands at one of the eight places from `at` on.
+#[inline(always)]
+fn has_some(units: &[u16], pair: Pair, at: u32) -> bool
+    requires room { at + 8 + pair.apart ≤ length units.now }
+    requires short { length units.now ≤ 256 }
+    ensures { (k : ℕ) → k < 8 → HasPair units.now pair (at + k) → IsTrue result }
+{
+    let first = marks(units, pair.first, at as usize);
+    let other = marks(units, pair.other, (at + pair.apart) as usize);
+    first & other != 0
+}
+
+// A bit for each of the eight places from `at` on, which is set where the unit stands there.
+#[inline(always)]
+fn marks(units: &[u16], unit: u16, at: usize) -> u64
+    requires { at + 8 ≤ length units.now }
+    ensures { (k : ℕ) → (bit_at result k ≡ 1) ↔ ((k < 8) × (slice_index units.now (at + k) ≡ unit)) }
+{
+    u16x8::from_slice(&units[at..at + 8])
+        .simd_eq(u16x8::splat(unit))
+        .to_bitmask()
 }

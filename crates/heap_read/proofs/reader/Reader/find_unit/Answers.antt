@@ -1,9 +1,8 @@
-use Rattle.std.proofs.Common.{◌≡◌, ◌+◌, ◌-◌, ◌<◌, ap, sym, arith, ◌∙◌}
+use Rattle.std.proofs.Common.{◌≡◌, ◌+◌, ap, sym, arith, ◌∙◌}
 use Rattle.js_units.specs.Lanes.{lane_of}
 use Rattle.heap_rule.specs.declared.view.View.{View}
 use Rattle.heap_read.proofs.Loaded.{reads_trans}
 use Rattle.heap_read.proofs.Showing.{place_small, window_length}
-use Rattle.js_units.proofs.Shifted.{lanes_most}
 use Rattle.heap_read.proofs.WindowLemmas.{first_on, forms_trans, frozen_later, lane_on, none_in_lanes, none_in_word_on, none_on, window_later}
 use Rattle.heap_read.proofs.reader.Reader.find_unit.Goals as goal
 

@@ -1,4 +1,4 @@
-use Rattle.std.proofs.Common.{ℕ, ◌+◌, ◌⊎◌, subst, sym, arith}
+use Rattle.std.proofs.Common.{◌+◌, ◌⊎◌, subst, sym, arith}
 use Rattle.heap_rule.specs.declared.view.View.{View}
 use Rattle.heap_rule.specs.Maps.{HasKey}
 use Rattle.heap_read.proofs.Holding.{shows_on}
