@@ -1,5 +1,5 @@
 -- The units that a held word shows.
-use Rattle.std.proofs.Common.{◌≡◌, ℕ, zero, suc, ◌+◌, ◌-◌, ◌/◌, ◌%◌, ◌<◌, ◌≤◌, ◌⊎◌, Bool, true, false, List, ◌++◌, length, get_or, sym, ap, ◌∙◌, subst, arith}
+use Rattle.std.proofs.Common.{◌≡◌, ℕ, zero, suc, ◌+◌, ◌-◌, ◌/◌, ◌%◌, ◌<◌, ◌≤◌, ◌⊎◌, Bool, true, false, List, ◌++◌, length, get_or, sym, ap, ◌∙◌, subst, refl, arith}
 use Rattle.std.proofs.lemmas.List.{get_or_append_left, get_or-append_right, length-append}
 use Rattle.js_units.specs.Lanes.{lane_count, lane_of}
 use Rattle.heap_rule.specs.declared.view.View.{View}
@@ -10,7 +10,7 @@ use Rattle.heap_rule.specs.Views.{shown}
 use Rattle.heap_read.specs.declared.source.Held.{Held}
 use Rattle.heap_read.specs.declared.string.Window.{Window}
 use Rattle.heap_read.specs.Windows.{IsWindow}
-use Rattle.heap_read.specs.Written.{Holds}
+use Rattle.heap_read.specs.Written.{Holds, ShowsOn}
 use Rattle.heap_read.proofs.Showing.{window_length, window_unit}
 
 -- a lane of the same word as lane p
@@ -66,4 +66,15 @@ holds_back xs ys n h e r = let m = length-append xs ys in let s = r.within in re
   lanes = r.lanes;
   within = omega arith;
   each = λ k l. let back : n + h.from + k - n ≡ h.from + k = omega arith in r.each k l ∙ (ap (λ (i : ℕ). get_or ys i 0) (sym back) ∙ sym (get_or-append_right xs ys n (n + h.from + k) 0 e (omega arith)));
+}
+
+-- the word of unit i shows the units from there on
+pub shows_on : (x : View) (w : Window) (us : List ℕ) (i at word : ℕ) → IsPossible x → IsWindow x w us → i < w.len → at ≡ (w.offset + i) / lane_count w.wide
+    → HasKey x.own_words (w.start + at) ⊎ HasKey x.frozen (w.start + at) → word ≡ shown x (w.start + at) → ShowsOn w us i word
+shows_on x w us i at word p h l a has is = record {
+  each = λ k m n. let k0 : ℕ = (w.offset + i) % lane_count w.wide in
+      let held = held_window x w us i at k0 0 (k + 1) word p h l a refl (omega arith) (omega arith) (omega arith) (omega arith) has is in
+      let e : k0 - 0 + k ≡ k0 + k = omega arith in
+      let f : i - 0 + k ≡ i + k = omega arith in
+      ap (lane_of w.wide word) (sym e) ∙ (held.each k (omega arith) ∙ ap (λ (j : ℕ). get_or us j 0) f);
 }

@@ -1,5 +1,5 @@
 -- Reading the units of a window a word at a time.
-use Rattle.std.proofs.Common.{◌≡◌, ℕ, ◌+◌, ◌-◌, ◌<◌, ◌≤◌, List, ◌++◌, length, get_or, sym, ap, ◌∙◌, arith, ⊎_elim}
+use Rattle.std.proofs.Common.{◌≡◌, ℕ, ◌+◌, ◌-◌, ◌%◌, ◌<◌, ◌≤◌, List, ◌++◌, length, get_or, sym, ap, ◌∙◌, arith, ⊎_elim}
 use Rattle.std.specs.Prelude.{slice_range, take, drop}
 use Rattle.std.proofs.Common.{get_or-take, get_or-drop}
 use Rattle.std.proofs.lemmas.Bool.{cases_lt}
@@ -15,7 +15,7 @@ use Rattle.heap_read.specs.Reads.{KeepsForms, Reads}
 use Rattle.heap_read.specs.Windows.{IsFrozenWindow, IsWindow}
 use Rattle.heap_rule.specs.Sound.{IsPossible}
 use Rattle.heap_rule.proofs.Possible.{possible_short}
-use Rattle.heap_read.specs.Written.{Holds}
+use Rattle.heap_read.specs.Written.{Holds, ShowsOn}
 use Rattle.heap_read.proofs.Showing.{forms_held, window_frozen, window_kept}
 
 -- the lanes of a held word from that of unit i on
@@ -33,6 +33,30 @@ module _ (us : List ℕ) (h : Held) (holds : Holds us h) (i : ℕ) (low : h.from
         let r = holds.lanes in
         let f : i + (j - i) ≡ j = omega arith in
         none (j - i) (omega arith) (omega arith) (unit_of_lane (j - i) (omega arith) ∙ ap (λ k. get_or us k 0) f ∙ e)
+
+-- the lanes of a word from that of unit i on, whose number was computed
+module _ (w : Window) (us : List ℕ) (i word lane : ℕ) (shows : ShowsOn w us i word) (is : lane ≡ (w.offset + i) % lane_count w.wide) where
+  pub lane_on : (k : ℕ) → lane + k < lane_count w.wide → i + k < w.len → lane_of w.wide word (lane + k) ≡ get_or us (i + k) 0
+  lane_on k l m = ap (λ (n : ℕ). lane_of w.wide word (n + k)) is ∙ shows.each k (omega arith) m
+
+  -- where it is the word's first
+  pub first_on : lane ≡ 0 → (k : ℕ) → k < lane_count w.wide → i + k < w.len → lane_of w.wide word k ≡ get_or us (i + k) 0
+  first_on z k l m = let e : lane + k ≡ k = omega arith in ap (lane_of w.wide word) (sym e) ∙ lane_on k (omega arith) m
+
+  -- no unit before the first such lane
+  pub none_in_lanes : (unit at : ℕ) → ((k : ℕ) → k < at → lane + k < lane_count w.wide → lane_of w.wide word (lane + k) ≡ unit → ⊥)
+      → (j : ℕ) → i ≤ j → j < i + at → j < i + (lane_count w.wide - lane) → j < w.len → get_or us j 0 ≡ unit → ⊥
+  none_in_lanes unit at none j a b l m e =
+      let f : i + (j - i) ≡ j = omega arith in
+      none (j - i) (omega arith) (omega arith) (lane_on (j - i) (omega arith) (omega arith) ∙ (ap (λ k. get_or us k 0) f ∙ e))
+
+  -- nor where that lane is the word's first
+  pub none_in_word_on : lane ≡ 0 → (unit at : ℕ) → ((k : ℕ) → k < at → 0 + k < lane_count w.wide → lane_of w.wide word (0 + k) ≡ unit → ⊥)
+      → (j : ℕ) → i ≤ j → j < i + at → j < i + lane_count w.wide → j < w.len → get_or us j 0 ≡ unit → ⊥
+  none_in_word_on z unit at none j a b l m e =
+      let f : i + (j - i) ≡ j = omega arith in
+      let g : 0 + (j - i) ≡ j - i = omega arith in
+      none (j - i) (omega arith) (omega arith) (ap (lane_of w.wide word) g ∙ (first_on z (j - i) (omega arith) (omega arith) ∙ (ap (λ k. get_or us k 0) f ∙ e)))
 
 -- what was searched before, and the word
 pub none_on : (us : List ℕ) (unit from i next : ℕ) → ((k : ℕ) → from ≤ k → k < i → get_or us k 0 ≡ unit → ⊥) → ((k : ℕ) → i ≤ k → k < next → get_or us k 0 ≡ unit → ⊥) → (k : ℕ) → from ≤ k → k < next → get_or us k 0 ≡ unit → ⊥

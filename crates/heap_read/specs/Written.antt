@@ -1,9 +1,10 @@
 -- Content words that hold units.
-use Rattle.std.specs.Prelude.{◌≡◌, ℕ, ◌+◌, ◌-◌, ◌<◌, ◌≤◌, ◌^◌, Bool, List, length, slice_index}
+use Rattle.std.specs.Prelude.{◌≡◌, ℕ, ◌+◌, ◌-◌, ◌%◌, ◌<◌, ◌≤◌, ◌^◌, Bool, List, length, slice_index}
 use Rattle.js_units.specs.Lanes.{IsWordOf, lane_count, lane_of, words_over}
 use Rattle.heap_rule.specs.declared.view.View.{View}
 use Rattle.heap_rule.specs.Maps.{Has}
 use Rattle.heap_read.specs.declared.source.Held.{Held}
+use Rattle.heap_read.specs.declared.string.Window.{Window}
 
 -- the first `done` of the words from `start` on are own and hold the units
 pub record AreWords (v : View) (wide : Bool) (start : ℕ) (us : List ℕ) (done : ℕ) : Type 0 where
@@ -30,3 +31,8 @@ pub record HasAt (h : Held) (i count : ℕ) : Type 0 where
   pub lanes : h.lane + h.count ≤ lane_count h.wide
   pub low : h.from ≤ i
   pub high : i + count ≤ h.from + h.count
+
+-- The word shows units of a list, which are those of the window: from number i on, each in the lane behind that of the one before, up to the last lane.
+pub record ShowsOn (w : Window) (us : List ℕ) (i word : ℕ) : Type 0 where
+  pub each : (k : ℕ) → (w.offset + i) % lane_count w.wide + k < lane_count w.wide → i + k < w.len
+      → lane_of w.wide word ((w.offset + i) % lane_count w.wide + k) ≡ slice_index us (i + k)

@@ -1,13 +1,16 @@
 // Reading and searching the units of a window, a word at a time.
-ghost use Rattle.std.specs.Prelude.{◌≡◌, ℕ, List, ◌+◌, ◌≤◌, ◌<◌, length, slice_index, slice_range};
+ghost use Rattle.std.specs.Prelude.{◌≡◌, ℕ, List, ◌+◌, ◌≤◌, ◌<◌, false, true, length, slice_index, slice_range};
+ghost use Rattle.js_units.specs.Lanes.{lane_count, lane_of};
 ghost use Rattle.heap_read.specs.Readers.{Moves, view_in};
 ghost use Rattle.heap_read.specs.Reads.{KeepsForms, Reads};
 ghost use Rattle.heap_read.specs.Spans.{IsFirstUnit};
-ghost use Rattle.heap_read.specs.Windows.{IsWindow};
+ghost use Rattle.heap_read.specs.Windows.{IsFrozenWindow, IsWindow};
+ghost use Rattle.heap_read.specs.Written.{ShowsOn};
 
 use crate::reader::Reader;
 use crate::string::Window;
-use js_units::{first_from, lanes_from};
+use js_units::{first_from, lanes, lanes_from, word_and_lane};
+use std::simd::prelude::*;
 
 impl<'h> Reader<'h> {
     /// Copies the units of a window from place `from` on into `into`, as many as it holds.
@@ -19,14 +22,19 @@ impl<'h> Reader<'h> {
         ensures units { (us : List ℕ) → IsWindow (view_in self.old) w us
             → into.new ≡ slice_range us from (from + length into.old) }
     {
+        let size = lanes(w.wide);
         let mut done = 0;
         while done < into.len() {
             let i = from + done as u32;
-            let held = self.hold_in(w, i);
-            let skip = i - held.from;
-            let lanes = lanes_from(held.word, held.wide, held.lane + skip);
-            let count = ((held.count - skip) as usize).min(into.len() - done);
-            put(into, done, &lanes, count);
+            let (_, lane) = word_and_lane(w.wide, w.offset + i);
+            let word = self.word_with(w, i);
+            if lane == 0 && into.len() - done >= size as usize {
+                put_word(into, done, word, w.wide);
+                done += size as usize;
+                continue;
+            }
+            let count = ((size - lane) as usize).min(into.len() - done);
+            put(into, done, &lanes_from(word, w.wide, lane), count);
             done += count;
         }
     }
@@ -39,12 +47,21 @@ impl<'h> Reader<'h> {
         ensures forms { KeepsForms (view_in self.old) (view_in self.new) }
         ensures least { (us : List ℕ) → IsWindow (view_in self.old) w us → IsFirstUnit us unit from result }
     {
+        let size = lanes(w.wide);
         let mut i = from;
         while i < w.len {
-            let held = self.hold_in(w, i);
-            let skip = i - held.from;
-            let left = held.count - skip;
-            let at = first_from(held.word, held.wide, held.lane + skip, unit);
+            let (_, lane) = word_and_lane(w.wide, w.offset + i);
+            let word = self.word_with(w, i);
+            if lane == 0 && w.len - i >= size {
+                let at = first_from(word, w.wide, 0, unit);
+                if at < size {
+                    return Some(i + at);
+                }
+                i += size;
+                continue;
+            }
+            let left = (size - lane).min(w.len - i);
+            let at = first_from(word, w.wide, lane, unit);
             if at < left {
                 return Some(i + at);
             }
@@ -52,9 +69,23 @@ impl<'h> Reader<'h> {
         }
         None
     }
+
+    // The word with unit `i` of a window, by one load.
+    #[inline(always)]
+    fn word_with(&mut self, w: Window, i: u32) -> u64
+        requires frozen { IsFrozenWindow (view_in self.old) w }
+        requires within { i < w.len }
+        ensures reads { Moves Reads self.old self.new }
+        ensures forms { KeepsForms (view_in self.old) (view_in self.new) }
+        ensures word { (us : List ℕ) → IsWindow (view_in self.old) w us → ShowsOn w us i result }
+    {
+        let (at, _) = word_and_lane(w.wide, w.offset + i);
+        self.agent.load_word(self.heap, w.start + at)
+    }
 }
 
-// Puts the first of some units into a slice, from place `at` on.
+// Puts the first `count` of some units into a slice, from place `at` on.
+#[inline(always)]
 fn put(into: &mut [u16], at: usize, units: &[u16], count: usize)
     requires room { at + count ≤ length into.old }
     requires enough { count ≤ length units.now }
@@ -62,4 +93,39 @@ fn put(into: &mut [u16], at: usize, units: &[u16], count: usize)
     ensures inside { (k : ℕ) → k < count → slice_index into.new (at + k) ≡ slice_index units.now k }
 {
     into[at..at + count].copy_from_slice(&units[..count]);
+}
+
+// Puts all lanes of a word into a slice, from place `at` on.
+#[inline(always)]
+fn put_word(into: &mut [u16], at: usize, word: u64, wide: bool)
+    requires { at + lane_count wide ≤ length into.old }
+    ensures before { (k : ℕ) → k < at → slice_index into.new k ≡ slice_index into.old k }
+    ensures inside { (k : ℕ) → k < lane_count wide → slice_index into.new (at + k) ≡ lane_of wide word k }
+{
+    if wide {
+        put(into, at, &wide_lanes(word), 4);
+        return;
+    }
+    put(into, at, &narrow_lanes(word), 8);
+}
+
+// The two-byte lanes of a word.
+#[inline(always)]
+fn wide_lanes(word: u64) -> [u16; 4]
+    ensures { (k : ℕ) → k < 4 → slice_index result k ≡ lane_of true word k }
+{
+    [
+        (word % 65536) as u16,
+        (word / 65536 % 65536) as u16,
+        (word / 4294967296 % 65536) as u16,
+        (word / 281474976710656 % 65536) as u16,
+    ]
+}
+
+// The one-byte lanes of a word, by one move of them all.
+#[inline(always)]
+fn narrow_lanes(word: u64) -> [u16; 8]
+    ensures { (k : ℕ) → k < 8 → slice_index result k ≡ lane_of false word k }
+{
+    u64x1::splat(word).to_le_bytes().cast::<u16>().to_array()
 }
