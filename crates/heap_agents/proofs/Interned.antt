@@ -1,5 +1,5 @@
 -- What interning leaves, for a caller that asks no more than the string and that the call is known.
-use Rattle.std.proofs.Common.{ℕ, ◌++◌, ⊎_elim, List, [], ◌∷◌, sym, subst, Result, Ok, Err, IfOk, true}
+use Rattle.std.proofs.Common.{◌≡◌, ℕ, ◌++◌, ⊎_elim, List, [], ◌∷◌, sym, subst, Result, Ok, Err, IfOk, true}
 use Rattle.std.specs.List.{Contains}
 use Rattle.std.proofs.lemmas.List.Elements.{Contains-append_cases, Contains-append_left, Contains-append_right, Contains-push}
 use Rattle.js_header.specs.declared.form.Form.TheVariants.{Flat}
@@ -29,6 +29,10 @@ module _ (v w : View) where
     pub known_by : (r : Result ℕ TableFull) → ((us : List ℕ) → Has v.units s us → (plan : Plan) × IsPlan v w s us plan × Interns v w us plan r) → KeepsKnown v w
     known_by (Ok i) f = let u = has_key v.units s k in (f u.0 u.1).2.0.known
     known_by (Err e) f = let u = has_key v.units s k in (f u.0 u.1).2.0.known
+
+    pub agents_by : (r : Result ℕ TableFull) → ((us : List ℕ) → Has v.units s us → (plan : Plan) × IsPlan v w s us plan × Interns v w us plan r) → w.agents ≡ v.agents
+    agents_by (Ok i) f = let u = has_key v.units s k in (f u.0 u.1).2.0.agents
+    agents_by (Err e) f = let u = has_key v.units s k in (f u.0 u.1).2.0.agents
 
     pub calls_by : (r : Result ℕ TableFull) → ((us : List ℕ) → Has v.units s us → (plan : Plan) × IsPlan v w s us plan × Interns v w us plan r) → KeepsCalls v w
     calls_by (Ok j) f = let u = has_key v.units s k in record { calls = kept ((u.0, j) ∷ []) (f u.0 u.1).2.0 }

@@ -1,5 +1,5 @@
 -- What is marked, over a call on strings and over a search.
-use Rattle.std.proofs.Common.{◌≡◌, ℕ, List, ◌++◌, ◌<◌, subst, sym, inl, ⊎_elim, ◌⊎◌, ◌↔◌, [], Option, None, Some}
+use Rattle.std.proofs.Common.{ap, ◌∙◌, ◌≡◌, ℕ, List, ◌++◌, ◌<◌, subst, sym, inl, ⊎_elim, ◌⊎◌, ◌↔◌, [], Option, None, Some}
 use Rattle.std.specs.List.{Contains}
 use Rattle.std.proofs.lemmas.List.Elements.{Contains-append_cases, Contains-append_left, Contains-append_right}
 use Rattle.heap_rule.specs.Agents.{MayJoin, left_after_split, right_after_split}
@@ -18,9 +18,9 @@ use Rattle.id_set.specs.declared.IdSet.{IdSet}
 use Rattle.id_set.specs.Sets.{Covers, IsIn}
 use Rattle.heap_agents.specs.declared.held.Held.{Held}
 use Rattle.heap_agents.specs.declared.member.Member.{Member}
-use Rattle.heap_agents.specs.Held.{IsHeld, IsMarked, KeepsMarks, Leaves, size_by, view_by}
+use Rattle.heap_agents.specs.Held.{IsHeld, IsMarked, KeepsMarks, Leaves, share_by, size_by, view_by}
 use Rattle.heap_agents.specs.Interned.{KeepsCalls}
-use Rattle.heap_agents.specs.Members.{IsAgentOf, IsSame, IsWhole, MemberLeaves, heap_of, view_if}
+use Rattle.heap_agents.specs.Members.{IsAgentOf, IsSame, IsWhole, MemberLeaves, heap_of, share_if, view_if}
 use Rattle.heap_agents.proofs.Interned.{continued}
 
 -- what is known and which calls are known stay, so what was marked still may be
@@ -41,10 +41,11 @@ kept_marks : (x : Held) (y : Member) → KeepsMarks x (record x { member = y })
 kept_marks x y = record { known = λ i h. h; interned = λ i h. h; number = λ i. x.number; giver = λ i. x.giver }
 
 module _ (x : Held) (y : Member) (held : IsHeld x) (whole : IsWhole y) (same : IsSame x.member y)
-    (units : (i : ℕ) (us : List ℕ) → Has (view_by x).units i us → Has (view_if y.agent).units i us) (calls : KeepsCalls (view_by x) (view_if y.agent)) where
+    (units : (i : ℕ) (us : List ℕ) → Has (view_by x).units i us → Has (view_if y.agent).units i us) (calls : KeepsCalls (view_by x) (view_if y.agent)) (agents : (view_if y.agent).agents ≡ (view_by x).agents) where
   pub still : IsHeld (record x { member = y })
   still = record {
     whole = whole;
+    agents = held.agents ∙ sym agents;
     marked = subst (λ (n : ℕ). IsMarked (view_if y.agent) x.known x.interned n) (same_ids x.member y same)
         (marked_still (view_by x) (view_if y.agent) x.known x.interned (size_by x).ids held.marked units calls);
   }
@@ -52,7 +53,7 @@ module _ (x : Held) (y : Member) (held : IsHeld x) (whole : IsWhole y) (same : I
 -- a call on strings with the marks left alone
 pub moved : (x : Held) (y : Member) → IsHeld x → MemberLeaves x.member y → Leaves x (record x { member = y })
 moved x y held l = record {
-  held = still x y held l.whole l.same l.continues.known.units (continued (view_by x) (view_if y.agent) l.continues);
+  held = still x y held l.whole l.same l.continues.known.units (continued (view_by x) (view_if y.agent) l.continues) l.continues.agents;
   same = l.same;
   continues = l.continues;
   marks = kept_marks x y;
@@ -85,9 +86,10 @@ module _ (x o : Held) (y : Member) (held : IsHeld x) (theirs : IsHeld o) (whole 
     (ours : KeepsKnown (view_by x) (view_if y.agent)) (others : KeepsKnown (view_by o) (view_if y.agent)) (calls : history (view_if y.agent) ≡ history (view_by x) ++ (view_by o).mine)
     (known interned : IdSet) (room : (n : ℕ) → Covers x.known n → Covers known n) (only : (i : ℕ) → IsIn known i → IsIn x.known i ⊎ IsIn o.known i)
     (calls_room : (n : ℕ) → Covers x.interned n → Covers interned n) (only_calls : (i : ℕ) → IsIn interned i → IsIn x.interned i ⊎ IsIn o.interned i) where
-  pub joined_held : IsHeld (record x { member = y; known = known; interned = interned })
-  joined_held = record {
+  pub joined_held : (view_if y.agent).agents ≡ (view_by x).agents → IsHeld (record x { member = y; known = known; interned = interned })
+  joined_held agents = record {
     whole = whole;
+    agents = held.agents ∙ sym agents;
     marked = subst (λ (n : ℕ). IsMarked (view_if y.agent) known interned n) (same_ids x.member y same) (record {
       known = λ i h. ⊎_elim
           (λ (a : IsIn x.known i). let u = has_key (view_by x).units i (held.marked.known i a) in key_of (view_if y.agent).units i u.0 (ours.units i u.0 u.1))
@@ -106,25 +108,27 @@ module _ (x o : Held) (y : Member) (held : IsHeld x) (theirs : IsHeld o) (whole 
 module _ (x : Held) (y : Member) (give : ℕ) (held : IsHeld x) (whole : IsWhole y) (same : IsSame x.member y) where
   pub left_held : view_if y.agent ≡ left_after_split (view_by x) give → IsHeld (record x { member = y })
   left_held e = still x y held whole same (λ i us h. subst (λ (v : View). Has v.units i us) (sym e) h)
-      (record { calls = λ u i h. subst (λ (v : View). Contains (history v) (u, i)) (sym e) h })
+      (record { calls = λ u i h. subst (λ (v : View). Contains (history v) (u, i)) (sym e) h }) (ap (λ (v : View). v.agents) e)
 
   pub right_held : view_if y.agent ≡ right_after_split (view_by x) give → (o z : Held) → ((i : ℕ) → IsIn o.known i ↔ IsIn x.known i) → ((i : ℕ) → IsIn o.interned i ↔ IsIn x.interned i)
-      → ((n : ℕ) → Covers x.known n → Covers o.known n) → ((n : ℕ) → Covers x.interned n → Covers o.interned n) → z.member ≡ y → z.known ≡ o.known → z.interned ≡ o.interned
+      → ((n : ℕ) → Covers x.known n → Covers o.known n) → ((n : ℕ) → Covers x.interned n → Covers o.interned n) → z.member ≡ y → z.agents ≡ x.agents → z.known ≡ o.known → z.interned ≡ o.interned
       → IsHeld z × IsSame x.member z.member
-  right_held e o z known interned room calls_room member marks calls = (
+  right_held e o z known interned room calls_room member agents marks calls = (
     record {
       whole = subst (λ (m : Member). IsWhole m) (sym member) whole;
+      agents = agents ∙ (held.agents ∙ sym (ap (λ (m : Member). (view_if m.agent).agents) member ∙ ap (λ (v : View). v.agents) e));
       marked = subst (λ (m : Member). IsMarked (view_if m.agent) z.known z.interned (size_of (heap_of m)).ids) (sym member)
           (subst (λ (s : IdSet). IsMarked (view_if y.agent) s z.interned (size_of (heap_of y)).ids) (sym marks) (subst (λ (s : IdSet). IsMarked (view_if y.agent) o.known s (size_of (heap_of y)).ids) (sym calls)
           (subst (λ (n : ℕ). IsMarked (view_if y.agent) o.known o.interned n) (same_ids x.member y same) (record {
-        known = λ i h. subst (λ (v : View). HasKey v.units i) (sym e) (held.marked.known i ((known i).0 h));
-        calls = λ i h. let u = held.marked.calls i ((interned i).0 h) in (u.0, subst (λ (v : View). Contains (history v) (u.0, i)) (sym e) (Contains-append_left (history (view_by x)) [] (u.0, i) u.1));
-        calls_below = λ i h. held.marked.calls_below i ((interned i).0 h);
-        room = room (size_by x).ids held.marked.room;
-        calls_room = calls_room (size_by x).ids held.marked.calls_room;
-      }))));
+            known = λ i h. subst (λ (v : View). HasKey v.units i) (sym e) (held.marked.known i ((known i).0 h));
+            calls = λ i h. let u = held.marked.calls i ((interned i).0 h) in (u.0, subst (λ (v : View). Contains (history v) (u.0, i)) (sym e) (Contains-append_left (history (view_by x)) [] (u.0, i) u.1));
+            calls_below = λ i h. held.marked.calls_below i ((interned i).0 h);
+            room = room (size_by x).ids held.marked.room;
+            calls_room = calls_room (size_by x).ids held.marked.calls_room;
+          }))));
     },
-    subst (λ (m : Member). IsSame x.member m) (sym member) same)
+    subst (λ (m : Member). IsSame x.member m) (sym member) same,
+  )
 
 -- an answer of the string table, marked as both
 pub interned_held : (x : Held) (i : ℕ) (known interned : IdSet) → IsHeld x → HasKey (view_by x).units i → (u : List ℕ) × Contains (history (view_by x)) (u, i)
@@ -132,6 +136,7 @@ pub interned_held : (x : Held) (i : ℕ) (known interned : IdSet) → IsHeld x �
     → ((n : ℕ) → Covers x.interned n → Covers interned n) → ((j : ℕ) → IsIn interned j → (j ≡ i) ⊎ IsIn x.interned j) → IsHeld (record x { known = known; interned = interned })
 interned_held x i known interned held key call room only calls_room only_calls = record {
   whole = held.whole;
+  agents = held.agents;
   marked = record {
     known = λ j h. ⊎_elim (λ (e : j ≡ i). subst (λ (k : ℕ). HasKey (view_by x).units k) (sym e) key) (λ (a : IsIn x.known j). held.marked.known j a) (only j h);
     calls = λ j h. ⊎_elim (λ (e : j ≡ i). subst (λ (k : ℕ). (u : List ℕ) × Contains (history (view_by x)) (u, k)) (sym e) call) (λ (a : IsIn x.interned j). held.marked.calls j a) (only_calls j h);
@@ -140,3 +145,10 @@ interned_held x i known interned held key call room only calls_room only_calls =
     calls_room = calls_room (size_by x).ids held.marked.calls_room;
   };
 }
+
+share_in_view : (h : Heap) (a : Option Agent) → IsAgentOf h a → (view_if a).share ≡ share_if a
+share_in_view h None of = absurd of
+share_in_view h (Some a) of = of.4
+
+pub share_is : (x : Held) → IsHeld x → (view_by x).share ≡ share_by x
+share_is x held = share_in_view (heap_of x.member) x.member.agent held.whole.0

@@ -33,6 +33,7 @@ pub record IsMarked (v : View) (usable answered : IdSet) (ids : ℕ) : Type 0 wh
 
 pub record IsHeld (x : Held) : Type 0 where
   pub whole : IsWhole x.member
+  pub agents : x.agents ≡ (view_by x).agents
   pub marked : IsMarked (view_by x) x.known x.interned (size_by x).ids
 
 -- what was marked stays marked, and an agent keeps its numbers

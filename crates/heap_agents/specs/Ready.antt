@@ -1,5 +1,5 @@
 -- What the clauses of a handle's calls say of what lies behind it, where something does.
-use Rattle.std.specs.Prelude.{ℕ, Option, None, Some}
+use Rattle.std.specs.Prelude.{◌≡◌, ℕ, Option, None, Some}
 use Rattle.heap_rule.specs.Agents.{spent}
 use Rattle.heap_rule.specs.declared.size.HeapSize.{HeapSize}
 use Rattle.heap_rule.specs.declared.view.View.{View}
@@ -30,6 +30,11 @@ size_in (Some x) = size_by x
 abbrev pub limit_in : Option Held → ℕ
 limit_in None = 0
 limit_in (Some x) = x.member.limit
+
+-- it has the whole share
+abbrev pub HasWhole : Option Held → Type 0
+HasWhole None = ⊥
+HasWhole (Some x) = (view_by x).share ≡ (view_by x).agents
 
 -- two handles of one heap, and of one limit
 abbrev pub IsBeside : Option Held → Option Held → Type 0

@@ -32,8 +32,6 @@ pub record MemberSearched (x y : Member) : Type 0 where
   pub same : IsSame x y
   pub strings : KeepsStrings (view_if x.agent) (view_if y.agent)
 
-
-
 -- the units us come before vs, are the same, or come after them
 abbrev pub IsOrder : List ℕ → List ℕ → Ordering → Type 0
 IsOrder us vs Less = Precedes us vs

@@ -1,5 +1,5 @@
 // What was used of a heap, and an agent's share of it.
-ghost use Rattle.std.specs.Prelude.{◌≡◌};
+ghost use Rattle.std.specs.Prelude.{◌≡◌, ◌↔◌, IsTrue};
 ghost use Rattle.heap_rule.specs.declared.size.Counter.TheVariants as counter;
 ghost use Rattle.heap_rule.specs.Claims.{loaded_counter};
 ghost use Rattle.heap_rule.specs.Views.{history};
@@ -64,6 +64,15 @@ impl Held {
         ensures share { result ≡ share_by self.old }
     {
         share(&mut self.member)
+    }
+
+    /// Whether this agent has the whole share.
+    pub fn has_whole(&mut self) -> bool
+        requires held { IsHeld self.old }
+        ensures held { self.new ≡ self.old }
+        ensures whole { IsTrue result ↔ ((view_by self.old).share ≡ (view_by self.old).agents) }
+    {
+        self.share() == self.agents
     }
 
     /// The ids and the content words that were ever claimed, for an agent that has the whole share.

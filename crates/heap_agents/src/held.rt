@@ -12,12 +12,13 @@ use std::alloc::Global;
 use std::sync::Arc;
 use std::sync::atomic::AtomicU64;
 
-/// An agent of a heap, and beside it the ids that were answered to it, those of them that the string table
+/// An agent of a heap, and beside it how many agents the heap may have, the ids that were answered to it, those of them that the string table
 /// answered, its number and that of the agent that it was split off from. Numbers are counted by all
 /// agents of a heap together.
 #[derive(Drop)]
 pub struct Held {
     pub(crate) member: Member,
+    pub(crate) agents: u32,
     pub(crate) known: IdSet,
     pub(crate) interned: IdSet,
     pub(crate) numbers: Arc<AtomicU64, Global>,

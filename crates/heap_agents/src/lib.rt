@@ -14,5 +14,5 @@ mod reading;
 mod search;
 mod table;
 
-pub use held::Held;
 pub use heap_table::MakeFault;
+pub use held::Held;

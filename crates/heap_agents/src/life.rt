@@ -79,7 +79,12 @@ fn join_member(member: &mut Member, mut other: Member)
 
 impl Held {
     /// A heap of this size, and its first agent, which has the whole share.
-    pub fn make(alloc: Global, size: HeapSize, agents: u32, limit: u32) -> Result<Box<Held>, MakeFault>
+    pub fn make(
+        alloc: Global,
+        size: HeapSize,
+        agents: u32,
+        limit: u32,
+    ) -> Result<Box<Held>, MakeFault>
         ensures held { IfOk result (λ b. IsHeld b.value) }
         ensures view { IfOk result (λ b. view_by b.value ≡ first_view size agents) }
         ensures lawful { OnOk result (MayMake size agents × (limit ≤ MAX)) }
@@ -87,16 +92,17 @@ impl Held {
     {
         let ids = size.ids;
         let member = make_member(alloc, size, agents, limit)?;
-        match Held::first(alloc, member, ids) {
+        match Held::first(alloc, member, ids, agents) {
             Ok(held) => Ok(held),
             Err(_) => Err(MakeFault::Memory),
         }
     }
 
     // The first agent of a heap, by itself.
-    fn first(alloc: Global, member: Member, ids: u32) -> Result<Box<Held>, AllocError>
+    fn first(alloc: Global, member: Member, ids: u32, agents: u32) -> Result<Box<Held>, AllocError>
         requires whole { IsWhole member }
         requires ids { ids ≡ (size_of (heap_of member)).ids }
+        requires agents { agents ≡ (view_if member.agent).agents }
         ensures held { IfOk result (λ b. IsHeld b.value) }
         ensures member { IfOk result (λ b. b.value.member ≡ member) }
     {
@@ -105,6 +111,7 @@ impl Held {
         let numbers = Arc::new(alloc, AtomicU64::new(2))?;
         let held = Held {
             member,
+            agents,
             known,
             interned,
             numbers,
@@ -151,6 +158,7 @@ impl Held {
         ensures room { IfOk result (λ b. (n : ℕ) → Covers self.now.known n → Covers b.value.known n) }
         ensures calls_room { IfOk result
             (λ b. (n : ℕ) → Covers self.now.interned n → Covers b.value.interned n) }
+        ensures agents { IfOk result (λ b. b.value.agents ≡ self.now.agents) }
         ensures giver { IfOk result (λ b. b.value.giver ≡ self.now.number) }
     {
         let known = self.known.try_clone()?;
@@ -164,6 +172,7 @@ impl Held {
         };
         let held = Held {
             member,
+            agents: self.agents,
             known,
             interned,
             numbers,

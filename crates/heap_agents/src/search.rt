@@ -89,7 +89,12 @@ pub(crate) fn index_of(member: &mut Member, hay: JsStr, needle: JsStr, from: u32
     answer
 }
 
-pub(crate) fn last_index_of(member: &mut Member, hay: JsStr, needle: JsStr, limit: u32) -> Option<u32>
+pub(crate) fn last_index_of(
+    member: &mut Member,
+    hay: JsStr,
+    needle: JsStr,
+    limit: u32,
+) -> Option<u32>
     requires whole { IsWhole member.old }
     requires left { IsReadable (view_if member.old.agent) hay.id }
     requires right { IsReadable (view_if member.old.agent) needle.id }

@@ -23,6 +23,7 @@ pub(crate) fn intern(member: &mut Member, s: u32) -> Result<u32, TableFull>
     ensures whole { IsWhole member.new }
     ensures same { IsSame member.old member.new }
     ensures known { KeepsKnown (view_if member.old.agent) (view_if member.new.agent) }
+    ensures agents { (view_if member.new.agent).agents ≡ (view_if member.old.agent).agents }
     ensures calls { KeepsCalls (view_if member.old.agent) (view_if member.new.agent) }
     ensures entered { IfOk result
         (λ i. IsEntered (view_if member.old.agent) (view_if member.new.agent) s i) }
@@ -44,6 +45,7 @@ fn intern_by(reader: &mut Reader, s: u32) -> Result<u32, TableFull>
     requires settled { IsSettled (view_of reader.old.agent) s }
     ensures heap { reader.new.heap ≡ reader.old.heap }
     ensures known { KeepsKnown (view_of reader.old.agent) (view_of reader.new.agent) }
+    ensures agents { (view_of reader.new.agent).agents ≡ (view_of reader.old.agent).agents }
     ensures calls { KeepsCalls (view_of reader.old.agent) (view_of reader.new.agent) }
     ensures entered { IfOk result
         (λ i. IsEntered (view_of reader.old.agent) (view_of reader.new.agent) s i) }

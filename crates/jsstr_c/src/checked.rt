@@ -1,0 +1,5 @@
+// The calls that test their condition first, and answer `JSSTR_BAD_ARGUMENT` where it fails. A caller owes
+// them a handle that the library wrote, and nothing else.
+pub(crate) mod decoding;
+pub(crate) mod making;
+pub(crate) mod reading;
