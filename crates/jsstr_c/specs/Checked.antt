@@ -10,7 +10,7 @@ use Rattle.heap_text.specs.Settling.{IsNoRoom}
 use Rattle.heap_string_table.specs.declared.faults.TableFull.{TableFull}
 use Rattle.heap_string_table.specs.Answers.{Interns, IsPlan, Plan}
 use Rattle.heap_agents.specs.declared.held.Held.{Held}
-use Rattle.heap_agents.specs.Ready.{Goes, Knows, Searches, size_in, view_in}
+use Rattle.heap_agents.specs.Ready.{Goes, IsReady, Knows, Searches, giver_in, number_in, size_in, view_in}
 use Rattle.jsstr_c.specs.declared.answer.JsAnswer.{JsAnswer}
 use Rattle.jsstr_c.specs.Reports.{table_answer, text_answer, text_report}
 
@@ -40,3 +40,7 @@ IsRefused o p a b status = (r : JsAnswer) × (status ≡ r.status) × Goes o p �
 abbrev pub IsEnteredIn : Option Held → Option Held → ℕ → JsAnswer → Type 0
 IsEnteredIn o p s r = (m : View) × Continues (view_in o) m × ((us : List ℕ) → Has m.units s us
     → (plan : Plan) × (t : Result ℕ TableFull) × (r ≡ table_answer t) × IsPlan m (view_in p) s us plan × Interns m (view_in p) us plan t)
+
+-- both are there, and by their numbers the second one was split off from the first
+abbrev pub IsChild : Option Held → Option Held → Type 0
+IsChild o p = IsReady o × IsReady p × (giver_in p ≡ number_in o)

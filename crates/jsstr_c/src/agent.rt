@@ -2,7 +2,7 @@
 ghost use Rattle.std.specs.Prelude.{◌≡◌, ◌↔◌, IsTrue, None, Some};
 ghost use Rattle.heap_rule.specs.Maps.{HasKey};
 ghost use Rattle.heap_agents.specs.Held.{IsHeld};
-ghost use Rattle.heap_agents.specs.Ready.{HasInterned, IsReady, Knows, giver_in, number_in, share_in, view_in};
+ghost use Rattle.heap_agents.specs.Ready.{HasInterned, HasWhole, IsReady, Knows, giver_in, number_in, view_in};
 ghost use Rattle.jsstr_c.specs.Handles.{IsHandle};
 
 use crate::handle::Boxed;
@@ -64,6 +64,55 @@ impl JsAgent {
         let interned = held.has_interned(id);
         self.put(held);
         interned
+    }
+
+    /// Whether its agent has the whole share.
+    pub(crate) fn has_whole(&mut self, alloc: Global) -> bool
+        requires { IsHandle self.old }
+        ensures handle { IsHandle self.new }
+        ensures same { self.new.at.value ≡ self.old.at.value }
+        ensures whole { IsTrue result ↔ HasWhole self.old.at.value }
+        ensures ready { IsTrue result → IsReady self.new.at.value }
+    {
+        if self.is_empty() {
+            return false;
+        }
+        let mut held = self.take(alloc);
+        let whole = held.has_whole();
+        self.put(held);
+        whole
+    }
+
+    /// The number of its agent; 0 where there is none.
+    pub(crate) fn number(&mut self, alloc: Global) -> u64
+        requires { IsHandle self.old }
+        ensures handle { IsHandle self.new }
+        ensures same { self.new.at.value ≡ self.old.at.value }
+        ensures number { result ≡ number_in self.old.at.value }
+    {
+        if self.is_empty() {
+            return 0;
+        }
+        let held = self.take(alloc);
+        let number = held.number();
+        self.put(held);
+        number
+    }
+
+    /// The number of the agent that its agent was split off from; 0 where there is none.
+    pub(crate) fn giver(&mut self, alloc: Global) -> u64
+        requires { IsHandle self.old }
+        ensures handle { IsHandle self.new }
+        ensures same { self.new.at.value ≡ self.old.at.value }
+        ensures giver { result ≡ giver_in self.old.at.value }
+    {
+        if self.is_empty() {
+            return 0;
+        }
+        let held = self.take(alloc);
+        let giver = held.giver();
+        self.put(held);
+        giver
     }
 
     /// Whether its agent may use a string.

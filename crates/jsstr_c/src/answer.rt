@@ -3,7 +3,6 @@ ghost use Rattle.std.specs.Prelude.{◌≡◌, ◌≢◌};
 ghost use Rattle.jsstr_c.specs.Reports as reports;
 ghost use Rattle.jsstr_c.specs.Reports.{join_answer, order_number, place_answer, table_answer, text_answer};
 
-
 use heap_string_table::TableFull;
 use heap_table::CounterFull;
 use heap_text::{JoinFault, JsStr, TextFull};

@@ -71,7 +71,10 @@ pub extern "C" fn jsstr_equal(alloc: Global, agent: &mut JsAgent, a: u32, b: u32
 {
     let status = settle_both(alloc, agent, a, b);
     if status != DONE {
-        return JsTruth { status, holds: false };
+        return JsTruth {
+            status,
+            holds: false,
+        };
     }
     let holds = jsstr_equal_unchecked(alloc, agent, a, b);
     JsTruth {
@@ -108,7 +111,10 @@ pub extern "C" fn jsstr_starts_with(
 {
     let status = settle_both(alloc, agent, hay, needle);
     if status != DONE {
-        return JsTruth { status, holds: false };
+        return JsTruth {
+            status,
+            holds: false,
+        };
     }
     let holds = jsstr_starts_with_unchecked(alloc, agent, hay, needle, at);
     JsTruth {

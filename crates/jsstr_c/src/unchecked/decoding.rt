@@ -22,7 +22,11 @@ use std::alloc::Global;
 /// A new string of the text whose UTF-8 these bytes are, settled. Bytes that are none are refused
 /// before anything is done. It wants memory for the time of the call.
 #[unsafe(no_mangle)]
-pub extern "C" fn jsstr_from_utf8_unchecked(alloc: Global, agent: &mut JsAgent, bytes: &[u8]) -> JsAnswer
+pub extern "C" fn jsstr_from_utf8_unchecked(
+    alloc: Global,
+    agent: &mut JsAgent,
+    bytes: &[u8],
+) -> JsAnswer
     requires ready { IsReady agent.old.at.value }
     requires short { length bytes.now ≤ MAX }
     ensures handle { IsHandle agent.old → IsHandle agent.new }

@@ -24,7 +24,11 @@ use std::alloc::Global;
 
 /// A new string with these units, settled.
 #[unsafe(no_mangle)]
-pub extern "C" fn jsstr_from_units_unchecked(alloc: Global, agent: &mut JsAgent, units: &[u16]) -> JsAnswer
+pub extern "C" fn jsstr_from_units_unchecked(
+    alloc: Global,
+    agent: &mut JsAgent,
+    units: &[u16],
+) -> JsAnswer
     requires ready { IsReady agent.old.at.value }
     requires short { length units.now ≤ MAX }
     ensures handle { IsHandle agent.new }
@@ -50,7 +54,11 @@ pub extern "C" fn jsstr_from_units_unchecked(alloc: Global, agent: &mut JsAgent,
 
 /// A new string of one-byte units, as Latin-1 is, settled. It wants memory for the time of the call.
 #[unsafe(no_mangle)]
-pub extern "C" fn jsstr_from_latin1_unchecked(alloc: Global, agent: &mut JsAgent, bytes: &[u8]) -> JsAnswer
+pub extern "C" fn jsstr_from_latin1_unchecked(
+    alloc: Global,
+    agent: &mut JsAgent,
+    bytes: &[u8],
+) -> JsAnswer
     requires ready { IsReady agent.old.at.value }
     requires short { length bytes.now ≤ MAX }
     ensures handle { IsHandle agent.new }
@@ -77,7 +85,12 @@ pub extern "C" fn jsstr_from_latin1_unchecked(alloc: Global, agent: &mut JsAgent
 
 /// The units of one string, and then those of another.
 #[unsafe(no_mangle)]
-pub extern "C" fn jsstr_concat_unchecked(alloc: Global, agent: &mut JsAgent, a: u32, b: u32) -> JsAnswer
+pub extern "C" fn jsstr_concat_unchecked(
+    alloc: Global,
+    agent: &mut JsAgent,
+    a: u32,
+    b: u32,
+) -> JsAnswer
     requires ready { IsReady agent.old.at.value }
     requires known { HasKey (view_in agent.old.at.value).units a
         × HasKey (view_in agent.old.at.value).units b }

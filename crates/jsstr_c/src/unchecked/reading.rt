@@ -59,7 +59,13 @@ pub extern "C" fn jsstr_settle_unchecked(alloc: Global, agent: &mut JsAgent, s: 
 
 /// The units of a settled string from unit `from` on, as many as there is room for.
 #[unsafe(no_mangle)]
-pub extern "C" fn jsstr_read_unchecked(alloc: Global, agent: &mut JsAgent, s: u32, from: u32, out: &mut [u16])
+pub extern "C" fn jsstr_read_unchecked(
+    alloc: Global,
+    agent: &mut JsAgent,
+    s: u32,
+    from: u32,
+    out: &mut [u16],
+)
     requires ready { IsReady agent.old.at.value }
     requires settled { IsSettled (view_in agent.old.at.value) s }
     requires within { (us : List ℕ) × Has (view_in agent.old.at.value).units s us
