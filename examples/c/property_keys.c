@@ -52,9 +52,9 @@ int main(void) {
   for (int i = 0; i < THREADS; i++) {
     if (workers[i].failed) return 1;
     for (int name = 0; name < NAMES; name++) apart += workers[i].keys[name] != workers[0].keys[name];
-    if (i) jsstr_join(&workers[0].agent, &workers[i].agent);
+    if (i && jsstr_join(&workers[0].agent, &workers[i].agent) != JSSTR_DONE) return 1;
   }
-  printf("%u keys, %d apart\n", jsstr_count_interned(&workers[0].agent), apart);
+  printf("%u keys, %d apart\n", jsstr_count_interned(&workers[0].agent).value, apart);
   jsstr_free(&workers[0].agent);
   return apart != 0;
 }

@@ -28,13 +28,12 @@ int main(void) {
   pthread_t thread;
   if (pthread_create(&thread, NULL, build, &b)) return 1;
   pthread_join(thread, NULL);
-  jsstr_join(&reader, &b.agent);
+  if (jsstr_join(&reader, &b.agent) != JSSTR_DONE) return 1;
   if (b.rope.status != JSSTR_DONE) return 1;
   /* Here the reader knows what the builder made. */
-  if (jsstr_settle(&reader, b.rope.id).status != JSSTR_DONE) return 1;
-  uint32_t length = jsstr_length(&reader, b.rope.id);
+  uint32_t length = jsstr_length(&reader, b.rope.id).value;
   uint16_t last[5];
-  jsstr_read(&reader, b.rope.id, length - 5, last, 5);
+  if (jsstr_read(&reader, b.rope.id, length - 5, last, 5) != JSSTR_DONE) return 1;
   printf("%u units, the last are \"", length);
   for (int i = 0; i < 5; i++) putchar(last[i]);
   puts("\"");

@@ -21,7 +21,6 @@ static jsstr_id repeated(const char *text, int times) {
     CHECK(joined.status == JSSTR_DONE);
     all = joined.id;
   }
-  CHECK(jsstr_settle(&agent, all).status == JSSTR_DONE);
   return all;
 }
 
@@ -45,12 +44,18 @@ static void order(void) {
   for (int i = 0; i < count; i++)
     for (int j = 0; j < count; j++) {
       jsstr_id a = made(rows[i]), b = made(rows[j]);
-      CHECK(jsstr_compare(&agent, a, b) == (i > j) - (i < j));
-      CHECK(jsstr_equal(&agent, a, b) == (i == j));
+      CHECK(jsstr_compare(&agent, a, b).order == (i > j) - (i < j));
+      CHECK(jsstr_equal(&agent, a, b).holds == (i == j));
     }
   jsstr_id one = repeated("0123456789", 100), other = repeated("0123456789", 99);
-  CHECK(jsstr_compare(&agent, one, other) == 1 && jsstr_compare(&agent, other, one) == -1);
-  CHECK(jsstr_equal(&agent, one, repeated("0123456789", 100)) && !jsstr_equal(&agent, one, other));
+  CHECK(jsstr_compare(&agent, one, other).order == 1 && jsstr_compare(&agent, other, one).order == -1);
+  CHECK(jsstr_equal(&agent, one, repeated("0123456789", 100)).holds && !jsstr_equal(&agent, one, other).holds);
+}
+
+static bool starts(jsstr_id hay, const char *needle, uint32_t at) {
+  jsstr_truth truth = jsstr_starts_with(&agent, hay, made(needle), at);
+  CHECK(truth.status == JSSTR_DONE);
+  return truth.holds;
 }
 
 static void places(void) {
@@ -59,10 +64,10 @@ static void places(void) {
   CHECK(found(s, "", 0) == 0 && found(s, "", 6) == 6 && found(s, "bananas", 0) == -1);
   CHECK(found_last(s, "an", 6) == 3 && found_last(s, "an", 3) == 3 && found_last(s, "an", 2) == 1);
   CHECK(found_last(s, "an", 0) == -1 && found_last(s, "", 9) == 6 && found_last(s, "ban", UINT32_MAX) == 0);
-  CHECK(jsstr_starts_with(&agent, s, made("ban"), 0) && !jsstr_starts_with(&agent, s, made("ban"), 1));
-  CHECK(jsstr_starts_with(&agent, s, made("na"), 4) && !jsstr_starts_with(&agent, s, made("nan"), 4));
-  CHECK(jsstr_starts_with(&agent, s, made(""), 6) && !jsstr_starts_with(&agent, s, made(""), 7));
-  CHECK(!jsstr_starts_with(&agent, s, made("b"), UINT32_MAX));
+  CHECK(starts(s, "ban", 0) && !starts(s, "ban", 1));
+  CHECK(starts(s, "na", 4) && !starts(s, "nan", 4));
+  CHECK(starts(s, "", 6) && !starts(s, "", 7));
+  CHECK(!starts(s, "b", UINT32_MAX));
   jsstr_id as = repeated("aaaaaaaaab", 200);
   CHECK(found(as, "aaaaaaaaabaaaaaaaaab", 1) == 10 && found(as, "aaaaaaaaaa", 0) == -1);
   CHECK(found_last(as, "baaaaaaaaab", UINT32_MAX) == 1989);
@@ -73,15 +78,15 @@ static void kept(void) {
   jsstr_id s = made("kept"), t = made("kept");
   jsstr_answer one = jsstr_intern(&agent, s);
   CHECK(one.status == JSSTR_DONE);
-  jsstr_use before = jsstr_totals(&agent);
-  uint32_t lists = jsstr_count_interned(&agent);
-  CHECK(jsstr_equal(&agent, s, t) && jsstr_compare(&agent, s, one.id) == 0);
+  jsstr_used before = jsstr_totals(&agent);
+  uint32_t lists = jsstr_count_interned(&agent).value;
+  CHECK(jsstr_equal(&agent, s, t).holds && jsstr_compare(&agent, s, one.id).order == 0);
   CHECK(jsstr_index_of(&agent, s, t, 0).at == 0 && jsstr_last_index_of(&agent, s, t, 0).at == 0);
-  jsstr_use after = jsstr_totals(&agent);
+  jsstr_used after = jsstr_totals(&agent);
   CHECK(after.ids == before.ids && after.words == before.words);
-  CHECK(jsstr_count_interned(&agent) == lists && jsstr_share(&agent) == 1);
+  CHECK(jsstr_count_interned(&agent).value == lists && jsstr_share(&agent).value == 1);
   jsstr_answer other = jsstr_intern(&agent, t);
-  CHECK(other.status == JSSTR_DONE && jsstr_same(&agent, one.id, other.id));
+  CHECK(other.status == JSSTR_DONE && jsstr_same(&agent, one.id, other.id).holds);
 }
 
 static void utf8(void) {
@@ -89,20 +94,20 @@ static void utf8(void) {
   static const char text[] = "a\xC3\xA9\xE2\x82\xAC\xF0\x9F\x98\x80\xEF\xBF\xBF\xF4\x8F\xBF\xBF";
   jsstr_answer s = jsstr_from_utf8(&agent, (const uint8_t *)text, sizeof text);
   uint16_t got[9];
-  CHECK(s.status == JSSTR_DONE && jsstr_length(&agent, s.id) == 9);
-  jsstr_read(&agent, s.id, 0, got, 9);
+  CHECK(s.status == JSSTR_DONE && jsstr_length(&agent, s.id).value == 9);
+  CHECK(jsstr_read(&agent, s.id, 0, got, 9) == JSSTR_DONE);
   CHECK(memcmp(want, got, sizeof want) == 0);
   /* Bytes that are no UTF-8, and how many of them are. */
   static const struct { const char *bytes; uint32_t good; } bad[] = {
     {"\x80", 0}, {"ab\xFF", 2}, {"\xC3", 0}, {"a\xC3z", 1}, {"\xC0\x80", 0}, {"\xC1\xBF", 0},
     {"\xE2\x82", 0}, {"\xC3\xA9\xE2\x82", 2}, {"\xE0\x9F\xBF", 0}, {"\xED\xA0\x80", 0}, {"\xED\xBF\xBF", 0},
     {"abc\xF0\x8F\xBF\xBF", 3}, {"\xF4\x90\x80\x80", 0}, {"\xF5\x80\x80\x80", 0}, {"\xF0\x9F\x98\x80\xA9", 4}};
-  jsstr_use before = jsstr_totals(&agent);
+  jsstr_used before = jsstr_totals(&agent);
   for (size_t i = 0; i < sizeof bad / sizeof *bad; i++) {
     jsstr_answer none = jsstr_from_utf8(&agent, (const uint8_t *)bad[i].bytes, strlen(bad[i].bytes));
     CHECK(none.status == JSSTR_NOT_UTF8 && none.at == bad[i].good && none.id == 0);
   }
-  jsstr_use after = jsstr_totals(&agent);
+  jsstr_used after = jsstr_totals(&agent);
   CHECK(after.ids == before.ids && after.words == before.words);
 }
 

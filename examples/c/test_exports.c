@@ -1,4 +1,5 @@
-/* Every export, its refusals, and two threads that intern the same units. Prints "ok". */
+/* Every export in both forms, each refusal and each bad argument, and two threads that intern the same
+   units. Prints "ok". */
 #include "jsstr.h"
 #include <pthread.h>
 #include <stdio.h>
@@ -73,49 +74,48 @@ static void refuse_calls(void) {
   jsstr_answer words = jsstr_from_units(&agent, &x, 1);
   CHECK(words.status == JSSTR_NO_WORDS && words.at == 2 && words.want == 1 && words.end == 2);
   jsstr_answer empty = jsstr_from_units(&agent, &x, 0);
-  CHECK(empty.status == JSSTR_DONE && jsstr_length(&agent, empty.id) == 0);
+  CHECK(empty.status == JSSTR_DONE && jsstr_length(&agent, empty.id).value == 0);
   jsstr_answer same = jsstr_concat(&agent, empty.id, s);
   CHECK(same.status == JSSTR_DONE && same.id == s);
   jsstr_answer one = jsstr_intern(&agent, s);
-  CHECK(one.status == JSSTR_DONE && jsstr_count_interned(&agent) == 1);
+  CHECK(one.status == JSSTR_DONE && jsstr_count_interned(&agent).value == 1);
   jsstr_answer slots = jsstr_intern(&agent, empty.id);
   CHECK(slots.status == JSSTR_NO_SLOTS && slots.end == 1);
-  jsstr_use use = jsstr_totals(&agent);
-  CHECK(use.ids == 3 && use.words == 2);
+  jsstr_used use = jsstr_totals(&agent);
+  CHECK(use.status == JSSTR_DONE && use.ids == 3 && use.words == 2);
   jsstr_answer ids = jsstr_from_units(&agent, &x, 0);
   CHECK(ids.status == JSSTR_NO_IDS && ids.at == 3 && ids.want == 1 && ids.end == 3);
-  jsstr_free(&agent);
-  CHECK(!agent.at);
+  CHECK(jsstr_free(&agent) == JSSTR_DONE && !agent.at && !agent.live);
 }
 
 static void intern_by_two(void) {
   static job a, b;
   CHECK(jsstr_make((jsstr_size){20000, 60000, 4096}, 2, JSSTR_MAX_LENGTH, &a.agent) == JSSTR_DONE);
-  CHECK(jsstr_share(&a.agent) == 2);
+  CHECK(jsstr_share(&a.agent).value == 2);
   a.hello = b.hello = made(&a.agent, "Hello, ");
   b.from = KEYS / 2;
   CHECK(jsstr_split(&a.agent, 1, &b.agent) == JSSTR_DONE);
-  CHECK(jsstr_share(&a.agent) == 1 && jsstr_share(&b.agent) == 1);
+  CHECK(jsstr_share(&a.agent).value == 1 && jsstr_share(&b.agent).value == 1);
   pthread_t one, other;
   CHECK(!pthread_create(&one, 0, intern_keys, &a) && !pthread_create(&other, 0, intern_keys, &b));
   CHECK(!pthread_join(one, 0) && !pthread_join(other, 0));
   CHECK(memcmp(a.numbers, b.numbers, sizeof a.numbers) == 0);
-  jsstr_join(&a.agent, &b.agent);
-  CHECK(!b.agent.at && jsstr_share(&a.agent) == 2);
-  CHECK(jsstr_count_interned(&a.agent) == KEYS);
+  CHECK(jsstr_join(&a.agent, &b.agent) == JSSTR_DONE);
+  CHECK(!b.agent.at && jsstr_share(&a.agent).value == 2);
+  CHECK(jsstr_count_interned(&a.agent).value == KEYS);
   for (int key = 0; key < KEYS; key++) {
     uint16_t want[32], got[32];
     size_t n = key_units(key, want);
     jsstr_id s = a.numbers[key];
-    CHECK(jsstr_length(&a.agent, s) == n);
+    CHECK(jsstr_length(&a.agent, s).value == n);
     for (size_t from = 0; from <= n; from += 3) {
       memset(got, 0, sizeof got);
-      jsstr_read(&a.agent, s, (uint32_t)from, got, n - from);
+      CHECK(jsstr_read(&a.agent, s, (uint32_t)from, got, n - from) == JSSTR_DONE);
       CHECK(memcmp(want + from, got, (n - from) * 2) == 0 && got[n - from] == 0);
     }
   }
-  CHECK(jsstr_same(&a.agent, a.numbers[3], b.numbers[3]));
-  CHECK(!jsstr_same(&a.agent, a.numbers[3], b.numbers[4]));
+  CHECK(jsstr_same(&a.agent, a.numbers[3], b.numbers[3]).holds);
+  CHECK(!jsstr_same(&a.agent, a.numbers[3], b.numbers[4]).holds);
   jsstr_free(&a.agent);
 }
 
@@ -127,8 +127,8 @@ static void every_byte(void) {
   for (int i = 0; i < 256; i++) want[i] = bytes[i] = (uint8_t)i;
   CHECK(jsstr_make((jsstr_size){4, 64, 4}, 1, 256, &agent) == JSSTR_DONE);
   jsstr_answer s = jsstr_from_latin1(&agent, bytes, 256);
-  CHECK(s.status == JSSTR_DONE && jsstr_length(&agent, s.id) == 256);
-  jsstr_read(&agent, s.id, 0, got, 256);
+  CHECK(s.status == JSSTR_DONE && jsstr_length(&agent, s.id).value == 256);
+  CHECK(jsstr_read(&agent, s.id, 0, got, 256) == JSSTR_DONE);
   CHECK(memcmp(want, got, sizeof want) == 0 && jsstr_totals(&agent).words == 32);
   jsstr_answer t = jsstr_from_units(&agent, want, 256);
   CHECK(t.status == JSSTR_DONE && jsstr_intern(&agent, s.id).id == jsstr_intern(&agent, t.id).id);
@@ -142,13 +142,183 @@ static void free_in_any_order(void) {
   jsstr_id s = made(&a, "kept by the others");
   CHECK(jsstr_split(&a, 2, &b) == JSSTR_DONE && jsstr_split(&b, 1, &c) == JSSTR_DONE);
   jsstr_free(&a);
-  CHECK(jsstr_length(&c, s) == 18);
+  CHECK(jsstr_length(&c, s).value == 18);
   jsstr_free(&c);
-  CHECK(jsstr_length(&b, s) == 18);
+  CHECK(jsstr_length(&b, s).value == 18);
   jsstr_free(&b);
 }
 
+/* Each call with a handle of nothing. */
+static void refuse_empty(void) {
+  jsstr_agent none = {0}, out = {0};
+  uint16_t x = 'x';
+  uint8_t y = 'y';
+  CHECK(jsstr_free(&none) == JSSTR_BAD_ARGUMENT);
+  CHECK(jsstr_split(&none, 1, &out) == JSSTR_BAD_ARGUMENT && !out.at);
+  CHECK(jsstr_join(&none, &out) == JSSTR_BAD_ARGUMENT);
+  CHECK(jsstr_share(&none).status == JSSTR_BAD_ARGUMENT);
+  CHECK(jsstr_from_units(&none, &x, 1).status == JSSTR_BAD_ARGUMENT);
+  CHECK(jsstr_from_latin1(&none, &y, 1).status == JSSTR_BAD_ARGUMENT);
+  CHECK(jsstr_from_utf8(&none, &y, 1).status == JSSTR_BAD_ARGUMENT);
+  CHECK(jsstr_concat(&none, 0, 0).status == JSSTR_BAD_ARGUMENT);
+  CHECK(jsstr_slice(&none, 0, 0, 0).status == JSSTR_BAD_ARGUMENT);
+  CHECK(jsstr_length(&none, 0).status == JSSTR_BAD_ARGUMENT);
+  CHECK(jsstr_settle(&none, 0).status == JSSTR_BAD_ARGUMENT);
+  CHECK(jsstr_read(&none, 0, 0, &x, 1) == JSSTR_BAD_ARGUMENT && x == 'x');
+  CHECK(jsstr_compare(&none, 0, 0).status == JSSTR_BAD_ARGUMENT);
+  CHECK(jsstr_equal(&none, 0, 0).status == JSSTR_BAD_ARGUMENT);
+  CHECK(jsstr_starts_with(&none, 0, 0, 0).status == JSSTR_BAD_ARGUMENT);
+  CHECK(jsstr_index_of(&none, 0, 0, 0).status == JSSTR_BAD_ARGUMENT);
+  CHECK(jsstr_last_index_of(&none, 0, 0, 0).status == JSSTR_BAD_ARGUMENT);
+  CHECK(jsstr_intern(&none, 0).status == JSSTR_BAD_ARGUMENT);
+  CHECK(jsstr_same(&none, 0, 0).status == JSSTR_BAD_ARGUMENT);
+  CHECK(jsstr_totals(&none).status == JSSTR_BAD_ARGUMENT);
+  CHECK(jsstr_count_interned(&none).status == JSSTR_BAD_ARGUMENT);
+}
+
+/* Each call with a string that the agent doesn't know: one of another agent, one past the ids, a wild one. */
+static void refuse_strings(void) {
+  jsstr_agent a = {0}, b = {0};
+  uint16_t x = 'x';
+  CHECK(jsstr_make((jsstr_size){100, 100, 10}, 2, 1000, &a) == JSSTR_DONE);
+  jsstr_id s = made(&a, "known to both"), none[4];
+  CHECK(jsstr_split(&a, 1, &b) == JSSTR_DONE);
+  none[0] = made(&b, "of the other agent"), none[1] = 99, none[2] = 100, none[3] = UINT32_MAX;
+  for (int i = 0; i < 4; i++) {
+    jsstr_id u = none[i];
+    CHECK(jsstr_concat(&a, u, s).status == JSSTR_BAD_ARGUMENT);
+    CHECK(jsstr_concat(&a, s, u).status == JSSTR_BAD_ARGUMENT);
+    CHECK(jsstr_slice(&a, u, 0, 0).status == JSSTR_BAD_ARGUMENT);
+    CHECK(jsstr_length(&a, u).status == JSSTR_BAD_ARGUMENT);
+    CHECK(jsstr_settle(&a, u).status == JSSTR_BAD_ARGUMENT);
+    CHECK(jsstr_read(&a, u, 0, &x, 1) == JSSTR_BAD_ARGUMENT && x == 'x');
+    CHECK(jsstr_compare(&a, u, s).status == JSSTR_BAD_ARGUMENT);
+    CHECK(jsstr_compare(&a, s, u).status == JSSTR_BAD_ARGUMENT);
+    CHECK(jsstr_equal(&a, u, s).status == JSSTR_BAD_ARGUMENT);
+    CHECK(jsstr_equal(&a, s, u).status == JSSTR_BAD_ARGUMENT);
+    CHECK(jsstr_starts_with(&a, u, s, 0).status == JSSTR_BAD_ARGUMENT);
+    CHECK(jsstr_starts_with(&a, s, u, 0).status == JSSTR_BAD_ARGUMENT);
+    CHECK(jsstr_index_of(&a, u, s, 0).status == JSSTR_BAD_ARGUMENT);
+    CHECK(jsstr_index_of(&a, s, u, 0).status == JSSTR_BAD_ARGUMENT);
+    CHECK(jsstr_last_index_of(&a, u, s, 0).status == JSSTR_BAD_ARGUMENT);
+    CHECK(jsstr_last_index_of(&a, s, u, 0).status == JSSTR_BAD_ARGUMENT);
+    CHECK(jsstr_intern(&a, u).status == JSSTR_BAD_ARGUMENT);
+    CHECK(jsstr_same(&a, u, u).status == JSSTR_BAD_ARGUMENT);
+  }
+  CHECK(jsstr_length(&a, s).value == 13 && jsstr_length(&b, s).value == 13);
+  /* Known, and not an answer of the string table. */
+  CHECK(jsstr_same(&a, s, s).status == JSSTR_BAD_ARGUMENT);
+  jsstr_answer one = jsstr_intern(&a, s);
+  CHECK(one.status == JSSTR_DONE && jsstr_same(&a, one.id, one.id).holds);
+  jsstr_id t = made(&a, "another");
+  CHECK(jsstr_same(&a, one.id, t).status == JSSTR_BAD_ARGUMENT);
+  /* Neither agent has the whole share. */
+  CHECK(jsstr_totals(&a).status == JSSTR_BAD_ARGUMENT && jsstr_count_interned(&b).status == JSSTR_BAD_ARGUMENT);
+  CHECK(jsstr_join(&a, &b) == JSSTR_DONE && jsstr_length(&a, none[0]).value == 18);
+  CHECK(jsstr_totals(&a).status == JSSTR_DONE && jsstr_free(&a) == JSSTR_DONE);
+}
+
+static void refuse_parts(void) {
+  jsstr_agent a = {0};
+  uint16_t units[32] = {0};
+  CHECK(jsstr_make((jsstr_size){100, 100, 10}, 1, 1000, &a) == JSSTR_DONE);
+  jsstr_id s = made(&a, "0123456789"), rope = jsstr_concat(&a, s, s).id;
+  jsstr_id both[] = {s, rope};
+  for (uint32_t i = 0; i < 2; i++) {
+    uint32_t n = 10 * (i + 1);
+    CHECK(jsstr_slice(&a, both[i], 0, n + 1).status == JSSTR_BAD_ARGUMENT);
+    CHECK(jsstr_slice(&a, both[i], n + 1, n + 1).status == JSSTR_BAD_ARGUMENT);
+    CHECK(jsstr_slice(&a, both[i], 3, 2).status == JSSTR_BAD_ARGUMENT);
+    CHECK(jsstr_slice(&a, both[i], 0, UINT32_MAX).status == JSSTR_BAD_ARGUMENT);
+    CHECK(jsstr_read(&a, both[i], 0, units, n + 1) == JSSTR_BAD_ARGUMENT && units[0] == 0);
+    CHECK(jsstr_read(&a, both[i], n + 1, units, 0) == JSSTR_BAD_ARGUMENT);
+    CHECK(jsstr_read(&a, both[i], UINT32_MAX, units, 1) == JSSTR_BAD_ARGUMENT);
+    CHECK(jsstr_index_of(&a, both[i], s, n + 1).status == JSSTR_BAD_ARGUMENT);
+    jsstr_answer end = jsstr_slice(&a, both[i], n, n);
+    CHECK(end.status == JSSTR_DONE && jsstr_length(&a, end.id).value == 0);
+    CHECK(jsstr_read(&a, both[i], n, units, 0) == JSSTR_DONE);
+    CHECK(jsstr_index_of(&a, both[i], end.id, n).at == n);
+  }
+  CHECK(jsstr_from_units(&a, units, (size_t)JSSTR_MAX_LENGTH + 1).status == JSSTR_BAD_ARGUMENT);
+  CHECK(jsstr_from_latin1(&a, (uint8_t *)units, SIZE_MAX / 4).status == JSSTR_BAD_ARGUMENT);
+  CHECK(jsstr_from_utf8(&a, (uint8_t *)units, (size_t)JSSTR_MAX_LENGTH + 1).status == JSSTR_BAD_ARGUMENT);
+  CHECK(jsstr_free(&a) == JSSTR_DONE);
+}
+
+/* Agents of two heaps, of one that was joined, in the wrong order, of a copy, of the second generation. */
+static void refuse_joins(void) {
+  jsstr_agent a = {0}, b = {0}, c = {0}, d = {0}, e = {0};
+  jsstr_size size = {10, 10, 10};
+  CHECK(jsstr_make(size, 64, 9, &a) == JSSTR_DONE && jsstr_make(size, 64, 9, &d) == JSSTR_DONE);
+  CHECK(jsstr_make(size, 64, 9, &a) == JSSTR_BAD_ARGUMENT);
+  CHECK(jsstr_split(&a, 0, &b) == JSSTR_BAD_ARGUMENT && jsstr_split(&a, 64, &b) == JSSTR_BAD_ARGUMENT);
+  CHECK(jsstr_split(&a, 8, &d) == JSSTR_BAD_ARGUMENT && jsstr_share(&a).value == 64);
+  CHECK(jsstr_split(&a, 32, &b) == JSSTR_DONE && jsstr_split(&b, 16, &c) == JSSTR_DONE);
+  CHECK(jsstr_split(&d, 32, &e) == JSSTR_DONE);
+  CHECK(jsstr_join(&a, &e) == JSSTR_BAD_ARGUMENT && jsstr_join(&d, &b) == JSSTR_BAD_ARGUMENT);
+  CHECK(jsstr_join(&a, &d) == JSSTR_BAD_ARGUMENT && jsstr_join(&b, &a) == JSSTR_BAD_ARGUMENT);
+  CHECK(jsstr_join(&a, &c) == JSSTR_BAD_ARGUMENT && jsstr_join(&c, &b) == JSSTR_BAD_ARGUMENT);
+  CHECK(jsstr_share(&a).value == 32 && jsstr_share(&b).value == 16 && jsstr_share(&c).value == 16);
+  jsstr_agent copy = a;
+  CHECK(jsstr_join(&a, &copy) == JSSTR_BAD_ARGUMENT && a.live && copy.live);
+  CHECK(jsstr_join(&b, &c) == JSSTR_DONE && jsstr_join(&b, &c) == JSSTR_BAD_ARGUMENT);
+  CHECK(jsstr_join(&a, &b) == JSSTR_DONE && jsstr_share(&a).value == 64);
+  CHECK(jsstr_join(&d, &e) == JSSTR_DONE && jsstr_share(&d).value == 64);
+  CHECK(jsstr_free(&a) == JSSTR_DONE && jsstr_free(&a) == JSSTR_BAD_ARGUMENT && jsstr_free(&d) == JSSTR_DONE);
+  CHECK(jsstr_share(&a).status == JSSTR_BAD_ARGUMENT);
+}
+
+/* The same work by the calls that test nothing, and both forms by turns over one handle. */
+static void unchecked(void) {
+  jsstr_agent a = {0}, b = {0};
+  static const uint16_t units[] = {'u', 'n', 'i', 't', 's', ' ', 'o', 'f', ' ', 'o', 'n', 'e', ' ', 'r', 'o', 'p', 'e'};
+  uint16_t got[17];
+  CHECK(jsstr_make_unchecked((jsstr_size){100, 100, 10}, 2, 1000, &a) == JSSTR_DONE);
+  jsstr_id one = jsstr_from_units_unchecked(&a, units, 9).id;
+  jsstr_id other = jsstr_from_latin1_unchecked(&a, (const uint8_t *)"one rope", 8).id;
+  CHECK(jsstr_from_utf8_unchecked(&a, (const uint8_t *)"\xC3\xA9", 2).status == JSSTR_DONE);
+  jsstr_id all = jsstr_concat_unchecked(&a, one, other).id;
+  CHECK(jsstr_length_unchecked(&a, all) == 17 && jsstr_length(&a, all).value == 17);
+  CHECK(jsstr_settle_unchecked(&a, all).id == all);
+  jsstr_read_unchecked(&a, all, 0, got, 17);
+  CHECK(memcmp(units, got, sizeof got) == 0);
+  jsstr_id part = jsstr_slice_unchecked(&a, all, 9, 17).id;
+  CHECK(jsstr_equal_unchecked(&a, part, other) && jsstr_compare_unchecked(&a, part, all) == -1);
+  CHECK(jsstr_starts_with_unchecked(&a, all, part, 9) && jsstr_index_of_unchecked(&a, all, part, 0).at == 9);
+  CHECK(jsstr_last_index_of_unchecked(&a, all, part, 17).at == 9 && jsstr_index_of(&a, all, part, 0).at == 9);
+  CHECK(jsstr_share_unchecked(&a) == 2);
+  CHECK(jsstr_split_unchecked(&a, 1, &b) == JSSTR_DONE && jsstr_equal(&b, part, other).holds);
+  jsstr_id i = jsstr_intern_unchecked(&b, part).id, j = jsstr_intern(&b, other).id;
+  CHECK(jsstr_same_unchecked(&b, i, j) && jsstr_same(&b, i, j).holds);
+  CHECK(jsstr_same(&a, i, j).status == JSSTR_BAD_ARGUMENT);
+  jsstr_join_unchecked(&a, &b);
+  CHECK(!b.at && !b.live && jsstr_same(&a, i, j).holds);
+  CHECK(jsstr_count_interned_unchecked(&a) == 1 && jsstr_totals_unchecked(&a).ids == jsstr_totals(&a).ids);
+  jsstr_free_unchecked(&a);
+  CHECK(!a.at && !a.live);
+}
+
+/* A rope that can't be settled for want of words: what needs it settled is refused, and the rope stays. */
+static void refuse_settling(void) {
+  jsstr_agent a = {0};
+  uint16_t got[16];
+  CHECK(jsstr_make((jsstr_size){10, 2, 1}, 1, 100, &a) == JSSTR_DONE);
+  jsstr_id s = made(&a, "12345678"), rope = jsstr_concat(&a, s, s).id, t = jsstr_concat(&a, rope, s).id;
+  CHECK(jsstr_settle(&a, t).status == JSSTR_NO_WORDS && jsstr_slice(&a, t, 1, 20).status == JSSTR_NO_WORDS);
+  CHECK(jsstr_read(&a, t, 0, got, 16) == JSSTR_NO_WORDS && jsstr_compare(&a, s, t).status == JSSTR_NO_WORDS);
+  CHECK(jsstr_equal(&a, t, s).status == JSSTR_NO_WORDS && jsstr_intern(&a, t).status == JSSTR_NO_WORDS);
+  CHECK(jsstr_starts_with(&a, t, s, 0).status == JSSTR_NO_WORDS && jsstr_index_of(&a, t, s, 0).status == JSSTR_NO_WORDS);
+  CHECK(jsstr_last_index_of(&a, t, s, 9).status == JSSTR_NO_WORDS && jsstr_length(&a, t).value == 24);
+  CHECK(jsstr_free(&a) == JSSTR_DONE);
+}
+
 int main(void) {
+  refuse_empty();
+  refuse_strings();
+  refuse_parts();
+  refuse_joins();
+  refuse_settling();
+  unchecked();
   refuse_sizes();
   refuse_calls();
   intern_by_two();

@@ -5,8 +5,8 @@ use Rattle.std_alloc.proofs.BoxSteps.Form.{Bx}
 use Rattle.std_heap.specs.contracts.Global as Global
 use Rattle.std_heap.specs.contracts.GlobalAllocator.TheImpl.{ghosts, dict}
 use Rattle.std_heap.proofs.Global.TheLaws as global
-use Rattle.jsstr_c.specs.contracts.held.Held as Held
-use Rattle.jsstr_c.proofs.held.Held.TheLaws as held
+use Rattle.heap_agents.specs.contracts.held.Held as Held
+use Rattle.heap_agents.proofs.held.Held.TheLaws as held
 
 abbrev pub Inner : Bx
 Inner = record {

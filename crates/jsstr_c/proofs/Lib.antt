@@ -1,7 +1,5 @@
 pub mod Walks
 pub mod Boxed
 pub mod Ready
-pub mod Interned
-pub mod Settled
+pub mod Going
 pub mod Decoded
-pub mod Searched

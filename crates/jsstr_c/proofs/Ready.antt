@@ -3,8 +3,9 @@ use Rattle.std.proofs.Common.{◌≡◌, refl, Option, None, Some}
 use Rattle.heap_rule.specs.Sound.{IsPossible}
 use Rattle.heap_table.specs.declared.agent.Agent.{Agent}
 use Rattle.heap_table.specs.declared.heap.Heap.{Heap}
-use Rattle.jsstr_c.specs.declared.held.Held.{Held}
-use Rattle.jsstr_c.specs.Ready.{IsAgentOf, IsReady, heap_of, view_if, view_in}
+use Rattle.heap_agents.specs.declared.held.Held.{Held}
+use Rattle.heap_agents.specs.Members.{IsAgentOf, heap_of, view_if}
+use Rattle.heap_agents.specs.Ready.{IsReady, view_in}
 
 pub something : (o : Option Held) → IsReady o → (x : Held) × (o ≡ Some x)
 something None r = absurd r
@@ -16,4 +17,4 @@ may_be h (Some a) r = r.5
 
 pub possible : (o : Option Held) → IsReady o → IsPossible (view_in o)
 possible None r = absurd r
-possible (Some x) r = may_be (heap_of x) x.agent r.0
+possible (Some x) r = may_be (heap_of x.member) x.member.agent r.whole.0

@@ -1,7 +1,5 @@
+pub mod Owned
 pub mod Handles
-pub mod Ready
-pub mod Kept
-pub mod Interned
 pub mod Reports
-pub mod Searched
 pub mod Decoded
+pub mod Checked

@@ -1,5 +1,7 @@
 -- The numbers of refusals, and what an answer tells of each.
-use Rattle.std.specs.Prelude.{ℕ, Result, Ok, Err}
+use Rattle.std.specs.Prelude.{ℕ, ℤ, pos, negsuc, Option, Some, None, Result, Ok, Err}
+use Rattle.std.specs.declared.cmp.Ordering.{Ordering}
+use Rattle.std.specs.declared.cmp.Ordering.TheVariants.{Less, Equal, Greater}
 use Rattle.heap_read.specs.declared.string.JsStr.{JsStr}
 use Rattle.heap_text.specs.declared.faults.JoinFault.{JoinFault}
 use Rattle.heap_text.specs.declared.faults.JoinFault.TheVariants.{TooLong, Full}
@@ -9,7 +11,8 @@ use Rattle.heap_string_table.specs.declared.faults.TableFull.{TableFull}
 use Rattle.heap_string_table.specs.declared.faults.TableFull.TheVariants as table
 use Rattle.heap_rule.specs.declared.size.HeapSize.{HeapSize}
 use Rattle.jsstr_c.specs.declared.answer.JsAnswer.{JsAnswer}
-use Rattle.jsstr_c.specs.declared.life.JsSize.{JsSize}
+use Rattle.jsstr_c.specs.declared.answer.JsPlace.{JsPlace}
+use Rattle.jsstr_c.specs.declared.answer.JsSize.{JsSize}
 
 abbrev pub DONE : ℕ
 DONE = 0
@@ -37,6 +40,9 @@ NONE = 7
 
 abbrev pub NOT_UTF8 : ℕ
 NOT_UTF8 = 8
+
+abbrev pub BAD_ARGUMENT : ℕ
+BAD_ARGUMENT = 9
 
 abbrev pub done : ℕ → JsAnswer
 done id = record { status = DONE; id = id; at = 0; want = 0; end = 0 }
@@ -76,3 +82,16 @@ not_utf8 n = record { status = NOT_UTF8; id = 0; at = n; want = 0; end = 0 }
 -- the sizes that C gives, as those of a heap
 abbrev pub size_for : JsSize → HeapSize
 size_for z = record { ids = z.ids; words = z.words; slots = z.slots }
+
+-- the condition of the call doesn't hold
+abbrev pub bad_argument : JsAnswer
+bad_argument = record { status = BAD_ARGUMENT; id = 0; at = 0; want = 0; end = 0 }
+
+abbrev pub order_number : Ordering → ℤ
+order_number Less = negsuc 0
+order_number Equal = pos 0
+order_number Greater = pos 1
+
+abbrev pub place_answer : Option ℕ → JsPlace
+place_answer (Some k) = record { status = DONE; at = k }
+place_answer None = record { status = NONE; at = 0 }

@@ -1,8 +1,7 @@
 // What a call answers.
-ghost use Rattle.std.specs.Prelude.{◌≡◌};
+ghost use Rattle.std.specs.Prelude.{◌≡◌, ◌≢◌};
 ghost use Rattle.jsstr_c.specs.Reports as reports;
-ghost use Rattle.jsstr_c.specs.Reports.{join_answer, table_answer, text_answer};
-ghost use Rattle.jsstr_c.specs.Searched.{order_number, place_answer};
+ghost use Rattle.jsstr_c.specs.Reports.{join_answer, order_number, place_answer, table_answer, text_answer};
 
 use heap_string_table::TableFull;
 use heap_table::CounterFull;
@@ -27,6 +26,25 @@ const NONE: u32 = 7;
 
 const NOT_UTF8: u32 = 8;
 
+pub(crate) const BAD_ARGUMENT: u32 = 9;
+
+/// How many ids, content words and slots of the string table a heap has.
+#[repr(C)]
+#[derive(Clone, Copy)]
+pub struct JsSize {
+    pub ids: u32,
+    pub words: u32,
+    pub slots: u32,
+}
+
+/// How many ids and content words of a heap were used.
+#[repr(C)]
+#[derive(Clone, Copy)]
+pub struct JsUse {
+    pub ids: u32,
+    pub words: u32,
+}
+
 /// A status, and at 0 the string. Where a counter was full, `at`, `want` and `end` are its report;
 /// where two strings would be too long, `at` and `want` are their lengths; where bytes are no UTF-8,
 /// `at` is how many of them are.
@@ -38,6 +56,39 @@ pub struct JsAnswer {
     pub at: u32,
     pub want: u32,
     pub end: u32,
+}
+
+/// A status, and at 0 a number.
+#[repr(C)]
+#[derive(Clone, Copy)]
+pub struct JsNumber {
+    pub status: u32,
+    pub value: u32,
+}
+
+/// A status, and at 0 the order of two strings: -1, 0 or 1.
+#[repr(C)]
+#[derive(Clone, Copy)]
+pub struct JsOrder {
+    pub status: u32,
+    pub order: i32,
+}
+
+/// A status, and at 0 whether something holds.
+#[repr(C)]
+#[derive(Clone, Copy)]
+pub struct JsTruth {
+    pub status: u32,
+    pub holds: bool,
+}
+
+/// A status, and at 0 how many ids and content words of a heap were used.
+#[repr(C)]
+#[derive(Clone, Copy)]
+pub struct JsTotals {
+    pub status: u32,
+    pub ids: u32,
+    pub words: u32,
 }
 
 /// A status, and at 0 the place; where there is none, `at` is 0.
@@ -77,7 +128,8 @@ fn report(full: TextFull) -> JsAnswer
 }
 
 pub(crate) fn of_text(answer: Result<JsStr, TextFull>) -> JsAnswer
-    ensures { result ≡ text_answer answer }
+    ensures value { result ≡ text_answer answer }
+    ensures told { result.status ≢ reports.BAD_ARGUMENT }
 {
     match answer {
         Ok(s) => done(s),
@@ -86,7 +138,8 @@ pub(crate) fn of_text(answer: Result<JsStr, TextFull>) -> JsAnswer
 }
 
 pub(crate) fn of_join(answer: Result<JsStr, JoinFault>) -> JsAnswer
-    ensures { result ≡ join_answer answer }
+    ensures value { result ≡ join_answer answer }
+    ensures told { result.status ≢ reports.BAD_ARGUMENT }
 {
     match answer {
         Ok(s) => done(s),
@@ -102,7 +155,8 @@ pub(crate) fn of_join(answer: Result<JsStr, JoinFault>) -> JsAnswer
 }
 
 pub(crate) fn of_table(answer: Result<u32, TableFull>) -> JsAnswer
-    ensures { result ≡ table_answer answer }
+    ensures value { result ≡ table_answer answer }
+    ensures told { result.status ≢ reports.BAD_ARGUMENT }
 {
     let (status, full) = match answer {
         Ok(id) => return done(JsStr { id }),
@@ -123,6 +177,18 @@ pub(crate) fn of_table(answer: Result<u32, TableFull>) -> JsAnswer
         at: full.at,
         want: full.want,
         end: full.end,
+    }
+}
+
+pub(crate) fn bad_argument() -> JsAnswer
+    ensures { result ≡ reports.bad_argument }
+{
+    JsAnswer {
+        status: BAD_ARGUMENT,
+        id: 0,
+        at: 0,
+        want: 0,
+        end: 0,
     }
 }
 

@@ -1,20 +1,17 @@
-//! The heap of strings for C: each export is a call of `heap_table`, `heap_text`, `heap_string_table`
-//! or, over a session, of `js_search`, and states its clauses again.
+//! The heap of strings for C: each export is a call of `heap_agents`, and states its clauses again. Each
+//! call is there twice: [`checked`] tests the condition first, and answers `JSSTR_BAD_ARGUMENT` where it
+//! fails; [`unchecked`], whose names end so, leaves it to the caller.
 //!
-//! C holds an agent by a handle, [`handle::JsAgent`], which is one pointer; behind it stand the agent
-//! and a counted reference to its heap, so that the heap goes with the last handle. A string is its
-//! number. What a call answers is a [`answer::JsAnswer`]: a status, with the string or with the report.
+//! C holds an agent by a handle, [`agent::JsAgent`], with a pointer; behind it stand the agent, a counted
+//! reference to its heap, so that the heap goes with the last handle, and the marks of the strings that
+//! the agent may use. A string is its number. What a call answers is a [`answer::JsAnswer`]: a status,
+//! with the string or with the report.
 #![tactic(auto)]
 
+mod agent;
 mod answer;
-mod counts;
+mod checked;
 mod decoding;
 mod handle;
-mod held;
-mod life;
-mod making;
 mod parts;
-mod reading;
-mod search;
-mod table;
-mod uses;
+mod unchecked;

@@ -1,0 +1,4 @@
+pub mod Interned
+pub mod Settled
+pub mod Searched
+pub mod Marks

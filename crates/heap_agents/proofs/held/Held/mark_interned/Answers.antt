@@ -1,0 +1,15 @@
+use Rattle.heap_agents.specs.Held.{size_by}
+use Rattle.heap_agents.proofs.Marks.{below, interned_held}
+use Rattle.heap_agents.proofs.held.Held.mark_interned.Goals as goal
+
+pub returns-clause-held : goal.returns-clause-held
+returns-clause-held c = let a = c.add.ensures in let b = c.add-2.ensures in
+    interned_held c.args.self.now c.args.id c.add.new.self c.add-2.new.self c.requires.held c.requires.known c.requires.call a.room a.only b.room b.only
+
+pub returns-clause-marked : goal.returns-clause-marked
+returns-clause-marked c = let x = c.args.self.now in
+    c.add.ensures.there (size_by x).ids c.requires.held.marked.room (below x c.requires.held c.args.id c.requires.known)
+
+pub returns-clause-interned : goal.returns-clause-interned
+returns-clause-interned c = let x = c.args.self.now in
+    c.add-2.ensures.there (size_by x).ids c.requires.held.marked.calls_room (below x c.requires.held c.args.id c.requires.known)

@@ -1,0 +1,58 @@
+-- What is kept at run time beside an agent: which ids it may use, which of them are answers of the string table, and the
+-- numbers by which a join is told to be lawful.
+use Rattle.std.specs.Prelude.{◌≡◌, ℕ, ◌<◌, List, Contains}
+use Rattle.heap_rule.specs.Maps.{HasKey}
+use Rattle.heap_rule.specs.Views.{history}
+use Rattle.heap_rule.specs.declared.size.HeapSize.{HeapSize}
+use Rattle.heap_rule.specs.declared.view.View.{View}
+use Rattle.heap_table.specs.Agents.{size_of}
+use Rattle.heap_read.specs.Reads.{Continues}
+use Rattle.id_set.specs.declared.IdSet.{IdSet}
+use Rattle.id_set.specs.Sets.{Covers, IsIn}
+use Rattle.heap_agents.specs.declared.held.Held.{Held}
+use Rattle.heap_agents.specs.Members.{IsSame, IsWhole, heap_of, share_if, view_if}
+use Rattle.heap_agents.specs.Searched.{KeepsStrings}
+
+-- what its agent knows, its share, and the sizes of its heap
+abbrev pub view_by : Held → View
+view_by x = view_if x.member.agent
+
+abbrev pub share_by : Held → ℕ
+share_by x = share_if x.member.agent
+
+abbrev pub size_by : Held → HeapSize
+size_by x = size_of (heap_of x.member)
+
+-- each marked id is known to the agent, and each that is marked as interned stands in a known call of the string table
+pub record IsMarked (v : View) (usable answered : IdSet) (ids : ℕ) : Type 0 where
+  pub known : (i : ℕ) → IsIn usable i → HasKey v.units i
+  pub calls : (i : ℕ) → IsIn answered i → (u : List ℕ) × Contains (history v) (u, i)
+  pub calls_below : (i : ℕ) → IsIn answered i → i < ids
+  pub room : Covers usable ids
+  pub calls_room : Covers answered ids
+
+pub record IsHeld (x : Held) : Type 0 where
+  pub whole : IsWhole x.member
+  pub agents : x.agents ≡ (view_by x).agents
+  pub marked : IsMarked (view_by x) x.known x.interned (size_by x).ids
+
+-- what was marked stays marked, and an agent keeps its numbers
+pub record KeepsMarks (x y : Held) : Type 0 where
+  pub known : (i : ℕ) → IsIn x.known i → IsIn y.known i
+  pub interned : (i : ℕ) → IsIn x.interned i → IsIn y.interned i
+  pub number : y.number ≡ x.number
+  pub giver : y.giver ≡ x.giver
+
+-- what a call on strings leaves
+pub record Leaves (x y : Held) : Type 0 where
+  pub held : IsHeld y
+  pub same : IsSame x.member y.member
+  pub continues : Continues (view_by x) (view_by y)
+  pub marks : KeepsMarks x y
+
+-- what a search leaves
+pub record Searched (x y : Held) : Type 0 where
+  pub held : IsHeld y
+  pub same : IsSame x.member y.member
+  pub strings : KeepsStrings (view_by x) (view_by y)
+  pub marks : KeepsMarks x y

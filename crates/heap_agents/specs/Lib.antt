@@ -1,0 +1,5 @@
+pub mod Members
+pub mod Interned
+pub mod Searched
+pub mod Held
+pub mod Ready

@@ -1,0 +1,78 @@
+-- What the clauses of a handle's calls say of what lies behind it, where something does.
+use Rattle.std.specs.Prelude.{◌≡◌, ℕ, Option, None, Some}
+use Rattle.heap_rule.specs.Agents.{spent}
+use Rattle.heap_rule.specs.declared.size.HeapSize.{HeapSize}
+use Rattle.heap_rule.specs.declared.view.View.{View}
+use Rattle.id_set.specs.Sets.{IsIn}
+use Rattle.heap_agents.specs.declared.held.Held.{Held}
+use Rattle.heap_agents.specs.Held.{IsHeld, KeepsMarks, Leaves, Searched, share_by, size_by, view_by}
+use Rattle.heap_agents.specs.Members.{IsSame}
+
+-- a handle that a call may be made with
+abbrev pub IsReady : Option Held → Type 0
+IsReady None = ⊥
+IsReady (Some x) = IsHeld x
+
+-- what its agent knows, and its share
+abbrev pub view_in : Option Held → View
+view_in None = spent
+view_in (Some x) = view_by x
+
+abbrev pub share_in : Option Held → ℕ
+share_in None = 0
+share_in (Some x) = share_by x
+
+-- the sizes of its heap, and the limit of the strings that it joins
+abbrev pub size_in : Option Held → HeapSize
+size_in None = record { ids = 0; words = 0; slots = 0 }
+size_in (Some x) = size_by x
+
+abbrev pub limit_in : Option Held → ℕ
+limit_in None = 0
+limit_in (Some x) = x.member.limit
+
+-- it has the whole share
+abbrev pub HasWhole : Option Held → Type 0
+HasWhole None = ⊥
+HasWhole (Some x) = (view_by x).share ≡ (view_by x).agents
+
+-- two handles of one heap, and of one limit
+abbrev pub IsBeside : Option Held → Option Held → Type 0
+IsBeside None _ = ⊥
+IsBeside (Some x) None = ⊥
+IsBeside (Some x) (Some y) = IsSame x.member y.member
+
+-- what every call leaves of what is marked
+abbrev pub MarksStay : Option Held → Option Held → Type 0
+MarksStay None _ = ⊥
+MarksStay (Some x) None = ⊥
+MarksStay (Some x) (Some y) = KeepsMarks x y
+
+abbrev pub Goes : Option Held → Option Held → Type 0
+Goes None _ = ⊥
+Goes (Some x) None = ⊥
+Goes (Some x) (Some y) = Leaves x y
+
+abbrev pub Searches : Option Held → Option Held → Type 0
+Searches None _ = ⊥
+Searches (Some x) None = ⊥
+Searches (Some x) (Some y) = Searched x y
+
+-- the agent may use this id: no other is answered by a call, nor taken over
+abbrev pub Knows : Option Held → ℕ → Type 0
+Knows None i = ⊥
+Knows (Some x) i = IsIn x.known i
+
+-- an answer of the string table that the agent knows
+abbrev pub HasInterned : Option Held → ℕ → Type 0
+HasInterned None i = ⊥
+HasInterned (Some x) i = IsIn x.interned i
+
+-- the number of an agent, which no other agent of its heap has, and that of the agent that it was split off from
+abbrev pub number_in : Option Held → ℕ
+number_in None = 0
+number_in (Some x) = x.number
+
+abbrev pub giver_in : Option Held → ℕ
+giver_in None = 0
+giver_in (Some x) = x.giver

@@ -1,0 +1,70 @@
+// An agent with what is kept at run time of the ids that it may use.
+ghost use Rattle.std.specs.Prelude.{◌≡◌, ◌↔◌, ℕ, List, Contains, IsTrue};
+ghost use Rattle.heap_rule.specs.Maps.{HasKey};
+ghost use Rattle.heap_rule.specs.Views.{history};
+ghost use Rattle.heap_agents.specs.Held.{IsHeld, KeepsMarks, view_by};
+ghost use Rattle.heap_agents.specs.Members.{view_if};
+ghost use Rattle.id_set.specs.Sets.{IsIn};
+
+use crate::member::Member;
+use id_set::IdSet;
+use std::alloc::Global;
+use std::sync::Arc;
+use std::sync::atomic::AtomicU64;
+
+/// An agent of a heap, and beside it how many agents the heap may have, the ids that were answered to it, those of them that the string table
+/// answered, its number and that of the agent that it was split off from. Numbers are counted by all
+/// agents of a heap together.
+#[derive(Drop)]
+pub struct Held {
+    pub(crate) member: Member,
+    pub(crate) agents: u32,
+    pub(crate) known: IdSet,
+    pub(crate) interned: IdSet,
+    pub(crate) numbers: Arc<AtomicU64, Global>,
+    pub(crate) number: u64,
+    pub(crate) giver: u64,
+}
+
+impl Held {
+    /// Whether the agent may use a string.
+    pub fn knows(&self, id: u32) -> bool
+        ensures { IsTrue result ↔ IsIn self.now.known id }
+    {
+        self.known.has(id)
+    }
+
+    /// Whether a string is an answer of the string table that the agent knows.
+    pub fn has_interned(&self, id: u32) -> bool
+        ensures { IsTrue result ↔ IsIn self.now.interned id }
+    {
+        self.interned.has(id)
+    }
+
+    // Marks a string that the agent knows.
+    pub(crate) fn mark(&mut self, id: u32)
+        requires held { IsHeld self.old }
+        requires known { HasKey (view_by self.old).units id }
+        ensures held { IsHeld self.new }
+        ensures member { self.new.member ≡ self.old.member }
+        ensures marks { KeepsMarks self.old self.new }
+        ensures marked { IsIn self.new.known id }
+    {
+        self.known.add(id);
+    }
+
+    // Marks an answer of the string table.
+    pub(crate) fn mark_interned(&mut self, id: u32)
+        requires held { IsHeld self.old }
+        requires known { HasKey (view_by self.old).units id }
+        requires call { (u : List ℕ) × Contains (history (view_by self.old)) (u, id) }
+        ensures held { IsHeld self.new }
+        ensures member { self.new.member ≡ self.old.member }
+        ensures marks { KeepsMarks self.old self.new }
+        ensures marked { IsIn self.new.known id }
+        ensures interned { IsIn self.new.interned id }
+    {
+        self.known.add(id);
+        self.interned.add(id);
+    }
+}

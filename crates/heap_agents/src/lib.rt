@@ -1,0 +1,18 @@
+//! Agents of the heap as a program in another language holds them: each with a counted reference to its
+//! heap, and with a mark for each string that it may use, so that a call can be tested before it is made.
+//!
+//! A [`Held`] is made by [`Held::make`] and by [`Held::split`]. Its calls are those of `heap_table`,
+//! `heap_text`, `heap_string_table` and `js_search`, and mark each string that they answer.
+#![tactic(auto)]
+
+mod counts;
+mod held;
+mod life;
+mod making;
+mod member;
+mod reading;
+mod search;
+mod table;
+
+pub use heap_table::MakeFault;
+pub use held::Held;

@@ -1,0 +1,120 @@
+// Reading strings: their lengths and units.
+ghost use Rattle.std.specs.Prelude.{◌≡◌, ◌≢◌, ℕ, ◌+◌, ◌≤◌, ◌<◌, List, length, slice_range, IfOk, IfErr, Bool};
+ghost use Rattle.heap_read.specs.Reads.{Reads};
+ghost use Rattle.heap_rule.specs.Maps.{Has, HasKey};
+ghost use Rattle.heap_rule.specs.Views.{IsSettled};
+ghost use Rattle.heap_table.specs.Agents.{Belongs, size_of, view_of};
+ghost use Rattle.heap_text.specs.declared.faults.TextFull as text_full;
+ghost use Rattle.heap_text.specs.Settling.{IsNoRoom};
+ghost use Rattle.heap_agents.specs.Held.{IsHeld, Leaves, size_by, view_by};
+ghost use Rattle.id_set.specs.Sets.{IsIn};
+ghost use Rattle.heap_agents.specs.Members.{IsWhole, MemberLeaves, heap_of, view_if};
+
+use crate::held::Held;
+use crate::member::Member;
+use heap_text::{JsStr, Text, TextFull};
+
+pub(crate) fn length(member: &mut Member, s: JsStr) -> u32
+    requires whole { IsWhole member.old }
+    requires known { HasKey (view_if member.old.agent).units s.id }
+    ensures leaves { MemberLeaves member.old member.new }
+    ensures length { (us : List ℕ) → Has (view_if member.old.agent).units s.id us → result ≡ length us }
+{
+    let agent = member.take_agent();
+    let mut text = Text::new(&member.heap, agent, member.limit);
+    let answer = text.len(s);
+    let Text { reader, .. } = text;
+    member.agent = Some(reader.into_agent());
+    answer
+}
+
+pub(crate) fn settle(member: &mut Member, s: JsStr) -> Result<(), TextFull>
+    requires whole { IsWhole member.old }
+    requires known { HasKey (view_if member.old.agent).units s.id }
+    ensures leaves { MemberLeaves member.old member.new }
+    ensures settled { IfOk result (λ u. IsSettled (view_if member.new.agent) s.id) }
+    ensures refused { IfErr result
+        (λ f. (us : List ℕ) → Has (view_if member.old.agent).units s.id us
+        → (wide : Bool) × IsNoRoom (view_if member.old.agent) (view_if member.new.agent)
+        (size_of (heap_of member.old)) us f wide) }
+{
+    let agent = member.take_agent();
+    let mut text = Text::new(&member.heap, agent, member.limit);
+    let answer = text.settle(s);
+    let Text { reader, .. } = text;
+    member.agent = Some(reader.into_agent());
+    answer
+}
+
+pub(crate) fn read(member: &mut Member, s: JsStr, from: u32, out: &mut [u16])
+    requires whole { IsWhole member.old }
+    requires settled { IsSettled (view_if member.old.agent) s.id }
+    requires within { (us : List ℕ) × Has (view_if member.old.agent).units s.id us
+        × (from + length out.old ≤ length us) }
+    ensures leaves { MemberLeaves member.old member.new }
+    ensures units { (us : List ℕ) → Has (view_if member.old.agent).units s.id us
+        → out.new ≡ slice_range us from (from + length out.old) }
+{
+    let agent = member.take_agent();
+    let mut text = Text::new(&member.heap, agent, member.limit);
+    read_units(&mut text, s, from, out);
+    let Text { reader, .. } = text;
+    member.agent = Some(reader.into_agent());
+}
+
+fn read_units(text: &mut Text, s: JsStr, from: u32, out: &mut [u16])
+    requires settled { IsSettled (view_of text.old.reader.agent) s.id }
+    requires within { (us : List ℕ) × Has (view_of text.old.reader.agent).units s.id us
+        × (from + length out.old ≤ length us) }
+    ensures text { Belongs text.new.reader.agent text.new.reader.heap.now }
+    ensures heap { text.new.reader.heap ≡ text.old.reader.heap }
+    ensures limit { text.new.limit ≡ text.old.limit }
+    ensures reads { Reads (view_of text.old.reader.agent) (view_of text.new.reader.agent) }
+    ensures units { (us : List ℕ) → Has (view_of text.old.reader.agent).units s.id us
+        → out.new ≡ slice_range us from (from + length out.old) }
+{
+    let window = text.window(s);
+    text.read_in(window, from, out);
+}
+
+impl Held {
+    /// The length of a string, in units.
+    pub fn length(&mut self, s: JsStr) -> u32
+        requires held { IsHeld self.old }
+        requires known { HasKey (view_by self.old).units s.id }
+        ensures leaves { Leaves self.old self.new }
+        ensures length { (us : List ℕ) → Has (view_by self.old).units s.id us → result ≡ length us }
+    {
+        length(&mut self.member, s)
+    }
+
+    /// Sees to it that a string is settled, so that it may be cut, read and interned.
+    pub fn settle(&mut self, s: JsStr) -> Result<(), TextFull>
+        requires held { IsHeld self.old }
+        requires known { HasKey (view_by self.old).units s.id }
+        ensures leaves { Leaves self.old self.new }
+        ensures marked { IfOk result (λ u. IsIn self.new.known s.id) }
+        ensures settled { IfOk result (λ u. IsSettled (view_by self.new) s.id) }
+        ensures refused { IfErr result
+            (λ f. (us : List ℕ) → Has (view_by self.old).units s.id us
+            → (wide : Bool) × IsNoRoom (view_by self.old) (view_by self.new)
+            (size_by self.old) us f wide) }
+    {
+        settle(&mut self.member, s)?;
+        self.mark(s.id);
+        Ok(())
+    }
+
+    /// The units of a settled string from unit `from` on, as many as there is room for.
+    pub fn read(&mut self, s: JsStr, from: u32, out: &mut [u16])
+        requires held { IsHeld self.old }
+        requires settled { IsSettled (view_by self.old) s.id }
+        requires within { (us : List ℕ) × Has (view_by self.old).units s.id us
+            × (from + length out.old ≤ length us) }
+        ensures leaves { Leaves self.old self.new }
+        ensures units { (us : List ℕ) → Has (view_by self.old).units s.id us
+            → out.new ≡ slice_range us from (from + length out.old) }
+    {
+        read(&mut self.member, s, from, out);
+    }
+}

@@ -1,8 +1,0 @@
-use Rattle.std.proofs.Common.{◌≡◌, arith}
-use Rattle.jsstr_c.proofs.Searched.{searches_strings}
-use Rattle.jsstr_c.proofs.uses.searched.Goals as goal
-
-pub jsstr_intern-one-requires-clause-settled : goal.jsstr_intern-one-requires-clause-settled
-jsstr_intern-one-requires-clause-settled c = let m = c.if-made-ne-DONE.false in let made = c.jsstr_from_units-made in let equal = c.jsstr_equal-equal in
-    let done : made.result.status ≡ 0 = omega arith in
-    (searches_strings made.new.agent.value equal.new.agent.value equal.ensures.searches).settled made.result.id (made.ensures.settled done)

@@ -1,0 +1,50 @@
+// Strings of texts that come as UTF-8.
+ghost use Rattle.std.specs.Prelude.{◌≡◌, ◌≢◌, ◌↔◌, ℕ, ◌⊎◌, ◌≤◌, length};
+ghost use Rattle.std.specs.Str.{IsUtf8, IsValidUpTo};
+ghost use Rattle.js_units.specs.Lanes.{is_wide, words_over};
+ghost use Rattle.heap_rule.specs.Layout.{MAX};
+ghost use Rattle.heap_rule.specs.Maps.{Has};
+ghost use Rattle.heap_rule.specs.Views.{IsSettled};
+ghost use Rattle.heap_text.specs.declared.faults.TextFull as text_full;
+ghost use Rattle.heap_text.specs.Texts.{Told};
+ghost use Rattle.heap_agents.specs.Ready.{Goes, IsReady, Knows, size_in, view_in};
+ghost use Rattle.jsstr_c.specs.Decoded.{decoded};
+ghost use Rattle.jsstr_c.specs.Handles.{IsHandle};
+ghost use Rattle.jsstr_c.specs.Reports.{text_report};
+ghost use Rattle.jsstr_c.specs.Reports as reports;
+
+use crate::agent::JsAgent;
+use crate::answer::{JsAnswer, bad_argument};
+use crate::unchecked::decoding::jsstr_from_utf8_unchecked;
+use heap_rule::MAX;
+use std::alloc::Global;
+
+/// A new string of the text whose UTF-8 these bytes are, settled. Bytes that are none are refused
+/// before anything is done. It wants memory for the time of the call.
+#[unsafe(no_mangle)]
+pub extern "C" fn jsstr_from_utf8(alloc: Global, agent: &mut JsAgent, bytes: &[u8]) -> JsAnswer
+    requires { IsHandle agent.old }
+    ensures handle { IsHandle agent.new }
+    ensures bad { result.status ≡ reports.BAD_ARGUMENT
+        ↔ ¬ (IsReady agent.old.at.value × (length bytes.now ≤ MAX)) }
+    ensures unchanged { result.status ≡ reports.BAD_ARGUMENT → agent.new.at.value ≡ agent.old.at.value }
+    ensures goes { result.status ≢ reports.BAD_ARGUMENT → Goes agent.old.at.value agent.new.at.value }
+    ensures marked { result.status ≡ reports.DONE → Knows agent.new.at.value result.id }
+    ensures utf8 { result.status ≡ reports.DONE → IsUtf8 bytes.now }
+    ensures units { result.status ≡ reports.DONE
+        → Has (view_in agent.new.at.value).units result.id (decoded bytes.now) }
+    ensures settled { result.status ≡ reports.DONE → IsSettled (view_in agent.new.at.value) result.id }
+    ensures malformed { ¬ (IsUtf8 bytes.now) → result.status ≢ reports.BAD_ARGUMENT
+        → (n : ℕ) × (result ≡ reports.not_utf8 n) × IsValidUpTo bytes.now n
+        × (agent.new.at.value ≡ agent.old.at.value) }
+    ensures refused { IsUtf8 bytes.now → result.status ≢ reports.DONE
+        → result.status ≢ reports.BAD_ARGUMENT → (result ≡ reports.no_memory)
+        ⊎ ((f : text_full.TextFull) × (result ≡ text_report f)
+        × Told (view_in agent.new.at.value) (size_in agent.old.at.value)
+        (words_over (is_wide (decoded bytes.now)) (length (decoded bytes.now))) f) }
+{
+    if agent.is_empty() || bytes.len() > MAX as usize {
+        return bad_argument();
+    }
+    jsstr_from_utf8_unchecked(alloc, agent, bytes)
+}

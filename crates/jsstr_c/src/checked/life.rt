@@ -1,0 +1,172 @@
+// How heaps and agents are made and given back.
+ghost use Rattle.std.specs.Prelude.{ℕ, ◌≡◌, ◌≢◌, ◌↔◌, ◌+◌, ◌≤◌, ◌<◌, ◌⊎◌, None};
+ghost use Rattle.heap_rule.specs.Agents.{MayJoin, first_view, joined, left_after_split, right_after_split};
+ghost use Rattle.heap_rule.specs.Layout.{MAX};
+ghost use Rattle.heap_table.specs.MayMake.{MayMake};
+ghost use Rattle.heap_agents.specs.Ready.{HasInterned, IsBeside, IsReady, Knows, MarksStay, giver_in, number_in, share_in, view_in};
+ghost use Rattle.jsstr_c.specs.Checked.{IsChild};
+ghost use Rattle.jsstr_c.specs.Handles.{IsHandle};
+ghost use Rattle.jsstr_c.specs.Reports.{size_for};
+ghost use Rattle.jsstr_c.specs.Reports as reports;
+
+use crate::agent::JsAgent;
+use crate::answer::{BAD_ARGUMENT, DONE, JsSize};
+use crate::unchecked::counts::jsstr_share_unchecked;
+use crate::unchecked::life::{jsstr_free_unchecked, jsstr_make_unchecked, jsstr_split_unchecked};
+use std::alloc::Global;
+
+/// A heap of these sizes and its first agent, which has the whole share. `out` gets the agent where the
+/// answer is `JSSTR_DONE`.
+#[unsafe(no_mangle)]
+pub extern "C" fn jsstr_make(
+    alloc: Global,
+    size: JsSize,
+    agents: u32,
+    limit: u32,
+    out: &mut JsAgent,
+) -> u32
+    requires { IsHandle out.old }
+    ensures handle { IsHandle out.new }
+    ensures bad { result ≡ reports.BAD_ARGUMENT ↔ IsReady out.old.at.value }
+    ensures ready { result ≡ reports.DONE → IsReady out.new.at.value }
+    ensures view { result ≡ reports.DONE
+        → view_in out.new.at.value ≡ first_view (size_for size) agents }
+    ensures lawful { result ≡ reports.DONE → MayMake (size_for size) agents × (limit ≤ MAX) }
+    ensures refused { result ≡ reports.BAD_SIZE → ¬ (MayMake (size_for size) agents × (limit ≤ MAX)) }
+    ensures unmade { result ≢ reports.DONE → out.new.at.value ≡ out.old.at.value }
+{
+    if !out.is_empty() {
+        return BAD_ARGUMENT;
+    }
+    jsstr_make_unchecked(alloc, size, agents, limit, out)
+}
+
+/// Gives an agent back; with the last one of a heap goes the heap.
+#[unsafe(no_mangle)]
+pub extern "C" fn jsstr_free(alloc: Global, agent: &mut JsAgent) -> u32
+    requires { IsHandle agent.old }
+    ensures handle { IsHandle agent.new }
+    ensures bad { result ≡ reports.BAD_ARGUMENT ↔ ¬ (IsReady agent.old.at.value) }
+    ensures status { result ≢ reports.BAD_ARGUMENT → result ≡ reports.DONE }
+    ensures gone { agent.new.at.value ≡ None }
+{
+    if agent.is_empty() {
+        return BAD_ARGUMENT;
+    }
+    jsstr_free_unchecked(alloc, agent);
+    DONE
+}
+
+/// A new agent with a part of the share, which knows all that this one knows. `out` gets it where the
+/// answer is `JSSTR_DONE`; else nothing has changed.
+#[unsafe(no_mangle)]
+pub extern "C" fn jsstr_split(
+    alloc: Global,
+    agent: &mut JsAgent,
+    give: u32,
+    out: &mut JsAgent,
+) -> u32
+    requires agent { IsHandle agent.old }
+    requires out { IsHandle out.old }
+    ensures handle { IsHandle agent.new × IsHandle out.new }
+    ensures bad { result ≡ reports.BAD_ARGUMENT
+        ↔ ¬ ((1 ≤ give) × (give < share_in agent.old.at.value) × (out.old.at.value ≡ None)) }
+    ensures same { result ≡ reports.DONE → IsBeside agent.old.at.value agent.new.at.value }
+    ensures out_ready { result ≡ reports.DONE
+        → IsReady out.new.at.value × IsBeside agent.old.at.value out.new.at.value }
+    ensures left { result ≡ reports.DONE
+        → view_in agent.new.at.value ≡ left_after_split (view_in agent.old.at.value) give }
+    ensures right { result ≡ reports.DONE
+        → view_in out.new.at.value ≡ right_after_split (view_in agent.old.at.value) give }
+    ensures shares { result ≡ reports.DONE
+        → (share_in agent.new.at.value + give ≡ share_in agent.old.at.value)
+        × (share_in out.new.at.value ≡ give) }
+    ensures marks { result ≡ reports.DONE → MarksStay agent.old.at.value agent.new.at.value }
+    ensures known { result ≡ reports.DONE
+        → (i : ℕ) → Knows agent.old.at.value i → Knows out.new.at.value i }
+    ensures interned { result ≡ reports.DONE
+        → (i : ℕ) → HasInterned agent.old.at.value i → HasInterned out.new.at.value i }
+    ensures giver { result ≡ reports.DONE → giver_in out.new.at.value ≡ number_in agent.old.at.value }
+    ensures refused { result ≢ reports.DONE
+        → (agent.new.at.value ≡ agent.old.at.value) × (out.new.at.value ≡ out.old.at.value) }
+{
+    if agent.is_empty() || !out.is_empty() {
+        return BAD_ARGUMENT;
+    }
+    let share = jsstr_share_unchecked(alloc, agent);
+    if give < 1 || give >= share {
+        return BAD_ARGUMENT;
+    }
+    jsstr_split_unchecked(alloc, agent, give, out)
+}
+
+/// Takes over what another agent of the heap has and knows, and gives that one back. The other was split
+/// off from this one, which is told by their numbers; that agents with such numbers have one heap is
+/// tested by a step, of which no clause tells. That the numbers were given by splits is the caller's.
+#[unsafe(no_mangle)]
+pub extern "C" fn jsstr_join(alloc: Global, agent: &mut JsAgent, other: &mut JsAgent) -> u32
+    requires agent { IsHandle agent.old }
+    requires other { IsHandle other.old }
+    requires may { IsChild agent.old.at.value other.old.at.value
+        → IsBeside agent.old.at.value other.old.at.value
+        × MayJoin (view_in agent.old.at.value) (view_in other.old.at.value) }
+    ensures handle { IsHandle agent.new × IsHandle other.new }
+    ensures bad { ¬ (IsChild agent.old.at.value other.old.at.value) → result ≡ reports.BAD_ARGUMENT }
+    ensures status { result ≢ reports.BAD_ARGUMENT → result ≡ reports.DONE }
+    ensures unchanged { result ≡ reports.BAD_ARGUMENT
+        → (agent.new.at.value ≡ agent.old.at.value) × (other.new.at.value ≡ other.old.at.value) }
+    ensures same { result ≡ reports.DONE → IsBeside agent.old.at.value agent.new.at.value }
+    ensures view { result ≡ reports.DONE → view_in agent.new.at.value
+        ≡ joined (view_in agent.old.at.value) (view_in other.old.at.value) }
+    ensures share { result ≡ reports.DONE → share_in agent.new.at.value
+        ≡ share_in agent.old.at.value + share_in other.old.at.value }
+    ensures marks { result ≡ reports.DONE → MarksStay agent.old.at.value agent.new.at.value }
+    ensures known { result ≡ reports.DONE
+        → (i : ℕ) → Knows other.old.at.value i → Knows agent.new.at.value i }
+    ensures interned { result ≡ reports.DONE
+        → (i : ℕ) → HasInterned other.old.at.value i → HasInterned agent.new.at.value i }
+    ensures gone { result ≡ reports.DONE → other.new.at.value ≡ None }
+{
+    if agent.is_empty() || other.is_empty() {
+        return BAD_ARGUMENT;
+    }
+    let number = agent.number(alloc);
+    if other.giver(alloc) != number {
+        return BAD_ARGUMENT;
+    }
+    join_child(alloc, agent, other)
+}
+
+// The numbers tell that the other was split off from this one.
+fn join_child(alloc: Global, agent: &mut JsAgent, other: &mut JsAgent) -> u32
+    requires ready { IsReady agent.old.at.value }
+    requires other { IsReady other.old.at.value }
+    requires beside { IsBeside agent.old.at.value other.old.at.value }
+    requires may { MayJoin (view_in agent.old.at.value) (view_in other.old.at.value) }
+    ensures handle { IsHandle agent.new × IsHandle other.new }
+    ensures status { result ≢ reports.BAD_ARGUMENT → result ≡ reports.DONE }
+    ensures unchanged { result ≡ reports.BAD_ARGUMENT
+        → (agent.new.at.value ≡ agent.old.at.value) × (other.new.at.value ≡ other.old.at.value) }
+    ensures same { result ≡ reports.DONE → IsBeside agent.old.at.value agent.new.at.value }
+    ensures view { result ≡ reports.DONE → view_in agent.new.at.value
+        ≡ joined (view_in agent.old.at.value) (view_in other.old.at.value) }
+    ensures share { result ≡ reports.DONE → share_in agent.new.at.value
+        ≡ share_in agent.old.at.value + share_in other.old.at.value }
+    ensures marks { result ≡ reports.DONE → MarksStay agent.old.at.value agent.new.at.value }
+    ensures known { result ≡ reports.DONE
+        → (i : ℕ) → Knows other.old.at.value i → Knows agent.new.at.value i }
+    ensures interned { result ≡ reports.DONE
+        → (i : ℕ) → HasInterned other.old.at.value i → HasInterned agent.new.at.value i }
+    ensures gone { result ≡ reports.DONE → other.new.at.value ≡ None }
+{
+    let mut held = agent.take(alloc);
+    let theirs = other.take(alloc);
+    if !held.counts_with(&theirs) {
+        agent.put(held);
+        other.put(theirs);
+        return BAD_ARGUMENT;
+    }
+    held.join(Box::into_inner(theirs));
+    agent.put(held);
+    DONE
+}

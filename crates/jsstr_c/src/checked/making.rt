@@ -1,0 +1,141 @@
+// Strings of given units, of two strings, and of a part of one.
+ghost use Rattle.std.specs.Prelude.{◌≡◌, ◌≢◌, ◌↔◌, ℕ, ◌-◌, ◌++◌, ◌⊎◌, ◌≤◌, List, Result, length};
+ghost use Rattle.js_units.specs.Lanes.{is_wide, words_over};
+ghost use Rattle.heap_read.specs.declared.string.JsStr as js_str;
+ghost use Rattle.heap_rule.specs.Births.{part};
+ghost use Rattle.heap_rule.specs.Layout.{MAX};
+ghost use Rattle.heap_rule.specs.Maps.{Has};
+ghost use Rattle.heap_rule.specs.Views.{IsSettled};
+ghost use Rattle.heap_text.specs.declared.faults.JoinFault as join_fault;
+ghost use Rattle.heap_text.specs.declared.faults.TextFull as text_full;
+ghost use Rattle.heap_text.specs.Joins.{IsJoined};
+ghost use Rattle.heap_text.specs.Texts.{Told, Uses};
+ghost use Rattle.heap_agents.specs.Ready.{Goes, IsReady, Knows, limit_in, size_in, view_in};
+ghost use Rattle.jsstr_c.specs.Checked.{IsCutIn, IsUnsettled, Reaches};
+ghost use Rattle.jsstr_c.specs.Handles.{IsHandle};
+ghost use Rattle.jsstr_c.specs.Reports.{join_answer, text_report};
+ghost use Rattle.jsstr_c.specs.Reports as reports;
+
+use crate::agent::JsAgent;
+use crate::answer::{DONE, JsAnswer, bad_argument};
+use crate::checked::reading::jsstr_length;
+use crate::unchecked::making::{
+    jsstr_concat_unchecked, jsstr_from_latin1_unchecked, jsstr_from_units_unchecked,
+    jsstr_slice_unchecked,
+};
+use crate::unchecked::reading::jsstr_settle_unchecked;
+use heap_rule::MAX;
+use std::alloc::Global;
+
+/// A new string with these units, settled.
+#[unsafe(no_mangle)]
+pub extern "C" fn jsstr_from_units(alloc: Global, agent: &mut JsAgent, units: &[u16]) -> JsAnswer
+    requires { IsHandle agent.old }
+    ensures handle { IsHandle agent.new }
+    ensures bad { result.status ≡ reports.BAD_ARGUMENT
+        ↔ ¬ (IsReady agent.old.at.value × (length units.now ≤ MAX)) }
+    ensures unchanged { result.status ≡ reports.BAD_ARGUMENT → agent.new.at.value ≡ agent.old.at.value }
+    ensures goes { result.status ≢ reports.BAD_ARGUMENT → Goes agent.old.at.value agent.new.at.value }
+    ensures marked { result.status ≡ reports.DONE → Knows agent.new.at.value result.id }
+    ensures units { result.status ≡ reports.DONE
+        → Has (view_in agent.new.at.value).units result.id units.now }
+    ensures settled { result.status ≡ reports.DONE → IsSettled (view_in agent.new.at.value) result.id }
+    ensures used { result.status ≡ reports.DONE
+        → Uses (view_in agent.old.at.value) (view_in agent.new.at.value) 1
+        (words_over (is_wide units.now) (length units.now)) }
+    ensures refused { result.status ≢ reports.DONE → result.status ≢ reports.BAD_ARGUMENT
+        → (f : text_full.TextFull) × (result ≡ text_report f)
+        × Told (view_in agent.new.at.value) (size_in agent.old.at.value)
+        (words_over (is_wide units.now) (length units.now)) f }
+{
+    if agent.is_empty() || units.len() > MAX as usize {
+        return bad_argument();
+    }
+    jsstr_from_units_unchecked(alloc, agent, units)
+}
+
+/// A new string of one-byte units, as Latin-1 is, settled. It wants memory for the time of the call.
+#[unsafe(no_mangle)]
+pub extern "C" fn jsstr_from_latin1(alloc: Global, agent: &mut JsAgent, bytes: &[u8]) -> JsAnswer
+    requires { IsHandle agent.old }
+    ensures handle { IsHandle agent.new }
+    ensures bad { result.status ≡ reports.BAD_ARGUMENT
+        ↔ ¬ (IsReady agent.old.at.value × (length bytes.now ≤ MAX)) }
+    ensures unchanged { result.status ≡ reports.BAD_ARGUMENT → agent.new.at.value ≡ agent.old.at.value }
+    ensures goes { result.status ≢ reports.BAD_ARGUMENT → Goes agent.old.at.value agent.new.at.value }
+    ensures marked { result.status ≡ reports.DONE → Knows agent.new.at.value result.id }
+    ensures units { result.status ≡ reports.DONE
+        → Has (view_in agent.new.at.value).units result.id bytes.now }
+    ensures settled { result.status ≡ reports.DONE → IsSettled (view_in agent.new.at.value) result.id }
+    ensures refused { result.status ≢ reports.DONE → result.status ≢ reports.BAD_ARGUMENT
+        → (result ≡ reports.no_memory)
+        ⊎ ((f : text_full.TextFull) × (result ≡ text_report f)
+        × Told (view_in agent.new.at.value) (size_in agent.old.at.value)
+        (words_over (is_wide bytes.now) (length bytes.now)) f) }
+{
+    if agent.is_empty() || bytes.len() > MAX as usize {
+        return bad_argument();
+    }
+    jsstr_from_latin1_unchecked(alloc, agent, bytes)
+}
+
+/// The units of one string, and then those of another.
+#[unsafe(no_mangle)]
+pub extern "C" fn jsstr_concat(alloc: Global, agent: &mut JsAgent, a: u32, b: u32) -> JsAnswer
+    requires { IsHandle agent.old }
+    ensures handle { IsHandle agent.new }
+    ensures bad { result.status ≡ reports.BAD_ARGUMENT
+        ↔ ¬ (Knows agent.old.at.value a × Knows agent.old.at.value b) }
+    ensures unchanged { result.status ≡ reports.BAD_ARGUMENT → agent.new.at.value ≡ agent.old.at.value }
+    ensures goes { result.status ≢ reports.BAD_ARGUMENT → Goes agent.old.at.value agent.new.at.value }
+    ensures marked { result.status ≡ reports.DONE → Knows agent.new.at.value result.id }
+    ensures units { result.status ≡ reports.DONE
+        → (us vs : List ℕ) → Has (view_in agent.old.at.value).units a us
+        → Has (view_in agent.old.at.value).units b vs
+        → Has (view_in agent.new.at.value).units result.id (us ++ vs) }
+    ensures joined { result.status ≢ reports.BAD_ARGUMENT
+        → (us vs : List ℕ) → Has (view_in agent.old.at.value).units a us
+        → Has (view_in agent.old.at.value).units b vs
+        → (r : Result js_str.JsStr join_fault.JoinFault) × (result ≡ join_answer r)
+        × IsJoined (view_in agent.old.at.value) (view_in agent.new.at.value) (size_in agent.old.at.value)
+        (limit_in agent.old.at.value) (record { id = a }) (record { id = b }) us vs r }
+{
+    if !agent.knows(alloc, a) || !agent.knows(alloc, b) {
+        return bad_argument();
+    }
+    jsstr_concat_unchecked(alloc, agent, a, b)
+}
+
+/// The part of a string from unit `from` up to unit `to`, settled. The string is settled first.
+#[unsafe(no_mangle)]
+pub extern "C" fn jsstr_slice(
+    alloc: Global,
+    agent: &mut JsAgent,
+    s: u32,
+    from: u32,
+    to: u32,
+) -> JsAnswer
+    requires { IsHandle agent.old }
+    ensures handle { IsHandle agent.new }
+    ensures bad { result.status ≡ reports.BAD_ARGUMENT ↔ ¬ ((from ≤ to) × Reaches agent.old.at.value s to) }
+    ensures unchanged { ¬ (Knows agent.old.at.value s) → agent.new.at.value ≡ agent.old.at.value }
+    ensures goes { Knows agent.old.at.value s → Goes agent.old.at.value agent.new.at.value }
+    ensures marked { result.status ≡ reports.DONE → Knows agent.new.at.value result.id }
+    ensures units { result.status ≡ reports.DONE
+        → (us : List ℕ) → Has (view_in agent.old.at.value).units s us
+        → Has (view_in agent.new.at.value).units result.id (part from (to - from) us) }
+    ensures settled { result.status ≡ reports.DONE → IsSettled (view_in agent.new.at.value) result.id }
+    ensures cut { result.status ≢ reports.BAD_ARGUMENT
+        → IsUnsettled agent.old.at.value agent.new.at.value s result
+        ⊎ IsCutIn agent.old.at.value agent.new.at.value s from to result }
+{
+    let all = jsstr_length(alloc, agent, s);
+    if all.status != DONE || to < from || all.value < to {
+        return bad_argument();
+    }
+    let settled = jsstr_settle_unchecked(alloc, agent, s);
+    if settled.status != DONE {
+        return settled;
+    }
+    jsstr_slice_unchecked(alloc, agent, s, from, to)
+}

@@ -1,0 +1,99 @@
+// Reading strings: their lengths and units.
+ghost use Rattle.std.specs.Prelude.{◌≡◌, ◌≢◌, ◌↔◌, ℕ, ◌+◌, ◌≤◌, ◌⊎◌, List, Bool, length, slice_range};
+ghost use Rattle.heap_rule.specs.Maps.{Has};
+ghost use Rattle.heap_rule.specs.Views.{IsSettled};
+ghost use Rattle.heap_text.specs.declared.faults.TextFull as text_full;
+ghost use Rattle.heap_text.specs.Settling.{IsNoRoom};
+ghost use Rattle.heap_agents.specs.Ready.{Goes, IsReady, Knows, size_in, view_in};
+ghost use Rattle.jsstr_c.specs.declared.answer.JsAnswer as answer;
+ghost use Rattle.jsstr_c.specs.Checked.{IsUnsettled, Reaches};
+ghost use Rattle.jsstr_c.specs.Handles.{IsHandle};
+ghost use Rattle.jsstr_c.specs.Reports.{text_report};
+ghost use Rattle.jsstr_c.specs.Reports as reports;
+
+use crate::agent::JsAgent;
+use crate::answer::{BAD_ARGUMENT, DONE, JsAnswer, JsNumber, bad_argument};
+use crate::unchecked::reading::{
+    jsstr_length_unchecked, jsstr_read_unchecked, jsstr_settle_unchecked,
+};
+use std::alloc::Global;
+
+/// The length of a string, in units.
+#[unsafe(no_mangle)]
+pub extern "C" fn jsstr_length(alloc: Global, agent: &mut JsAgent, s: u32) -> JsNumber
+    requires { IsHandle agent.old }
+    ensures handle { IsHandle agent.new }
+    ensures bad { result.status ≡ reports.BAD_ARGUMENT ↔ ¬ (Knows agent.old.at.value s) }
+    ensures status { result.status ≢ reports.BAD_ARGUMENT → result.status ≡ reports.DONE }
+    ensures unchanged { ¬ (Knows agent.old.at.value s) → agent.new.at.value ≡ agent.old.at.value }
+    ensures goes { Knows agent.old.at.value s → Goes agent.old.at.value agent.new.at.value }
+    ensures length { result.status ≡ reports.DONE → (us : List ℕ)
+        → Has (view_in agent.old.at.value).units s us → result.value ≡ length us }
+{
+    if !agent.knows(alloc, s) {
+        return JsNumber {
+            status: BAD_ARGUMENT,
+            value: 0,
+        };
+    }
+    let value = jsstr_length_unchecked(alloc, agent, s);
+    JsNumber {
+        status: DONE,
+        value,
+    }
+}
+
+/// Sees to it that a string is settled, so that the calls that need that don't have to copy its units.
+/// The answer is the string.
+#[unsafe(no_mangle)]
+pub extern "C" fn jsstr_settle(alloc: Global, agent: &mut JsAgent, s: u32) -> JsAnswer
+    requires { IsHandle agent.old }
+    ensures handle { IsHandle agent.new }
+    ensures bad { result.status ≡ reports.BAD_ARGUMENT ↔ ¬ (Knows agent.old.at.value s) }
+    ensures unchanged { result.status ≡ reports.BAD_ARGUMENT → agent.new.at.value ≡ agent.old.at.value }
+    ensures goes { result.status ≢ reports.BAD_ARGUMENT → Goes agent.old.at.value agent.new.at.value }
+    ensures settled { result.status ≡ reports.DONE
+        → (result.id ≡ s) × IsSettled (view_in agent.new.at.value) s }
+    ensures refused { result.status ≢ reports.DONE → result.status ≢ reports.BAD_ARGUMENT
+        → (us : List ℕ) → Has (view_in agent.old.at.value).units s us
+        → (f : text_full.TextFull) × (wide : Bool) × (result ≡ text_report f)
+        × IsNoRoom (view_in agent.old.at.value) (view_in agent.new.at.value) (size_in agent.old.at.value)
+        us f wide }
+{
+    if !agent.knows(alloc, s) {
+        return bad_argument();
+    }
+    jsstr_settle_unchecked(alloc, agent, s)
+}
+
+/// The units of a string from unit `from` on, as many as there is room for. The string is settled first.
+#[unsafe(no_mangle)]
+pub extern "C" fn jsstr_read(
+    alloc: Global,
+    agent: &mut JsAgent,
+    s: u32,
+    from: u32,
+    out: &mut [u16],
+) -> u32
+    requires { IsHandle agent.old }
+    ensures handle { IsHandle agent.new }
+    ensures bad { result ≡ reports.BAD_ARGUMENT ↔ ¬ (Reaches agent.old.at.value s (from + length out.old)) }
+    ensures unchanged { ¬ (Knows agent.old.at.value s) → agent.new.at.value ≡ agent.old.at.value }
+    ensures goes { Knows agent.old.at.value s → Goes agent.old.at.value agent.new.at.value }
+    ensures units { result ≡ reports.DONE → (us : List ℕ) → Has (view_in agent.old.at.value).units s us
+        → out.new ≡ slice_range us from (from + length out.old) }
+    ensures unread { result ≢ reports.DONE → out.new ≡ out.old }
+    ensures refused { result ≢ reports.DONE → result ≢ reports.BAD_ARGUMENT → (r : answer.JsAnswer)
+        × (result ≡ r.status) × IsUnsettled agent.old.at.value agent.new.at.value s r }
+{
+    let all = jsstr_length(alloc, agent, s);
+    if all.status != DONE || all.value < from || ((all.value - from) as usize) < out.len() {
+        return BAD_ARGUMENT;
+    }
+    let settled = jsstr_settle_unchecked(alloc, agent, s);
+    if settled.status != DONE {
+        return settled.status;
+    }
+    jsstr_read_unchecked(alloc, agent, s, from, out);
+    DONE
+}

@@ -1,0 +1,189 @@
+// Comparing strings, and finding one in another. Both are settled first.
+ghost use Rattle.std.specs.Prelude.{◌≡◌, ◌≢◌, ◌↔◌, ℕ, ◌≤◌, ◌⊎◌, List, Option, length, IsTrue};
+ghost use Rattle.std.specs.declared.cmp.Ordering as ordering;
+ghost use Rattle.heap_rule.specs.Maps.{Has};
+ghost use Rattle.js_search.specs.Order.{units_cmp};
+ghost use Rattle.js_search.specs.Places.{IsFirst, IsLast, Stands, first, last, stands};
+ghost use Rattle.heap_agents.specs.Ready.{Goes, Knows, view_in};
+ghost use Rattle.heap_agents.specs.Searched.{IsOrder};
+ghost use Rattle.jsstr_c.specs.Checked.{IsRefused, Reaches, Sought};
+ghost use Rattle.jsstr_c.specs.Handles.{IsHandle};
+ghost use Rattle.jsstr_c.specs.Reports.{order_number, place_answer};
+ghost use Rattle.jsstr_c.specs.Reports as reports;
+
+use crate::agent::JsAgent;
+use crate::answer::{BAD_ARGUMENT, DONE, JsOrder, JsPlace, JsTruth};
+use crate::checked::reading::jsstr_length;
+use crate::checked::settling::settle_both;
+use crate::unchecked::search::{
+    jsstr_compare_unchecked, jsstr_equal_unchecked, jsstr_index_of_unchecked,
+    jsstr_last_index_of_unchecked, jsstr_starts_with_unchecked,
+};
+use std::alloc::Global;
+
+/// The order of two strings by their units, where a proper prefix comes first: -1 where `a` comes before
+/// `b`, 0 where both have the same units, else 1.
+#[unsafe(no_mangle)]
+pub extern "C" fn jsstr_compare(alloc: Global, agent: &mut JsAgent, a: u32, b: u32) -> JsOrder
+    requires { IsHandle agent.old }
+    ensures handle { IsHandle agent.new }
+    ensures bad { result.status ≡ reports.BAD_ARGUMENT
+        ↔ ¬ (Knows agent.old.at.value a × Knows agent.old.at.value b) }
+    ensures unchanged { result.status ≡ reports.BAD_ARGUMENT → agent.new.at.value ≡ agent.old.at.value }
+    ensures sought { result.status ≡ reports.DONE → Sought agent.old.at.value agent.new.at.value }
+    ensures refused { result.status ≢ reports.DONE → result.status ≢ reports.BAD_ARGUMENT
+        → IsRefused agent.old.at.value agent.new.at.value a b result.status }
+    ensures order { result.status ≡ reports.DONE → (us vs : List ℕ)
+        → Has (view_in agent.old.at.value).units a us
+        → Has (view_in agent.old.at.value).units b vs
+        → result.order ≡ order_number (units_cmp us vs) }
+    ensures means { result.status ≡ reports.DONE → (us vs : List ℕ)
+        → Has (view_in agent.old.at.value).units a us
+        → Has (view_in agent.old.at.value).units b vs
+        → (o : ordering.Ordering) × (result.order ≡ order_number o) × IsOrder us vs o }
+{
+    let status = settle_both(alloc, agent, a, b);
+    if status != DONE {
+        return JsOrder { status, order: 0 };
+    }
+    let order = jsstr_compare_unchecked(alloc, agent, a, b);
+    JsOrder {
+        status: DONE,
+        order,
+    }
+}
+
+/// Whether two strings have the same units.
+#[unsafe(no_mangle)]
+pub extern "C" fn jsstr_equal(alloc: Global, agent: &mut JsAgent, a: u32, b: u32) -> JsTruth
+    requires { IsHandle agent.old }
+    ensures handle { IsHandle agent.new }
+    ensures bad { result.status ≡ reports.BAD_ARGUMENT
+        ↔ ¬ (Knows agent.old.at.value a × Knows agent.old.at.value b) }
+    ensures unchanged { result.status ≡ reports.BAD_ARGUMENT → agent.new.at.value ≡ agent.old.at.value }
+    ensures sought { result.status ≡ reports.DONE → Sought agent.old.at.value agent.new.at.value }
+    ensures refused { result.status ≢ reports.DONE → result.status ≢ reports.BAD_ARGUMENT
+        → IsRefused agent.old.at.value agent.new.at.value a b result.status }
+    ensures value { result.status ≡ reports.DONE → (us vs : List ℕ)
+        → Has (view_in agent.old.at.value).units a us
+        → Has (view_in agent.old.at.value).units b vs
+        → IsTrue result.holds ↔ (us ≡ vs) }
+{
+    let status = settle_both(alloc, agent, a, b);
+    if status != DONE {
+        return JsTruth {
+            status,
+            holds: false,
+        };
+    }
+    let holds = jsstr_equal_unchecked(alloc, agent, a, b);
+    JsTruth {
+        status: DONE,
+        holds,
+    }
+}
+
+/// Whether the units of `needle` stand in `hay` at place `at`. At a place where they have no room they don't.
+#[unsafe(no_mangle)]
+pub extern "C" fn jsstr_starts_with(
+    alloc: Global,
+    agent: &mut JsAgent,
+    hay: u32,
+    needle: u32,
+    at: u32,
+) -> JsTruth
+    requires { IsHandle agent.old }
+    ensures handle { IsHandle agent.new }
+    ensures bad { result.status ≡ reports.BAD_ARGUMENT
+        ↔ ¬ (Knows agent.old.at.value hay × Knows agent.old.at.value needle) }
+    ensures unchanged { result.status ≡ reports.BAD_ARGUMENT → agent.new.at.value ≡ agent.old.at.value }
+    ensures sought { result.status ≡ reports.DONE → Sought agent.old.at.value agent.new.at.value }
+    ensures refused { result.status ≢ reports.DONE → result.status ≢ reports.BAD_ARGUMENT
+        → IsRefused agent.old.at.value agent.new.at.value hay needle result.status }
+    ensures stands { result.status ≡ reports.DONE → (us vs : List ℕ)
+        → Has (view_in agent.old.at.value).units hay us
+        → Has (view_in agent.old.at.value).units needle vs
+        → IsTrue result.holds ↔ Stands us vs at }
+    ensures test { result.status ≡ reports.DONE → (us vs : List ℕ)
+        → Has (view_in agent.old.at.value).units hay us
+        → Has (view_in agent.old.at.value).units needle vs
+        → result.holds ≡ stands us vs at }
+{
+    let status = settle_both(alloc, agent, hay, needle);
+    if status != DONE {
+        return JsTruth {
+            status,
+            holds: false,
+        };
+    }
+    let holds = jsstr_starts_with_unchecked(alloc, agent, hay, needle, at);
+    JsTruth {
+        status: DONE,
+        holds,
+    }
+}
+
+/// The greatest place at most `limit` at which `needle` stands in `hay`. An empty one stands at every place.
+#[unsafe(no_mangle)]
+pub extern "C" fn jsstr_last_index_of(
+    alloc: Global,
+    agent: &mut JsAgent,
+    hay: u32,
+    needle: u32,
+    limit: u32,
+) -> JsPlace
+    requires { IsHandle agent.old }
+    ensures handle { IsHandle agent.new }
+    ensures bad { result.status ≡ reports.BAD_ARGUMENT
+        ↔ ¬ (Knows agent.old.at.value hay × Knows agent.old.at.value needle) }
+    ensures unchanged { result.status ≡ reports.BAD_ARGUMENT → agent.new.at.value ≡ agent.old.at.value }
+    ensures found { result.status ≢ reports.BAD_ARGUMENT
+        → IsRefused agent.old.at.value agent.new.at.value hay needle result.status
+        ⊎ (Sought agent.old.at.value agent.new.at.value × ((us vs : List ℕ)
+        → Has (view_in agent.old.at.value).units hay us
+        → Has (view_in agent.old.at.value).units needle vs
+        → (result ≡ place_answer (last us vs limit)) × IsLast us vs limit (last us vs limit))) }
+{
+    let status = settle_both(alloc, agent, hay, needle);
+    if status != DONE {
+        return JsPlace { status, at: 0 };
+    }
+    jsstr_last_index_of_unchecked(alloc, agent, hay, needle, limit)
+}
+
+/// The least place at or after `from` at which `needle` stands in `hay`. An empty one stands at every place.
+#[unsafe(no_mangle)]
+pub extern "C" fn jsstr_index_of(
+    alloc: Global,
+    agent: &mut JsAgent,
+    hay: u32,
+    needle: u32,
+    from: u32,
+) -> JsPlace
+    requires { IsHandle agent.old }
+    ensures handle { IsHandle agent.new }
+    ensures bad { result.status ≡ reports.BAD_ARGUMENT
+        ↔ ¬ (Reaches agent.old.at.value hay from × Knows agent.old.at.value needle) }
+    ensures unchanged { ¬ (Knows agent.old.at.value hay) → agent.new.at.value ≡ agent.old.at.value }
+    ensures goes { Knows agent.old.at.value hay → result.status ≡ reports.BAD_ARGUMENT
+        → Goes agent.old.at.value agent.new.at.value }
+    ensures found { result.status ≢ reports.BAD_ARGUMENT
+        → IsRefused agent.old.at.value agent.new.at.value hay needle result.status
+        ⊎ (Sought agent.old.at.value agent.new.at.value × ((us vs : List ℕ)
+        → Has (view_in agent.old.at.value).units hay us
+        → Has (view_in agent.old.at.value).units needle vs
+        → (result ≡ place_answer (first us vs from)) × IsFirst us vs from (first us vs from))) }
+{
+    let all = jsstr_length(alloc, agent, hay);
+    if all.status != DONE || all.value < from {
+        return JsPlace {
+            status: BAD_ARGUMENT,
+            at: 0,
+        };
+    }
+    let status = settle_both(alloc, agent, hay, needle);
+    if status != DONE {
+        return JsPlace { status, at: 0 };
+    }
+    jsstr_index_of_unchecked(alloc, agent, hay, needle, from)
+}

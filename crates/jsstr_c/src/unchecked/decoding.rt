@@ -1,0 +1,75 @@
+// Strings of texts that come as UTF-8.
+ghost use Rattle.std.specs.Prelude.{◌≡◌, ◌≢◌, ℕ, ◌⊎◌, ◌≤◌, length, IfOk};
+ghost use Rattle.std.specs.Str.{IsUtf8, IsValidUpTo, chars};
+ghost use Rattle.js_units.specs.Lanes.{is_wide, words_over};
+ghost use Rattle.heap_rule.specs.Layout.{MAX};
+ghost use Rattle.heap_rule.specs.Maps.{Has};
+ghost use Rattle.heap_rule.specs.Views.{IsSettled};
+ghost use Rattle.heap_text.specs.declared.faults.TextFull as text_full;
+ghost use Rattle.heap_text.specs.Texts.{Told};
+ghost use Rattle.heap_agents.specs.Ready.{Goes, IsReady, Knows, size_in, view_in};
+ghost use Rattle.jsstr_c.specs.Decoded.{decoded};
+ghost use Rattle.jsstr_c.specs.Handles.{IsHandle};
+ghost use Rattle.jsstr_c.specs.Reports.{text_report};
+ghost use Rattle.jsstr_c.specs.Reports as reports;
+
+use crate::agent::JsAgent;
+use crate::answer::{JsAnswer, no_memory, not_utf8, of_text};
+use crate::decoding::units_of;
+use js_units::NoMemory;
+use std::alloc::Global;
+
+/// A new string of the text whose UTF-8 these bytes are, settled. Bytes that are none are refused
+/// before anything is done. It wants memory for the time of the call.
+#[unsafe(no_mangle)]
+pub extern "C" fn jsstr_from_utf8_unchecked(
+    alloc: Global,
+    agent: &mut JsAgent,
+    bytes: &[u8],
+) -> JsAnswer
+    requires ready { IsReady agent.old.at.value }
+    requires short { length bytes.now ≤ MAX }
+    ensures handle { IsHandle agent.old → IsHandle agent.new }
+    ensures goes { Goes agent.old.at.value agent.new.at.value }
+    ensures marked { result.status ≡ reports.DONE → Knows agent.new.at.value result.id }
+    ensures told { result.status ≢ reports.BAD_ARGUMENT }
+    ensures utf8 { result.status ≡ reports.DONE → IsUtf8 bytes.now }
+    ensures units { result.status ≡ reports.DONE
+        → Has (view_in agent.new.at.value).units result.id (decoded bytes.now) }
+    ensures settled { result.status ≡ reports.DONE → IsSettled (view_in agent.new.at.value) result.id }
+    ensures malformed { ¬ (IsUtf8 bytes.now) → (n : ℕ) × (result ≡ reports.not_utf8 n)
+        × IsValidUpTo bytes.now n × (agent.new.at.value ≡ agent.old.at.value) }
+    ensures refused { IsUtf8 bytes.now → result.status ≢ reports.DONE → (result ≡ reports.no_memory)
+        ⊎ ((f : text_full.TextFull) × (result ≡ text_report f)
+        × Told (view_in agent.new.at.value) (size_in agent.old.at.value)
+        (words_over (is_wide (decoded bytes.now)) (length (decoded bytes.now))) f) }
+{
+    match str::from_utf8(bytes) {
+        Ok(text) => from_text(alloc, agent, text),
+        Err(fault) => not_utf8(fault.valid_up_to() as u32),
+    }
+}
+
+fn from_text(alloc: Global, agent: &mut JsAgent, text: &str) -> JsAnswer
+    requires ready { IsReady agent.old.at.value }
+    requires short { length text.now ≤ MAX }
+    ensures handle { IsHandle agent.new }
+    ensures goes { Goes agent.old.at.value agent.new.at.value }
+    ensures marked { result.status ≡ reports.DONE → Knows agent.new.at.value result.id }
+    ensures told { result.status ≢ reports.BAD_ARGUMENT }
+    ensures units { result.status ≡ reports.DONE
+        → Has (view_in agent.new.at.value).units result.id (decoded text.now) }
+    ensures settled { result.status ≡ reports.DONE → IsSettled (view_in agent.new.at.value) result.id }
+    ensures refused { result.status ≢ reports.DONE → (result ≡ reports.no_memory)
+        ⊎ ((f : text_full.TextFull) × (result ≡ text_report f)
+        × Told (view_in agent.new.at.value) (size_in agent.old.at.value)
+        (words_over (is_wide (decoded text.now)) (length (decoded text.now))) f) }
+{
+    let mut held = agent.take(alloc);
+    let answer = match units_of(alloc, text) {
+        Ok(units) => of_text(held.from_units(units.as_slice())),
+        Err(NoMemory) => no_memory(),
+    };
+    agent.put(held);
+    answer
+}

@@ -1,0 +1,124 @@
+// How heaps and agents are made and given back.
+ghost use Rattle.std.specs.Prelude.{ℕ, ◌≡◌, ◌≢◌, ◌+◌, ◌≤◌, ◌<◌, None, IfOk, IfErr, OnOk, Err};
+ghost use Rattle.heap_rule.specs.Agents.{MayJoin, first_view, joined, left_after_split, right_after_split};
+ghost use Rattle.heap_rule.specs.Layout.{MAX};
+ghost use Rattle.heap_table.specs.MayMake.{MayMake};
+ghost use Rattle.heap_agents.specs.Ready.{HasInterned, IsBeside, IsReady, Knows, MarksStay, giver_in, number_in, share_in, view_in};
+ghost use Rattle.jsstr_c.specs.Handles.{IsHandle};
+ghost use Rattle.jsstr_c.specs.Reports.{size_for};
+ghost use Rattle.jsstr_c.specs.Reports as reports;
+
+use crate::agent::JsAgent;
+use crate::answer::{BAD_SIZE, DONE, JsSize, NO_MEMORY};
+use heap_agents::{Held, MakeFault};
+use heap_rule::HeapSize;
+use std::alloc::Global;
+
+/// A heap of these sizes and its first agent, which has the whole share. `out` gets the agent where the
+/// answer is `JSSTR_DONE`.
+#[unsafe(no_mangle)]
+pub extern "C" fn jsstr_make_unchecked(
+    alloc: Global,
+    size: JsSize,
+    agents: u32,
+    limit: u32,
+    out: &mut JsAgent,
+) -> u32
+    requires empty { out.old.at.value ≡ None }
+    ensures ready { result ≡ reports.DONE → IsReady out.new.at.value }
+    ensures view { result ≡ reports.DONE → view_in out.new.at.value ≡ first_view (size_for size) agents }
+    ensures lawful { result ≡ reports.DONE → MayMake (size_for size) agents × (limit ≤ MAX) }
+    ensures refused { result ≡ reports.BAD_SIZE → ¬ (MayMake (size_for size) agents × (limit ≤ MAX)) }
+    ensures unmade { result ≢ reports.DONE → out.new.at.value ≡ None }
+    ensures handle { IsHandle out.old → IsHandle out.new }
+{
+    let JsSize { ids, words, slots } = size;
+    match Held::make(alloc, HeapSize { ids, words, slots }, agents, limit) {
+        Ok(held) => {
+            out.put(held);
+            DONE
+        }
+        Err(MakeFault::Size) => BAD_SIZE,
+        Err(MakeFault::Memory) => NO_MEMORY,
+    }
+}
+
+/// Gives an agent back; with the last one of a heap goes the heap.
+#[unsafe(no_mangle)]
+pub extern "C" fn jsstr_free_unchecked(alloc: Global, agent: &mut JsAgent)
+    requires { IsReady agent.old.at.value }
+    ensures gone { agent.new.at.value ≡ None }
+    ensures handle { IsHandle agent.new }
+{
+    drop(agent.take(alloc));
+}
+
+/// A new agent with a part of the share, which knows all that this one knows. `out` gets it where the
+/// answer is `JSSTR_DONE`; else nothing has changed.
+#[unsafe(no_mangle)]
+pub extern "C" fn jsstr_split_unchecked(
+    alloc: Global,
+    agent: &mut JsAgent,
+    give: u32,
+    out: &mut JsAgent,
+) -> u32
+    requires ready { IsReady agent.old.at.value }
+    requires some { 1 ≤ give }
+    requires less { give < share_in agent.old.at.value }
+    requires empty { out.old.at.value ≡ None }
+    ensures handle { IsHandle agent.new }
+    ensures ready { IsReady agent.new.at.value }
+    ensures same { IsBeside agent.old.at.value agent.new.at.value }
+    ensures out_ready { result ≡ reports.DONE
+        → IsReady out.new.at.value × IsBeside agent.old.at.value out.new.at.value }
+    ensures left { result ≡ reports.DONE
+        → view_in agent.new.at.value ≡ left_after_split (view_in agent.old.at.value) give }
+    ensures right { result ≡ reports.DONE
+        → view_in out.new.at.value ≡ right_after_split (view_in agent.old.at.value) give }
+    ensures shares { result ≡ reports.DONE
+        → (share_in agent.new.at.value + give ≡ share_in agent.old.at.value) × (share_in out.new.at.value ≡ give) }
+    ensures marks { MarksStay agent.old.at.value agent.new.at.value }
+    ensures known { result ≡ reports.DONE
+        → (i : ℕ) → Knows agent.old.at.value i → Knows out.new.at.value i }
+    ensures interned { result ≡ reports.DONE
+        → (i : ℕ) → HasInterned agent.old.at.value i → HasInterned out.new.at.value i }
+    ensures giver { result ≡ reports.DONE → giver_in out.new.at.value ≡ number_in agent.old.at.value }
+    ensures out_handle { IsHandle out.old → IsHandle out.new }
+    ensures told { result ≢ reports.BAD_ARGUMENT }
+    ensures refused { result ≢ reports.DONE
+        → (agent.new.at.value ≡ agent.old.at.value) × (out.new.at.value ≡ None) }
+{
+    let mut held = agent.take(alloc);
+    let answer = held.split(alloc, give);
+    agent.put(held);
+    match answer {
+        Ok(other) => {
+            out.put(other);
+            DONE
+        }
+        Err(_) => NO_MEMORY,
+    }
+}
+
+/// Takes over what another agent of the heap has and knows, and gives that one back.
+#[unsafe(no_mangle)]
+pub extern "C" fn jsstr_join_unchecked(alloc: Global, agent: &mut JsAgent, other: &mut JsAgent)
+    requires ready { IsReady agent.old.at.value }
+    requires other { IsReady other.old.at.value }
+    requires beside { IsBeside agent.old.at.value other.old.at.value }
+    requires may { MayJoin (view_in agent.old.at.value) (view_in other.old.at.value) }
+    ensures handle { IsHandle agent.new }
+    ensures ready { IsReady agent.new.at.value }
+    ensures same { IsBeside agent.old.at.value agent.new.at.value }
+    ensures view { view_in agent.new.at.value ≡ joined (view_in agent.old.at.value) (view_in other.old.at.value) }
+    ensures share { share_in agent.new.at.value ≡ share_in agent.old.at.value + share_in other.old.at.value }
+    ensures marks { MarksStay agent.old.at.value agent.new.at.value }
+    ensures known { (i : ℕ) → Knows other.old.at.value i → Knows agent.new.at.value i }
+    ensures interned { (i : ℕ) → HasInterned other.old.at.value i → HasInterned agent.new.at.value i }
+    ensures gone { other.new.at.value ≡ None }
+    ensures other_handle { IsHandle other.new }
+{
+    let mut held = agent.take(alloc);
+    held.join(Box::into_inner(other.take(alloc)));
+    agent.put(held);
+}

@@ -1,0 +1,147 @@
+// Strings of given units, of two strings, and of a part of one.
+ghost use Rattle.std.specs.Prelude.{◌≡◌, ◌≢◌, ℕ, ◌+◌, ◌-◌, ◌++◌, ◌⊎◌, ◌≤◌, ◌<◌, List, length, IfOk, IfErr, Result};
+ghost use Rattle.js_units.specs.Lanes.{is_wide, words_over};
+ghost use Rattle.heap_read.specs.declared.string.JsStr as js_str;
+ghost use Rattle.heap_rule.specs.Births.{part};
+ghost use Rattle.heap_rule.specs.Layout.{MAX};
+ghost use Rattle.heap_rule.specs.Maps.{Has, HasKey};
+ghost use Rattle.heap_rule.specs.Views.{IsSettled};
+ghost use Rattle.heap_table.specs.Agents.{size_of};
+ghost use Rattle.heap_text.specs.declared.faults.JoinFault as join_fault;
+ghost use Rattle.heap_text.specs.declared.faults.TextFull as text_full;
+ghost use Rattle.heap_text.specs.Joins.{IsCut, IsJoined};
+ghost use Rattle.heap_text.specs.Texts.{Told, Uses};
+ghost use Rattle.heap_agents.specs.Ready.{Goes, IsReady, Knows, limit_in, size_in, view_in};
+ghost use Rattle.jsstr_c.specs.Handles.{IsHandle};
+ghost use Rattle.jsstr_c.specs.Reports.{join_answer, text_answer, text_report};
+ghost use Rattle.jsstr_c.specs.Reports as reports;
+
+use crate::agent::JsAgent;
+use crate::answer::{JsAnswer, no_memory, of_join, of_text};
+use heap_text::JsStr;
+use js_units::{NoMemory, Units};
+use std::alloc::Global;
+
+/// A new string with these units, settled.
+#[unsafe(no_mangle)]
+pub extern "C" fn jsstr_from_units_unchecked(
+    alloc: Global,
+    agent: &mut JsAgent,
+    units: &[u16],
+) -> JsAnswer
+    requires ready { IsReady agent.old.at.value }
+    requires short { length units.now ≤ MAX }
+    ensures handle { IsHandle agent.new }
+    ensures goes { Goes agent.old.at.value agent.new.at.value }
+    ensures marked { result.status ≡ reports.DONE → Knows agent.new.at.value result.id }
+    ensures told { result.status ≢ reports.BAD_ARGUMENT }
+    ensures units { result.status ≡ reports.DONE
+        → Has (view_in agent.new.at.value).units result.id units.now }
+    ensures settled { result.status ≡ reports.DONE → IsSettled (view_in agent.new.at.value) result.id }
+    ensures used { result.status ≡ reports.DONE
+        → Uses (view_in agent.old.at.value) (view_in agent.new.at.value) 1
+        (words_over (is_wide units.now) (length units.now)) }
+    ensures refused { result.status ≢ reports.DONE
+        → (f : text_full.TextFull) × (result ≡ text_report f)
+        × Told (view_in agent.new.at.value) (size_in agent.old.at.value)
+        (words_over (is_wide units.now) (length units.now)) f }
+{
+    let mut held = agent.take(alloc);
+    let answer = held.from_units(units);
+    agent.put(held);
+    of_text(answer)
+}
+
+/// A new string of one-byte units, as Latin-1 is, settled. It wants memory for the time of the call.
+#[unsafe(no_mangle)]
+pub extern "C" fn jsstr_from_latin1_unchecked(
+    alloc: Global,
+    agent: &mut JsAgent,
+    bytes: &[u8],
+) -> JsAnswer
+    requires ready { IsReady agent.old.at.value }
+    requires short { length bytes.now ≤ MAX }
+    ensures handle { IsHandle agent.new }
+    ensures goes { Goes agent.old.at.value agent.new.at.value }
+    ensures marked { result.status ≡ reports.DONE → Knows agent.new.at.value result.id }
+    ensures told { result.status ≢ reports.BAD_ARGUMENT }
+    ensures units { result.status ≡ reports.DONE
+        → Has (view_in agent.new.at.value).units result.id bytes.now }
+    ensures settled { result.status ≡ reports.DONE → IsSettled (view_in agent.new.at.value) result.id }
+    ensures refused { result.status ≢ reports.DONE → (result ≡ reports.no_memory)
+        ⊎ ((f : text_full.TextFull) × (result ≡ text_report f)
+        × Told (view_in agent.new.at.value) (size_in agent.old.at.value)
+        (words_over (is_wide bytes.now) (length bytes.now)) f) }
+{
+    let mut held = agent.take(alloc);
+    let mut units = Units::new(alloc);
+    let answer = match units.extend_from_latin1(bytes) {
+        Ok(()) => of_text(held.from_units(units.as_slice())),
+        Err(NoMemory) => no_memory(),
+    };
+    agent.put(held);
+    answer
+}
+
+/// The units of one string, and then those of another.
+#[unsafe(no_mangle)]
+pub extern "C" fn jsstr_concat_unchecked(
+    alloc: Global,
+    agent: &mut JsAgent,
+    a: u32,
+    b: u32,
+) -> JsAnswer
+    requires ready { IsReady agent.old.at.value }
+    requires known { HasKey (view_in agent.old.at.value).units a
+        × HasKey (view_in agent.old.at.value).units b }
+    ensures handle { IsHandle agent.new }
+    ensures goes { Goes agent.old.at.value agent.new.at.value }
+    ensures marked { result.status ≡ reports.DONE → Knows agent.new.at.value result.id }
+    ensures told { result.status ≢ reports.BAD_ARGUMENT }
+    ensures units { result.status ≡ reports.DONE
+        → (us vs : List ℕ) → Has (view_in agent.old.at.value).units a us
+        → Has (view_in agent.old.at.value).units b vs
+        → Has (view_in agent.new.at.value).units result.id (us ++ vs) }
+    ensures joined { (us vs : List ℕ) → Has (view_in agent.old.at.value).units a us
+        → Has (view_in agent.old.at.value).units b vs
+        → (r : Result js_str.JsStr join_fault.JoinFault) × (result ≡ join_answer r)
+        × IsJoined (view_in agent.old.at.value) (view_in agent.new.at.value) (size_in agent.old.at.value)
+        (limit_in agent.old.at.value) (record { id = a }) (record { id = b }) us vs r }
+{
+    let mut held = agent.take(alloc);
+    let answer = held.concat(JsStr { id: a }, JsStr { id: b });
+    agent.put(held);
+    of_join(answer)
+}
+
+/// The part of a settled string from unit `from` up to unit `to`, settled.
+#[unsafe(no_mangle)]
+pub extern "C" fn jsstr_slice_unchecked(
+    alloc: Global,
+    agent: &mut JsAgent,
+    s: u32,
+    from: u32,
+    to: u32,
+) -> JsAnswer
+    requires ready { IsReady agent.old.at.value }
+    requires settled { IsSettled (view_in agent.old.at.value) s }
+    requires within { (us : List ℕ) × Has (view_in agent.old.at.value).units s us × (from ≤ to)
+        × (to ≤ length us) }
+    ensures handle { IsHandle agent.new }
+    ensures goes { Goes agent.old.at.value agent.new.at.value }
+    ensures marked { result.status ≡ reports.DONE → Knows agent.new.at.value result.id }
+    ensures told { result.status ≢ reports.BAD_ARGUMENT }
+    ensures units { result.status ≡ reports.DONE
+        → (us : List ℕ) → Has (view_in agent.old.at.value).units s us
+        → Has (view_in agent.new.at.value).units result.id (part from (to - from) us) }
+    ensures settled { result.status ≡ reports.DONE → IsSettled (view_in agent.new.at.value) result.id }
+    ensures cut { (us : List ℕ) → Has (view_in agent.old.at.value).units s us
+        → (r : Result js_str.JsStr text_full.TextFull) × (result ≡ text_answer r)
+        × IsCut (view_in agent.old.at.value) (view_in agent.new.at.value) (size_in agent.old.at.value)
+        (record { id = s }) from to us r }
+{
+    let mut held = agent.take(alloc);
+    let answer = held.slice(JsStr { id: s }, from, to);
+    agent.put(held);
+    of_text(answer)
+}

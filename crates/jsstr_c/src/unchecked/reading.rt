@@ -1,0 +1,81 @@
+// Reading strings: their lengths and units.
+ghost use Rattle.std.specs.Prelude.{◌≡◌, ◌≢◌, ℕ, ◌+◌, ◌≤◌, ◌<◌, List, length, slice_range, IfOk, IfErr, Bool};
+ghost use Rattle.heap_read.specs.Reads.{Reads};
+ghost use Rattle.heap_rule.specs.Maps.{Has, HasKey};
+ghost use Rattle.heap_rule.specs.Views.{IsSettled};
+ghost use Rattle.heap_table.specs.Agents.{Belongs, size_of, view_of};
+ghost use Rattle.heap_text.specs.declared.faults.TextFull as text_full;
+ghost use Rattle.heap_text.specs.Settling.{IsNoRoom};
+ghost use Rattle.heap_agents.specs.Ready.{Goes, IsReady, Knows, size_in, view_in};
+ghost use Rattle.jsstr_c.specs.Handles.{IsHandle};
+ghost use Rattle.jsstr_c.specs.Reports.{text_report};
+ghost use Rattle.jsstr_c.specs.Reports as reports;
+
+use crate::agent::JsAgent;
+use crate::answer::{JsAnswer, of_text};
+use heap_text::JsStr;
+use std::alloc::Global;
+
+/// The length of a string, in units.
+#[unsafe(no_mangle)]
+pub extern "C" fn jsstr_length_unchecked(alloc: Global, agent: &mut JsAgent, s: u32) -> u32
+    requires ready { IsReady agent.old.at.value }
+    requires known { HasKey (view_in agent.old.at.value).units s }
+    ensures handle { IsHandle agent.new }
+    ensures goes { Goes agent.old.at.value agent.new.at.value }
+    ensures length { (us : List ℕ) → Has (view_in agent.old.at.value).units s us → result ≡ length us }
+{
+    let mut held = agent.take(alloc);
+    let answer = held.length(JsStr { id: s });
+    agent.put(held);
+    answer
+}
+
+/// Sees to it that a string is settled, so that it may be cut, read and interned. The answer is the
+/// string.
+#[unsafe(no_mangle)]
+pub extern "C" fn jsstr_settle_unchecked(alloc: Global, agent: &mut JsAgent, s: u32) -> JsAnswer
+    requires ready { IsReady agent.old.at.value }
+    requires known { HasKey (view_in agent.old.at.value).units s }
+    ensures handle { IsHandle agent.new }
+    ensures goes { Goes agent.old.at.value agent.new.at.value }
+    ensures marked { result.status ≡ reports.DONE → Knows agent.new.at.value result.id }
+    ensures told { result.status ≢ reports.BAD_ARGUMENT }
+    ensures settled { result.status ≡ reports.DONE
+        → (result.id ≡ s) × IsSettled (view_in agent.new.at.value) s }
+    ensures refused { result.status ≢ reports.DONE
+        → (us : List ℕ) → Has (view_in agent.old.at.value).units s us
+        → (f : text_full.TextFull) × (wide : Bool) × (result ≡ text_report f)
+        × IsNoRoom (view_in agent.old.at.value) (view_in agent.new.at.value) (size_in agent.old.at.value) us f wide }
+{
+    let mut held = agent.take(alloc);
+    let answer = held.settle(JsStr { id: s });
+    agent.put(held);
+    match answer {
+        Ok(()) => of_text(Ok(JsStr { id: s })),
+        Err(full) => of_text(Err(full)),
+    }
+}
+
+/// The units of a settled string from unit `from` on, as many as there is room for.
+#[unsafe(no_mangle)]
+pub extern "C" fn jsstr_read_unchecked(
+    alloc: Global,
+    agent: &mut JsAgent,
+    s: u32,
+    from: u32,
+    out: &mut [u16],
+)
+    requires ready { IsReady agent.old.at.value }
+    requires settled { IsSettled (view_in agent.old.at.value) s }
+    requires within { (us : List ℕ) × Has (view_in agent.old.at.value).units s us
+        × (from + length out.old ≤ length us) }
+    ensures handle { IsHandle agent.new }
+    ensures goes { Goes agent.old.at.value agent.new.at.value }
+    ensures units { (us : List ℕ) → Has (view_in agent.old.at.value).units s us
+        → out.new ≡ slice_range us from (from + length out.old) }
+{
+    let mut held = agent.take(alloc);
+    held.read(JsStr { id: s }, from, out);
+    agent.put(held);
+}

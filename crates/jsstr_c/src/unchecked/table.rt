@@ -1,0 +1,59 @@
+// The string table.
+ghost use Rattle.std.specs.Prelude.{◌≡◌, ◌≢◌, ◌↔◌, ℕ, List, Result, IfOk, IsTrue, Contains};
+ghost use Rattle.heap_rule.specs.Maps.{Has, HasKey};
+ghost use Rattle.heap_rule.specs.Views.{IsSettled, history};
+ghost use Rattle.heap_string_table.specs.declared.faults.TableFull as table_full;
+ghost use Rattle.heap_string_table.specs.Answers.{Interns, IsForwarded, IsPlan, Plan};
+ghost use Rattle.heap_table.specs.Agents.{view_of};
+ghost use Rattle.heap_table.specs.Known.{KeepsKnown};
+ghost use Rattle.heap_agents.specs.Interned.{IsEntered, KeepsCalls};
+ghost use Rattle.heap_agents.specs.Ready.{HasInterned, IsBeside, IsReady, Knows, MarksStay, view_in};
+ghost use Rattle.jsstr_c.specs.Handles.{IsHandle};
+ghost use Rattle.jsstr_c.specs.Reports.{table_answer};
+ghost use Rattle.jsstr_c.specs.Reports as reports;
+
+use crate::agent::JsAgent;
+use crate::answer::{JsAnswer, of_table};
+use std::alloc::Global;
+
+/// The one string of the table with the units of a settled string.
+#[unsafe(no_mangle)]
+pub extern "C" fn jsstr_intern_unchecked(alloc: Global, agent: &mut JsAgent, s: u32) -> JsAnswer
+    requires ready { IsReady agent.old.at.value }
+    requires known { HasKey (view_in agent.old.at.value).units s }
+    requires settled { IsSettled (view_in agent.old.at.value) s }
+    ensures handle { IsHandle agent.new }
+    ensures ready { IsReady agent.new.at.value }
+    ensures same { IsBeside agent.old.at.value agent.new.at.value }
+    ensures marks { MarksStay agent.old.at.value agent.new.at.value }
+    ensures marked { result.status ≡ reports.DONE
+        → Knows agent.new.at.value result.id × HasInterned agent.new.at.value result.id }
+    ensures told { result.status ≢ reports.BAD_ARGUMENT }
+    ensures known { KeepsKnown (view_in agent.old.at.value) (view_in agent.new.at.value) }
+    ensures calls { KeepsCalls (view_in agent.old.at.value) (view_in agent.new.at.value) }
+    ensures entered { result.status ≡ reports.DONE
+        → IsEntered (view_in agent.old.at.value) (view_in agent.new.at.value) s result.id }
+    ensures interns { (us : List ℕ) → Has (view_in agent.old.at.value).units s us
+        → (plan : Plan) × (r : Result ℕ table_full.TableFull) × (result ≡ table_answer r)
+        × IsPlan (view_in agent.old.at.value) (view_in agent.new.at.value) s us plan
+        × Interns (view_in agent.old.at.value) (view_in agent.new.at.value) us plan r }
+    ensures forwards { result.status ≡ reports.DONE → IsForwarded (view_in agent.new.at.value) s result.id }
+{
+    let mut held = agent.take(alloc);
+    let answer = held.intern(s);
+    agent.put(held);
+    of_table(answer)
+}
+
+/// Whether two interned strings are one, which is whether their units are equal.
+#[unsafe(no_mangle)]
+pub extern "C" fn jsstr_same_unchecked(_agent: &JsAgent, a: u32, b: u32) -> bool
+    requires ready { IsReady _agent.now.at.value }
+    requires left { (u : List ℕ) × Contains (history (view_in _agent.now.at.value)) (u, a) }
+    requires right { (u : List ℕ) × Contains (history (view_in _agent.now.at.value)) (u, b) }
+    ensures numbers { IsTrue result ↔ (a ≡ b) }
+    ensures units { (us vs : List ℕ) → Has (view_in _agent.now.at.value).units a us
+        → Has (view_in _agent.now.at.value).units b vs → IsTrue result ↔ (us ≡ vs) }
+{
+    a == b
+}

@@ -1,0 +1,311 @@
+/* Calls made by chance, lawful ones and others, by several agents of a heap, each compared with a plain
+   reference: a string is an array of units, an agent is the ids that it was answered.
+
+       fuzz [COUNT [SEED]]
+
+   makes COUNT calls, 20,000 where none is told. Prints how many were lawful, or the first that differs. */
+#include "jsstr.h"
+#include <stdio.h>
+#include <stdlib.h>
+#include <string.h>
+
+#define AGENTS 6
+#define IDS 3000
+#define WORDS 4000
+#define SLOTS 200
+#define LIMIT 400
+#define FAIL(c) do { printf("call %ld, line %d: %s\n", call, __LINE__, c); exit(1); } while (0)
+#define CHECK(c) do { if (!(c)) FAIL(#c); } while (0)
+
+typedef struct text { uint16_t *units; uint32_t len; } text;
+typedef struct agent {
+  jsstr_agent handle;
+  uint32_t share;
+  int number, giver;
+  uint8_t known[IDS], interned[IDS];
+} agent;
+
+static text texts[IDS];
+static agent agents[AGENTS], stranger;
+static jsstr_id table[SLOTS];
+static uint32_t entries, numbers;
+static int full;
+static long call, lawful;
+static uint64_t state;
+
+static uint32_t chance(uint32_t below) {
+  state = state * 6364136223846793005u + 1442695040888963407u;
+  return (uint32_t)((state >> 33) % below);
+}
+
+static void begin(void) {
+  for (int i = 0; i < AGENTS; i++) {
+    if (agents[i].handle.live) CHECK(jsstr_free(&agents[i].handle) == JSSTR_DONE);
+    memset(&agents[i], 0, sizeof agents[i]);
+  }
+  for (int i = 0; i < IDS; i++) free(texts[i].units);
+  memset(texts, 0, sizeof texts);
+  entries = numbers = full = 0;
+  CHECK(jsstr_make((jsstr_size){IDS, WORDS, SLOTS}, AGENTS, LIMIT, &agents[0].handle) == JSSTR_DONE);
+  agents[0].share = AGENTS;
+  agents[0].number = ++numbers;
+}
+
+/* An id that the agent knows, mostly; else any. */
+static jsstr_id some_id(const agent *a) {
+  if (chance(40) == 0) return chance(2) ? chance(IDS + 50) : chance(1u << 31) * 2;
+  for (int i = 0; i < 200; i++) {
+    jsstr_id s = chance(numbers > 1 && i > 100 ? IDS : IDS / 2);
+    if (a->known[s]) return s;
+  }
+  return chance(IDS);
+}
+
+static int knows(const agent *a, jsstr_id s) { return a->handle.live && s < IDS && a->known[s]; }
+
+static int refused_for_room(uint32_t status) {
+  if (status != JSSTR_NO_IDS && status != JSSTR_NO_WORDS && status != JSSTR_NO_SLOTS) return 0;
+  full++;
+  return 1;
+}
+
+/* The string is to have these units, and is known from now on. */
+static void answered(agent *a, jsstr_answer s, const uint16_t *units, uint32_t len) {
+  if (refused_for_room(s.status)) return;
+  CHECK(s.status == JSSTR_DONE && s.id < IDS);
+  text *t = &texts[s.id];
+  if (!t->units) {
+    t->units = malloc(len * 2 + 2);
+    t->len = len;
+    if (len) memcpy(t->units, units, len * 2);
+  }
+  CHECK(t->len == len && (!len || memcmp(t->units, units, len * 2) == 0));
+  a->known[s.id] = 1;
+}
+
+static uint32_t some_units(uint16_t *units) {
+  uint32_t len = chance(8) ? chance(20) : chance(100), wide = chance(3) == 0;
+  for (uint32_t i = 0; i < len; i++) units[i] = (uint16_t)(chance(3) + (wide && chance(2) ? 0x4E00 : 'a'));
+  return len;
+}
+
+static void make(agent *a) {
+  uint16_t units[100];
+  uint8_t bytes[300];
+  uint32_t len = some_units(units), n = 0, kind = chance(3);
+  jsstr_answer s;
+  if (kind == 0) s = jsstr_from_units(&a->handle, units, len);
+  else if (kind == 1) {
+    for (uint32_t i = 0; i < len; i++) units[i] = bytes[i] = (uint8_t)units[i];
+    s = jsstr_from_latin1(&a->handle, bytes, len);
+  } else {
+    for (uint32_t i = 0; i < len; i++)
+      if (units[i] < 128) bytes[n++] = (uint8_t)units[i];
+      else {
+        bytes[n++] = (uint8_t)(0xE0 | units[i] >> 12);
+        bytes[n++] = (uint8_t)(0x80 | (units[i] >> 6 & 63));
+        bytes[n++] = (uint8_t)(0x80 | (units[i] & 63));
+      }
+    if (a->handle.live && chance(20) == 0) {
+      bytes[n] = 0xFF;
+      s = jsstr_from_utf8(&a->handle, bytes, n + 1);
+      CHECK(s.status == JSSTR_NOT_UTF8 && s.at == n);
+      return;
+    }
+    s = jsstr_from_utf8(&a->handle, bytes, n);
+  }
+  if (!a->handle.live) { CHECK(s.status == JSSTR_BAD_ARGUMENT); return; }
+  lawful++;
+  answered(a, s, units, len);
+}
+
+static void concat(agent *a) {
+  jsstr_id l = some_id(a), r = some_id(a);
+  jsstr_answer s = jsstr_concat(&a->handle, l, r);
+  if (!knows(a, l) || !knows(a, r)) { CHECK(s.status == JSSTR_BAD_ARGUMENT); return; }
+  lawful++;
+  uint32_t m = texts[l].len, n = texts[r].len;
+  if (m + n > LIMIT) { CHECK(s.status == JSSTR_TOO_LONG && s.at == m && s.want == n); return; }
+  uint16_t units[LIMIT];
+  memcpy(units, texts[l].units, m * 2);
+  memcpy(units + m, texts[r].units, n * 2);
+  answered(a, s, units, m + n);
+}
+
+static void slice(agent *a) {
+  jsstr_id s = some_id(a);
+  uint32_t len = knows(a, s) ? texts[s].len : 9, from = chance(len + 2), to = chance(9) ? from + chance(len + 2 - from) : chance(500);
+  jsstr_answer t = jsstr_slice(&a->handle, s, from, to);
+  if (!knows(a, s) || from > to || to > len) { CHECK(t.status == JSSTR_BAD_ARGUMENT); return; }
+  lawful++;
+  answered(a, t, texts[s].units + from, to - from);
+}
+
+static void read(agent *a) {
+  uint16_t units[LIMIT + 2];
+  jsstr_id s = some_id(a);
+  uint32_t len = knows(a, s) ? texts[s].len : 9, from = chance(len + 2), n = chance(len + 2);
+  jsstr_number all = jsstr_length(&a->handle, s);
+  uint32_t status = jsstr_read(&a->handle, s, from, units, n);
+  if (!knows(a, s)) { CHECK(all.status == JSSTR_BAD_ARGUMENT && status == JSSTR_BAD_ARGUMENT); return; }
+  lawful++;
+  CHECK(all.status == JSSTR_DONE && all.value == len);
+  if (from + n > len) { CHECK(status == JSSTR_BAD_ARGUMENT); return; }
+  if (refused_for_room(status)) return;
+  CHECK(status == JSSTR_DONE && memcmp(units, texts[s].units + from, n * 2) == 0);
+}
+
+static int stands(text hay, text needle, uint32_t at) {
+  return at <= hay.len && needle.len <= hay.len - at && memcmp(hay.units + at, needle.units, needle.len * 2) == 0;
+}
+
+static int order_of(text a, text b) {
+  for (uint32_t i = 0; i < a.len && i < b.len; i++)
+    if (a.units[i] != b.units[i]) return a.units[i] < b.units[i] ? -1 : 1;
+  return (a.len > b.len) - (a.len < b.len);
+}
+
+static void search(agent *a) {
+  jsstr_id s = some_id(a), t = some_id(a);
+  uint32_t at = chance(30), ok = knows(a, s) && knows(a, t), want = 0;
+  int found = 0;
+  switch (chance(5)) {
+  case 0: {
+    jsstr_order o = jsstr_compare(&a->handle, s, t);
+    if (!ok) { CHECK(o.status == JSSTR_BAD_ARGUMENT); return; }
+    if (!refused_for_room(o.status)) CHECK(o.status == JSSTR_DONE && o.order == order_of(texts[s], texts[t]));
+    break;
+  }
+  case 1: {
+    jsstr_truth o = jsstr_equal(&a->handle, s, t);
+    if (!ok) { CHECK(o.status == JSSTR_BAD_ARGUMENT); return; }
+    if (!refused_for_room(o.status)) CHECK(o.status == JSSTR_DONE && o.holds == (order_of(texts[s], texts[t]) == 0));
+    break;
+  }
+  case 2: {
+    jsstr_truth o = jsstr_starts_with(&a->handle, s, t, at);
+    if (!ok) { CHECK(o.status == JSSTR_BAD_ARGUMENT); return; }
+    if (!refused_for_room(o.status)) CHECK(o.status == JSSTR_DONE && o.holds == stands(texts[s], texts[t], at));
+    break;
+  }
+  case 3: {
+    jsstr_place o = jsstr_index_of(&a->handle, s, t, at);
+    if (!ok || at > texts[s].len) { CHECK(o.status == JSSTR_BAD_ARGUMENT); return; }
+    for (want = at; want <= texts[s].len && !(found = stands(texts[s], texts[t], want)); want++) {}
+    if (!refused_for_room(o.status)) CHECK(found ? o.status == JSSTR_DONE && o.at == want : o.status == JSSTR_NONE);
+    break;
+  }
+  default: {
+    jsstr_place o = jsstr_last_index_of(&a->handle, s, t, at);
+    if (!ok) { CHECK(o.status == JSSTR_BAD_ARGUMENT); return; }
+    for (want = at + 1; want-- > 0 && !(found = stands(texts[s], texts[t], want));) {}
+    if (!refused_for_room(o.status)) CHECK(found ? o.status == JSSTR_DONE && o.at == want : o.status == JSSTR_NONE);
+  }
+  }
+  lawful++;
+}
+
+static void intern(agent *a) {
+  jsstr_id s = some_id(a);
+  jsstr_answer one = jsstr_intern(&a->handle, s);
+  if (!knows(a, s)) { CHECK(one.status == JSSTR_BAD_ARGUMENT); return; }
+  lawful++;
+  if (refused_for_room(one.status)) return;
+  answered(a, one, texts[s].units, texts[s].len);
+  a->interned[one.id] = 1;
+  for (uint32_t i = 0; i < entries; i++)
+    if (order_of(texts[table[i]], texts[s]) == 0) { CHECK(table[i] == one.id); return; }
+  CHECK(entries < SLOTS);
+  table[entries++] = one.id;
+}
+
+static void same(agent *a) {
+  jsstr_id s = entries && chance(9) ? table[chance(entries)] : some_id(a), t = entries && chance(2) ? table[chance(entries)] : s;
+  jsstr_truth o = jsstr_same(&a->handle, s, t);
+  int ok = knows(a, s) && knows(a, t) && a->interned[s] && a->interned[t];
+  lawful += ok;
+  CHECK(ok ? o.status == JSSTR_DONE && o.holds == (s == t) : o.status == JSSTR_BAD_ARGUMENT);
+}
+
+static void count(agent *a) {
+  jsstr_number share = jsstr_share(&a->handle), lists = jsstr_count_interned(&a->handle);
+  jsstr_used used = jsstr_totals(&a->handle);
+  CHECK(a->handle.live ? share.status == JSSTR_DONE && share.value == a->share : share.status == JSSTR_BAD_ARGUMENT);
+  if (a->share < AGENTS) { CHECK(lists.status == JSSTR_BAD_ARGUMENT && used.status == JSSTR_BAD_ARGUMENT); return; }
+  lawful++;
+  uint32_t seen = 0;
+  for (int i = 0; i < IDS; i++) seen += a->known[i];
+  CHECK(lists.status == JSSTR_DONE && lists.value == entries && used.ids >= seen && used.ids <= IDS && used.words <= WORDS);
+}
+
+static void settle(agent *a) {
+  jsstr_id s = some_id(a);
+  jsstr_answer t = jsstr_settle(&a->handle, s);
+  if (!knows(a, s)) { CHECK(t.status == JSSTR_BAD_ARGUMENT); return; }
+  lawful++;
+  if (!refused_for_room(t.status)) CHECK(t.status == JSSTR_DONE && t.id == s);
+}
+
+static void split(agent *a, agent *b) {
+  uint32_t give = chance(AGENTS + 1);
+  int ok = a != b && a->handle.live && !b->handle.live && give >= 1 && give < a->share;
+  if (a == b) return;
+  uint32_t status = jsstr_split(&a->handle, give, &b->handle);
+  CHECK(status == (ok ? JSSTR_DONE : JSSTR_BAD_ARGUMENT));
+  if (!ok) return;
+  lawful++;
+  jsstr_agent handle = b->handle;
+  *b = *a;
+  b->handle = handle;
+  b->share = give;
+  b->giver = a->number;
+  b->number = (int)++numbers;
+  a->share -= give;
+}
+
+static void join(agent *a, agent *b) {
+  if (a == b) return;
+  if (chance(20) == 0) {
+    CHECK(jsstr_join(&a->handle, &stranger.handle) == JSSTR_BAD_ARGUMENT && jsstr_join(&stranger.handle, &b->handle) == JSSTR_BAD_ARGUMENT);
+    return;
+  }
+  int ok = a->handle.live && b->handle.live && b->giver == a->number;
+  CHECK(jsstr_join(&a->handle, &b->handle) == (ok ? JSSTR_DONE : JSSTR_BAD_ARGUMENT));
+  if (!ok) return;
+  lawful++;
+  CHECK(!b->handle.live && !b->handle.at);
+  for (int i = 0; i < IDS; i++) a->known[i] |= b->known[i], a->interned[i] |= b->interned[i];
+  a->share += b->share;
+  memset(b, 0, sizeof *b);
+}
+
+int main(int count_of, char **told) {
+  long calls = count_of > 1 ? atol(told[1]) : 20000;
+  state = count_of > 2 ? strtoull(told[2], 0, 10) : 1;
+  CHECK(jsstr_make((jsstr_size){8, 8, 8}, 4, 9, &stranger.handle) == JSSTR_DONE);
+  begin();
+  for (call = 0; call < calls; call++) {
+    agent *a = &agents[chance(AGENTS)], *b = &agents[chance(AGENTS)];
+    if (!a->handle.live && chance(3)) a = &agents[0];
+    switch (chance(16)) {
+    case 0: case 1: make(a); break;
+    case 2: case 3: concat(a); break;
+    case 4: case 5: slice(a); break;
+    case 6: case 7: read(a); break;
+    case 8: case 9: search(a); break;
+    case 10: intern(a); break;
+    case 11: same(a); break;
+    case 12: count(a); break;
+    case 13: settle(a); break;
+    case 14: split(a, b); break;
+    default: join(a, b);
+    }
+    if (full > 300) begin();
+  }
+  for (int i = 0; i < AGENTS; i++)
+    if (agents[i].handle.live) CHECK(jsstr_free(&agents[i].handle) == JSSTR_DONE);
+  CHECK(jsstr_free(&stranger.handle) == JSSTR_DONE);
+  for (int i = 0; i < IDS; i++) free(texts[i].units);
+  printf("%ld calls, %ld lawful, none differs\n", calls, lawful);
+  return 0;
+}

@@ -1,0 +1,137 @@
+// Eight threads, each with an agent, make, join, cut, read and intern strings for some seconds, and compare
+// each answer with std::u16string. In the end all have the same number for the same key.
+//
+//     stress [SECONDS [THREADS]]
+#include "jsstr.h"
+#include <atomic>
+#include <chrono>
+#include <cstdio>
+#include <cstdlib>
+#include <string>
+#include <thread>
+#include <unordered_map>
+#include <vector>
+
+#define CHECK(c) do { if (!(c)) { std::printf("line %d: %s\n", __LINE__, #c); std::exit(1); } } while (0)
+
+constexpr uint32_t KEYS = 512;
+using Text = std::u16string;
+
+struct Worker {
+  jsstr_agent agent{};
+  uint64_t state = 1;
+  uint64_t calls = 0;
+  std::unordered_map<jsstr_id, Text> texts;
+  std::vector<jsstr_id> ids;
+  std::vector<jsstr_id> keys = std::vector<jsstr_id>(KEYS, UINT32_MAX);
+  bool full = false;
+
+  uint32_t chance(uint32_t below) {
+    state = state * 6364136223846793005u + 1442695040888963407u;
+    return uint32_t((state >> 33) % below);
+  }
+
+  // Whether there is an answer, and then with this text.
+  bool answered(jsstr_answer s, const Text &text) {
+    calls++;
+    if (s.status == JSSTR_NO_IDS || s.status == JSSTR_NO_WORDS) { full = true; return false; }
+    CHECK(s.status == JSSTR_DONE);
+    auto at = texts.emplace(s.id, text);
+    CHECK(at.first->second == text);
+    if (at.second) ids.push_back(s.id);
+    return true;
+  }
+
+  jsstr_id made(const Text &text) {
+    jsstr_answer s = jsstr_from_units(&agent, reinterpret_cast<const uint16_t *>(text.data()), text.size());
+    return answered(s, text) ? s.id : UINT32_MAX;
+  }
+
+  static Text key(uint32_t number) {
+    std::string digits = std::to_string(number);
+    Text text = number % 2 ? u"\u4E16 key " : u"the key ";
+    return text.append(digits.begin(), digits.end());
+  }
+
+  void step() {
+    jsstr_id a = ids[chance(uint32_t(ids.size()))], b = ids[chance(uint32_t(ids.size()))];
+    const Text left = texts[a], right = texts[b];
+    switch (chance(6)) {
+    case 0: {
+      jsstr_answer s = jsstr_concat(&agent, a, b);
+      if (left.size() + right.size() > 2000) { CHECK(s.status == JSSTR_TOO_LONG); break; }
+      answered(s, left + right);
+      break;
+    }
+    case 1: {
+      uint32_t from = chance(uint32_t(left.size()) + 1), to = from + chance(uint32_t(left.size()) - from + 1);
+      answered(jsstr_slice(&agent, a, from, to), left.substr(from, to - from));
+      break;
+    }
+    case 2: {
+      Text got(left.size(), u'?');
+      uint32_t status = jsstr_read(&agent, a, 0, reinterpret_cast<uint16_t *>(&got[0]), got.size());
+      if (status == JSSTR_NO_WORDS) { full = true; break; }
+      CHECK(status == JSSTR_DONE && got == left);
+      break;
+    }
+    case 3: {
+      jsstr_order o = jsstr_compare(&agent, a, b);
+      if (o.status == JSSTR_NO_WORDS) { full = true; break; }
+      int want = left.compare(right);
+      CHECK(o.status == JSSTR_DONE && o.order == (want > 0) - (want < 0));
+      break;
+    }
+    case 4: {
+      uint32_t number = chance(KEYS);
+      jsstr_id s = made(key(number));
+      if (full) break;
+      jsstr_answer one = jsstr_intern(&agent, s);
+      if (!answered(one, key(number))) break;
+      CHECK(keys[number] == UINT32_MAX || keys[number] == one.id);
+      keys[number] = one.id;
+      break;
+    }
+    default:
+      CHECK(jsstr_length(&agent, UINT32_MAX - chance(9)).status == JSSTR_BAD_ARGUMENT);
+    }
+    calls++;
+  }
+};
+
+int main(int count, char **told) {
+  double seconds = count > 1 ? std::atof(told[1]) : 1;
+  uint32_t threads = count > 2 ? uint32_t(std::atoi(told[2])) : 8;
+  auto end = std::chrono::steady_clock::now() + std::chrono::duration<double>(seconds);
+  uint64_t calls = 0, rounds = 0;
+  do {
+    std::vector<Worker> workers(threads);
+    CHECK(jsstr_make({400000, 3000000, 4096}, threads, 2000, &workers[0].agent) == JSSTR_DONE);
+    for (uint32_t i = 1; i < threads; i++) CHECK(jsstr_split(&workers[0].agent, 1, &workers[i].agent) == JSSTR_DONE);
+    std::vector<std::thread> running;
+    for (uint32_t i = 0; i < threads; i++)
+      running.emplace_back([&, i] {
+        Worker &w = workers[i];
+        w.state = rounds * 1000 + i;
+        w.made(u"a string to begin with, not a short one");
+        w.made(u"\u4E16\u754C");
+        while (!w.full && w.calls < 100000 && std::chrono::steady_clock::now() < end) w.step();
+      });
+    for (auto &thread : running) thread.join();
+    for (uint32_t i = 0; i < threads; i++) {
+      calls += workers[i].calls;
+      for (uint32_t key = 0; key < KEYS; key++)
+        for (uint32_t j = 0; j < i; j++)
+          CHECK(workers[i].keys[key] == UINT32_MAX || workers[j].keys[key] == UINT32_MAX || workers[i].keys[key] == workers[j].keys[key]);
+      if (!i) continue;
+      CHECK(jsstr_join(&workers[0].agent, &workers[i].agent) == JSSTR_DONE);
+      for (auto &it : workers[i].texts) {
+        jsstr_number n = jsstr_length(&workers[0].agent, it.first);
+        CHECK(n.status == JSSTR_DONE && n.value == it.second.size());
+      }
+    }
+    CHECK(jsstr_free(&workers[0].agent) == JSSTR_DONE);
+    rounds++;
+  } while (std::chrono::steady_clock::now() < end);
+  std::printf("%u threads, %llu heaps, %llu calls, none differs\n", threads, (unsigned long long)rounds, (unsigned long long)calls);
+}
