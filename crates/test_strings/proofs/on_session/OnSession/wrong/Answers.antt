@@ -1,0 +1,8 @@
+use Rattle.test_strings.proofs.Going.{goes_trans}
+use Rattle.test_strings.proofs.on_session.OnSession.wrong.Goals as goal
+
+pub returns-in-Some-wrong_line : goal.returns-in-Some-wrong_line
+returns-in-Some-wrong_line c = record { goes = goes_trans _ _ _ c.loop-line.invariant c.wrong_line.ensures.goes }
+
+pub loop-line-preserved : goal.loop-line-preserved
+loop-line-preserved c = goes_trans _ _ _ c.loop-line.invariant c.wrong_line.ensures.goes

@@ -1,0 +1,3 @@
+pub mod Ropes
+pub mod Sessions
+pub mod Turns

@@ -1,0 +1,27 @@
+-- What is left of an agent that made strings, interned and read them.
+use Rattle.std.specs.Prelude.{◌≡◌, ℕ, ◌<◌, ◌++◌, List, Contains}
+use Rattle.heap_rule.specs.declared.view.View.{View}
+use Rattle.heap_rule.specs.Maps.{HasKey}
+use Rattle.heap_rule.specs.Paths.{Calls, StartsWith}
+use Rattle.heap_table.specs.Known.{KeepsKnown}
+use Rattle.heap_read.specs.declared.reader.Reader.{Reader}
+use Rattle.heap_read.specs.Readers.{Moves}
+
+-- what it knew it knows, its share stays, and its history has some calls more
+pub record Turns (v w : View) : Type 0 where
+  pub known : KeepsKnown v w
+  pub agents : w.agents ≡ v.agents
+  pub live : w.live ≡ v.live
+  pub share : w.share ≡ v.share
+  pub seen : w.seen ≡ v.seen
+  pub calls : Calls
+  pub mine : w.mine ≡ v.mine ++ calls
+
+-- Strings of these numbers are known, on a heap of so many agents, where that number is told.
+pub record IsPlayed (v : View) (agents : ℕ) (ids : List ℕ) : Type 0 where
+  pub known : (i : ℕ) → Contains ids i → HasKey v.units i
+  pub agents_are : 0 < agents → v.agents ≡ agents
+
+-- the same of a reader as one fact, which a search takes as it is
+unfoldable pub HasGoneOn : Reader → Reader → Type 0
+HasGoneOn a b = Moves Turns a b

@@ -1,0 +1,35 @@
+//! Tests of the strings on the running heap, of its string table and of sessions by their public calls,
+//! most of them as lines of text that a player plays (`plays`), also by two agents in two threads. They
+//! stand apart, since a crate with tests is proved twice.
+#![tactic(auto)]
+
+#[cfg(test)]
+mod by_hand;
+#[cfg(test)]
+mod counted;
+#[cfg(test)]
+mod lines;
+#[cfg(test)]
+mod on_session;
+#[cfg(test)]
+mod on_text;
+#[cfg(test)]
+mod plays;
+#[cfg(test)]
+mod reading;
+#[cfg(test)]
+mod sessions;
+#[cfg(test)]
+mod stores;
+#[cfg(test)]
+mod strings;
+#[cfg(test)]
+mod table;
+#[cfg(test)]
+mod table_counted;
+#[cfg(test)]
+mod table_forwards;
+#[cfg(test)]
+mod table_ropes;
+#[cfg(test)]
+mod text_calls;

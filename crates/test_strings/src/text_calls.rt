@@ -1,0 +1,168 @@
+// The calls that a play makes on a text, on the string table and on an agent, each in one form.
+ghost use Rattle.std.specs.Prelude.{◌≡◌, ◌≤◌, ◌<◌, IfOk, IfSome, length};
+ghost use Rattle.js_header.specs.Form.{IsInRange};
+ghost use Rattle.heap_rule.specs.Maps.{HasKey};
+ghost use Rattle.heap_table.specs.Agents.{size_of};
+ghost use Rattle.heap_read.specs.Readers.{Moves, view_in};
+ghost use Rattle.test_strings.specs.Turns.{Turns};
+
+use heap_read::{Reader, Steps};
+use heap_string_table::{TableFull, count_interned, intern};
+use heap_text::{JoinFault, JsStr, Text, TextFull};
+use js_header::Form;
+use std::sync::ledger::{Blank, Ledger};
+
+pub(crate) fn flat(text: &mut Text, units: &[u16]) -> Result<JsStr, TextFull>
+    requires short { length units.now ≤ 65536 }
+    ensures goes { Moves Turns text.old.reader text.new.reader }
+    ensures known { IfOk result (λ s. HasKey (view_in text.new.reader).units s.id) }
+{
+    text.make_flat(units)
+}
+
+pub(crate) fn joined(text: &mut Text, a: JsStr, b: JsStr) -> Result<JsStr, JoinFault>
+    requires left { HasKey (view_in text.old.reader).units a.id }
+    requires right { HasKey (view_in text.old.reader).units b.id }
+    ensures goes { Moves Turns text.old.reader text.new.reader }
+    ensures known { IfOk result (λ s. HasKey (view_in text.new.reader).units s.id) }
+{
+    text.concat(a, b)
+}
+
+pub(crate) fn settled(text: &mut Text, s: JsStr) -> Result<(), TextFull>
+    requires known { HasKey (view_in text.old.reader).units s.id }
+    ensures goes { Moves Turns text.old.reader text.new.reader }
+{
+    text.settle(s)
+}
+
+/// A part of a string, once that is settled; None where it has no such part.
+pub(crate) fn cut(text: &mut Text, s: JsStr, from: u32, to: u32) -> Option<Result<JsStr, TextFull>>
+    requires known { HasKey (view_in text.old.reader).units s.id }
+    ensures goes { Moves Turns text.old.reader text.new.reader }
+    ensures known { IfSome result
+        (λ r. IfOk r (λ t. HasKey (view_in text.new.reader).units t.id)) }
+{
+    let Ok(()) = text.settle(s) else {
+        return None;
+    };
+    let n = text.len(s);
+    if from > to || to > n {
+        return None;
+    }
+    Some(text.slice(s, from, to))
+}
+
+/// Whether the string has these units, read one by one, by a window and without.
+pub(crate) fn reads(text: &mut Text, s: JsStr, want: &[u16]) -> bool
+    requires known { HasKey (view_in text.old.reader).units s.id }
+    ensures goes { Moves Turns text.old.reader text.new.reader }
+{
+    let Ok(()) = text.settle(s) else {
+        return false;
+    };
+    if text.len(s) as usize != want.len() {
+        return false;
+    }
+    let window = text.window(s);
+    for i in 0..window.len {
+        if text.unit_in(window, i) != want[i as usize] {
+            return false;
+        }
+    }
+    for k in 0..window.len {
+        if text.unit_at(s, k) != want[k as usize] {
+            return false;
+        }
+    }
+    true
+}
+
+/// The number that a string is interned as, once it is settled.
+pub(crate) fn interned(text: &mut Text, s: JsStr) -> Option<Result<u32, TableFull>>
+    requires known { HasKey (view_in text.old.reader).units s.id }
+    ensures goes { Moves Turns text.old.reader text.new.reader }
+    ensures known { IfSome result
+        (λ r. IfOk r (λ i. HasKey (view_in text.new.reader).units i)) }
+{
+    let Ok(()) = text.settle(s) else {
+        return None;
+    };
+    Some(intern(&mut text.reader, s.id))
+}
+
+pub(crate) fn units_in(text: &mut Text, s: JsStr) -> u32
+    requires known { HasKey (view_in text.old.reader).units s.id }
+    ensures goes { Moves Turns text.old.reader text.new.reader }
+{
+    text.len(s)
+}
+
+/// The header of a string as it is at this moment.
+pub(crate) fn header(reader: &mut Reader, s: JsStr) -> Form
+    requires known { HasKey (view_in reader.old).units s.id }
+    ensures goes { Moves Turns reader.old reader.new }
+    ensures range { IsInRange result }
+{
+    reader.form_now(s.id)
+}
+
+/// The first content word of a string that is flat; None where it is empty or has another form.
+pub(crate) fn first_word(reader: &mut Reader, s: JsStr) -> Option<u64>
+    requires known { HasKey (view_in reader.old).units s.id }
+    ensures goes { Moves Turns reader.old reader.new }
+{
+    let Form::Flat { start, .. } = reader.form_now(s.id) else {
+        return None;
+    };
+    if reader.agent.load_length(reader.heap, s.id) == 0 {
+        return None;
+    }
+    Some(reader.agent.load_word(reader.heap, start))
+}
+
+/// What a slot has, as a number.
+pub(crate) fn slot(reader: &mut Reader, k: u32) -> Option<u64>
+    requires inside { k < (size_of reader.old.heap.now).slots }
+    ensures goes { Moves Turns reader.old reader.new }
+{
+    match reader.agent.load_slot(reader.heap, k, false) {
+        Some(id) => Some(u64::from(id)),
+        None => None,
+    }
+}
+
+pub(crate) fn count(reader: &mut Reader) -> u32
+    requires whole { (view_in reader.old).share ≡ (view_in reader.old).agents }
+    ensures goes { Moves Turns reader.old reader.new }
+{
+    count_interned(reader)
+}
+
+pub(crate) fn totals(reader: &mut Reader) -> (u32, u32)
+    requires whole { (view_in reader.old).share ≡ (view_in reader.old).agents }
+    ensures goes { Moves Turns reader.old reader.new }
+{
+    reader.agent.totals(reader.heap)
+}
+
+/// The length of a string, and its first and its last unit, once it is settled with a count of the
+/// loads of forms.
+pub(crate) fn ends<L: Ledger>(text: &mut Text, s: JsStr, blank: Blank) -> Option<(u32, u16, u16)>
+    requires name { blank.name ≡ L.name }
+    requires parts { blank.parts ≡ L.parts }
+    requires some { 0 < blank.parts }
+    requires known { HasKey (view_in text.old.reader).units s.id }
+    ensures goes { Moves Turns text.old.reader text.new.reader }
+{
+    let mut steps = Steps::<L>::start(blank);
+    let Ok(()) = text.settle_counted(s, &mut steps) else {
+        return None;
+    };
+    let window = text.window(s);
+    if window.len == 0 {
+        return None;
+    }
+    let first = text.unit_in(window, 0);
+    Some((window.len, first, text.unit_in(window, window.len - 1)))
+}
