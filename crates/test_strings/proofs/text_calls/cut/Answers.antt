@@ -18,12 +18,12 @@ slice-requires-clause-within c = let v : View = c.args.text.now.reader.agent.sea
 
 pub returns-then-from-to-clause-goes : goal.returns-then-from-to-clause-goes
 returns-then-from-to-clause-goes c = let w : View = c.settle.new.self.reader.agent.seat.me.0 in let x : View = c.len-n.new.self.reader.agent.seat.me.0 in
-    record { heap = c.len-n.ensures.heap ∙ c.settle.ensures.heap; view = turns_continues _ x (continues_trans c.args.text.now.reader.agent.seat.me.0 w x c.settle.ensures.continues (continues_reads w x c.len-n.ensures.reads)) }
+    record { heap = c.len-n.ensures.kept.heap ∙ c.settle.ensures.kept.heap; view = turns_continues _ x (continues_trans c.args.text.now.reader.agent.seat.me.0 w x c.settle.ensures.continues (continues_reads w x c.len-n.ensures.reads)) }
 
 pub returns-clause-goes : goal.returns-clause-goes
 returns-clause-goes c = let w : View = c.settle.new.self.reader.agent.seat.me.0 in let x : View = c.len-n.new.self.reader.agent.seat.me.0 in let y : View = c.slice.new.self.reader.agent.seat.me.0 in
     record {
-      heap = c.slice.ensures.heap ∙ (c.len-n.ensures.heap ∙ c.settle.ensures.heap);
+      heap = c.slice.ensures.kept.heap ∙ (c.len-n.ensures.kept.heap ∙ c.settle.ensures.kept.heap);
       view = turns_continues _ y (continues_trans c.args.text.now.reader.agent.seat.me.0 w y c.settle.ensures.continues (continues_trans w x y (continues_reads w x c.len-n.ensures.reads) c.slice.ensures.continues));
     }
 

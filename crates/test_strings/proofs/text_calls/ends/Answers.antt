@@ -18,13 +18,13 @@ unit_in-requires-clause-frozen g c = let v : View = c.args.text.now.reader.agent
 
 pub returns-then-window-eq0 : goal.returns-then-window-eq0
 returns-then-window-eq0 g c = let v : View = c.args.text.now.reader.agent.seat.me.0 in let u : View = c.settle_counted.new.self.reader.agent.seat.me.0 in let w : View = c.window-window.new.self.reader.agent.seat.me.0 in
-    record { goes = record { heap = c.window-window.ensures.heap ∙ c.settle_counted.ensures.heap; view = turns_continues v w (continues_trans v u w c.settle_counted.ensures.continues (continues_reads u w c.window-window.ensures.reads)) } }
+    record { goes = record { heap = c.window-window.ensures.kept.heap ∙ c.settle_counted.ensures.kept.heap; view = turns_continues v w (continues_trans v u w c.settle_counted.ensures.continues (continues_reads u w c.window-window.ensures.reads)) } }
 
 pub returns : goal.returns
 returns g c = let v : View = c.args.text.now.reader.agent.seat.me.0 in let u : View = c.settle_counted.new.self.reader.agent.seat.me.0 in let w : View = c.window-window.new.self.reader.agent.seat.me.0 in let x : View = c.unit_in-first.new.self.reader.agent.seat.me.0 in let y : View = c.unit_in.new.self.reader.agent.seat.me.0 in
     record {
       goes = record {
-        heap = c.unit_in.ensures.heap ∙ (c.unit_in-first.ensures.heap ∙ (c.window-window.ensures.heap ∙ c.settle_counted.ensures.heap));
+        heap = c.unit_in.ensures.kept.heap ∙ (c.unit_in-first.ensures.kept.heap ∙ (c.window-window.ensures.kept.heap ∙ c.settle_counted.ensures.kept.heap));
         view = turns_continues v y (continues_trans v u y c.settle_counted.ensures.continues (continues_reads u y (reads_trans u w y c.window-window.ensures.reads (reads_trans w x y c.unit_in-first.ensures.reads c.unit_in.ensures.reads))));
       };
     }

@@ -12,7 +12,7 @@ loop-i-init c = let v : View = c.args.text.now.reader.agent.seat.me.0 in let w1 
     let s = c.settle.ensures.continues in let r = reads_trans w1 w2 w3 c.len.ensures.reads c.window-window.ensures.reads in
     let k2 = known_trans v w1 w2 s.known c.len.ensures.reads.known in let p = has_key v.units c.args.s.id c.requires.known in
     let n = c.len.ensures.length p.0 (s.known.units c.args.s.id p.0 p.1) in let m = (c.window-window.ensures.shows p.0 (k2.units c.args.s.id p.0 p.1)).1 in let test = c.if-len-want.false in record {
-      heap = c.window-window.ensures.heap ∙ (c.len.ensures.heap ∙ c.settle.ensures.heap);
+      heap = c.window-window.ensures.kept.heap ∙ (c.len.ensures.kept.heap ∙ c.settle.ensures.kept.heap);
       continues = continues_trans v w1 w3 s (continues_reads w1 w3 r);
       settled = r.known.settled c.args.s.id c.in-Ok.ensures.settled;
       shows = λ us h. (c.window-window.ensures.shows us (k2.units c.args.s.id us h)).0;
@@ -26,7 +26,7 @@ unit_in-requires-clause-frozen c = let v : View = c.args.text.now.reader.agent.s
 pub loop-i-preserved : goal.loop-i-preserved
 loop-i-preserved c = let v : View = c.args.text.now.reader.agent.seat.me.0 in let u : View = c.loop-i.text.reader.agent.seat.me.0 in let x : View = c.unit_in.new.self.reader.agent.seat.me.0 in
     let i = c.loop-i.invariant in let e = c.unit_in.ensures in record {
-      heap = e.heap ∙ i.heap;
+      heap = e.kept.heap ∙ i.heap;
       continues = continues_trans v u x i.continues (continues_reads u x e.reads);
       settled = e.reads.known.settled c.args.s.id i.settled;
       shows = λ us h. window_kept u x (forms_held u x e.forms.0) c.window-window.result us e.reads.known (i.shows us h);
@@ -49,7 +49,7 @@ unit_at-requires-clause-within c = let v : View = c.args.text.now.reader.agent.s
 pub loop-k-preserved : goal.loop-k-preserved
 loop-k-preserved c = let v : View = c.args.text.now.reader.agent.seat.me.0 in let u : View = c.loop-k.text.reader.agent.seat.me.0 in let x : View = c.unit_at.new.self.reader.agent.seat.me.0 in
     let i = c.loop-k.invariant in let e = c.unit_at.ensures in record {
-      heap = e.heap ∙ i.heap;
+      heap = e.kept.heap ∙ i.heap;
       continues = continues_trans v u x i.continues (continues_reads u x e.reads);
       settled = e.reads.known.settled c.args.s.id i.settled;
       long = i.long;
@@ -59,7 +59,7 @@ loop-k-preserved c = let v : View = c.args.text.now.reader.agent.seat.me.0 in le
 pub returns-then-unit_in-want : goal.returns-then-unit_in-want
 returns-then-unit_in-want c = let u : View = c.loop-i.text.reader.agent.seat.me.0 in let x : View = c.unit_in.new.self.reader.agent.seat.me.0 in record {
   goes = record {
-    heap = c.unit_in.ensures.heap ∙ c.loop-i.invariant.heap;
+    heap = c.unit_in.ensures.kept.heap ∙ c.loop-i.invariant.heap;
     view = turns_continues _ x (continues_trans c.args.text.now.reader.agent.seat.me.0 u x c.loop-i.invariant.continues (continues_reads u x c.unit_in.ensures.reads));
   };
 }
@@ -67,7 +67,7 @@ returns-then-unit_in-want c = let u : View = c.loop-i.text.reader.agent.seat.me.
 pub returns-then-unit_at-want : goal.returns-then-unit_at-want
 returns-then-unit_at-want c = let u : View = c.loop-k.text.reader.agent.seat.me.0 in let x : View = c.unit_at.new.self.reader.agent.seat.me.0 in record {
   goes = record {
-    heap = c.unit_at.ensures.heap ∙ c.loop-k.invariant.heap;
+    heap = c.unit_at.ensures.kept.heap ∙ c.loop-k.invariant.heap;
     view = turns_continues _ x (continues_trans c.args.text.now.reader.agent.seat.me.0 u x c.loop-k.invariant.continues (continues_reads u x c.unit_at.ensures.reads));
   };
 }
@@ -75,7 +75,7 @@ returns-then-unit_at-want c = let u : View = c.loop-k.text.reader.agent.seat.me.
 pub returns-then-len-want : goal.returns-then-len-want
 returns-then-len-want c = let w1 : View = c.settle.new.self.reader.agent.seat.me.0 in let w2 : View = c.len.new.self.reader.agent.seat.me.0 in record {
   goes = record {
-    heap = c.len.ensures.heap ∙ c.settle.ensures.heap;
+    heap = c.len.ensures.kept.heap ∙ c.settle.ensures.kept.heap;
     view = turns_continues _ w2 (continues_trans c.args.text.now.reader.agent.seat.me.0 w1 w2 c.settle.ensures.continues (continues_reads w1 w2 c.len.ensures.reads));
   };
 }
