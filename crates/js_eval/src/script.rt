@@ -24,9 +24,10 @@ use crate::ending::End;
 use crate::env::Env;
 use crate::expr::{expr, exprs};
 use crate::literals::intern_literals;
+use crate::operators::apply;
 use eval_scopes::{Blocks, Place, Scope};
-use eval_tree::{Arm, Block, Expr, Name, Script, Stmt};
-use eval_values::{Kind, Stop, Value, plus, texts, truth};
+use eval_tree::{Arm, Block, Expr, Name, Op, Script, Stmt};
+use eval_values::{Kind, Stop, Value, texts, truth};
 use js_number::Num;
 use js_print::Lines;
 use js_store::{StoreFault, Strings};
@@ -428,7 +429,7 @@ fn sum_with<S: Strings>(
 {
     let left = read_at(store, context, place)?;
     let right = expr(alloc, store, context, value)?;
-    plus(alloc, store, at, &left, &right)
+    apply(alloc, store, at, Op::Plus, &left, right)
 }
 
 fn print<S: Strings>(
