@@ -1,6 +1,6 @@
 // The tree of a script.
 ghost use Rattle.std.specs.Prelude.{◌≡◌, ◌∷◌, ◌++◌, [], IfOk, OnOk, OnErr, bytes_eq};
-ghost use Rattle.eval_tree.specs.Keys.{key_of};
+ghost use Rattle.eval_tree.specs.Keys.{key_of, AreBytes};
 
 use js_units::{NoMemory, Units};
 use std::alloc::Global;
@@ -234,6 +234,7 @@ pub struct Name {
     key: u64,
     bytes: Vec<u8>,
     ghost keyed: { key ≡ key_of bytes.items },
+    ghost lettered: { AreBytes bytes.items },
 }
 
 // No two names of up to so many bytes have one key.
@@ -305,7 +306,9 @@ fn key(bytes: &[u8]) -> u64
 
 // Whether the letters of two names with one key are the same.
 fn same_letters(left: &[u8], right: &[u8]) -> bool
-    requires { key_of left.now ≡ key_of right.now }
+    requires left { AreBytes left.now }
+    requires right { AreBytes right.now }
+    requires keys { key_of left.now ≡ key_of right.now }
     ensures { result ≡ bytes_eq left.now right.now }
 {
     if left.len() <= SHORT && right.len() <= SHORT {
