@@ -207,7 +207,7 @@ fn put_behind<T: Drop>(
     requires { used ≤ length all.old.items }
     ensures put { OnOk result (take (used + 1) all.new.items ≡ take used all.old.items ++ binding ∷ []) }
     ensures room { OnOk result (used + 1 ≤ length all.new.items) }
-    ensures refused { OnErr result (all.new ≡ all.old) }
+    ensures refused { OnErr result (all.new.items ≡ all.old.items) }
 {
     if used < all.len() {
         all[used] = binding;
@@ -232,7 +232,7 @@ fn bind_behind<T: Drop>(
         ≡ bounds_of (take used all.old.items)
         ++ record { name = name.now; constant = constant; value = value } ∷ []) }
     ensures room { OnOk result (used + 1 ≤ length all.new.items) }
-    ensures refused { OnErr result (all.new ≡ all.old) }
+    ensures refused { OnErr result (all.new.items ≡ all.old.items) }
 {
     if is_left(all, used, name) {
         bind_again(all, used, constant, value);
