@@ -25,6 +25,7 @@ use crate::env::Env;
 use crate::expr::{expr, exprs};
 use crate::literals::intern_literals;
 use crate::operators::apply;
+use crate::short::test_at_hand;
 use eval_scopes::{Blocks, Place, Scope};
 use eval_tree::{Arm, Block, Expr, Name, Op, Script, Stmt};
 use eval_values::{Kind, Stop, Value, texts, truth};
@@ -265,6 +266,26 @@ fn turn_number<S: Strings>(_store: &S, i: u32) -> Value<S::Ref>
 
 // Whether the value of a test is true.
 fn holds<S: Strings>(
+    alloc: Global,
+    store: &mut S,
+    context: &Context<S::Ref>,
+    test: &Expr,
+) -> Result<bool, Stop>
+    requires { ContextFine (S.state store.old) S.number context.now }
+    ensures grows { Grows (S.state store.old) (S.state store.new) }
+    ensures context { ContextFine (S.state store.new) S.number context.now }
+    ensures did { Tells (S.state store.old) (S.state store.new) result
+        (told to_boolean
+        (expr_out (expr_tree test.now) (scope_of (S.state store.old) S.number context.now))) }
+{
+    match test_at_hand(store, context, test) {
+        Some(held) => Ok(held),
+        None => is_true_value(alloc, store, context, test),
+    }
+}
+
+// The same for any test.
+fn is_true_value<S: Strings>(
     alloc: Global,
     store: &mut S,
     context: &Context<S::Ref>,

@@ -19,7 +19,37 @@ use eval_values::{Value, number_value};
 use js_number::Num;
 use js_store::Strings;
 
+/// Whether a test holds, where it is an operator on two numbers at hand.
+pub fn test_at_hand<S: Strings>(store: &S, context: &Context<S::Ref>, e: &Expr) -> Option<bool>
+    requires { ContextFine (S.state store.now) S.number context.now }
+    ensures { IfSome result (λ b. Does S.number (S.state store.now) (S.state store.now) (Ok (value.Bool b))
+        (expr_out (expr_tree e.now) (scope_of (S.state store.now) S.number context.now))) }
+{
+    match e {
+        Expr::Chain { first, rest } => truth_of_two(store, context, rest, first),
+        _ => None,
+    }
+}
+
+fn truth_of_two<S: Strings>(
+    store: &S,
+    context: &Context<S::Ref>,
+    rest: &[Link],
+    first: &Expr,
+) -> Option<bool>
+    requires { ContextFine (S.state store.now) S.number context.now }
+    ensures { IfSome result (λ b. Does S.number (S.state store.now) (S.state store.now) (Ok (value.Bool b))
+        (expr_out (tree.chain (expr_tree first.now) (links_tree rest.now))
+        (scope_of (S.state store.now) S.number context.now))) }
+{
+    match of_two(store, context, rest, first) {
+        Some(Value::Bool(b)) => Some(b),
+        _ => None,
+    }
+}
+
 /// The value of a chain of one operator on two numbers at hand, where it has one.
+#[inline(never)]
 pub fn of_two<S: Strings>(
     store: &S,
     context: &Context<S::Ref>,
