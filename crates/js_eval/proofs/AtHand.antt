@@ -1,6 +1,7 @@
 -- The short ways: names and numbers at hand, an operator on two of them, and a test.
 use Rattle.std.proofs.Common.{arith, ◌≡◌, ℕ, ◌<◌, List, [], ◌∷◌, length, get_or, refl, ap, sym, subst, Bool, true, false, if◌then◌else◌, Option, Some, None, option_map, Ok}
-use Rattle.std.specs.Prelude.{IfSome}
+use Rattle.std.specs.Prelude.{IfSome, MatchOption}
+use denote.Bor.{Bor}
 use Rattle.js_number.specs.declared.Num.{Num}
 use Rattle.js_number.specs.Places.{IsLawful}
 use Rattle.js_store.specs.State.{State}
@@ -32,8 +33,12 @@ alone (m ∷ n ∷ ls) l e p = absurd (omega (arith, e))
 
 module _ {F R : Type 0} (name : R → ℕ) (s : State F) where
   -- a value in its place
-  pub name_at_hand : (o : Option (Bound Val)) (v : Item R) → option_map (λ b. b.value) o ≡ Some (seen s name v) → IsFine s name v → Does name s s (Ok v) (read_out o)
+  name_at_hand : (o : Option (Bound Val)) (v : Item R) → option_map (λ b. b.value) o ≡ Some (seen s name v) → IsFine s name v → Does name s s (Ok v) (read_out o)
   name_at_hand o v e h = subst (λ (q : Out Val). Does name s s (Ok v) q) (sym (read_some o (seen s name v) e)) (record { is = refl; good = h; ran = ran_seen s name v h })
+
+  pub looked : (r : Option (Bor (Item R))) (o : Option (Bound Val)) → MatchOption r (o ≡ None) (λ v. option_map (λ b. b.value) o ≡ Some (seen s name v.now)) → IfSome r (λ v. IsFine s name v.now) → IfSome r (λ v. Does name s s (Ok v.now) (read_out o))
+  looked None o e h = tt
+  looked (Some v) o e h = name_at_hand o v.now e h
 
   -- an operator on two numbers
   of_numbers : (scope : Scope) (first right : ExprTree) (at : ℕ) (op : Op) (m n : Num) (v : Item R) → Does {R = R} name s s (Ok (Number m)) (expr_out first scope) → Does {R = R} name s s (Ok (Number n)) (expr_out right scope) → decides op (number m) ≡ false → Does name s s (Ok v) (operated op at scope.limit (number m) (number n)) → IsFine s name v → Does name s s (Ok v) (expr_out (chain first (link at op right no_links)) scope)

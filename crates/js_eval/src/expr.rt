@@ -349,9 +349,6 @@ fn steps<S: Strings>(
         (steps_out (steps_tree rest.now) (scope_of (S.state store.old) S.number context.now)
         (seen (S.state store.old) S.number first.now)) }
 {
-    if rest.len() == 1 {
-        return one_step(alloc, store, context, &rest[0], first);
-    }
     let mut value: Option<Value<S::Ref>> = None;
     for step in rest {
         let of = latest(store, &value, first);

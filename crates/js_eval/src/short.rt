@@ -49,7 +49,6 @@ fn truth_of_two<S: Strings>(
 }
 
 /// The value of a chain of one operator on two numbers at hand, where it has one.
-#[inline(never)]
 pub fn of_two<S: Strings>(
     store: &S,
     context: &Context<S::Ref>,
