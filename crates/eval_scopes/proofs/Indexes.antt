@@ -1,6 +1,6 @@
 -- The index of names by their keys.
 use Rattle.std.proofs.Common.{arith, ◌≡◌, ℕ, ◌<◌, min, zero, suc, ◌+◌, true, false, Bool, List, [], ◌∷◌, ◌++◌, length, length-append, map, refl, ap, sym, ◌∙◌, subst, if◌then◌else◌, Option, Some, None, option_map, slice_get, get_or, bytes_eq, ◌⊎◌, inl, inr}
-use Rattle.std.specs.Prelude.{IsSome, MatchOption, is_ok, Result, Ok, Err}
+use Rattle.std.specs.Prelude.{IsSome, MatchOption}
 use Rattle.std.specs.Ordering.{nat_cmp}
 use Rattle.std.specs.Map.{lookup}
 use Rattle.std.specs.BTreeMap.{is_at}
@@ -36,12 +36,12 @@ pub index_next : (first : List (ℕ × ℕ)) (ns : List (List ℕ)) (n : List �
 index_next first ns n m e s h = λ k. next_stands ns n k m (lookup (is_at (nat_cmp k)) first) e (λ q. subst (λ (i : ℕ). IsSome (lookup (is_at (nat_cmp i)) first) ⊎ (m < few)) q s) (h k)
 
 -- a name behind others
-front_get : (ns : List (List ℕ)) (n m : List ℕ) (j : ℕ) → j < length ns → slice_get (ns ++ n ∷ []) j ≡ Some m → slice_get ns j ≡ Some m
+pub front_get : (ns : List (List ℕ)) (n m : List ℕ) (j : ℕ) → j < length ns → slice_get (ns ++ n ∷ []) j ≡ Some m → slice_get ns j ≡ Some m
 front_get [] n m j l e = absurd (omega (arith, l))
 front_get (x ∷ ns) n m zero l e = e
 front_get (x ∷ ns) n m (suc j) l e = front_get ns n m j (omega (arith, l)) e
 
-last_get : (ns : List (List ℕ)) (n : List ℕ) → slice_get (ns ++ n ∷ []) (length ns) ≡ Some n
+pub last_get : (ns : List (List ℕ)) (n : List ℕ) → slice_get (ns ++ n ∷ []) (length ns) ≡ Some n
 last_get [] n = refl
 last_get (x ∷ ns) n = last_get ns n
 
@@ -49,13 +49,13 @@ longer_stands : (ns : List (List ℕ)) (n : List ℕ) (k : ℕ) (o : Option ℕ)
 longer_stands ns n k (Some i) h = (omega (arith, h.0, length-append ns (n ∷ [])), λ j m f l e q. h.1 j m f l (front_get ns n m j (omega (arith, l, h.0)) e) q)
 longer_stands ns n k None h = λ j m f l e q. h j m f l (front_get ns n m j l e) q
 
-index_push : (first : List (ℕ × ℕ)) (ns : List (List ℕ)) (n : List ℕ) → IsSome (lookup (is_at (nat_cmp (key_of n))) first) ⊎ (length ns < few) → IsIndex first ns → IsIndex first (ns ++ n ∷ [])
+pub index_push : (first : List (ℕ × ℕ)) (ns : List (List ℕ)) (n : List ℕ) → IsSome (lookup (is_at (nat_cmp (key_of n))) first) ⊎ (length ns < few) → IsIndex first ns → IsIndex first (ns ++ n ∷ [])
 index_push first ns n s h =
     let more : IsIndexTo first (ns ++ n ∷ []) (length ns + 1) = index_next first (ns ++ n ∷ []) n (length ns) (last_get ns n) s (λ k. longer_stands ns n k (lookup (is_at (nat_cmp k)) first) (h k)) in
     subst (λ (m : ℕ). IsIndexTo first (ns ++ n ∷ []) m) (sym (length-append ns (n ∷ []))) more
 
 -- names that are told apart by their key
-false_unless : (b : Bool) → (b ≡ true → ⊥) → b ≡ false
+pub false_unless : (b : Bool) → (b ≡ true → ⊥) → b ≡ false
 false_unless true h = absurd (h refl)
 false_unless false h = refl
 
@@ -100,7 +100,7 @@ pub name_found : (ns : List (List ℕ)) (x n : List ℕ) (i : ℕ) → i < lengt
 name_found ns x n i l p e = among_at ns x n i (get_at ns i n l p) e
 
 -- the names of bindings
-names_get : {T : Type 0} (bs : List (Binding T)) (j : ℕ) (c : Binding T) → slice_get bs j ≡ Some c → slice_get (names_in bs) j ≡ Some c.name
+pub names_get : {T : Type 0} (bs : List (Binding T)) (j : ℕ) (c : Binding T) → slice_get bs j ≡ Some c → slice_get (names_in bs) j ≡ Some c.name
 names_get [] j c e = cc
 names_get {T} (b ∷ bs) zero c e = ap (λ (o : Option (Binding T)). option_map (λ d. d.name) o) e
 names_get (b ∷ bs) (suc j) c e = names_get bs j c e
@@ -132,7 +132,7 @@ no_binding_start first bs x k f e m h b s =
     none_at bs x (named_among bs x (length bs) (subst (λ (q : ℕ). NoneAmong (names_in bs) x q) (length-map bs (λ b. b.name)) none))
 
 -- another value for a binding changes no name
-bounds_names : {T : Type 0} (bs : List (Binding T)) → names_in bs ≡ map (λ b. b.name) (bounds_of bs)
+pub bounds_names : {T : Type 0} (bs : List (Binding T)) → names_in bs ≡ map (λ b. b.name) (bounds_of bs)
 bounds_names [] = refl
 bounds_names (b ∷ bs) = ap (λ q. b.name ∷ q) (bounds_names bs)
 
@@ -141,24 +141,8 @@ put_names [] i v = refl
 put_names (b ∷ bs) zero v = refl
 put_names (b ∷ bs) (suc i) v = ap (λ q. b.name ∷ q) (put_names bs i v)
 
-names_put : {T : Type 0} (bs cs : List (Binding T)) (i : ℕ) (v : T) → bounds_of cs ≡ put (bounds_of bs) i v → names_in cs ≡ names_in bs
+pub names_put : {T : Type 0} (bs cs : List (Binding T)) (i : ℕ) (v : T) → bounds_of cs ≡ put (bounds_of bs) i v → names_in cs ≡ names_in bs
 names_put {T} bs cs i v e = bounds_names cs ∙ (ap (λ (q : List (Bound T)). map (λ b. b.name) q) e ∙ (put_names (bounds_of bs) i v ∙ sym (bounds_names bs)))
 
-names_push : {T : Type 0} (bs : List (Binding T)) (b : Binding T) → names_in (bs ++ b ∷ []) ≡ names_in bs ++ b.name ∷ []
+pub names_push : {T : Type 0} (bs : List (Binding T)) (b : Binding T) → names_in (bs ++ b ∷ []) ≡ names_in bs ++ b.name ∷ []
 names_push bs b = map-append (λ c. c.name) bs (b ∷ [])
-
--- a binding whose key is in the index is pushed, or none is
-pub pushed_index : {T E : Type 0} (r : Result (Unit {0}) E) (first : List (ℕ × ℕ)) (bs cs : List (Binding T)) (b : Binding T) (key place : ℕ) → key ≡ key_of b.name → place ≡ length (names_in bs) → IsSome (lookup (is_at (nat_cmp key)) first) ⊎ (place < few) → cs ≡ (if is_ok r then bs ++ b ∷ [] else bs) → IsIndexTo first (names_in bs) place → IsIndex first (names_in cs)
-pushed_index {T} (Ok v) first bs cs b key place k p s e h =
-    let there : IsSome (lookup (is_at (nat_cmp (key_of b.name))) first) ⊎ (length (names_in bs) < few) = subst (λ (q : ℕ). IsSome (lookup (is_at (nat_cmp q)) first) ⊎ (length (names_in bs) < few)) k (subst (λ (q : ℕ). IsSome (lookup (is_at (nat_cmp key)) first) ⊎ (q < few)) p s) in
-    let all : IsIndex first (names_in bs) = subst (λ (q : ℕ). IsIndexTo first (names_in bs) q) p h in
-    subst (λ (ns : List (List ℕ)). IsIndex first ns) (sym (ap (λ (q : List (Binding T)). names_in q) e ∙ names_push bs b)) (index_push first (names_in bs) b.name there all)
-pushed_index {T} (Err v) first bs cs b key place k p s e h =
-    let all : IsIndex first (names_in bs) = subst (λ (q : ℕ). IsIndexTo first (names_in bs) q) p h in
-    subst (λ (q : List (Binding T)). IsIndex first (names_in q)) (sym e) all
-
-pub set_index : {T : Type 0} (first : List (ℕ × ℕ)) (bs cs : List (Binding T)) (i : ℕ) (v : T) → bounds_of cs ≡ put (bounds_of bs) i v → IsIndex first (names_in bs) → IsIndex first (names_in cs)
-set_index first bs cs i v e h = subst (λ (ns : List (List ℕ)). IsIndex first ns) (sym (names_put bs cs i v e)) h
-
-pub place_behind : {T : Type 0} (bs : List (Binding T)) (place : ℕ) → place ≡ length bs → place ≡ length (names_in bs)
-place_behind bs place e = e ∙ sym (length-map bs (λ b. b.name))

@@ -107,14 +107,14 @@ pub frames_split : {T : Type 0} (fs gs : List (CodeFrame T)) (f : CodeFrame T) �
 frames_split fs gs f = ap (λ q. reverse q) (map-append frame_of fs (f ∷ gs)) ∙ reverse_split (map frame_of fs) (map frame_of gs) (frame_of f)
 
 -- a declaration in the innermost block
-pub declare_last : {T : Type 0} (fs : List (CodeFrame T)) (k : ℕ) (f g : CodeFrame T) (top : List (Bound T)) (b : Binding T) → length fs ≡ suc k → f ≡ get_or fs k f → g.names ≡ f.names → g.bound ≡ f.bound ++ b ∷ [] → record { blocks = frames_of (set fs k g); top = top } ≡ declare (frames_of fs) top (bound_of b)
+pub declare_last : {T : Type 0} (fs : List (CodeFrame T)) (k : ℕ) (f g : CodeFrame T) (top : List (Bound T)) (b : Bound T) → length fs ≡ suc k → f ≡ get_or fs k f → g.names ≡ f.names → bounds_of g.bound ≡ bounds_of f.bound ++ b ∷ [] → record { blocks = frames_of (set fs k g); top = top } ≡ declare (frames_of fs) top b
 declare_last fs k f g top b l p m e =
     let h : k < length fs = omega arith in
     let last : drop (suc k) fs ≡ [] = drop_of_length-le fs {i = suc k} (omega arith) in
     let old : frames_of fs ≡ frame_of f ∷ frames_of (take k fs) = ap frames_of (whole_split fs k f h p) ∙ (ap (λ q. frames_of (take k fs ++ f ∷ q)) last ∙ frames_split (take k fs) [] f) in
     let new : frames_of (set fs k g) ≡ frame_of g ∷ frames_of (take k fs) = ap frames_of (set_split fs k g h) ∙ (ap (λ q. frames_of (take k fs ++ g ∷ q)) last ∙ frames_split (take k fs) [] g) in
-    let one : frame_of g ≡ with_bound (frame_of f) (bounds_of f.bound ++ bound_of b ∷ []) = cc (m, ap bounds_of e ∙ map-append bound_of f.bound (b ∷ [])) in
-    ap (λ q. record { blocks = q; top = top }) (new ∙ ap (λ q. q ∷ frames_of (take k fs)) one) ∙ ap (λ q. declare q top (bound_of b)) (sym old)
+    let one : frame_of g ≡ with_bound (frame_of f) (bounds_of f.bound ++ b ∷ []) = cc (m, e) in
+    ap (λ q. record { blocks = q; top = top }) (new ∙ ap (λ q. q ∷ frames_of (take k fs)) one) ∙ ap (λ q. declare q top b) (sym old)
 
 -- blocks in front of a scope
 abbrev pub with_front : {T : Type 0} → List (Frame T) → Bindings T → Bindings T
@@ -243,6 +243,6 @@ declare_kept (Err s) fs k f g l p m e =
     let same : frame_of g ≡ frame_of f = cc (m, e) in
     ap (λ q. reverse q) (frame_kept fs k f g (omega (arith, l)) p same)
 
-pub declare_on : {T : Type 0} {E : Type 0} (r : Result (Unit {0}) E) (fs : List (CodeFrame T)) (k : ℕ) (f g : CodeFrame T) (b : Binding T) → length fs ≡ k + 1 → f ≡ get_or fs k f → g.names ≡ f.names → OnOk r (g.bound ≡ f.bound ++ b ∷ []) → OnOk r ((top : List (Bound T)) → record { blocks = frames_of (set fs k g); top = top } ≡ declare (frames_of fs) top (bound_of b))
+pub declare_on : {T : Type 0} {E : Type 0} (r : Result (Unit {0}) E) (fs : List (CodeFrame T)) (k : ℕ) (f g : CodeFrame T) (b : Bound T) → length fs ≡ k + 1 → f ≡ get_or fs k f → g.names ≡ f.names → OnOk r (bounds_of g.bound ≡ bounds_of f.bound ++ b ∷ []) → OnOk r ((top : List (Bound T)) → record { blocks = frames_of (set fs k g); top = top } ≡ declare (frames_of fs) top b)
 declare_on (Ok v) fs k f g b l p m e = λ top. declare_last fs k f g top b (omega (arith, l)) p m e
 declare_on (Err s) fs k f g b l p m e = tt

@@ -5,7 +5,7 @@ use Rattle.std.proofs.lemmas.Slice.Eq.{bytes_eq-Decides}
 use Rattle.eval_scopes.specs.declared.env.Binding.{Binding}
 use Rattle.eval_scopes.specs.declared.frames.Frame.{Frame as CodeFrame}
 use Rattle.eval_scopes.specs.Bindings.{Bound, Frame, declare, all_but_first}
-use Rattle.eval_scopes.specs.Seen.{bound_of, bounds_of, frame_of, frames_of, outsides_of, hollows, with_hollows, stacked, put_in, InBlock, IsOnly}
+use Rattle.eval_scopes.specs.Seen.{bounds_of, frame_of, frames_of, outsides_of, hollows, with_hollows, stacked, put_in, InBlock, IsOnly}
 use Rattle.eval_scopes.proofs.Hollows.{stacked_behind, stacked_declared, stacked_same}
 use Rattle.eval_scopes.proofs.Places.{take_split, declare_on, declare_kept}
 
@@ -70,10 +70,10 @@ put_in_stack n fs gs k i v p e =
     ∙ ap (λ q. with_hollows (outsides_of (take n fs)) (reverse q)) (put_stacked n fs gs k i v p)
 
 -- one more binding of the block that was entered last
-pub declare_taken : {T E : Type 0} (r : Result (Unit {0}) E) (fs : List (CodeFrame T)) (k : ℕ) (f g : CodeFrame T) (b : Binding T) → k < length fs → f ≡ get_or fs k f → g.names ≡ f.names → g.outside ≡ f.outside → OnOk r (g.bound ≡ f.bound ++ b ∷ []) → OnOk r ((top : List (Bound T)) → record { blocks = stacked (take (k + 1) (set fs k g)); top = top } ≡ declare (stacked (take (k + 1) fs)) top (bound_of b))
+pub declare_taken : {T E : Type 0} (r : Result (Unit {0}) E) (fs : List (CodeFrame T)) (k : ℕ) (f g : CodeFrame T) (b : Bound T) → k < length fs → f ≡ get_or fs k f → g.names ≡ f.names → g.outside ≡ f.outside → OnOk r (bounds_of g.bound ≡ bounds_of f.bound ++ b ∷ []) → OnOk r ((top : List (Bound T)) → record { blocks = stacked (take (k + 1) (set fs k g)); top = top } ≡ declare (stacked (take (k + 1) fs)) top b)
 declare_taken {T} r fs k f g b l p m o e =
-    stacked_declared r (take (k + 1) fs) (take (k + 1) (set fs k g)) (bound_of b) (outsides_taken (k + 1) fs (set fs k g) (outsides_kept fs k f g l p o))
-    (subst (λ (q : List (CodeFrame T)). OnOk r ((top : List (Bound T)) → record { blocks = frames_of q; top = top } ≡ declare (frames_of (take (k + 1) fs)) top (bound_of b))) (sym (set_taken (k + 1) fs k g))
+    stacked_declared r (take (k + 1) fs) (take (k + 1) (set fs k g)) b (outsides_taken (k + 1) fs (set fs k g) (outsides_kept fs k f g l p o))
+    (subst (λ (q : List (CodeFrame T)). OnOk r ((top : List (Bound T)) → record { blocks = frames_of q; top = top } ≡ declare (frames_of (take (k + 1) fs)) top b)) (sym (set_taken (k + 1) fs k g))
     (declare_on r (take (k + 1) fs) k f g b (length_taken (k + 1) fs (omega (arith, l))) (p ∙ sym (get_taken (k + 1) fs k f (omega arith))) m e))
 
 pub declare_taken_kept : {T E : Type 0} (r : Result (Unit {0}) E) (fs : List (CodeFrame T)) (k : ℕ) (f g : CodeFrame T) → k < length fs → f ≡ get_or fs k f → g.names ≡ f.names → g.outside ≡ f.outside → OnErr r (g.bound ≡ f.bound) → OnErr r (stacked (take (k + 1) (set fs k g)) ≡ stacked (take (k + 1) fs))

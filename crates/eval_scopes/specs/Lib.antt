@@ -1,3 +1,5 @@
 pub mod Bindings
 pub mod Seen
 pub mod Index
+pub mod Mask
+pub mod Env

@@ -64,6 +64,12 @@ pub record IsOnly {T : Type 0} (bs : List (Bound T)) (x : List ℕ) : Type 0 whe
   pub within : 0 < length bs
   pub again : (v : T) → put bs 0 v ≡ record { name = x; constant = false; value = v } ∷ []
 
+-- a binding that was left at a place has this name
+abbrev pub IsLeft : {T : Type 0} → List (Binding T) → ℕ → List ℕ → Type 0
+IsLeft [] i x = ⊥
+IsLeft (b ∷ bs) zero x = b.name ≡ x
+IsLeft (b ∷ bs) (suc i) x = IsLeft bs i x
+
 -- the same for a place of a scope
 abbrev pub put_in : {T : Type 0} → List (Frame T) → ℕ → ℕ → T → List (Frame T)
 put_in [] k i v = []

@@ -2,9 +2,8 @@
 // entering and leaving it costs next to nothing, and names are sought past it.
 ghost use Rattle.std.specs.Prelude.{◌≡◌, ◌+◌, ◌∷◌, [], false, length, List, OnOk, OnErr};
 ghost use Rattle.eval_scopes.specs.Bindings.{Bound, declare, all_but_first};
-ghost use Rattle.eval_scopes.specs.Seen.{bound_of, blocks_of, put_in_frame, InBlock};
+ghost use Rattle.eval_scopes.specs.Seen.{blocks_of, put_in_frame, InBlock};
 
-use crate::env::Binding;
 use crate::frames::{Frame, Frames};
 use crate::index::Declared;
 use eval_tree::{Name, Names};
@@ -47,15 +46,21 @@ impl<'a, T: Drop> Blocks<'a, T> {
     }
 
     // One more binding of the innermost block, which has the last frame.
-    pub(crate) fn declare(&mut self, last: usize, binding: Binding<T>) -> Result<(), NoMemory>
+    pub(crate) fn declare(
+        &mut self,
+        last: usize,
+        name: &Name,
+        constant: bool,
+        value: T,
+    ) -> Result<(), NoMemory>
         requires last { length self.old.frames ≡ last + 1 }
         requires innermost { self.old.hollow ≡ 0 }
         ensures declared { OnOk result ((top : List (Bound T)) →
-            (record { blocks = blocks_of self.new; top = top }) ≡ declare
-            (blocks_of self.old) top (bound_of binding)) }
+            (record { blocks = blocks_of self.new; top = top }) ≡ declare (blocks_of self.old) top
+            (record { name = name.now; constant = constant; value = value })) }
         ensures refused { OnErr result (blocks_of self.new ≡ blocks_of self.old) }
     {
-        self.frames.declare(last, binding)
+        self.frames.declare(last, name, constant, value)
     }
 
     // The innermost block gets a frame, if it has none.

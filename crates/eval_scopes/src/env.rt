@@ -1,10 +1,11 @@
 // The bindings of a script's top, and of a block.
-ghost use Rattle.std.specs.Prelude.{◌≡◌, ◌<◌, ◌≤◌, ◌∷◌, ◌++◌, [], true, None, length, min, MatchOption, IfOk, OnOk, OnErr};
+ghost use Rattle.std.specs.Prelude.{◌≡◌, ◌<◌, ◌≤◌, ◌+◌, ◌∷◌, ◌++◌, [], true, None, List, ℕ, length, min, take, MatchOption, IfOk, OnOk, OnErr};
 ghost use Rattle.eval_scopes.specs.Index.{few, IsIndex, NoneNamed};
 ghost use Rattle.eval_scopes.specs.Bindings.{bound_in};
-ghost use Rattle.eval_scopes.specs.Seen.{bound_of, bounds_of, put, IsAt, IsOnly};
+ghost use Rattle.eval_scopes.specs.Seen.{bound_of, bounds_of, put, IsAt, IsOnly, IsLeft};
 
 use crate::index::{FEW, Index};
+use crate::mask::Mask;
 use eval_tree::Name;
 use js_units::NoMemory;
 use std::alloc::Global;
@@ -18,26 +19,29 @@ pub struct Binding<T> {
     pub value: T,
 }
 
-/// Bindings in the order of their declarations. Contracts see them as a list. The first few are looked
-/// at one after another; behind them a name is sought from the first one on that has its key, so that
-/// thousands of names cost little.
+/// Bindings in the order of their declarations. Contracts see them as a list. A mask tells of most names
+/// that none is there. The first few are looked at one after another; behind them a name is sought from
+/// the first one on that has its key, so that thousands of names cost little.
 #[derive(Drop)]
 pub struct Env<T> {
-    bindings: Vec<Binding<T>>,
+    // those in use, and behind them what was left in place for later ones of the same names
+    all: Vec<Binding<T>>,
+    used: usize,
     // behind the first few, the place from which the names of a key stand
     first: Index,
+    mask: Mask,
 }
 
 impl<T> Model for Env<T> {
-    ghost use Rattle.std.specs.Prelude.{List};
+    ghost use Rattle.std.specs.Prelude.{List, take};
     ghost use Rattle.eval_scopes.specs.declared.env.Binding.{Binding};
-    ghost use Rattle.eval_scopes.specs.Index.{IsIndex, names_in};
+    ghost use Rattle.eval_scopes.specs.Env.{IsEnv};
 
     ghost Value = { List (Binding T) };
 
-    ghost view = { λ e. e.bindings.items };
+    ghost view = { λ e. take e.used e.all.items };
 
-    ghost invariant = { λ e. IsIndex e.first (names_in e.bindings.items) };
+    ghost invariant = { λ e. IsEnv e.all.items e.used e.first e.mask };
 }
 
 impl<T: Drop> Env<T> {
@@ -46,16 +50,19 @@ impl<T: Drop> Env<T> {
         ensures { result ≡ [] }
     {
         Env {
-            bindings: Vec::new(alloc),
+            all: Vec::new(alloc),
+            used: 0,
             first: Index::new(),
+            mask: Mask::new(),
         }
     }
 
     /// The bindings.
+    #[inline(always)]
     pub fn list(&self) -> &[Binding<T>]
         ensures { result.now ≡ self.now }
     {
-        &self.bindings
+        &self.all[..self.used]
     }
 
     /// The place of the first binding of a name.
@@ -64,8 +71,20 @@ impl<T: Drop> Env<T> {
         ensures { MatchOption result (bound_in (bounds_of self.now) name.now ≡ None)
             (λ i. IsAt (bounds_of self.now) name.now i) }
     {
-        let all = self.bindings.len();
-        match position_in(&self.bindings, 0, FEW.min(all), name) {
+        if !self.mask.may_have(name.key()) {
+            return None;
+        }
+        self.position_in_list(name)
+    }
+
+    // The same where the mask doesn't tell.
+    #[inline(always)]
+    fn position_in_list(&self, name: &Name) -> Option<usize>
+        ensures { MatchOption result (bound_in (bounds_of self.now) name.now ≡ None)
+            (λ i. IsAt (bounds_of self.now) name.now i) }
+    {
+        let all = self.used;
+        match position_in(self.list(), 0, FEW.min(all), name) {
             Some(index) => Some(index),
             None => {
                 if all <= FEW {
@@ -86,7 +105,7 @@ impl<T: Drop> Env<T> {
             (λ i. IsAt (bounds_of self.now) name.now i) }
     {
         match self.first.start(name.key()) {
-            Some(start) => position_in(&self.bindings, start, all, name),
+            Some(start) => position_in(self.list(), start, all, name),
             None => None,
         }
     }
@@ -96,35 +115,55 @@ impl<T: Drop> Env<T> {
         ensures added { OnOk result (self.new ≡ self.old ++ binding ∷ []) }
         ensures refused { OnErr result (self.new ≡ self.old) }
     {
-        let place = self.bindings.len();
-        let alloc = *self.bindings.allocator();
-        self.first.note(alloc, binding.name.key(), place)?;
-        match self.bindings.push(binding) {
-            Ok(()) => Ok(()),
-            Err(_) => Err(NoMemory),
-        }
+        let place = self.used;
+        let key = binding.name.key();
+        let alloc = *self.all.allocator();
+        self.first.note(alloc, key, place)?;
+        put_behind(&mut self.all, place, binding)?;
+        self.mask.add(key);
+        self.used += 1;
+        Ok(())
+    }
+
+    /// One more binding, behind the others; unchanged on refusal. Where one of this name was left in
+    /// place, it takes no memory.
+    pub(crate) fn bind(&mut self, name: &Name, constant: bool, value: T) -> Result<(), NoMemory>
+        ensures added { OnOk result (bounds_of self.new ≡ bounds_of self.old
+            ++ record { name = name.now; constant = constant; value = value } ∷ []) }
+        ensures refused { OnErr result (self.new ≡ self.old) }
+    {
+        let place = self.used;
+        let key = name.key();
+        let alloc = *self.all.allocator();
+        self.first.note(alloc, key, place)?;
+        bind_behind(&mut self.all, place, name, constant, value)?;
+        self.mask.add(key);
+        self.used += 1;
+        Ok(())
     }
 
     /// Whether it has one binding alone, of this name, which is not constant.
     pub(crate) fn is_only(&self, name: &Name) -> bool
         ensures { result ≡ true → IsOnly (bounds_of self.now) name.now }
     {
-        if self.bindings.len() != 1 {
+        let list = self.list();
+        if list.len() != 1 {
             return false;
         }
-        let one = &self.bindings[0];
+        let one = &list[0];
         if one.constant {
             return false;
         }
         one.name.is(name)
     }
 
-    /// No binding is left. Its memory is kept for others.
+    /// No binding is in use. They are left in place for others.
     pub(crate) fn clear(&mut self)
         ensures { self.new ≡ [] }
     {
-        self.bindings.clear();
+        self.used = 0;
         self.first = Index::new();
+        self.mask = Mask::new();
     }
 
     /// Another value for one binding.
@@ -132,7 +171,7 @@ impl<T: Drop> Env<T> {
         requires { index < length self.old }
         ensures { bounds_of self.new ≡ put (bounds_of self.old) index value }
     {
-        set_value(&mut self.bindings, index, value)
+        set_value(&mut self.all, index, value)
     }
 }
 
@@ -159,12 +198,75 @@ fn set_value<T: Drop>(bound: &mut Vec<Binding<T>>, index: usize, value: T)
     bound[index].value = value;
 }
 
-/// A binding of a name.
-pub(crate) fn bind_name<T: Drop>(
+// A binding behind those in use, in the place of one that was left, if there is one.
+fn put_behind<T: Drop>(
+    all: &mut Vec<Binding<T>>,
+    used: usize,
+    binding: Binding<T>,
+) -> Result<(), NoMemory>
+    requires { used ≤ length all.old.items }
+    ensures put { OnOk result (take (used + 1) all.new.items ≡ take used all.old.items ++ binding ∷ []) }
+    ensures room { OnOk result (used + 1 ≤ length all.new.items) }
+    ensures refused { OnErr result (all.new.items ≡ all.old.items) }
+{
+    if used < all.len() {
+        all[used] = binding;
+        return Ok(());
+    }
+    match all.push(binding) {
+        Ok(()) => Ok(()),
+        Err(_) => Err(NoMemory),
+    }
+}
+
+// The same for a name. Where the one that was left has it, the name isn't copied.
+fn bind_behind<T: Drop>(
+    all: &mut Vec<Binding<T>>,
+    used: usize,
     name: &Name,
     constant: bool,
     value: T,
-) -> Result<Binding<T>, NoMemory>
+) -> Result<(), NoMemory>
+    requires { used ≤ length all.old.items }
+    ensures put { OnOk result (bounds_of (take (used + 1) all.new.items)
+        ≡ bounds_of (take used all.old.items)
+        ++ record { name = name.now; constant = constant; value = value } ∷ []) }
+    ensures room { OnOk result (used + 1 ≤ length all.new.items) }
+    ensures refused { OnErr result (all.new.items ≡ all.old.items) }
+{
+    if is_left(all, used, name) {
+        bind_again(all, used, constant, value);
+        return Ok(());
+    }
+    let binding = bind_name(name, constant, value)?;
+    put_behind(all, used, binding)
+}
+
+// Whether a binding of this name was left at a place.
+fn is_left<T>(all: &[Binding<T>], place: usize, name: &Name) -> bool
+    ensures { result ≡ true → IsLeft all.now place name.now }
+{
+    if place >= all.len() {
+        return false;
+    }
+    all[place].name.is(name)
+}
+
+// The binding that was left at a place is one again.
+fn bind_again<T: Drop>(all: &mut Vec<Binding<T>>, place: usize, constant: bool, value: T)
+    requires { place < length all.old.items }
+    ensures again { (x : List ℕ) → IsLeft all.old.items place x → bounds_of (take (place + 1) all.new.items)
+        ≡ bounds_of (take place all.old.items)
+        ++ record { name = x; constant = constant; value = value } ∷ [] }
+    ensures as_many { length all.new.items ≡ length all.old.items }
+{
+    let left = &mut all[place];
+    left.constant = constant;
+    left.value = value;
+}
+
+// A binding of a name.
+fn bind_name<T: Drop>(name: &Name, constant: bool, value: T) -> Result<Binding<T>, NoMemory>
     ensures { IfOk result (λ b. bound_of b ≡ record { name = name.now; constant = constant; value = value }) }
 {
     Ok(Binding {

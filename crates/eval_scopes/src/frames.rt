@@ -2,9 +2,9 @@
 // one that is entered there later takes their memory over.
 ghost use Rattle.std.specs.Prelude.{◌≡◌, ◌<◌, ◌≤◌, ◌+◌, ◌∷◌, [], true, false, length, map, reverse, take, unwrap_or, List, OnOk, OnErr};
 ghost use Rattle.eval_scopes.specs.Bindings.{Bound, declare, all_but_first};
-ghost use Rattle.eval_scopes.specs.Seen.{bound_of, bounds_of, names_of, frame_of, outsides_of, hollows, with_hollows, stacked, put_in, InBlock, IsOnly};
+ghost use Rattle.eval_scopes.specs.Seen.{bounds_of, names_of, frame_of, outsides_of, hollows, with_hollows, stacked, put_in, InBlock, IsOnly};
 
-use crate::env::{Binding, Env, bind_name};
+use crate::env::Env;
 use crate::index::Declared;
 use eval_tree::Name;
 use js_units::NoMemory;
@@ -44,10 +44,9 @@ impl<'a, T: Drop> Frame<'a, T> {
             self.bound.set(0, value);
             return Ok(());
         }
-        let binding = bind_name(name, false, value)?;
         self.names = None;
         self.bound.clear();
-        self.bound.push(binding)
+        self.bound.bind(name, false, value)
     }
 
     // Whether it is a turn of a `for` over this name.
@@ -113,14 +112,20 @@ impl<'a, T: Drop> Frames<'a, T> {
     }
 
     // One more binding of the innermost block.
-    pub(crate) fn declare(&mut self, last: usize, binding: Binding<T>) -> Result<(), NoMemory>
+    pub(crate) fn declare(
+        &mut self,
+        last: usize,
+        name: &Name,
+        constant: bool,
+        value: T,
+    ) -> Result<(), NoMemory>
         requires { length self.old ≡ last + 1 }
         ensures declared { OnOk result ((top : List (Bound T)) →
-            (record { blocks = stacked self.new; top = top }) ≡ declare
-            (stacked self.old) top (bound_of binding)) }
+            (record { blocks = stacked self.new; top = top }) ≡ declare (stacked self.old) top
+            (record { name = name.now; constant = constant; value = value })) }
         ensures refused { OnErr result (stacked self.new ≡ stacked self.old) }
     {
-        declare_in_block(&mut self.all, last, binding)
+        declare_in_block(&mut self.all, last, name, constant, value)
     }
 
     // One more block, with its names, inside so many without a frame.
@@ -187,17 +192,20 @@ fn set_in_block<T: Drop>(blocks: &mut Vec<Frame<T>>, block: usize, index: usize,
 fn declare_in_block<T: Drop>(
     blocks: &mut Vec<Frame<T>>,
     last: usize,
-    binding: Binding<T>,
+    name: &Name,
+    constant: bool,
+    value: T,
 ) -> Result<(), NoMemory>
     requires { last < length blocks.old.items }
     ensures declared { OnOk result ((top : List (Bound T)) →
         (record { blocks = stacked (take (last + 1) blocks.new.items); top = top }) ≡ declare
-        (stacked (take (last + 1) blocks.old.items)) top (bound_of binding)) }
+        (stacked (take (last + 1) blocks.old.items)) top
+        (record { name = name.now; constant = constant; value = value })) }
     ensures refused { OnErr result (stacked (take (last + 1) blocks.new.items)
         ≡ stacked (take (last + 1) blocks.old.items)) }
     ensures as_many { length blocks.new.items ≡ length blocks.old.items }
 {
-    blocks[last].bound.push(binding)
+    blocks[last].bound.bind(name, constant, value)
 }
 
 // A frame behind so many, if there is none.

@@ -4,8 +4,10 @@ ghost use Rattle.std.specs.Ordering.{nat_cmp};
 ghost use Rattle.std.specs.Map.{lookup};
 ghost use Rattle.std.specs.BTreeMap.{is_at};
 ghost use Rattle.eval_scopes.specs.Index.{few, IsIndexTo, NoneAmong};
+ghost use Rattle.eval_scopes.specs.Mask.{MarksTo};
 ghost use Rattle.eval_scopes.specs.Bindings.{is_among};
 
+use crate::mask::Mask;
 use eval_tree::{Name, Names};
 use js_units::NoMemory;
 use std::alloc::Global;
@@ -19,7 +21,7 @@ pub(crate) const FEW: usize = 8;
 /// as no key has a place, so that a block of few names costs nothing. Contracts see the entries.
 #[derive(Drop)]
 pub struct Index {
-    map: Option<Box<BTreeMap<u32, usize>>>,
+    map: Option<Box<BTreeMap<u64, usize>>>,
 }
 
 impl Model for Index {
@@ -39,7 +41,7 @@ impl Index {
     }
 
     /// The place of a key.
-    pub(crate) fn start(&self, key: u32) -> Option<usize>
+    pub(crate) fn start(&self, key: u64) -> Option<usize>
         ensures { result ≡ lookup (is_at (nat_cmp key)) self.now }
     {
         match &self.map {
@@ -49,7 +51,7 @@ impl Index {
     }
 
     /// A key that is new gets its place. The first few places get none.
-    pub(crate) fn note(&mut self, alloc: Global, key: u32, place: usize) -> Result<(), NoMemory>
+    pub(crate) fn note(&mut self, alloc: Global, key: u64, place: usize) -> Result<(), NoMemory>
         ensures indexed { (ns : List (List ℕ)) → place ≤ length ns → IsIndexTo self.old ns place
             → IsIndexTo self.new ns place }
         ensures found { OnOk result (IsSome (lookup (is_at (nat_cmp key)) self.new) ⊎ (place < few)) }
@@ -68,7 +70,7 @@ impl Index {
 }
 
 // A map of one key.
-fn one_key(alloc: Global, key: u32, place: usize) -> Result<Box<BTreeMap<u32, usize>>, NoMemory>
+fn one_key(alloc: Global, key: u64, place: usize) -> Result<Box<BTreeMap<u64, usize>>, NoMemory>
     ensures indexed { IfOk result (λ map. (ns : List (List ℕ)) → place ≤ length ns → IsIndexTo [] ns place
         → IsIndexTo map.value.entries ns place) }
     ensures found { IfOk result (λ map. IsSome (lookup (is_at (nat_cmp key)) map.value.entries)) }
@@ -81,7 +83,7 @@ fn one_key(alloc: Global, key: u32, place: usize) -> Result<Box<BTreeMap<u32, us
     }
 }
 
-fn index_key(map: &mut BTreeMap<u32, usize>, key: u32, place: usize) -> Result<(), NoMemory>
+fn index_key(map: &mut BTreeMap<u64, usize>, key: u64, place: usize) -> Result<(), NoMemory>
     ensures indexed { (ns : List (List ℕ)) → place ≤ length ns → IsIndexTo map.old.entries ns place
         → IsIndexTo map.new.entries ns place }
     ensures found { OnOk result (IsSome (lookup (is_at (nat_cmp key)) map.new.entries)) }
@@ -96,22 +98,24 @@ fn index_key(map: &mut BTreeMap<u32, usize>, key: u32, place: usize) -> Result<(
 }
 
 /// The names that a block declares. Contracts see them as a list. As in `Env`, those behind the first
-/// few are sought by their keys.
+/// few are sought by their keys, and a mask tells of most names that they aren't there.
 #[derive(Drop)]
 pub struct Declared<'a> {
     names: &'a Names,
     first: Index,
+    mask: Mask,
 }
 
 impl<'a> Model for Declared<'a> {
-    ghost use Rattle.std.specs.Prelude.{List, ℕ};
+    ghost use Rattle.std.specs.Prelude.{List, ℕ, length};
     ghost use Rattle.eval_scopes.specs.Index.{IsIndex};
+    ghost use Rattle.eval_scopes.specs.Mask.{MarksTo};
 
     ghost Value = { List (List ℕ) };
 
     ghost view = { λ d. d.names.now };
 
-    ghost invariant = { λ d. IsIndex d.first d.names.now };
+    ghost invariant = { λ d. IsIndex d.first d.names.now × MarksTo d.mask d.names.now (length d.names.now) };
 }
 
 impl<'a> Declared<'a> {
@@ -120,11 +124,23 @@ impl<'a> Declared<'a> {
         ensures { IfOk result (λ d. d ≡ names.now) }
     {
         let first = index_of(alloc, names.as_slice())?;
-        Ok(Declared { names, first })
+        let mask = mask_of(names.as_slice());
+        Ok(Declared { names, first, mask })
     }
 
     /// Whether a name is one of them.
     pub fn has(&self, name: &Name) -> bool
+        ensures { result ≡ is_among self.now name.now }
+    {
+        if !self.mask.may_have(name.key()) {
+            return false;
+        }
+        self.has_one(name)
+    }
+
+    // The same where the mask doesn't tell.
+    #[inline(always)]
+    fn has_one(&self, name: &Name) -> bool
         ensures { result ≡ is_among self.now name.now }
     {
         let names = self.names.as_slice();
@@ -163,6 +179,17 @@ fn index_of(alloc: Global, names: &[Name]) -> Result<Index, NoMemory>
         first.note(alloc, names[place].key(), place)?;
     }
     Ok(first)
+}
+
+// The mask of names.
+fn mask_of(names: &[Name]) -> Mask
+    ensures { MarksTo result names.now (length names.now) }
+{
+    let mut mask = Mask::new();
+    for name in names {
+        mask.add(name.key());
+    }
+    mask
 }
 
 // Whether a name, which none of those before `start` is, is among those before `end`.

@@ -8,6 +8,7 @@ mod blocks;
 mod env;
 mod frames;
 mod index;
+mod mask;
 mod scope;
 
 pub use blocks::Blocks;

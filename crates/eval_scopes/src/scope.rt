@@ -4,7 +4,7 @@ ghost use Rattle.eval_scopes.specs.Bindings.{is_among, meant, declared, entered,
 ghost use Rattle.eval_scopes.specs.Seen.{bound_of, names_of, bindings_of, bound_at, put_at, Within, IsPlace};
 
 use crate::blocks::Blocks;
-use crate::env::{Binding, Env, bind_name};
+use crate::env::{Binding, Env};
 use crate::frames::Frame;
 use eval_tree::{Name, Names};
 use js_units::NoMemory;
@@ -75,13 +75,12 @@ impl<'a, T: Drop> Scope<'a, T> {
             (record { name = name.now; constant = constant; value = value })) }
         ensures refused { OnErr result (bindings_of self.new ≡ bindings_of self.old) }
     {
-        let binding = bind_name(name, constant, value)?;
         self.blocks.fill()?;
         let frames = self.blocks.frames().len();
         if frames == 0 {
-            self.env.push(binding)
+            self.env.bind(name, constant, value)
         } else {
-            self.blocks.declare(frames - 1, binding)
+            self.blocks.declare(frames - 1, name, constant, value)
         }
     }
 

@@ -1,9 +1,10 @@
--- The key of a name, by which most names are told apart.
-use Rattle.std.specs.Prelude.{ℕ, ◌+◌, ◌*◌, ◌%◌, List, [], ◌∷◌}
-
-abbrev pub key_from : ℕ → List ℕ → ℕ
-key_from k [] = k
-key_from k (b ∷ bs) = key_from ((k % 16777216) * 31 + b) bs
+-- The key of a name, by which most names are told apart, and all of up to seven bytes.
+use Rattle.std.specs.Prelude.{ℕ, ◌+◌, ◌*◌, ◌%◌, ◌<◌, List, [], ◌∷◌, slice_index}
 
 abbrev pub key_of : List ℕ → ℕ
-key_of bs = key_from 0 bs
+key_of [] = 0
+key_of (b ∷ bs) = key_of bs % 36028797018963968 * 261 + b + 1
+
+-- each of them is a byte
+abbrev pub AreBytes : List ℕ → Type 0
+AreBytes bs = (i : ℕ) → slice_index bs i < 256

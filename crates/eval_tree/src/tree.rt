@@ -1,6 +1,6 @@
 // The tree of a script.
 ghost use Rattle.std.specs.Prelude.{◌≡◌, ◌∷◌, ◌++◌, [], IfOk, OnOk, OnErr, bytes_eq};
-ghost use Rattle.eval_tree.specs.Keys.{key_of};
+ghost use Rattle.eval_tree.specs.Keys.{key_of, AreBytes};
 
 use js_units::{NoMemory, Units};
 use std::alloc::Global;
@@ -228,13 +228,17 @@ pub enum Builtin {
 }
 
 /// A name. Contracts see it as the list of its bytes. Its key, a number that most names have alone,
-/// tells names apart before their bytes are compared.
+/// tells names apart before their bytes are compared, and a name of up to seven bytes has its key alone.
 #[derive(Drop)]
 pub struct Name {
-    key: u32,
+    key: u64,
     bytes: Vec<u8>,
     ghost keyed: { key ≡ key_of bytes.items },
+    ghost lettered: { AreBytes bytes.items },
 }
+
+// No two names of up to so many bytes have one key.
+const SHORT: usize = 7;
 
 impl Model for Name {
     ghost use Rattle.std.specs.Prelude.{List, ℕ};
@@ -275,11 +279,14 @@ impl Name {
     pub fn is(&self, other: &Name) -> bool
         ensures { result ≡ bytes_eq self.now other.now }
     {
-        self.key == other.key && self.bytes.as_slice() == other.bytes.as_slice()
+        if self.key != other.key {
+            return false;
+        }
+        same_letters(self.bytes.as_slice(), other.bytes.as_slice())
     }
 
     /// The key: names that are the same have the same one.
-    pub fn key(&self) -> u32
+    pub fn key(&self) -> u64
         ensures { result ≡ key_of self.now }
     {
         self.key
@@ -287,14 +294,27 @@ impl Name {
 }
 
 // The key of these letters.
-fn key(bytes: &[u8]) -> u32
+fn key(bytes: &[u8]) -> u64
     ensures { result ≡ key_of bytes.now }
 {
-    let mut key: u32 = 0;
-    for b in bytes {
-        key = (key % 16_777_216) * 31 + *b as u32;
+    let mut key: u64 = 0;
+    for i in (0..bytes.len()).rev() {
+        key = key % 36_028_797_018_963_968 * 261 + bytes[i] as u64 + 1;
     }
     key
+}
+
+// Whether the letters of two names with one key are the same.
+fn same_letters(left: &[u8], right: &[u8]) -> bool
+    requires left { AreBytes left.now }
+    requires right { AreBytes right.now }
+    requires keys { key_of left.now ≡ key_of right.now }
+    ensures { result ≡ bytes_eq left.now right.now }
+{
+    if left.len() <= SHORT && right.len() <= SHORT {
+        return true;
+    }
+    left == right
 }
 
 /// Names that a script declares at its top. Contracts see them as a list of names.

@@ -189,7 +189,7 @@ pub condition_stops : {F R : Type 0} (name : R → ℕ) (a b : State F) (n : Sto
 condition_stops name a b n test first second s d = does_stop name a b n (expr_out test s) (λ v. if to_boolean v then expr_out first s else expr_out second s) d
 
 -- the steps behind a name
-read_some : (o : Option (Bound Val)) (w : Val) → option_map (λ b. b.value) o ≡ Some w → read_out o ≡ needing nothing w
+pub read_some : (o : Option (Bound Val)) (w : Val) → option_map (λ b. b.value) o ≡ Some w → read_out o ≡ needing nothing w
 read_some None w e = cc
 read_some (Some b) w e = let same : b.value ≡ w = cc in ap (λ q. needing nothing q) same
 

@@ -14,3 +14,4 @@ mod Leaves
 mod Paying
 mod Making
 mod Expressions
+mod AtHand

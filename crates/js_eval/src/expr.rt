@@ -18,6 +18,7 @@ use crate::context::{Context, look_up, read};
 use crate::literals::read_literal;
 use crate::object::{bounded, intern_key, put};
 use crate::operators::{apply, is_decided, is_true};
+use crate::short::{at_hand, of_two};
 use eval_builtins::call_builtin;
 use eval_members::{call, present, read_description, read_index, read_length, read_property};
 use eval_tree::{Builtin, Expr, Link, Name, PostStep};
@@ -100,6 +101,9 @@ fn chain<S: Strings>(
         (expr_out (tree.chain (expr_tree first.now) (links_tree rest.now))
         (scope_of (S.state store.old) S.number context.now)) }
 {
+    if let Some(value) = of_two(store, context, rest, first) {
+        return Ok(value);
+    }
     let value = expr(alloc, store, context, first)?;
     links(alloc, store, context, rest, value)
 }
@@ -401,10 +405,13 @@ fn one_step<S: Strings>(
             let values = exprs(alloc, store, context, args)?;
             call(alloc, store, *at, *method, value, &values)
         }
-        PostStep::Index { at, index } => {
-            let index = expr(alloc, store, context, index)?;
-            read_index(alloc, store, *at, value, &index)
-        }
+        PostStep::Index { at, index } => match at_hand(store, context, index) {
+            Some(index) => read_index(alloc, store, *at, value, index),
+            None => {
+                let index = expr(alloc, store, context, index)?;
+                read_index(alloc, store, *at, value, &index)
+            }
+        },
     }
 }
 

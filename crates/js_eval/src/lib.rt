@@ -12,6 +12,7 @@ mod literals;
 mod object;
 mod operators;
 mod script;
+mod short;
 
 pub use ending::End;
 pub use env::Env;

@@ -169,7 +169,7 @@ fn of_numbers<S: Strings>(
     }
 }
 
-fn of_both<S: Strings>(_store: &S, op: Op, m: Num, n: Num) -> Option<Value<S::Ref>>
+pub fn of_both<S: Strings>(_store: &S, op: Op, m: Num, n: Num) -> Option<Value<S::Ref>>
     requires left { IsLawful m }
     requires right { IsLawful n }
     ensures fine { IfSome result (λ v. IsFine (S.state _store.now) S.number v) }

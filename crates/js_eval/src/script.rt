@@ -24,9 +24,11 @@ use crate::ending::End;
 use crate::env::Env;
 use crate::expr::{expr, exprs};
 use crate::literals::intern_literals;
+use crate::operators::apply;
+use crate::short::test_at_hand;
 use eval_scopes::{Blocks, Place, Scope};
-use eval_tree::{Arm, Block, Expr, Name, Script, Stmt};
-use eval_values::{Kind, Stop, Value, plus, texts, truth};
+use eval_tree::{Arm, Block, Expr, Name, Op, Script, Stmt};
+use eval_values::{Kind, Stop, Value, texts, truth};
 use js_number::Num;
 use js_print::Lines;
 use js_store::{StoreFault, Strings};
@@ -276,6 +278,26 @@ fn holds<S: Strings>(
         (told to_boolean
         (expr_out (expr_tree test.now) (scope_of (S.state store.old) S.number context.now))) }
 {
+    match test_at_hand(store, context, test) {
+        Some(held) => Ok(held),
+        None => is_true_value(alloc, store, context, test),
+    }
+}
+
+// The same for any test.
+fn is_true_value<S: Strings>(
+    alloc: Global,
+    store: &mut S,
+    context: &Context<S::Ref>,
+    test: &Expr,
+) -> Result<bool, Stop>
+    requires { ContextFine (S.state store.old) S.number context.now }
+    ensures grows { Grows (S.state store.old) (S.state store.new) }
+    ensures context { ContextFine (S.state store.new) S.number context.now }
+    ensures did { Tells (S.state store.old) (S.state store.new) result
+        (told to_boolean
+        (expr_out (expr_tree test.now) (scope_of (S.state store.old) S.number context.now))) }
+{
     let value = expr(alloc, store, context, test)?;
     Ok(truth(store, &value))
 }
@@ -428,7 +450,7 @@ fn sum_with<S: Strings>(
 {
     let left = read_at(store, context, place)?;
     let right = expr(alloc, store, context, value)?;
-    plus(alloc, store, at, &left, &right)
+    apply(alloc, store, at, Op::Plus, &left, right)
 }
 
 fn print<S: Strings>(

@@ -272,22 +272,33 @@ one_step-returns-in_ok-values-in-Call-clause-did g t c =
     rw (c.in-Call.is, tree_of_call c.in-Call.at c.in-Call.method c.in-Call.args)
     (call_does g.S.Strings.number (state c.args.store.now) (state c.exprs.new.store) (state c.call.new.store) c.args.value.now c.in_ok-values-in-Call.values c.call.result c.in-Call.at c.in-Call.method (exprs_tree c.in-Call.args.items) c.args.context.now c.in_ok-values-in-Call.ensures.grows c.requires.value c.in_ok-present-in-Call.ensures (rw e at d) (rw f at k))
 
-pub one_step-returns-in_err-index-in-Index-clause-did : goal.one_step-returns-in_err-index-in-Index-clause-did
-one_step-returns-in_err-index-in-Index-clause-did g t c =
+pub one_step-returns-in_err-index-in-None-clause-did : goal.one_step-returns-in_err-index-in-None-clause-did
+one_step-returns-in_err-index-in-None-clause-did g t c =
     let state = g.S.Strings.state in
-    let p = err_from_is_err_and c.from_residual-in_err-index-in-Index.result c.from_residual-in_err-index-in-Index.ensures.1 in
+    let p = err_from_is_err_and c.from_residual-in_err-index-in-None.result c.from_residual-in_err-index-in-None.ensures.1 in
     rw (p.1, p.2, c.in-Index.is, tree_of_index c.in-Index.at c.in-Index.index)
-    (index_stops g.S.Strings.number (state c.args.store.now) (state c.expr.new.store) c.args.value.now c.in_err-index-in-Index.field-0.0 c.in-Index.at (expr_tree c.in-Index.index) (scope_of (state c.args.store.now) g.S.Strings.number c.args.context.now) c.in_err-index-in-Index.ensures.did)
+    (index_stops g.S.Strings.number (state c.args.store.now) (state c.expr.new.store) c.args.value.now c.in_err-index-in-None.field-0.0 c.in-Index.at (expr_tree c.in-Index.index) (scope_of (state c.args.store.now) g.S.Strings.number c.args.context.now) c.in_err-index-in-None.ensures.did)
 
-pub one_step-returns-in_ok-index-in-Index-clause-context : goal.one_step-returns-in_ok-index-in-Index-clause-context
-one_step-returns-in_ok-index-in-Index-clause-context g t c =
-    context_fine_still (g.S.Strings.state c.expr.new.store) (g.S.Strings.state c.read_index.new.store) g.S.Strings.number c.read_index.ensures.grows c.args.context.now c.in_ok-index-in-Index.ensures.context
+pub one_step-returns-in_ok-index-in-None-clause-context : goal.one_step-returns-in_ok-index-in-None-clause-context
+one_step-returns-in_ok-index-in-None-clause-context g t c =
+    context_fine_still (g.S.Strings.state c.expr.new.store) (g.S.Strings.state c.read_index-in-None.new.store) g.S.Strings.number c.read_index-in-None.ensures.grows c.args.context.now c.in_ok-index-in-None.ensures.context
 
-pub one_step-returns-in_ok-index-in-Index-clause-did : goal.one_step-returns-in_ok-index-in-Index-clause-did
-one_step-returns-in_ok-index-in-Index-clause-did g t c =
+pub one_step-returns-in_ok-index-in-None-clause-did : goal.one_step-returns-in_ok-index-in-None-clause-did
+one_step-returns-in_ok-index-in-None-clause-did g t c =
     let state = g.S.Strings.state in
     rw (c.in-Index.is, tree_of_index c.in-Index.at c.in-Index.index)
-    (index_does g.S.Strings.number (state c.args.store.now) (state c.expr.new.store) (state c.read_index.new.store) c.args.value.now c.in_ok-index-in-Index.index c.read_index.result c.in-Index.at (expr_tree c.in-Index.index) c.args.context.now c.in_ok-index-in-Index.ensures.grows c.requires.value c.in_ok-index-in-Index.ensures.did c.read_index.ensures.did)
+    (index_does g.S.Strings.number (state c.args.store.now) (state c.expr.new.store) (state c.read_index-in-None.new.store) c.args.value.now c.in_ok-index-in-None.index c.read_index-in-None.result c.in-Index.at (expr_tree c.in-Index.index) c.args.context.now c.in_ok-index-in-None.ensures.grows c.requires.value c.in_ok-index-in-None.ensures.did c.read_index-in-None.ensures.did)
+
+pub one_step-returns-in-Some-clause-context : goal.one_step-returns-in-Some-clause-context
+one_step-returns-in-Some-clause-context g t c =
+    context_fine_still (g.S.Strings.state c.args.store.now) (g.S.Strings.state c.read_index.new.store) g.S.Strings.number c.read_index.ensures.grows c.args.context.now c.requires.context
+
+pub one_step-returns-in-Some-clause-did : goal.one_step-returns-in-Some-clause-did
+one_step-returns-in-Some-clause-did g t c =
+    let state = g.S.Strings.state in
+    let a = state c.args.store.now in
+    rw (c.in-Index.is, tree_of_index c.in-Index.at c.in-Index.index)
+    (index_does g.S.Strings.number a a (state c.read_index.new.store) c.args.value.now c.in-Some.index.now c.read_index.result c.in-Index.at (expr_tree c.in-Index.index) c.args.context.now (grows_refl a) c.requires.value c.in-Some.ensures.did c.read_index.ensures.did)
 
 pub exprs-returns-in_err-value-clause-grows : goal.exprs-returns-in_err-value-clause-grows
 exprs-returns-in_err-value-clause-grows g t c = grows_trans c.loop-e.invariant.grows c.in_err-value.ensures.grows
@@ -525,6 +536,6 @@ one_step-call-requires-clause-fine g t c =
 pub one_step-returns-in_ok-values-in-Call-clause-grows : goal.one_step-returns-in_ok-values-in-Call-clause-grows
 one_step-returns-in_ok-values-in-Call-clause-grows g t c = grows_trans c.in_ok-values-in-Call.ensures.grows c.call.ensures.grows
 
-pub one_step-read_index-requires-clause-value : goal.one_step-read_index-requires-clause-value
-one_step-read_index-requires-clause-value g t c =
-    fine_still (g.S.Strings.state c.args.store.now) (g.S.Strings.state c.expr.new.store) g.S.Strings.number c.in_ok-index-in-Index.ensures.grows c.args.value.now c.requires.value
+pub one_step-read_index-requires-in-None-clause-value : goal.one_step-read_index-requires-in-None-clause-value
+one_step-read_index-requires-in-None-clause-value g t c =
+    fine_still (g.S.Strings.state c.args.store.now) (g.S.Strings.state c.expr.new.store) g.S.Strings.number c.in_ok-index-in-None.ensures.grows c.args.value.now c.requires.value

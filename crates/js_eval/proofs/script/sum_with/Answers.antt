@@ -17,15 +17,15 @@ returns-in_err-right-clause-did g c = λ n q.
     let p = err_from_is_err_and c.from_residual-in_err-right.result c.from_residual-in_err-right.ensures.1 in
     rw (p.1, p.2) (sum_stops g.S.Strings.number (state c.args.store.now) (state c.expr.new.store) c.args.at n (expr_tree c.args.value.now) c.args.context.now c.in_ok-left.left c.in_err-right.field-0.0 (c.in_ok-left.ensures.did n q) c.in_err-right.ensures.did)
 
-pub plus-requires-clause-left : goal.plus-requires-clause-left
-plus-requires-clause-left g c =
+pub apply-requires-clause-left : goal.apply-requires-clause-left
+apply-requires-clause-left g c =
     fine_still (g.S.Strings.state c.args.store.now) (g.S.Strings.state c.expr.new.store) g.S.Strings.number c.in_ok-right.ensures.grows c.in_ok-left.left c.in_ok-left.ensures.fine
 
 pub returns-clause-context : goal.returns-clause-context
 returns-clause-context g c =
-    context_fine_still (g.S.Strings.state c.expr.new.store) (g.S.Strings.state c.plus.new.store) g.S.Strings.number c.plus.ensures.grows c.args.context.now c.in_ok-right.ensures.context
+    context_fine_still (g.S.Strings.state c.expr.new.store) (g.S.Strings.state c.apply.new.store) g.S.Strings.number c.apply.ensures.grows c.args.context.now c.in_ok-right.ensures.context
 
 pub returns-clause-did : goal.returns-clause-did
 returns-clause-did g c = λ n q.
     let state = g.S.Strings.state in
-    sum_does g.S.Strings.number (state c.args.store.now) (state c.expr.new.store) (state c.plus.new.store) c.args.at n (expr_tree c.args.value.now) c.args.context.now c.in_ok-left.left c.in_ok-right.right c.plus.result c.in_ok-right.ensures.grows c.in_ok-left.ensures.fine (c.in_ok-left.ensures.did n q) c.in_ok-right.ensures.did c.plus.ensures.did
+    sum_does g.S.Strings.number (state c.args.store.now) (state c.expr.new.store) (state c.apply.new.store) c.args.at n (expr_tree c.args.value.now) c.args.context.now c.in_ok-left.left c.in_ok-right.right c.apply.result c.in_ok-right.ensures.grows c.in_ok-left.ensures.fine (c.in_ok-left.ensures.did n q) c.in_ok-right.ensures.did c.apply.ensures.did

@@ -6,5 +6,5 @@ use Rattle.eval_scopes.proofs.env.Env.is_only.Goals as goal
 
 pub returns : goal.returns
 returns g c = λ t.
-    subst (λ (q : List (Binding g.row.T.Denot)). IsOnly (bounds_of q) c.args.name.now) c.self.view_is
-    (only_one c.self.inside.bindings.items c.index-one.result.now c.args.name.now (omega arith) c.index-one.ensures c.if-one.false (sym c.is.ensures ∙ t))
+    subst (λ (q : List (Binding g.row.T.Denot)). IsOnly (bounds_of q) c.args.name.now) c.list-list.ensures
+    (only_one c.list-list.result.now c.index-list-0.result c.args.name.now (omega arith) c.index-list-0.is c.if-one.false (sym c.is.ensures ∙ t))

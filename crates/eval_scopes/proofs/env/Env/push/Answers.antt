@@ -1,11 +1,9 @@
-use Rattle.std.proofs.Common.{arith, ℕ, subst, sym}
-use Rattle.eval_scopes.specs.Index.{IsIndexTo, names_in}
-use Rattle.eval_scopes.proofs.Indexes.{place_behind, pushed_index}
+use Rattle.eval_scopes.proofs.Envs.{grown_env, names_pushed}
 use Rattle.eval_scopes.proofs.env.Env.push.Goals as goal
 
 pub invariant_of-self-2 : goal.invariant_of-self-2
 invariant_of-self-2 g c =
-    let bs = c.self.inside.bindings.items in
-    let place = place_behind bs c.len-place.result (omega arith) in
-    let more = c.note.ensures.indexed (names_in bs) (omega (arith, place)) (subst (λ (q : ℕ). IsIndexTo c.self.inside.first (names_in bs) q) (sym place) c.self.invariant) in
-    pushed_index c.push.result c.note.new.self bs c.push.new.self.items c.args.binding c.key.result c.len-place.result c.key.ensures place c.in_ok-note.ensures.found c.push.ensures.items more
+    let s = c.self.inside in
+    let cs = c.put_behind.new.all.items in
+    let e = c.in_ok-put_behind.ensures in
+    grown_env s.used s.all.items cs c.args.binding.name s.first c.note.new.self s.mask c.add.new.self c.key-key.result c.key-key.ensures (names_pushed s.used s.all.items cs c.args.binding e.put) e.room c.self.invariant c.note.ensures.indexed c.in_ok-note.ensures.found c.add.ensures.added c.add.ensures.kept

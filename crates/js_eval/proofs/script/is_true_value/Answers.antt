@@ -5,7 +5,7 @@ use Rattle.js_eval.specs.Expression.{expr_out}
 use Rattle.js_eval.specs.Seen.{scope_of}
 use Rattle.js_eval.proofs.Stays.{context_fine_still}
 use Rattle.js_eval.proofs.Statements.{test_holds, test_stops}
-use Rattle.js_eval.proofs.script.holds.Goals as goal
+use Rattle.js_eval.proofs.script.is_true_value.Goals as goal
 
 pub returns-in_err-value-clause-did : goal.returns-in_err-value-clause-did
 returns-in_err-value-clause-did g c =

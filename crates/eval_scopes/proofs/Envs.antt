@@ -1,0 +1,136 @@
+-- The bindings in use, in front of those that were left in place, with their index and their mask.
+use Rattle.std.proofs.Common.{arith, ◌≡◌, ℕ, ◌+◌, ◌<◌, ◌≤◌, zero, suc, max, true, false, Bool, List, [], ◌∷◌, ◌++◌, length, map, refl, ap, sym, ◌∙◌, subst, Some, None, slice_get, get_or, set, take, bytes_eq, ◌⊎◌, inl, inr}
+use Rattle.std.specs.Prelude.{IsSome, bit_or}
+use Rattle.std.specs.Int.{bit_at}
+use Rattle.std.specs.Ordering.{nat_cmp}
+use Rattle.std.specs.Map.{lookup}
+use Rattle.std.specs.BTreeMap.{is_at}
+use Rattle.std.proofs.lemmas.Bool.Decides.{leb_tells}
+use Rattle.std.proofs.lemmas.List.{map-append, length-map}
+use Rattle.std.proofs.lemmas.Nat.Bits.{bit_at_or, bit_at-lt}
+use Rattle.std.proofs.lemmas.Slice.Eq.{bytes_eq-Decides}
+use Rattle.eval_tree.specs.Keys.{key_of}
+use Rattle.eval_scopes.specs.declared.env.Binding.{Binding}
+use Rattle.eval_scopes.specs.Bindings.{Bound, bound_in, is_among}
+use Rattle.eval_scopes.specs.Env.{IsEnv}
+use Rattle.eval_scopes.specs.Index.{few, names_in, IsIndexTo, IsIndex}
+use Rattle.eval_scopes.specs.Mask.{Marks, MarksTo}
+use Rattle.eval_scopes.specs.Seen.{bound_of, bounds_of, put, IsLeft}
+use Rattle.eval_scopes.proofs.Indexes.{front_get, last_get, index_push, false_unless, names_get, bounds_names, names_put, names_push, none_among}
+use Rattle.eval_scopes.proofs.Places.{none_at, one_more}
+use Rattle.eval_scopes.proofs.Stacked.{map_taken, length_taken}
+
+-- bits that are set stay
+max_one : (x : ℕ) → x < 2 → max 1 x ≡ 1
+max_one x l = omega (arith, l)
+
+pub bit_kept : (a b i : ℕ) → bit_at a i ≡ 1 → bit_at (bit_or a b) i ≡ 1
+bit_kept a b i m = bit_at_or a b i ∙ (ap (λ (q : ℕ). max q (bit_at b i)) m ∙ max_one (bit_at b i) (bit_at-lt b i))
+
+-- the mask of one more name
+pub marks_next : (bits more : ℕ) (ns : List (List ℕ)) (i : ℕ) (n : List ℕ) → i < length ns → n ≡ get_or ns i n → Marks more (key_of n) → ((k : ℕ) → Marks bits k → Marks more k) → MarksTo bits ns i → MarksTo more ns (i + 1)
+marks_next bits more ns i n l p here kept h = one_more (λ m. Marks more (key_of m)) ns i n l p here (λ j m k e. kept (key_of m) (h j m k e))
+
+marks_push : (bits more : ℕ) (ns : List (List ℕ)) (x : List ℕ) (n : ℕ) → n ≡ length ns → Marks more (key_of x) → ((k : ℕ) → Marks bits k → Marks more k) → MarksTo bits ns n → MarksTo more (ns ++ x ∷ []) (n + 1)
+marks_push bits more ns x n s here kept h = λ j m l e. elim (leb_tells n j) [
+  | inr q ↦ kept (key_of m) (h j m q.1 (front_get ns x m j (omega (arith, q.1, s)) e))
+  | inl q ↦ (
+      let same : j ≡ length ns = omega (arith, l, q.1, s) in
+      let there : slice_get (ns ++ x ∷ []) (length ns) ≡ Some m = subst (λ (i : ℕ). slice_get (ns ++ x ∷ []) i ≡ Some m) same e in
+      let one : x ≡ m = cc (last_get ns x, there) in
+      subst (λ (q : List ℕ). Marks more (key_of q)) one here)
+]
+
+-- a name whose bit isn't there
+differs : (n x : List ℕ) (bits key : ℕ) (r : Bool) → key ≡ key_of x → (Marks bits key → r ≡ true) → r ≡ false → Marks bits (key_of n) → bytes_eq n x ≡ false
+differs n x bits key r e t f m =
+    false_unless (bytes_eq n x) (λ s.
+    let same : key_of n ≡ key = ap key_of ((bytes_eq-Decides n x).0 s) ∙ sym e in
+    let no : r ≡ true = t (subst (λ (q : ℕ). Marks bits q) same m) in
+    cc (no, f))
+
+pub unmarked_names : (ns : List (List ℕ)) (x : List ℕ) (bits key : ℕ) (r : Bool) → key ≡ key_of x → (Marks bits key → r ≡ true) → r ≡ false → MarksTo bits ns (length ns) → is_among ns x ≡ false
+unmarked_names ns x bits key r e t f h = none_among ns x (λ j n l g. differs n x bits key r e t f (h j n l g))
+
+module _ {T : Type 0} where
+  pub unmarked : (all bs : List (Binding T)) (n : ℕ) (first : List (ℕ × ℕ)) (x : List ℕ) (bits key : ℕ) (r : Bool) → take n all ≡ bs → IsEnv all n first bits → key ≡ key_of x → (Marks bits key → r ≡ true) → r ≡ false → bound_in (bounds_of bs) x ≡ None
+  unmarked all bs n first x bits key r v h e t f =
+      subst (λ (q : List (Binding T)). bound_in (bounds_of q) x ≡ None) v
+      (none_at (take n all) x (λ j b l g. differs b.name x bits key r e t f (h.marks j b.name (omega (arith, l, length_taken n all h.within)) (names_get (take n all) j b g))))
+
+  -- another value for one of the first n
+  put_first : (n : ℕ) (bs : List (Bound T)) (i : ℕ) (v : T) → take n (put bs i v) ≡ put (take n bs) i v
+  put_first zero bs i v = refl
+  put_first (suc n) [] i v = refl
+  put_first (suc n) (b ∷ bs) zero v = refl
+  put_first (suc n) (b ∷ bs) (suc i) v = ap (λ q. b ∷ q) (put_first n bs i v)
+
+  pub set_used : (n : ℕ) (bs cs : List (Binding T)) (i : ℕ) (v : T) → bounds_of cs ≡ put (bounds_of bs) i v → bounds_of (take n cs) ≡ put (bounds_of (take n bs)) i v
+  set_used n bs cs i v e = map_taken bound_of n cs ∙ (ap (λ q. take n q) e ∙ (put_first n (bounds_of bs) i v ∙ ap (λ q. put q i v) (sym (map_taken bound_of n bs))))
+
+  put_length : (bs : List (Bound T)) (i : ℕ) (v : T) → length (put bs i v) ≡ length bs
+  put_length [] i v = refl
+  put_length (b ∷ bs) zero v = refl
+  put_length (b ∷ bs) (suc i) v = ap (λ q. suc q) (put_length bs i v)
+
+  set_length : (bs cs : List (Binding T)) (i : ℕ) (v : T) → bounds_of cs ≡ put (bounds_of bs) i v → length cs ≡ length bs
+  set_length bs cs i v e = sym (length-map cs bound_of) ∙ (ap length e ∙ (put_length (bounds_of bs) i v ∙ length-map bs bound_of))
+
+  pub set_env : (n : ℕ) (bs cs : List (Binding T)) (i : ℕ) (v : T) (first : List (ℕ × ℕ)) (mask : ℕ) → bounds_of cs ≡ put (bounds_of bs) i v → IsEnv bs n first mask → IsEnv cs n first mask
+  set_env n bs cs i v first mask e h =
+      let names : names_in (take n cs) ≡ names_in (take n bs) = names_put (take n bs) (take n cs) i v (set_used n bs cs i v e) in
+      record {
+        within = omega (arith, h.within, set_length bs cs i v e);
+        index = subst (λ (q : List (List ℕ)). IsIndex first q) (sym names) h.index;
+        marks = subst (λ (q : List (List ℕ)). MarksTo mask q n) (sym names) h.marks;
+      }
+
+  pub used_within : (n i : ℕ) (all bs : List (Binding T)) → take n all ≡ bs → n ≤ length all → i < length bs → i < length all
+  used_within n i all bs v w l = omega (arith, l, ap length v, w, length_taken n all w)
+
+  -- one more binding in use
+  pub grown_env : (n : ℕ) (bs cs : List (Binding T)) (x : List ℕ) (first next : List (ℕ × ℕ)) (mask more key : ℕ) → key ≡ key_of x → names_in (take (n + 1) cs) ≡ names_in (take n bs) ++ x ∷ [] → n + 1 ≤ length cs → IsEnv bs n first mask → ((ns : List (List ℕ)) → n ≤ length ns → IsIndexTo first ns n → IsIndexTo next ns n) → IsSome (lookup (is_at (nat_cmp key)) next) ⊎ (n < few) → Marks more key → ((k : ℕ) → Marks mask k → Marks more k) → IsEnv cs (n + 1) next more
+  grown_env n bs cs x first next mask more key e names w h indexed found here kept =
+      let ns : List (List ℕ) = names_in (take n bs) in
+      let many : n ≡ length ns = sym (length-map (take n bs) (λ b. b.name) ∙ length_taken n bs h.within) in
+      let old : IsIndexTo first ns n = subst (λ (q : ℕ). IsIndexTo first ns q) (sym many) h.index in
+      let new : IsIndex next ns = subst (λ (q : ℕ). IsIndexTo next ns q) many (indexed ns (omega (arith, many)) old) in
+      let there : IsSome (lookup (is_at (nat_cmp (key_of x))) next) ⊎ (length ns < few) = subst (λ (q : ℕ). IsSome (lookup (is_at (nat_cmp q)) next) ⊎ (length ns < few)) e (subst (λ (q : ℕ). IsSome (lookup (is_at (nat_cmp key)) next) ⊎ (q < few)) many found) in
+      record {
+        within = w;
+        index = subst (λ (q : List (List ℕ)). IsIndex next q) (sym names) (index_push next ns x there new);
+        marks = subst (λ (q : List (List ℕ)). MarksTo more q (n + 1)) (sym names) (marks_push mask more ns x n many (subst (λ (q : ℕ). Marks more q) e here) kept h.marks);
+      }
+
+  pub names_pushed : (n : ℕ) (bs cs : List (Binding T)) (b : Binding T) → take (n + 1) cs ≡ take n bs ++ b ∷ [] → names_in (take (n + 1) cs) ≡ names_in (take n bs) ++ b.name ∷ []
+  names_pushed n bs cs b e = ap names_in e ∙ names_push (take n bs) b
+
+  pub names_bound : (n : ℕ) (bs cs : List (Binding T)) (b : Bound T) → bounds_of (take (n + 1) cs) ≡ bounds_of (take n bs) ++ b ∷ [] → names_in (take (n + 1) cs) ≡ names_in (take n bs) ++ b.name ∷ []
+  names_bound n bs cs b e =
+      bounds_names (take (n + 1) cs)
+      ∙ (ap (λ (q : List (Bound T)). map (λ c. c.name) q) e
+      ∙ (map-append (λ (c : Bound T). c.name) (bounds_of (take n bs)) (b ∷ [])
+      ∙ ap (λ q. q ++ b.name ∷ []) (sym (bounds_names (take n bs)))))
+
+  -- a binding that was left in place
+  pub left_at : (bs : List (Binding T)) (i : ℕ) (b : Binding T) (x : List ℕ) → i < length bs → b ≡ get_or bs i b → bytes_eq b.name x ≡ true → IsLeft bs i x
+  left_at [] i b x l p e = absurd (omega (arith, l))
+  left_at (c ∷ bs) zero b x l p e = ap (λ (q : Binding T). q.name) (sym p) ∙ (bytes_eq-Decides b.name x).0 e
+  left_at (c ∷ bs) (suc i) b x l p e = left_at bs i b x (omega (arith, l)) p e
+
+  pub left_within : (bs : List (Binding T)) (i : ℕ) (x : List ℕ) → IsLeft bs i x → i < length bs
+  left_within [] i x h = absurd h
+  left_within (b ∷ bs) zero x h = omega arith
+  left_within (b ∷ bs) (suc i) x h = omega (arith, left_within bs i x h)
+
+  again : (bs : List (Binding T)) (k : ℕ) (r : Binding T) (x : List ℕ) (constant : Bool) (v : T) → r ≡ get_or bs k r → IsLeft bs k x → bounds_of (take (suc k) (set bs k (record { name = r.name; constant = constant; value = v }))) ≡ bounds_of (take k bs) ++ record { name = x; constant = constant; value = v } ∷ []
+  again [] k r x constant v p h = absurd h
+  again (b ∷ bs) zero r x constant v p h =
+      let n : r.name ≡ x = ap (λ (q : Binding T). q.name) p ∙ h in
+      ap (λ (q : List ℕ). record { name = q; constant = constant; value = v } ∷ []) n
+  again (b ∷ bs) (suc k) r x constant v p h = ap (λ q. bound_of b ∷ q) (again bs k r x constant v p h)
+
+  pub bound_again : (bs : List (Binding T)) (k : ℕ) (r : Binding T) (x : List ℕ) (constant : Bool) (v : T) → r ≡ get_or bs k r → IsLeft bs k x → bounds_of (take (k + 1) (set bs k (record { name = r.name; constant = constant; value = v }))) ≡ bounds_of (take k bs) ++ record { name = x; constant = constant; value = v } ∷ []
+  bound_again bs k r x constant v p h =
+      let m : k + 1 ≡ suc k = omega arith in
+      ap (λ (q : ℕ). bounds_of (take q (set bs k (record { name = r.name; constant = constant; value = v })))) m ∙ again bs k r x constant v p h

@@ -1,0 +1,14 @@
+use Rattle.std.proofs.Common.{arith, List, ap, length, subst}
+use Rattle.eval_scopes.specs.declared.env.Binding.{Binding}
+use Rattle.eval_scopes.specs.Index.{NoneNamed}
+use Rattle.eval_scopes.proofs.Places.{none_at}
+use Rattle.eval_scopes.proofs.Stacked.{length_taken}
+use Rattle.eval_scopes.proofs.env.Env.position_in_list.Goals as goal
+
+pub returns-then-all-le-FEW : goal.returns-then-all-le-FEW
+returns-then-all-le-FEW g c =
+    let x = c.args.name.now in
+    let none = subst (λ (q : List (Binding g.row.T.Denot)). NoneNamed q x c.min.result) c.list.ensures c.in-None.ensures in
+    let whole = ap length c.self.view_is in
+    let used = length_taken c.self.inside.used c.self.inside.all.items c.self.invariant.within in
+    none_at c.args.self.now x (λ j b m e. none j b (omega (arith, m, whole, used, c.min.ensures)) e)
