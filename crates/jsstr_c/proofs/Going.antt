@@ -1,18 +1,18 @@
 -- What calls in a row leave of what a handle has.
 use Rattle.std.proofs.lemmas.Bool.Decides.{nat_tests}
 use lib.Dec.{leb}
-use Rattle.std.proofs.Common.{arith, true, inl, inr, ⊎_elim, ◌⊎◌, ◌≡◌, ℕ, ◌≤◌, List, length, ◌∙◌, Option, None, Some, subst, sym, refl}
-use Rattle.heap_rule.specs.declared.view.View.{View}
+use Rattle.std.proofs.Common.{arith, true, inl, inr, ⊎_elim, ◌≡◌, ℕ, ◌≤◌, List, length, ◌∙◌, Option, None, Some, subst, sym}
 use Rattle.heap_rule.specs.Maps.{Has, HasKey}
-use Rattle.heap_rule.specs.Views.{IsSettled}
 use Rattle.heap_rule.proofs.MapLemmas.{has_key, key_of}
 use Rattle.heap_read.specs.Reads.{Continues}
 use Rattle.heap_read.proofs.Going.{continues_trans}
 use Rattle.heap_agents.specs.declared.held.Held.{Held}
-use Rattle.heap_agents.specs.declared.member.Member.{Member}
-use Rattle.heap_agents.specs.Held.{IsHeld, KeepsMarks, Leaves, view_by}
-use Rattle.heap_agents.specs.Members.{IsSame}
-use Rattle.heap_agents.specs.Ready.{Goes, IsReady, Knows, view_in}
+use Rattle.heap_agents.specs.Held.{KeepsMarks, Leaves, view_by}
+use Rattle.heap_table.specs.Known.{KeepsKnown}
+use Rattle.heap_agents.specs.Interned.{KeepsCalls}
+use Rattle.heap_agents.specs.Searched.{KeepsStrings}
+use Rattle.heap_agents.proofs.Interned.{continued}
+use Rattle.heap_agents.specs.Ready.{Goes, Searches, IsReady, Knows, view_in}
 use Rattle.jsstr_c.specs.declared.answer.JsAnswer.{JsAnswer}
 use Rattle.jsstr_c.specs.Checked.{Follows, IsRefused, IsUnsettled, Reaches}
 
@@ -88,3 +88,15 @@ refused_on o m p a b status g r = (
   goes_trans o m p g r.2,
   ⊎_elim (λ (u : IsUnsettled m p a r.0). inl (unsettled_on o m p a r.0 g u)) (λ (u : IsUnsettled m p b r.0). inr (unsettled_on o m p b r.0 g u)) r.3,
 )
+
+pub goes_known : (o p : Option Held) → Goes o p → KeepsKnown (view_in o) (view_in p)
+goes_known o p g = (goes_continues o p g).known
+
+pub goes_calls : (o p : Option Held) → Goes o p → KeepsCalls (view_in o) (view_in p)
+goes_calls o p g = continued (view_in o) (view_in p) (goes_continues o p g)
+
+-- what a search leaves of a handle's strings
+pub searches_strings : (o p : Option Held) → Searches o p → KeepsStrings (view_in o) (view_in p)
+searches_strings None p g = absurd g
+searches_strings (Some x) None g = absurd g
+searches_strings (Some x) (Some y) g = g.strings

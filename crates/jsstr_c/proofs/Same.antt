@@ -3,7 +3,6 @@ use Rattle.std.proofs.Common.{◌≡◌, ◌↔◌, ℕ, List, sym, ◌∙◌, O
 use Rattle.std.specs.List.{Contains}
 use Rattle.heap_rule.specs.declared.view.View.{View}
 use Rattle.heap_rule.specs.Maps.{Has}
-use Rattle.heap_rule.specs.Sound.{IsPossible}
 use Rattle.heap_rule.specs.Views.{history}
 use Rattle.heap_intern.specs.Sound.{possible_agrees, possible_legal}
 use Rattle.heap_agents.specs.declared.held.Held.{Held}

@@ -1,4 +1,4 @@
-use Rattle.std.proofs.Common.{◌≡◌, ◌++◌, ◌∙◌, ℕ, List, Option, Result, subst}
+use Rattle.std.proofs.Common.{◌≡◌, ◌∙◌, ℕ, List, Option, Result, subst}
 use Rattle.heap_read.specs.declared.string.JsStr.{JsStr}
 use Rattle.heap_rule.specs.Maps.{Has}
 use Rattle.heap_text.specs.declared.faults.JoinFault.{JoinFault}

@@ -1,4 +1,4 @@
-use Rattle.std.proofs.Common.{◌+◌, ◌≤◌, length, arith}
+use Rattle.std.proofs.Common.{arith}
 use Rattle.heap_rule.proofs.MapLemmas.{has_key}
 use Rattle.heap_agents.specs.Ready.{view_in}
 use Rattle.jsstr_c.proofs.Going.{goes_trans, goes_units}

@@ -1,4 +1,4 @@
-use Rattle.std.proofs.Common.{◌≡◌, ◌+◌, ◌<◌, ◌≤◌, Option, false, true, sym, subst, arith}
+use Rattle.std.proofs.Common.{◌≡◌, ◌+◌, ◌≤◌, Option, false, true, sym, subst, arith}
 use borrow.Author.Tests.{leb-true}
 use Rattle.heap_agents.specs.declared.held.Held.{Held}
 use Rattle.heap_agents.specs.Ready.{Knows}

@@ -1,6 +1,6 @@
-use Rattle.std.proofs.Common.{◌≡◌, ◌+◌, ◌≤◌, ℕ, Option, inl, inr, subst, arith}
+use Rattle.std.proofs.Common.{◌≡◌, ◌+◌, Option, inl, inr, subst, arith}
 use Rattle.heap_agents.specs.declared.held.Held.{Held}
-use Rattle.heap_agents.specs.Ready.{Goes, Knows}
+use Rattle.heap_agents.specs.Ready.{Goes}
 use Rattle.jsstr_c.specs.Checked.{Reaches}
 use Rattle.jsstr_c.proofs.Going.{goes_knows, goes_trans, goes_units, refused_on}
 use Rattle.jsstr_c.proofs.checked.search.jsstr_index_of.Goals as goal

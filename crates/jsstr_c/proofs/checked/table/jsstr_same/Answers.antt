@@ -1,4 +1,4 @@
-use Rattle.std.proofs.Common.{ℕ, Option, eq-eqb, eqb-true, sym, subst}
+use Rattle.std.proofs.Common.{Option, eq-eqb, eqb-true, subst}
 use Rattle.heap_agents.specs.declared.held.Held.{Held}
 use Rattle.heap_agents.specs.Ready.{HasInterned}
 use Rattle.jsstr_c.proofs.Same.{same_units}
