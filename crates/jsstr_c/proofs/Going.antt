@@ -1,16 +1,20 @@
 -- What calls in a row leave of what a handle has.
-use Rattle.std.proofs.Common.{◌≡◌, ℕ, List, ◌∙◌, Option, None, Some, subst, sym, refl}
-use Rattle.heap_rule.specs.declared.view.View.{View}
+use Rattle.std.proofs.lemmas.Bool.Decides.{nat_tests}
+use lib.Dec.{leb}
+use Rattle.std.proofs.Common.{arith, true, inl, inr, ⊎_elim, ◌≡◌, ℕ, ◌≤◌, List, length, ◌∙◌, Option, None, Some, subst, sym}
 use Rattle.heap_rule.specs.Maps.{Has, HasKey}
-use Rattle.heap_rule.specs.Views.{IsSettled}
 use Rattle.heap_rule.proofs.MapLemmas.{has_key, key_of}
 use Rattle.heap_read.specs.Reads.{Continues}
 use Rattle.heap_read.proofs.Going.{continues_trans}
 use Rattle.heap_agents.specs.declared.held.Held.{Held}
-use Rattle.heap_agents.specs.declared.member.Member.{Member}
-use Rattle.heap_agents.specs.Held.{IsHeld, KeepsMarks, Leaves, view_by}
-use Rattle.heap_agents.specs.Members.{IsSame}
-use Rattle.heap_agents.specs.Ready.{Goes, IsReady, Knows, view_in}
+use Rattle.heap_agents.specs.Held.{KeepsMarks, Leaves, view_by}
+use Rattle.heap_table.specs.Known.{KeepsKnown}
+use Rattle.heap_agents.specs.Interned.{KeepsCalls}
+use Rattle.heap_agents.specs.Searched.{KeepsStrings}
+use Rattle.heap_agents.proofs.Interned.{continued}
+use Rattle.heap_agents.specs.Ready.{Goes, Searches, IsReady, Knows, view_in}
+use Rattle.jsstr_c.specs.declared.answer.JsAnswer.{JsAnswer}
+use Rattle.jsstr_c.specs.Checked.{Follows, IsRefused, IsUnsettled, Reaches}
 
 marks_trans : (x y z : Held) → KeepsMarks x y → KeepsMarks y z → KeepsMarks x z
 marks_trans x y z a b = record { known = λ i h. b.known i (a.known i h); interned = λ i h. b.interned i (a.interned i h); number = b.number ∙ a.number; giver = b.giver ∙ a.giver }
@@ -53,3 +57,46 @@ goes_key o p a i k = let u = has_key (view_in o).units i k in key_of (view_in p)
 pub ready_key : (o : Option Held) (i : ℕ) → IsReady o → Knows o i → HasKey (view_in o).units i
 ready_key None i r k = absurd r
 ready_key (Some x) i r k = r.marked.known i k
+
+-- the length of a known string is told by one call
+module _ (o p : Option Held) (s all n : ℕ) (ready : IsReady o) (known : Knows o s) (long : (us : List ℕ) → Has (view_in o).units s us → all ≡ length us) where
+  pub reaching : n ≤ all → Reaches o s n
+  reaching le = (known, λ us h. subst (λ (m : ℕ). n ≤ m) (long us h) le)
+
+  pub reached : Reaches o s n → n ≤ all
+  reached r = let u = has_key (view_in o).units s (ready_key o s ready known) in subst (λ (m : ℕ). n ≤ m) (sym (long u.0 u.1)) (r.1 u.0 u.1)
+
+  pub still_long : Goes o p → n ≤ all → (us : List ℕ) → Has (view_in p).units s us → n ≤ length us
+  still_long g le us h = let u = has_key (view_in o).units s (ready_key o s ready known) in let k = goes_units o p g s u.0 u.1 in
+      let same : Some us ≡ Some u.0 = sym h ∙ k in let e : us ≡ u.0 = cc in
+      subst (λ (vs : List ℕ). n ≤ length vs) (sym e) (subst (λ (m : ℕ). n ≤ m) (long u.0 u.1) le)
+
+pub leb_of : (m n : ℕ) → m ≤ n → leb m n ≡ true
+leb_of m n h = grind (arith, nat_tests, h)
+
+follows_on : (o m n : Option Held) → Goes o m → Follows m n → Goes o n
+follows_on o m n g f = ⊎_elim (λ (e : n ≡ m). subst (λ (x : Option Held). Goes o x) (sym e) g) (λ (h : Goes m n). goes_trans o m n g h) f
+
+unsettled_on : (o m p : Option Held) (s : ℕ) (r : JsAnswer) → Goes o m → IsUnsettled m p s r → IsUnsettled o p s r
+unsettled_on o m p s r g u = (u.0, inr (follows_on o m u.0 g u.1), u.2)
+
+-- what is refused after other calls
+pub refused_on : (o m p : Option Held) (a b status : ℕ) → Goes o m → IsRefused m p a b status → IsRefused o p a b status
+refused_on o m p a b status g r = (
+  r.0,
+  r.1,
+  goes_trans o m p g r.2,
+  ⊎_elim (λ (u : IsUnsettled m p a r.0). inl (unsettled_on o m p a r.0 g u)) (λ (u : IsUnsettled m p b r.0). inr (unsettled_on o m p b r.0 g u)) r.3,
+)
+
+pub goes_known : (o p : Option Held) → Goes o p → KeepsKnown (view_in o) (view_in p)
+goes_known o p g = (goes_continues o p g).known
+
+pub goes_calls : (o p : Option Held) → Goes o p → KeepsCalls (view_in o) (view_in p)
+goes_calls o p g = continued (view_in o) (view_in p) (goes_continues o p g)
+
+-- what a search leaves of a handle's strings
+pub searches_strings : (o p : Option Held) → Searches o p → KeepsStrings (view_in o) (view_in p)
+searches_strings None p g = absurd g
+searches_strings (Some x) None g = absurd g
+searches_strings (Some x) (Some y) g = g.strings

@@ -2,4 +2,5 @@ pub mod Walks
 pub mod Boxed
 pub mod Ready
 pub mod Going
+pub mod Same
 pub mod Decoded

@@ -1,9 +1,7 @@
 -- What the tested calls answer and leave.
-use Rattle.std.specs.Prelude.{◌≡◌, ◌≢◌, ℕ, ◌+◌, ◌≤◌, ◌⊎◌, List, length, Bool, Option, Result}
-use Rattle.heap_rule.specs.declared.view.View.{View}
+use Rattle.std.specs.Prelude.{◌≡◌, ℕ, ◌≤◌, ◌⊎◌, List, length, Bool, Option, Result}
 use Rattle.heap_rule.specs.Maps.{Has}
 use Rattle.heap_read.specs.declared.string.JsStr.{JsStr}
-use Rattle.heap_read.specs.Reads.{Continues}
 use Rattle.heap_text.specs.declared.faults.TextFull.{TextFull}
 use Rattle.heap_text.specs.Joins.{IsCut}
 use Rattle.heap_text.specs.Settling.{IsNoRoom}
@@ -18,15 +16,19 @@ use Rattle.jsstr_c.specs.Reports.{table_answer, text_answer, text_report}
 abbrev pub Reaches : Option Held → ℕ → ℕ → Type 0
 Reaches o s n = Knows o s × ((us : List ℕ) → Has (view_in o).units s us → n ≤ length us)
 
--- by what was known on the way, the string wanted content words to be settled, and was refused them: r is the report
-abbrev pub IsUnsettled : Option Held → Option Held → ℕ → JsAnswer → Type 0
-IsUnsettled o p s r = (m : View) × Continues (view_in o) m × ((us : List ℕ) → Has m.units s us
-    → (f : TextFull) × (wide : Bool) × (r ≡ text_report f) × IsNoRoom m (view_in p) (size_in o) us f wide)
+-- what the handle has, or what it had after calls on strings
+abbrev pub Follows : Option Held → Option Held → Type 0
+Follows o m = (m ≡ o) ⊎ Goes o m
 
--- the string, which is settled, was cut, with r as the answer
+-- by then the string wanted content words to be settled, and was refused them: r is the report
+abbrev pub IsUnsettled : Option Held → Option Held → ℕ → JsAnswer → Type 0
+IsUnsettled o p s r = (m : Option Held) × Follows o m × ((us : List ℕ) → Has (view_in m).units s us
+    → (f : TextFull) × (wide : Bool) × (r ≡ text_report f) × IsNoRoom (view_in m) (view_in p) (size_in m) us f wide)
+
+-- the string, which by then was settled, was cut, with r as the answer
 abbrev pub IsCutIn : Option Held → Option Held → ℕ → ℕ → ℕ → JsAnswer → Type 0
-IsCutIn o p s from to r = (m : View) × Continues (view_in o) m × ((us : List ℕ) → Has m.units s us
-    → (t : Result JsStr TextFull) × (r ≡ text_answer t) × IsCut m (view_in p) (size_in o) (record { id = s }) from to us t)
+IsCutIn o p s from to r = (m : Option Held) × Goes o m × ((us : List ℕ) → Has (view_in m).units s us
+    → (t : Result JsStr TextFull) × (r ≡ text_answer t) × IsCut (view_in m) (view_in p) (size_in m) (record { id = s }) from to us t)
 
 -- strings were settled, and then searched
 abbrev pub Sought : Option Held → Option Held → Type 0
@@ -36,10 +38,10 @@ Sought o p = (m : Option Held) × Goes o m × Searches m p
 abbrev pub IsRefused : Option Held → Option Held → ℕ → ℕ → ℕ → Type 0
 IsRefused o p a b status = (r : JsAnswer) × (status ≡ r.status) × Goes o p × (IsUnsettled o p a r ⊎ IsUnsettled o p b r)
 
--- the string, which is settled, was interned, with r as the answer
+-- the string, which by then was settled, was interned, with r as the answer
 abbrev pub IsEnteredIn : Option Held → Option Held → ℕ → JsAnswer → Type 0
-IsEnteredIn o p s r = (m : View) × Continues (view_in o) m × ((us : List ℕ) → Has m.units s us
-    → (plan : Plan) × (t : Result ℕ TableFull) × (r ≡ table_answer t) × IsPlan m (view_in p) s us plan × Interns m (view_in p) us plan t)
+IsEnteredIn o p s r = (m : Option Held) × Goes o m × ((us : List ℕ) → Has (view_in m).units s us
+    → (plan : Plan) × (t : Result ℕ TableFull) × (r ≡ table_answer t) × IsPlan (view_in m) (view_in p) s us plan × Interns (view_in m) (view_in p) us plan t)
 
 -- both are there, and by their numbers the second one was split off from the first
 abbrev pub IsChild : Option Held → Option Held → Type 0

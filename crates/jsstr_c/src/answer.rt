@@ -205,7 +205,8 @@ pub(crate) fn no_memory() -> JsAnswer
 }
 
 pub(crate) fn of_place(answer: Option<u32>) -> JsPlace
-    ensures { result ≡ place_answer answer }
+    ensures value { result ≡ place_answer answer }
+    ensures told { result.status ≢ reports.BAD_ARGUMENT }
 {
     match answer {
         Some(at) => JsPlace { status: DONE, at },

@@ -15,3 +15,4 @@ mod decoding;
 mod handle;
 mod parts;
 mod unchecked;
+mod uses;

@@ -11,14 +11,14 @@ ghost use Rattle.heap_text.specs.declared.faults.TextFull as text_full;
 ghost use Rattle.heap_text.specs.Joins.{IsJoined};
 ghost use Rattle.heap_text.specs.Texts.{Told, Uses};
 ghost use Rattle.heap_agents.specs.Ready.{Goes, IsReady, Knows, limit_in, size_in, view_in};
-ghost use Rattle.jsstr_c.specs.Checked.{IsCutIn, IsUnsettled, Reaches};
+ghost use Rattle.jsstr_c.specs.Checked.{Follows, IsCutIn, IsUnsettled, Reaches};
 ghost use Rattle.jsstr_c.specs.Handles.{IsHandle};
 ghost use Rattle.jsstr_c.specs.Reports.{join_answer, text_report};
 ghost use Rattle.jsstr_c.specs.Reports as reports;
 
 use crate::agent::JsAgent;
 use crate::answer::{DONE, JsAnswer, bad_argument};
-use crate::checked::reading::jsstr_length;
+use crate::checked::reading::reaches;
 use crate::unchecked::making::{
     jsstr_concat_unchecked, jsstr_from_latin1_unchecked, jsstr_from_units_unchecked,
     jsstr_slice_unchecked,
@@ -119,7 +119,9 @@ pub extern "C" fn jsstr_slice(
     ensures handle { IsHandle agent.new }
     ensures bad { result.status ≡ reports.BAD_ARGUMENT ↔ ¬ ((from ≤ to) × Reaches agent.old.at.value s to) }
     ensures unchanged { ¬ (Knows agent.old.at.value s) → agent.new.at.value ≡ agent.old.at.value }
-    ensures goes { Knows agent.old.at.value s → Goes agent.old.at.value agent.new.at.value }
+    ensures left { result.status ≡ reports.BAD_ARGUMENT
+        → Follows agent.old.at.value agent.new.at.value }
+    ensures goes { result.status ≢ reports.BAD_ARGUMENT → Goes agent.old.at.value agent.new.at.value }
     ensures marked { result.status ≡ reports.DONE → Knows agent.new.at.value result.id }
     ensures units { result.status ≡ reports.DONE
         → (us : List ℕ) → Has (view_in agent.old.at.value).units s us
@@ -129,8 +131,10 @@ pub extern "C" fn jsstr_slice(
         → IsUnsettled agent.old.at.value agent.new.at.value s result
         ⊎ IsCutIn agent.old.at.value agent.new.at.value s from to result }
 {
-    let all = jsstr_length(alloc, agent, s);
-    if all.status != DONE || to < from || all.value < to {
+    if to < from {
+        return bad_argument();
+    }
+    if !reaches(alloc, agent, s, from, (to - from) as usize) {
         return bad_argument();
     }
     let settled = jsstr_settle_unchecked(alloc, agent, s);

@@ -1,12 +1,12 @@
 // Reading strings: their lengths and units.
-ghost use Rattle.std.specs.Prelude.{◌≡◌, ◌≢◌, ◌↔◌, ℕ, ◌+◌, ◌≤◌, ◌⊎◌, List, Bool, length, slice_range};
-ghost use Rattle.heap_rule.specs.Maps.{Has};
+ghost use Rattle.std.specs.Prelude.{◌≡◌, ◌≢◌, ◌↔◌, ℕ, ◌+◌, ◌≤◌, ◌⊎◌, List, Bool, IsTrue, length, slice_range};
+ghost use Rattle.heap_rule.specs.Maps.{Has, HasKey};
 ghost use Rattle.heap_rule.specs.Views.{IsSettled};
 ghost use Rattle.heap_text.specs.declared.faults.TextFull as text_full;
 ghost use Rattle.heap_text.specs.Settling.{IsNoRoom};
 ghost use Rattle.heap_agents.specs.Ready.{Goes, IsReady, Knows, size_in, view_in};
 ghost use Rattle.jsstr_c.specs.declared.answer.JsAnswer as answer;
-ghost use Rattle.jsstr_c.specs.Checked.{IsUnsettled, Reaches};
+ghost use Rattle.jsstr_c.specs.Checked.{Follows, IsUnsettled, Reaches};
 ghost use Rattle.jsstr_c.specs.Handles.{IsHandle};
 ghost use Rattle.jsstr_c.specs.Reports.{text_report};
 ghost use Rattle.jsstr_c.specs.Reports as reports;
@@ -25,6 +25,7 @@ pub extern "C" fn jsstr_length(alloc: Global, agent: &mut JsAgent, s: u32) -> Js
     ensures handle { IsHandle agent.new }
     ensures bad { result.status ≡ reports.BAD_ARGUMENT ↔ ¬ (Knows agent.old.at.value s) }
     ensures status { result.status ≢ reports.BAD_ARGUMENT → result.status ≡ reports.DONE }
+    ensures known { result.status ≡ reports.DONE → Knows agent.old.at.value s }
     ensures unchanged { ¬ (Knows agent.old.at.value s) → agent.new.at.value ≡ agent.old.at.value }
     ensures goes { Knows agent.old.at.value s → Goes agent.old.at.value agent.new.at.value }
     ensures length { result.status ≡ reports.DONE → (us : List ℕ)
@@ -41,6 +42,29 @@ pub extern "C" fn jsstr_length(alloc: Global, agent: &mut JsAgent, s: u32) -> Js
         status: DONE,
         value,
     }
+}
+
+// Whether a string is known, and has `room` units or more from unit `from` on.
+pub(crate) fn reaches(alloc: Global, agent: &mut JsAgent, s: u32, from: u32, room: usize) -> bool
+    requires { IsHandle agent.old }
+    ensures handle { IsHandle agent.new }
+    ensures reaches { IsTrue result ↔ Reaches agent.old.at.value s (from + room) }
+    ensures unchanged { ¬ (Knows agent.old.at.value s) → agent.new.at.value ≡ agent.old.at.value }
+    ensures left { Follows agent.old.at.value agent.new.at.value }
+    ensures goes { IsTrue result → Goes agent.old.at.value agent.new.at.value }
+    ensures ready { IsTrue result → IsReady agent.new.at.value }
+    ensures key { IsTrue result → HasKey (view_in agent.new.at.value).units s }
+    ensures long { IsTrue result → (us : List ℕ) → Has (view_in agent.new.at.value).units s us
+        → from + room ≤ length us }
+{
+    if !agent.knows(alloc, s) {
+        return false;
+    }
+    let all = jsstr_length_unchecked(alloc, agent, s);
+    if all < from {
+        return false;
+    }
+    room <= (all - from) as usize
 }
 
 /// Sees to it that a string is settled, so that the calls that need that don't have to copy its units.
@@ -79,15 +103,15 @@ pub extern "C" fn jsstr_read(
     ensures handle { IsHandle agent.new }
     ensures bad { result ≡ reports.BAD_ARGUMENT ↔ ¬ (Reaches agent.old.at.value s (from + length out.old)) }
     ensures unchanged { ¬ (Knows agent.old.at.value s) → agent.new.at.value ≡ agent.old.at.value }
-    ensures goes { Knows agent.old.at.value s → Goes agent.old.at.value agent.new.at.value }
+    ensures left { result ≡ reports.BAD_ARGUMENT → Follows agent.old.at.value agent.new.at.value }
+    ensures goes { result ≢ reports.BAD_ARGUMENT → Goes agent.old.at.value agent.new.at.value }
     ensures units { result ≡ reports.DONE → (us : List ℕ) → Has (view_in agent.old.at.value).units s us
         → out.new ≡ slice_range us from (from + length out.old) }
     ensures unread { result ≢ reports.DONE → out.new ≡ out.old }
     ensures refused { result ≢ reports.DONE → result ≢ reports.BAD_ARGUMENT → (r : answer.JsAnswer)
         × (result ≡ r.status) × IsUnsettled agent.old.at.value agent.new.at.value s r }
 {
-    let all = jsstr_length(alloc, agent, s);
-    if all.status != DONE || all.value < from || ((all.value - from) as usize) < out.len() {
+    if !reaches(alloc, agent, s, from, out.len()) {
         return BAD_ARGUMENT;
     }
     let settled = jsstr_settle_unchecked(alloc, agent, s);

@@ -6,14 +6,14 @@ ghost use Rattle.js_search.specs.Order.{units_cmp};
 ghost use Rattle.js_search.specs.Places.{IsFirst, IsLast, Stands, first, last, stands};
 ghost use Rattle.heap_agents.specs.Ready.{Goes, Knows, view_in};
 ghost use Rattle.heap_agents.specs.Searched.{IsOrder};
-ghost use Rattle.jsstr_c.specs.Checked.{IsRefused, Reaches, Sought};
+ghost use Rattle.jsstr_c.specs.Checked.{Follows, IsRefused, Reaches, Sought};
 ghost use Rattle.jsstr_c.specs.Handles.{IsHandle};
 ghost use Rattle.jsstr_c.specs.Reports.{order_number, place_answer};
 ghost use Rattle.jsstr_c.specs.Reports as reports;
 
 use crate::agent::JsAgent;
 use crate::answer::{BAD_ARGUMENT, DONE, JsOrder, JsPlace, JsTruth};
-use crate::checked::reading::jsstr_length;
+use crate::checked::reading::reaches;
 use crate::checked::settling::settle_both;
 use crate::unchecked::search::{
     jsstr_compare_unchecked, jsstr_equal_unchecked, jsstr_index_of_unchecked,
@@ -142,7 +142,8 @@ pub extern "C" fn jsstr_last_index_of(
         ⊎ (Sought agent.old.at.value agent.new.at.value × ((us vs : List ℕ)
         → Has (view_in agent.old.at.value).units hay us
         → Has (view_in agent.old.at.value).units needle vs
-        → (result ≡ place_answer (last us vs limit)) × IsLast us vs limit (last us vs limit))) }
+        → (result ≡ place_answer (last us vs limit))
+        × ((r : Option ℕ) × (result ≡ place_answer r) × IsLast us vs limit r))) }
 {
     let status = settle_both(alloc, agent, hay, needle);
     if status != DONE {
@@ -164,18 +165,25 @@ pub extern "C" fn jsstr_index_of(
     ensures handle { IsHandle agent.new }
     ensures bad { result.status ≡ reports.BAD_ARGUMENT
         ↔ ¬ (Reaches agent.old.at.value hay from × Knows agent.old.at.value needle) }
-    ensures unchanged { ¬ (Knows agent.old.at.value hay) → agent.new.at.value ≡ agent.old.at.value }
-    ensures goes { Knows agent.old.at.value hay → result.status ≡ reports.BAD_ARGUMENT
-        → Goes agent.old.at.value agent.new.at.value }
+    ensures unchanged { ¬ (Knows agent.old.at.value hay × Knows agent.old.at.value needle)
+        → agent.new.at.value ≡ agent.old.at.value }
+    ensures left { result.status ≡ reports.BAD_ARGUMENT
+        → Follows agent.old.at.value agent.new.at.value }
     ensures found { result.status ≢ reports.BAD_ARGUMENT
         → IsRefused agent.old.at.value agent.new.at.value hay needle result.status
         ⊎ (Sought agent.old.at.value agent.new.at.value × ((us vs : List ℕ)
         → Has (view_in agent.old.at.value).units hay us
         → Has (view_in agent.old.at.value).units needle vs
-        → (result ≡ place_answer (first us vs from)) × IsFirst us vs from (first us vs from))) }
+        → (result ≡ place_answer (first us vs from))
+        × ((r : Option ℕ) × (result ≡ place_answer r) × IsFirst us vs from r))) }
 {
-    let all = jsstr_length(alloc, agent, hay);
-    if all.status != DONE || all.value < from {
+    if !agent.knows(alloc, needle) {
+        return JsPlace {
+            status: BAD_ARGUMENT,
+            at: 0,
+        };
+    }
+    if !reaches(alloc, agent, hay, from, 0) {
         return JsPlace {
             status: BAD_ARGUMENT,
             at: 0,

@@ -30,6 +30,7 @@ pub extern "C" fn jsstr_make_unchecked(
     ensures lawful { result ≡ reports.DONE → MayMake (size_for size) agents × (limit ≤ MAX) }
     ensures refused { result ≡ reports.BAD_SIZE → ¬ (MayMake (size_for size) agents × (limit ≤ MAX)) }
     ensures unmade { result ≢ reports.DONE → out.new.at.value ≡ None }
+    ensures told { result ≢ reports.BAD_ARGUMENT }
     ensures handle { IsHandle out.old → IsHandle out.new }
 {
     let JsSize { ids, words, slots } = size;

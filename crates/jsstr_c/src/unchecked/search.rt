@@ -1,5 +1,5 @@
 // Comparing settled strings, and finding one in another, by the calls of `js_search` on a session.
-ghost use Rattle.std.specs.Prelude.{◌≡◌, ◌↔◌, ℕ, ◌≤◌, List, length, Option, IsTrue};
+ghost use Rattle.std.specs.Prelude.{◌≡◌, ◌≢◌, ◌↔◌, ℕ, ◌≤◌, List, length, Option, IsTrue};
 ghost use Rattle.std.specs.declared.cmp.Ordering as ordering;
 ghost use Rattle.heap_rule.specs.Maps.{Has};
 ghost use Rattle.js_search.specs.Order.{units_cmp};
@@ -8,6 +8,7 @@ ghost use Rattle.heap_agents.specs.Ready.{IsReady, Searches, view_in};
 ghost use Rattle.heap_agents.specs.Searched.{IsOrder, IsReadable};
 ghost use Rattle.jsstr_c.specs.Handles.{IsHandle};
 ghost use Rattle.jsstr_c.specs.Reports.{order_number, place_answer};
+ghost use Rattle.jsstr_c.specs.Reports as reports;
 
 use crate::agent::JsAgent;
 use crate::answer::{JsPlace, of_order, of_place};
@@ -98,6 +99,7 @@ pub extern "C" fn jsstr_index_of_unchecked(
     requires within { (us : List ℕ) × Has (view_in agent.old.at.value).units hay us × (from ≤ length us) }
     ensures handle { IsHandle agent.new }
     ensures searches { Searches agent.old.at.value agent.new.at.value }
+    ensures told { result.status ≢ reports.BAD_ARGUMENT }
     ensures least { (us vs : List ℕ) → Has (view_in agent.old.at.value).units hay us
         → Has (view_in agent.old.at.value).units needle vs
         → (r : Option ℕ) × (result ≡ place_answer r) × IsFirst us vs from r }
@@ -126,6 +128,7 @@ pub extern "C" fn jsstr_last_index_of_unchecked(
     requires right { IsReadable (view_in agent.old.at.value) needle }
     ensures handle { IsHandle agent.new }
     ensures searches { Searches agent.old.at.value agent.new.at.value }
+    ensures told { result.status ≢ reports.BAD_ARGUMENT }
     ensures greatest { (us vs : List ℕ) → Has (view_in agent.old.at.value).units hay us
         → Has (view_in agent.old.at.value).units needle vs
         → (r : Option ℕ) × (result ≡ place_answer r) × IsLast us vs limit r }
