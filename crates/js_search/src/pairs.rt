@@ -21,6 +21,14 @@ pub(crate) struct Pair {
 // The greatest distance of the two units.
 const MOST_APART: u32 = 31;
 
+// How many units a block gets: few at first, since a pair is often near.
+fn units_for(block: &Block) -> u32
+    ensures low { 64 ≤ result }
+    ensures high { result ≤ 256 }
+{
+    if block.count == 0 { 64 } else { SIZE }
+}
+
 // Two units of a needle that isn't empty: its first, and its last one or one that is less far.
 pub(crate) fn pair_of<S: Strings>(store: &mut S, needle: S::Ref, size: u32) -> Pair
     requires known { IsKnown (S.state store.old) (S.number needle) }
@@ -66,7 +74,8 @@ pub(crate) fn next_pair<S: Strings>(
     let mut place = from;
     while place + pair.apart < len {
         let behind = place + pair.apart + 1;
-        block.cover(store, hay, place, behind, place, SIZE.min(len - place));
+        let count = units_for(block).min(len - place);
+        block.cover(store, hay, place, behind, place, count);
         let end = block.count - pair.apart;
         let at = first_in(&block.units, pair, place - block.from, end);
         if at < end {
@@ -100,7 +109,7 @@ pub(crate) fn previous_pair<S: Strings>(
     let mut left = end;
     while 0 < left {
         let behind = left + pair.apart;
-        let count = SIZE.min(behind);
+        let count = units_for(block).min(behind);
         block.cover(store, hay, left - 1, behind, behind - count, count);
         if let Some(at) = last_in(&block.units, pair, left - block.from) {
             return Some(block.from + at);
