@@ -1,14 +1,13 @@
 -- The short ways: names and numbers at hand, an operator on two of them, and a test.
-use Rattle.std.proofs.Common.{arith, ◌≡◌, ℕ, ◌<◌, List, [], ◌∷◌, length, get_or, refl, ap, sym, subst, Bool, true, false, if◌then◌else◌, Option, Some, None, option_map, Ok}
+use Rattle.std.proofs.Common.{arith, ◌≡◌, ℕ, List, [], ◌∷◌, length, get_or, refl, ap, sym, subst, Bool, false, if◌then◌else◌, Option, Some, None, option_map, Ok}
 use Rattle.std.specs.Prelude.{IfSome, MatchOption}
 use denote.Bor.{Bor}
 use Rattle.js_number.specs.declared.Num.{Num}
-use Rattle.js_number.specs.Places.{IsLawful}
 use Rattle.js_store.specs.State.{State}
 use Rattle.js_store.proofs.Laws.{step_refl}
 use Rattle.eval_tree.specs.declared.tree.Op.{Op}
 use Rattle.eval_tree.specs.declared.tree.Link.{Link}
-use Rattle.eval_tree.specs.Tree.{ExprTree, Links, no_links, link, chain, expr_tree, links_tree}
+use Rattle.eval_tree.specs.Tree.{ExprTree, no_links, link, chain, expr_tree, links_tree}
 use Rattle.js_item.specs.declared.item.Item.{Item}
 use Rattle.js_item.specs.declared.item.Item.TheVariants.{Number, Bool as Boolean}
 use Rattle.js_item.specs.Contents.{number}

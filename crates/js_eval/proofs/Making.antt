@@ -1,9 +1,9 @@
 -- Object literals: a key, a value, a member that is put in, and the members one after another.
-use Rattle.std.proofs.Common.{arith, ◌≡◌, ℕ, suc, max, ◌<◌, ◌≤◌, ◌+◌, List, [], ◌∷◌, length, get_or, drop, refl, ap, ◌∙◌, sym, subst, Bool, true, false, nat_le, if◌then◌else◌, Result, Ok, Err, IsTrue}
-use Rattle.std.specs.Prelude.{◌&&◌, ◌↔◌, bytes_eq, None}
+use Rattle.std.proofs.Common.{arith, ◌≡◌, ℕ, suc, ◌<◌, ◌+◌, List, length, get_or, drop, refl, ap, ◌∙◌, sym, subst, Bool, true, false, nat_le, Result, Ok, Err}
+use Rattle.std.specs.Prelude.{◌&&◌, bytes_eq, None}
 use Rattle.js_store.specs.State.{State, Grows, text}
 use Rattle.js_store.specs.Faults.{Step}
-use Rattle.js_store.proofs.Laws.{text_still, grows_trans, step_refl}
+use Rattle.js_store.proofs.Laws.{text_still, grows_trans}
 use Rattle.js_store.specs.declared.faults.StoreFault.TheVariants.{Memory}
 use Rattle.js_texts.proofs.Lists.{drop_at}
 use Rattle.eval_tree.specs.declared.tree.Expr.{Expr}
@@ -16,7 +16,7 @@ use Rattle.js_item.specs.Views.{content}
 use Rattle.js_item.specs.Fine.{strings_of, KeyFine, FineFields, IsFine, Bounded, depth, depth_in}
 use Rattle.js_item.specs.Puts.{put_by, names_key}
 use Rattle.js_item.specs.Seen.{Val, says, mapped, fields_mapped, seen}
-use Rattle.js_item.proofs.Still.{fine_put, fine_fields_still, fine_still}
+use Rattle.js_item.proofs.Still.{fine_put, fine_fields_still}
 use Rattle.js_item.proofs.Values.{fields_mapped_still, mapped_put}
 use Rattle.eval_values.specs.declared.value.Stop.{Stop}
 use Rattle.eval_values.specs.declared.value.Stop.TheVariants.{Unsupported, Store}

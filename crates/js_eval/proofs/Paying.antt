@@ -1,5 +1,5 @@
 -- The shares of the members of an object literal come to no more than its row.
-use Rattle.std.proofs.Common.{arith, ◌≡◌, ℕ, ◌+◌, ◌*◌, ◌≤◌, List, [], ◌∷◌, ◌++◌, length, append_assoc, refl, ap, ◌∙◌, sym, subst, Bool, true, false, nat_le, if◌then◌else◌, Result, Ok, Err}
+use Rattle.std.proofs.Common.{arith, ◌≡◌, ℕ, ◌+◌, ◌*◌, ◌≤◌, List, [], ◌∷◌, length, append_assoc, refl, ap, ◌∙◌, sym, subst, true, false, nat_le, if◌then◌else◌, Result, Ok, Err}
 use Rattle.std.specs.Prelude.{Contains}
 use Rattle.js_store.specs.State.{State, Has}
 use Rattle.eval_tree.specs.Tree.{ExprTree, Entries, no_entries, entry}

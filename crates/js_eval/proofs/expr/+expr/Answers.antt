@@ -6,7 +6,7 @@ use Rattle.js_store.proofs.Laws.{grows_refl, grows_trans}
 use Rattle.eval_tree.specs.Tree.{expr_tree, link_tree, links_tree, steps_tree, exprs_tree, entries_tree}
 use Rattle.eval_tree.proofs.Trees.{tree_of_unary, tree_of_chain, tree_of_post, tree_of_conditional, tree_of_call, tree_of_index, tree_of_property, tree_of_builtin, tree_of_object}
 use Rattle.eval_values.specs.declared.value.Stop.TheVariants.{Store}
-use Rattle.js_item.specs.Seen.{Val, seen, says, fields_mapped}
+use Rattle.js_item.specs.Seen.{Val, seen}
 use Rattle.js_item.proofs.Still.{key_still, fine_fields_still}
 use Rattle.eval_values.specs.Outcome.{Out}
 use Rattle.eval_scopes.specs.Bindings.{meant}

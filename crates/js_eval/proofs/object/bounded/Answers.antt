@@ -1,5 +1,4 @@
 use Rattle.js_eval.proofs.Making.{bounded_does, bounded_stops}
-use Rattle.std.proofs.Common.{sym, refl}
 use Rattle.js_eval.proofs.object.bounded.Goals as goal
 
 pub returns-then-is_bounded-clause-fine : goal.returns-then-is_bounded-clause-fine

@@ -1,4 +1,4 @@
-use Rattle.std.proofs.Common.{arith, Ok, sym, subst}
+use Rattle.std.proofs.Common.{arith, Ok, subst}
 use Rattle.std.specs.Prelude.{IfSome}
 use Rattle.eval_tree.specs.Tree as tree
 use Rattle.eval_tree.specs.Tree.{Links, expr_tree}
