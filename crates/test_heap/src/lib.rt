@@ -1,7 +1,11 @@
-//! Tests of the heap's crates by their public calls: the pure machine word by word, and the heap
-//! that threads share. They stand apart, since a crate with tests is proved twice.
+//! Tests of the heap's crates by their public calls: the pure machine word by word, the heap that threads
+//! share, ropes and the moves of headers on its table, the counted loads of slots, and a session as a
+//! store. They stand apart, since a crate with tests is proved twice; strings, the string table and
+//! sessions are played in `test_strings`.
 #![tactic(auto)]
 
+#[cfg(test)]
+mod counted;
 #[cfg(test)]
 mod machine;
 #[cfg(test)]
@@ -11,4 +15,12 @@ mod reading;
 #[cfg(test)]
 mod ropes;
 #[cfg(test)]
+mod stores;
+#[cfg(test)]
 mod table;
+#[cfg(test)]
+mod table_counted;
+#[cfg(test)]
+mod table_forwards;
+#[cfg(test)]
+mod table_ropes;

@@ -48,13 +48,6 @@ pub goes_of : (a b : State SessionFrame) → HasGoneOn a b → GoesOn a b
 unfolding HasGoneOn
 goes_of a b g = g
 
--- a new session is one of its heap
-pub is_of : (a : Agent) (h : Heap) (n : ℕ) (s : State SessionFrame) → s ≡ state_by (view_of a) n (table_of h) → (view_of a).sizes ≡ size_of h → IsOf s h
-is_of a h n s e z = (
-  ap (λ (x : State SessionFrame). x.frame.table) e,
-  ap (λ (x : State SessionFrame). x.sizes) e ∙ (λ i. record { ids = (z i).ids; words = (z i).words; slots = (z i).slots }),
-)
-
 -- a session that went on is still one of its heap
 pub still_of : (a b : State SessionFrame) (h : Heap) → GoesOn a b → IsOf a h → IsOf b h
 still_of a b h g e = (ap (λ (f : SessionFrame). f.table) g.frame ∙ e.0, g.sizes ∙ e.1)

@@ -119,11 +119,6 @@ played_some v n more none lent ids e f some p = record {
   agents_are = p.agents_are;
 }
 
--- two strings, on a heap of which no number of agents is told
-pub played_two : (v : View) (none one two : List ℕ) (s t : ℕ) → none ≡ [] → ((i : ℕ) → Contains one i → Contains none i ⊎ (i ≡ s)) → ((i : ℕ) → Contains two i → Contains one i ⊎ (i ≡ t)) → HasKey v.units s → HasKey v.units t → IsPlayed v 0 two
-played_two v none one two s t e f g ks kt = let p : IsPlayed v 0 none = record { known = λ i h. absurd (no_one i (subst (λ (l : List ℕ). Contains l i) e h)); agents_are = λ l. absurd (omega arith) } in
-    played_more v 0 one two t g kt (played_more v 0 none one s f ks p)
-
 -- a part of a known string is known
 pub cut_known : (v w : View) (i from count : ℕ) (r : Result JsStr TextFull) (us : List ℕ) → Has v.units i us
     → IfOk r (λ t. (vs : List ℕ) → Has v.units i vs → Has w.units t.id (part from count vs)) → IfOk r (λ t. HasKey w.units t.id)

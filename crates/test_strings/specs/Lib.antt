@@ -1,3 +1,2 @@
-pub mod Ropes
 pub mod Sessions
 pub mod Turns

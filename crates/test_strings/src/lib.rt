@@ -6,8 +6,6 @@
 #[cfg(test)]
 mod by_hand;
 #[cfg(test)]
-mod counted;
-#[cfg(test)]
 mod lines;
 #[cfg(test)]
 mod on_session;
@@ -16,20 +14,10 @@ mod on_text;
 #[cfg(test)]
 mod plays;
 #[cfg(test)]
-mod reading;
-#[cfg(test)]
 mod sessions;
-#[cfg(test)]
-mod stores;
 #[cfg(test)]
 mod strings;
 #[cfg(test)]
 mod table;
-#[cfg(test)]
-mod table_counted;
-#[cfg(test)]
-mod table_forwards;
-#[cfg(test)]
-mod table_ropes;
 #[cfg(test)]
 mod text_calls;

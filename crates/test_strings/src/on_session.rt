@@ -101,20 +101,6 @@ fn has_units(session: &mut Session, s: JsStr, n: u32, want: &[u16]) -> bool
     true
 }
 
-fn count(session: &mut Session) -> u32
-    requires whole { IsWhole (state_in session.old) }
-    ensures goes { GoesOn (state_in session.old) (state_in session.new) }
-{
-    session.count_interned()
-}
-
-fn totals(session: &mut Session) -> (u32, u32)
-    requires whole { IsWhole (state_in session.old) }
-    ensures goes { GoesOn (state_in session.old) (state_in session.new) }
-{
-    session.totals()
-}
-
 impl<'h> OnSession<'h> {
     /// No string was made yet.
     pub(crate) fn new(
@@ -223,7 +209,7 @@ impl<'h> OnSession<'h> {
         if !self.whole {
             return None;
         }
-        Some(Told::Number(u64::from(count(&mut self.session))))
+        Some(Told::Number(u64::from(self.session.count_interned())))
     }
 
     fn totals(&mut self) -> Option<Told>
@@ -232,7 +218,7 @@ impl<'h> OnSession<'h> {
         if !self.whole {
             return None;
         }
-        let (ids, words) = totals(&mut self.session);
+        let (ids, words) = self.session.totals();
         Some(Told::Both(ids, words))
     }
 

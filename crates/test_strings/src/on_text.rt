@@ -8,12 +8,10 @@ ghost use Rattle.test_strings.specs.Turns.{HasGoneOn, IsPlayed, Turns};
 
 use crate::by_hand::wide;
 use crate::lines::{Told, Words, behind, fault, step_of, units_of, wrong, yes_if};
-use crate::text_calls::{
-    count, cut, ends, first_word, flat, header, interned, joined, reads, settled, slot, totals,
-    units_in,
-};
+use crate::text_calls::{cut, ends, first_word, flat, interned, joined, reads};
 use heap_read::Reader;
 use heap_rule::MAX;
+use heap_string_table::count_interned;
 use heap_text::{JsStr, Text};
 use js_header::{Form, encode};
 use std::alloc::Global;
@@ -42,21 +40,6 @@ pub(crate) fn put(made: &mut Vec<u32>, s: JsStr) -> Option<Told>
 }
 
 impl<'h> OnText<'h> {
-    /// Two strings that were made by hand, on a heap of which no number of agents is told.
-    pub(crate) fn of_two(alloc: Global, text: Text<'h>, s: JsStr, t: JsStr) -> Option<OnText<'h>>
-        requires known { HasKey (view_in text.reader).units s.id × HasKey (view_in text.reader).units t.id }
-    {
-        let mut made = Vec::new(alloc);
-        put(&mut made, s)?;
-        put(&mut made, t)?;
-        Some(OnText {
-            alloc,
-            text,
-            agents: 0,
-            made,
-        })
-    }
-
     /// Strings of these numbers were made.
     pub(crate) fn of_strings(
         alloc: Global,
@@ -130,7 +113,7 @@ impl<'h> OnText<'h> {
         ensures goes { Moves Turns self.old.text.reader self.new.text.reader }
     {
         let s = self.at(k)?;
-        match settled(&mut self.text, s) {
+        match self.text.settle(s) {
             Ok(()) => Some(Told::Done),
             Err(full) => Some(Told::Refused(full)),
         }
@@ -174,7 +157,7 @@ impl<'h> OnText<'h> {
         ensures goes { Moves Turns self.old.text.reader self.new.text.reader }
     {
         let s = self.at(k)?;
-        Some(Told::Number(u64::from(units_in(&mut self.text, s))))
+        Some(Told::Number(u64::from(self.text.len(s))))
     }
 
     fn ends(&mut self, k: usize) -> Option<Told>
@@ -187,21 +170,17 @@ impl<'h> OnText<'h> {
         }
     }
 
-    fn header(&mut self, k: usize) -> Option<Told>
+    // The header of a string as it is at this moment, or its form word.
+    fn header(&mut self, k: usize, as_word: bool) -> Option<Told>
         ensures goes { Moves Turns self.old.text.reader self.new.text.reader }
     {
         let s = self.at(k)?;
         let text = &mut self.text;
-        Some(Told::Header(header(&mut text.reader, s)))
-    }
-
-    // The form word of a string.
-    fn form(&mut self, k: usize) -> Option<Told>
-        ensures goes { Moves Turns self.old.text.reader self.new.text.reader }
-    {
-        let s = self.at(k)?;
-        let text = &mut self.text;
-        Some(Told::Number(encode(header(&mut text.reader, s))))
+        let form = text.reader.form_now(s.id);
+        if as_word {
+            return Some(Told::Number(encode(form)));
+        }
+        Some(Told::Header(form))
     }
 
     // Whether a string forwards to another.
@@ -211,7 +190,7 @@ impl<'h> OnText<'h> {
         let s = self.at(k)?;
         let target = self.at(to)?.id;
         let text = &mut self.text;
-        let is = header(&mut text.reader, s) == (Form::Thin { target });
+        let is = text.reader.form_now(s.id) == (Form::Thin { target });
         Some(yes_if(is))
     }
 
@@ -230,7 +209,11 @@ impl<'h> OnText<'h> {
         if k >= text.reader.heap.size().slots {
             return None;
         }
-        Some(Told::Maybe(slot(&mut text.reader, k)))
+        let reader = &mut text.reader;
+        match reader.agent.load_slot(reader.heap, k, false) {
+            Some(id) => Some(Told::Maybe(Some(u64::from(id)))),
+            None => Some(Told::Maybe(None)),
+        }
     }
 
     // How many strings are interned.
@@ -241,7 +224,7 @@ impl<'h> OnText<'h> {
         if self.agents == 0 || text.reader.agent.share() != self.agents {
             return None;
         }
-        Some(Told::Number(u64::from(count(&mut text.reader))))
+        Some(Told::Number(u64::from(count_interned(&mut text.reader))))
     }
 
     // Both counters.
@@ -252,7 +235,8 @@ impl<'h> OnText<'h> {
         if self.agents == 0 || text.reader.agent.share() != self.agents {
             return None;
         }
-        let (ids, words) = totals(&mut text.reader);
+        let reader = &mut text.reader;
+        let (ids, words) = reader.agent.totals(reader.heap);
         Some(Told::Both(ids, words))
     }
 
@@ -366,8 +350,8 @@ impl<'h> OnText<'h> {
         match name {
             "len" => self.len(a),
             "ends" => self.ends(a),
-            "header" => self.header(a),
-            "form" => self.form(a),
+            "header" => self.header(a, false),
+            "form" => self.header(a, true),
             "forwards" => self.forwards(a, b),
             "same" => self.same(a, b),
             "word" => self.word(a),

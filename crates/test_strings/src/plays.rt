@@ -1,17 +1,14 @@
 // Plays of a heap, as texts: one step a line. A play begins with `==` and what it shows; its second line is
-// the heap, by its ids, content words, slots and agents, behind `session` where it plays on a session, and
-// behind `forwarded` where two strings were made there by hand.
+// the heap, by its ids, content words, slots and agents, behind `session` where it plays on a session.
 // Behind `both` and `and` stand the steps of two agents in two threads, up to `end`; afterwards they are one
 // agent again, for which those of the first come first. Of sessions those behind `split` are of two in turn, of
 // which that split off has `other` before them, up to `join`; behind `text` stand those of a text by the agent
 // of the session.
-use crate::by_hand::forwarded;
 use crate::lines::fault;
 use crate::on_session::OnSession;
 use crate::on_text::OnText;
-use crate::reading::making_of;
 use heap_intern::Session;
-use heap_rule::MAX;
+use heap_rule::{HeapSize, MAX};
 use heap_table::Heap;
 use heap_text::Text;
 use js_store::Limit;
@@ -37,10 +34,7 @@ fn wrong_in(rt: &impl Threads, alloc: Global, play: &str) -> Option<String> {
     if let Some(sizes) = sizes.strip_prefix("session ") {
         return wrong_on_session(rt, alloc, sizes, lines);
     }
-    match sizes.strip_prefix("forwarded ") {
-        Some(sizes) => wrong_by_hand(alloc, sizes, lines),
-        None => wrong_on_text(rt, alloc, sizes, lines),
-    }
+    wrong_on_text(rt, alloc, sizes, lines)
 }
 
 fn wrong_on_text(rt: &impl Threads, alloc: Global, sizes: &str, lines: &str) -> Option<String> {
@@ -72,26 +66,6 @@ fn wrong_in_parts(rt: &impl Threads, player: &mut OnText, lines: &str) -> Option
         return Some(line);
     }
     player.wrong(after)
-}
-
-fn wrong_by_hand(alloc: Global, sizes: &str, lines: &str) -> Option<String> {
-    let Some((size, agents)) = making_of(sizes) else {
-        return fault(alloc, sizes);
-    };
-    if size.slots != 1 {
-        return fault(alloc, sizes);
-    }
-    let Ok((heap, agent)) = Heap::make(alloc, size, agents) else {
-        return fault(alloc, sizes);
-    };
-    let mut text = Text::new(&heap, agent, MAX);
-    let Some((s, part)) = forwarded(&mut text) else {
-        return fault(alloc, sizes);
-    };
-    match OnText::of_two(alloc, text, s, part) {
-        Some(mut player) => player.wrong(lines),
-        None => fault(alloc, sizes),
-    }
 }
 
 fn wrong_on_session(rt: &impl Threads, alloc: Global, sizes: &str, lines: &str) -> Option<String> {
@@ -152,4 +126,17 @@ fn wrong_of_threads(
         return Some(line);
     }
     player.wrong(after)
+}
+
+// Ids, content words, slots and agents, one blank apart.
+fn making_of(numbers: &str) -> Option<(HeapSize, u32)> {
+    let (ids, rest) = numbers.split_once(' ')?;
+    let (words, rest) = rest.split_once(' ')?;
+    let (slots, agents) = rest.split_once(' ')?;
+    let size = HeapSize {
+        ids: ids.parse::<u32>().ok()?,
+        words: words.parse::<u32>().ok()?,
+        slots: slots.parse::<u32>().ok()?,
+    };
+    Some((size, agents.parse::<u32>().ok()?))
 }

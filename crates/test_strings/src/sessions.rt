@@ -91,11 +91,6 @@ intern 0 -> NotStored(Full(Slots { slots: 1 }))
 intern 1 -> Made(2)
 ";
 
-#[test]
-fn sessions(rt: HostRuntime) {
-    plays(&rt, rt.alloc(), SESSIONS);
-}
-
 // Of short strings a session keeps those that it made last; string 0 is not kept. A key takes one id. Aa and BB
 // have the hash 2112: lists of one hash never have one string, and take each other's place, so that each takes
 // an id whenever the other was made between. A session that is split off keeps no string at first, and then
@@ -132,11 +127,6 @@ units Aa -> Made(5)
 units Aa -> Made(5)
 ";
 
-#[test]
-fn short_strings_made_again(rt: HostRuntime) {
-    plays(&rt, rt.alloc(), RECENT);
-}
-
 // A session that is split off finds what was interned before, and interns a string more. Joined again, the
 // first finds that one; ids 0, 2, 3 and 5 are the strings that were made.
 const SPLIT: &str = "== strings of a session that is split off
@@ -156,7 +146,9 @@ totals -> Both(6, 4)
 ";
 
 #[test]
-fn a_session_that_is_split_off(rt: HostRuntime) {
+fn sessions_alone_and_split(rt: HostRuntime) {
+    plays(&rt, rt.alloc(), SESSIONS);
+    plays(&rt, rt.alloc(), RECENT);
     plays(&rt, rt.alloc(), SPLIT);
 }
 

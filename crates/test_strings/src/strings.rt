@@ -83,11 +83,6 @@ before 0 1000000 -> Done
 ends 1000001 -> Ends(1000012, 109, 108)
 ";
 
-#[test]
-fn ropes(rt: HostRuntime) {
-    plays(&rt, rt.alloc(), ROPES);
-}
-
 // Strings at the limit of length are ropes of a few ids. A string itself may be longer than the limit, but
 // no answer is.
 const LENGTHS: &str = "== the greatest length
@@ -160,11 +155,6 @@ units 0*a -> Made(1)
 concat 0 1 -> NotJoined(TooLong { left: 21, right: 0 })
 ";
 
-#[test]
-fn limits_of_length(rt: HostRuntime) {
-    plays(&rt, rt.alloc(), LENGTHS);
-}
-
 // What is left for another call, once a string is made, is too little.
 const REFUSALS: &str = "== 8*a, and what is refused then
 1 100 1 1
@@ -207,11 +197,6 @@ units 6*Ā -> Made(0)
 settle 0 -> Done
 concat 0 0 -> NotJoined(Full(Words(CounterFull { at: 2, want: 3, end: 4 })))
 ";
-
-#[test]
-fn what_is_refused(rt: HostRuntime) {
-    plays(&rt, rt.alloc(), REFUSALS);
-}
 
 // Twelve units or fewer are copied behind the three words of the letters; the whole is the string itself.
 const SLICES: &str = "== from 2 up to 17
@@ -270,7 +255,10 @@ reads 4 fghijklmnopqrfghijklmnopqr -> Yes
 ";
 
 #[test]
-fn slices(rt: HostRuntime) {
+fn ropes_lengths_refusals_and_slices(rt: HostRuntime) {
+    plays(&rt, rt.alloc(), ROPES);
+    plays(&rt, rt.alloc(), LENGTHS);
+    plays(&rt, rt.alloc(), REFUSALS);
     plays(&rt, rt.alloc(), SLICES);
 }
 

@@ -116,11 +116,6 @@ wide 28147922879250529 -> Made(2)
 intern 2 -> Made(1)
 ";
 
-#[test]
-fn strings_are_interned(rt: HostRuntime) {
-    plays(&rt, rt.alloc(), INTERNED);
-}
-
 // 36 forwards to id 1, and 17 is a fixed Flat from word 0 on. 68 forwards to id 2, and 113 is a fixed Flat from
 // word 3 on, since the first three words are those of the whole string. A copy is wide where a unit of the part
 // is over 255, and not where one of the whole is. The wide string has five words, so the copy begins at word
@@ -185,32 +180,42 @@ intern 0 -> Made(1)
 form 0 -> Number(36)
 ";
 
-#[test]
-fn strings_forward(rt: HostRuntime) {
-    plays(&rt, rt.alloc(), FORWARDED);
-}
-
-// The letters, forwarded by hand, and the part of them that was cut before.
-const BY_HAND: &str = "== a forwarded string is read
-forwarded 8 16 1 1
-header 0 -> Header(Thin { target: 0 })
+// A string that forwards, and a part that was cut before, by the calls of a text. Slices of the one and of the
+// other stand on the string that forwards.
+const OF_FORWARDED: &str = "== a forwarded string is read
+8 16 1 1
+units abcdefghijklmnop -> Made(0)
+slice 0 1 16 -> Made(1)
+intern 0 -> Made(2)
+header 0 -> Header(Thin { target: 2 })
 reads 0 abcdefghijklmnop -> Yes
 reads 1 bcdefghijklmnop -> Yes
 == a forwarded string is cut
-forwarded 8 16 1 1
-slice 0 2 15 -> Made(..
-header 2 -> Header(Sliced { wide: false, parent: 1, offset: 2 })
+8 16 1 1
+units abcdefghijklmnop -> Made(0)
+slice 0 1 16 -> Made(1)
+intern 0 -> Made(2)
+slice 0 2 15 -> Made(3)
+header 3 -> Header(Sliced { wide: false, parent: 0, offset: 2 })
 == a part of a forwarded string is cut
-forwarded 8 16 1 1
-slice 1 1 14 -> Made(..
-header 2 -> Header(Sliced { wide: false, parent: 1, offset: 2 })
+8 16 1 1
+units abcdefghijklmnop -> Made(0)
+slice 0 1 16 -> Made(1)
+intern 0 -> Made(2)
+slice 1 1 14 -> Made(3)
+header 3 -> Header(Sliced { wide: false, parent: 0, offset: 2 })
 == a forwarded string is joined
-forwarded 8 16 1 1
-concat 0 1 -> Made(..
-reads 2 abcdefghijklmnopbcdefghijklmnop -> Yes
+8 16 1 1
+units abcdefghijklmnop -> Made(0)
+slice 0 1 16 -> Made(1)
+intern 0 -> Made(2)
+concat 0 1 -> Made(3)
+reads 3 abcdefghijklmnopbcdefghijklmnop -> Yes
 ";
 
 #[test]
-fn forwarded_by_hand(rt: HostRuntime) {
-    plays(&rt, rt.alloc(), BY_HAND);
+fn strings_are_interned_and_forward(rt: HostRuntime) {
+    plays(&rt, rt.alloc(), INTERNED);
+    plays(&rt, rt.alloc(), FORWARDED);
+    plays(&rt, rt.alloc(), OF_FORWARDED);
 }

@@ -7,7 +7,7 @@ ghost use Rattle.heap_read.specs.Readers.{Moves, view_in};
 ghost use Rattle.test_strings.specs.Turns.{Turns};
 
 use heap_read::{Reader, Steps};
-use heap_string_table::{TableFull, count_interned, intern};
+use heap_string_table::{TableFull, intern};
 use heap_text::{JoinFault, JsStr, Text, TextFull};
 use js_header::Form;
 use std::sync::ledger::{Blank, Ledger};
@@ -27,13 +27,6 @@ pub(crate) fn joined(text: &mut Text, a: JsStr, b: JsStr) -> Result<JsStr, JoinF
     ensures known { IfOk result (λ s. HasKey (view_in text.new.reader).units s.id) }
 {
     text.concat(a, b)
-}
-
-pub(crate) fn settled(text: &mut Text, s: JsStr) -> Result<(), TextFull>
-    requires known { HasKey (view_in text.old.reader).units s.id }
-    ensures goes { Moves Turns text.old.reader text.new.reader }
-{
-    text.settle(s)
 }
 
 /// A part of a string, once that is settled; None where it has no such part.
@@ -91,22 +84,6 @@ pub(crate) fn interned(text: &mut Text, s: JsStr) -> Option<Result<u32, TableFul
     Some(intern(&mut text.reader, s.id))
 }
 
-pub(crate) fn units_in(text: &mut Text, s: JsStr) -> u32
-    requires known { HasKey (view_in text.old.reader).units s.id }
-    ensures goes { Moves Turns text.old.reader text.new.reader }
-{
-    text.len(s)
-}
-
-/// The header of a string as it is at this moment.
-pub(crate) fn header(reader: &mut Reader, s: JsStr) -> Form
-    requires known { HasKey (view_in reader.old).units s.id }
-    ensures goes { Moves Turns reader.old reader.new }
-    ensures range { IsInRange result }
-{
-    reader.form_now(s.id)
-}
-
 /// The first content word of a string that is flat; None where it is empty or has another form.
 pub(crate) fn first_word(reader: &mut Reader, s: JsStr) -> Option<u64>
     requires known { HasKey (view_in reader.old).units s.id }
@@ -119,31 +96,6 @@ pub(crate) fn first_word(reader: &mut Reader, s: JsStr) -> Option<u64>
         return None;
     }
     Some(reader.agent.load_word(reader.heap, start))
-}
-
-/// What a slot has, as a number.
-pub(crate) fn slot(reader: &mut Reader, k: u32) -> Option<u64>
-    requires inside { k < (size_of reader.old.heap.now).slots }
-    ensures goes { Moves Turns reader.old reader.new }
-{
-    match reader.agent.load_slot(reader.heap, k, false) {
-        Some(id) => Some(u64::from(id)),
-        None => None,
-    }
-}
-
-pub(crate) fn count(reader: &mut Reader) -> u32
-    requires whole { (view_in reader.old).share ≡ (view_in reader.old).agents }
-    ensures goes { Moves Turns reader.old reader.new }
-{
-    count_interned(reader)
-}
-
-pub(crate) fn totals(reader: &mut Reader) -> (u32, u32)
-    requires whole { (view_in reader.old).share ≡ (view_in reader.old).agents }
-    ensures goes { Moves Turns reader.old reader.new }
-{
-    reader.agent.totals(reader.heap)
 }
 
 /// The length of a string, and its first and its last unit, once it is settled with a count of the

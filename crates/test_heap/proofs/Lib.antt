@@ -1,0 +1,4 @@
+pub mod First
+pub mod Making
+pub mod Sessions
+pub mod Words

@@ -1,4 +1,0 @@
-pub mod Sharing
-pub mod SharingAgents
-pub mod Wide
-pub mod First

@@ -1,4 +1,0 @@
-pub mod Words
-pub mod Making
-pub mod Sharing
-pub mod Laying

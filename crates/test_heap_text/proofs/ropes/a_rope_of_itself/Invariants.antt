@@ -1,4 +1,0 @@
-use Rattle.test_heap_text.proofs.ropes.a_rope_of_itself.Given as goal
-
-abbrev pub ghosts-ends : goal.ghosts-ends
-ghosts-ends g a = record { name = a.blank.name; parts = a.blank.parts }

@@ -1,4 +1,0 @@
-use Rattle.test_strings.proofs.table_counted.row.Given as goal
-
-abbrev pub ghosts-on_slots : goal.ghosts-on_slots
-ghosts-on_slots a = record { name = a.blank.name; parts = a.blank.parts }
