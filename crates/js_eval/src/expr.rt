@@ -251,6 +251,7 @@ fn with_member<S: Strings>(
 
 // The links of a chain, from the value on their left.
 #[cycle(expr)]
+#[inline(always)]
 fn links<S: Strings>(
     alloc: Global,
     store: &mut S,
@@ -275,6 +276,7 @@ fn links<S: Strings>(
 }
 
 #[cycle(expr)]
+#[inline(always)]
 fn one_link<S: Strings>(
     alloc: Global,
     store: &mut S,

@@ -49,6 +49,7 @@ fn truth_of_two<S: Strings>(
 }
 
 /// The value of a chain of one operator on two numbers at hand, where it has one.
+#[inline(always)]
 pub fn of_two<S: Strings>(
     store: &S,
     context: &Context<S::Ref>,
@@ -68,6 +69,7 @@ pub fn of_two<S: Strings>(
     of_link(store, context, link, first)
 }
 
+#[inline(always)]
 fn of_link<S: Strings>(
     store: &S,
     context: &Context<S::Ref>,
@@ -83,8 +85,8 @@ fn of_link<S: Strings>(
     if !is_of_numbers(link.op) {
         return None;
     }
-    let m = number_at_hand(store, context, first)?;
     let n = number_at_hand(store, context, &link.right)?;
+    let m = number_at_hand(store, context, first)?;
     of_both(store, link.op, m, n)
 }
 
@@ -100,6 +102,7 @@ fn is_of_numbers(op: Op) -> bool
 }
 
 // The number that an expression has at hand, if it has one.
+#[inline(always)]
 fn number_at_hand<S: Strings>(store: &S, context: &Context<S::Ref>, e: &Expr) -> Option<Num>
     requires { ContextFine (S.state store.now) S.number context.now }
     ensures lawful { IfSome result IsLawful }
