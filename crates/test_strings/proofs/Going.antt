@@ -1,17 +1,15 @@
 -- What calls leave of a session, one after another, of the strings that a play made there, and of two sessions that were split from one.
-use Rattle.std.proofs.Common.{◌≡◌, ℕ, ◌+◌, ◌≤◌, ◌⊎◌, ⊎_elim, Bool, true, false, List, [], ◌∷◌, ◌++◌, refl, sym, ap, ◌∙◌, subst, append_assoc, arith, Option}
+use Rattle.std.proofs.Common.{◌≡◌, ℕ, ◌+◌, ◌⊎◌, ⊎_elim, Bool, true, false, List, [], ◌∷◌, ◌++◌, refl, sym, ap, ◌∙◌, subst, append_assoc, arith, Option}
 use Rattle.std.proofs.lemmas.List.{append-nil}
 use Rattle.std.specs.Prelude.{Contains, IsSome, length}
 use Rattle.heap_rule.specs.Paths.{Calls, StartsWith}
 use Rattle.heap_rule.specs.declared.view.View.{View}
-use Rattle.heap_table.specs.declared.agent.Agent.{Agent}
 use Rattle.heap_table.specs.declared.heap.Heap.{Heap}
-use Rattle.heap_table.specs.Agents.{size_of, view_of}
 use Rattle.js_store.specs.Faults.{Step}
 use Rattle.js_store.specs.declared.faults.StoreFault.{StoreFault}
 use Rattle.js_store.specs.State.{IsKnown, State}
-use Rattle.heap_intern.specs.Sessions.{SessionFrame, state_by, table_of}
-use Rattle.heap_intern.specs.Shares.{IsJoined, IsOf, IsWhole, MayJoin, left_by, right_by, total_by}
+use Rattle.heap_intern.specs.Sessions.{SessionFrame, state_by}
+use Rattle.heap_intern.specs.Shares.{IsJoined, IsOf, MayJoin, left_by, right_by, total_by}
 use Rattle.test_strings.specs.Sessions.{GoesOn, HasGoneOn, IsPlayed, IsSplit}
 use Rattle.test_strings.specs.Turns as there
 use Rattle.atomic_table.specs.Seated.{TableId}

@@ -5,7 +5,6 @@ use Rattle.std.specs.Prelude.{Contains}
 use Rattle.heap_rule.specs.declared.view.View.{View}
 use Rattle.heap_rule.specs.Maps.{Has, HasKey}
 use Rattle.heap_rule.specs.Paths.{Calls}
-use Rattle.heap_table.specs.declared.heap.Heap.{Heap}
 use Rattle.heap_table.specs.Known.{KeepsKnown}
 use Rattle.heap_rule.specs.Births.{part}
 use Rattle.heap_rule.proofs.MapLemmas.{key_of}
@@ -18,8 +17,8 @@ use Rattle.heap_read.specs.Reads.{Continues, Reads}
 use Rattle.heap_read.proofs.Loaded.{key_kept, known_refl, known_trans}
 use Rattle.heap_string_table.specs.declared.faults.TableFull.{TableFull}
 use Rattle.heap_string_table.specs.Answers.{Interns, Plan}
-use Rattle.heap_string_table.specs.Goes.{Goes, Looks}
-use Rattle.heap_rule.specs.Agents.{MayJoin, joined, left_after_split, right_after_split}
+use Rattle.heap_string_table.specs.Goes.{Goes}
+use Rattle.heap_rule.specs.Agents.{MayJoin, left_after_split, right_after_split}
 use Rattle.test_strings.specs.Turns.{HasGoneOn, IsPlayed, Turns}
 
 no_one : (i : ℕ) → Contains [] i → ⊥

@@ -6,9 +6,8 @@ use Rattle.heap_rule.specs.declared.view.View.{View}
 use Rattle.heap_rule.specs.Births.{MayBear, stored_length, stored_word}
 use Rattle.heap_rule.specs.Claims.{won_claim}
 use Rattle.heap_rule.specs.Maps.{HasKey}
-use Rattle.heap_rule.specs.Views.{IsSettled}
 use Rattle.heap_rule.proofs.Possible.{possible_lawful}
-use Rattle.test_strings.proofs.Wide.{id_own, ready, wide_fits, wide_known, wide_settled, word_own}
+use Rattle.test_strings.proofs.Wide.{id_own, ready, wide_fits, wide_known, word_own}
 use Rattle.test_strings.proofs.by_hand.wide.Goals as goal
 
 pub store_word-requires-clause-own : goal.store_word-requires-clause-own

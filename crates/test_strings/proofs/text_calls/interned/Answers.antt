@@ -1,4 +1,4 @@
-use Rattle.std.proofs.Common.{◌∙◌, ℕ}
+use Rattle.std.proofs.Common.{◌∙◌}
 use Rattle.heap_rule.specs.declared.view.View.{View}
 use Rattle.heap_rule.proofs.MapLemmas.{has_key}
 use Rattle.test_strings.proofs.Turning.{turns_continues, turns_interns, turns_trans}

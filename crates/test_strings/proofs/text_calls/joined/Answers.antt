@@ -1,5 +1,4 @@
 use Rattle.std.proofs.Common.{◌++◌, ℕ, List}
-use Rattle.heap_read.specs.declared.string.JsStr.{JsStr}
 use Rattle.heap_rule.specs.declared.view.View.{View}
 use Rattle.heap_rule.specs.Maps.{Has, HasKey}
 use Rattle.heap_rule.proofs.MapLemmas.{has_key, key_of}

@@ -1,4 +1,4 @@
-use Rattle.std.proofs.Common.{ℕ, subst, Result}
+use Rattle.std.proofs.Common.{subst, Result}
 use Rattle.std.specs.Prelude.{IfOk}
 use Rattle.heap_rule.specs.Maps.{HasKey}
 use Rattle.heap_read.specs.declared.string.JsStr.{JsStr}
