@@ -105,7 +105,7 @@ played_put a b h n w ids more s g p some known = played_more b h n w ids more s 
 
 -- the agent of a session, on a text
 pub played_there : (v u : View) (l : ℕ) (t : TableId) (h : Heap) (n : ℕ) (w : Bool) (ids : List ℕ) → u ≡ v → IsPlayed (state_by v l t) h n w ids → there.IsPlayed u n ids
-played_there v u l t h n w ids e p = subst (λ (x : View). there.IsPlayed x n ids) (sym e) record { known = p.known; agents_are = λ some. p.agents_are }
+played_there v u l t h n w ids e p = subst (λ (x : View). there.IsPlayed x n ids) (sym e) record { known = p.known; agents_are = p.agents_are }
 
 -- the strings are known to both of two sessions
 pub played_left : (v l : State SessionFrame) (h : Heap) (n : ℕ) (w : Bool) (ids : List ℕ) → l ≡ left_by v 1 → IsPlayed v h n w ids → IsPlayed l h n false ids

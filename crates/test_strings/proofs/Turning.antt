@@ -65,7 +65,7 @@ moves_reads a b e c = record { heap = e; view = turns_reads (view_in a) (view_in
 
 -- strings that were made stay known
 pub played_on : (v w : View) (n : ℕ) (ids : List ℕ) → Turns v w → IsPlayed v n ids → IsPlayed w n ids
-played_on v w n ids t p = record { known = λ i h. key_kept v w i t.known (p.known i h); agents_are = λ some. t.agents ∙ p.agents_are some }
+played_on v w n ids t p = record { known = λ i h. key_kept v w i t.known (p.known i h); agents_are = t.agents ∙ p.agents_are }
 
 -- one string more
 pub played_more : (v : View) (n : ℕ) (ids more : List ℕ) (s : ℕ) → ((i : ℕ) → Contains more i → Contains ids i ⊎ (i ≡ s)) → HasKey v.units s → IsPlayed v n ids → IsPlayed v n more
@@ -101,7 +101,7 @@ pub played_joined : (a b c : View) (n : ℕ) (ids lent others more : List ℕ) (
     → lent ≡ others → ((i : ℕ) → Contains more i → Contains ids i ⊎ Contains lent i) → IsPlayed c n more
 played_joined a b c n ids lent others more k ka kb same p q e some = record {
   known = λ i h. ⊎_elim (λ (d : Contains ids i). key_kept a c i ka (p.known i d)) (λ (d : Contains lent i). key_kept b c i kb (q.known i (subst (λ (l : List ℕ). Contains l i) e d))) (some i h);
-  agents_are = λ e. same ∙ p.agents_are e;
+  agents_are = same ∙ p.agents_are;
 }
 
 -- a split leaves the strings known to both

@@ -1,5 +1,5 @@
 -- What is left of an agent that made strings, interned and read them.
-use Rattle.std.specs.Prelude.{◌≡◌, ℕ, ◌<◌, ◌++◌, List, Contains}
+use Rattle.std.specs.Prelude.{◌≡◌, ℕ, ◌++◌, List, Contains}
 use Rattle.heap_rule.specs.declared.view.View.{View}
 use Rattle.heap_rule.specs.Maps.{HasKey}
 use Rattle.heap_rule.specs.Paths.{Calls}
@@ -17,10 +17,10 @@ pub record Turns (v w : View) : Type 0 where
   pub calls : Calls
   pub mine : w.mine ≡ v.mine ++ calls
 
--- Strings of these numbers are known, on a heap of so many agents, where that number is told.
+-- Strings of these numbers are known, on a heap of so many agents.
 pub record IsPlayed (v : View) (agents : ℕ) (ids : List ℕ) : Type 0 where
   pub known : (i : ℕ) → Contains ids i → HasKey v.units i
-  pub agents_are : 0 < agents → v.agents ≡ agents
+  pub agents_are : v.agents ≡ agents
 
 -- the same of a reader as one fact, which a search takes as it is
 unfoldable pub HasGoneOn : Reader → Reader → Type 0

@@ -19,7 +19,7 @@ use std::marker::Brand;
 use std::sync::ledger::Blank;
 use std::thread::{Threads, join_mut};
 
-/// A text on a heap of so many agents, 0 where that is not told, and the numbers of the strings that were made there.
+/// A text on a heap of so many agents, and the numbers of the strings that were made there.
 #[derive(Drop)]
 pub(crate) struct OnText<'h> {
     pub(crate) alloc: Global,
@@ -221,7 +221,7 @@ impl<'h> OnText<'h> {
         ensures goes { Moves Turns self.old.text.reader self.new.text.reader }
     {
         let text = &mut self.text;
-        if self.agents == 0 || text.reader.agent.share() != self.agents {
+        if text.reader.agent.share() != self.agents {
             return None;
         }
         Some(Told::Number(u64::from(count_interned(&mut text.reader))))
@@ -232,7 +232,7 @@ impl<'h> OnText<'h> {
         ensures goes { Moves Turns self.old.text.reader self.new.text.reader }
     {
         let text = &mut self.text;
-        if self.agents == 0 || text.reader.agent.share() != self.agents {
+        if text.reader.agent.share() != self.agents {
             return None;
         }
         let reader = &mut text.reader;

@@ -3,7 +3,14 @@
 // Behind `both` and `and` stand the steps of two agents in two threads, up to `end`; afterwards they are one
 // agent again, for which those of the first come first. Of sessions those behind `split` are of two in turn, of
 // which that split off has `other` before them, up to `join`; behind `text` stand those of a text by the agent
-// of the session.
+// of the session. A line is a step, an arrow, and what it tells (`fits` of `lines`). A string is named by its
+// place among those that were made, and what is told is its number on the heap. The steps are:
+//
+//     units TEXT · concat A B · slice A FROM TO · intern A      make a string
+//     settle A · reads A TEXT · same A B · count · totals       of texts and of sessions, but `settle`
+//     wide WORD                                                 makes four units by the steps of an agent
+//     doubled N · before A N · behind A N · rope UNIT EMPTY N   make ropes by many joins
+//     len A · ends A · header A · form A · forwards A B · word A · slot K · limit N      load, or set the limit
 use crate::lines::fault;
 use crate::on_session::OnSession;
 use crate::on_text::OnText;
