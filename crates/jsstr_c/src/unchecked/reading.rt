@@ -46,7 +46,8 @@ pub extern "C" fn jsstr_settle_unchecked(alloc: Global, agent: &mut JsAgent, s: 
     ensures refused { result.status ≢ reports.DONE
         → (us : List ℕ) → Has (view_in agent.old.at.value).units s us
         → (f : text_full.TextFull) × (wide : Bool) × (result ≡ text_report f)
-        × IsNoRoom (view_in agent.old.at.value) (view_in agent.new.at.value) (size_in agent.old.at.value) us f wide }
+        × IsNoRoom (view_in agent.old.at.value) (view_in agent.new.at.value) (size_in agent.old.at.value)
+        us f wide }
 {
     let mut held = agent.take(alloc);
     let answer = held.settle(JsStr { id: s });
