@@ -1,7 +1,6 @@
 // The units of a text that comes as UTF-8.
 ghost use Rattle.std.specs.Prelude.{◌≡◌, ◌≤◌, length, IfOk};
-ghost use Rattle.std.specs.Str.{chars};
-ghost use Rattle.jsstr_c.specs.Decoded.{decoded, utf16};
+ghost use Rattle.jsstr_c.specs.Decoded.{decoded};
 
 use js_units::{NoMemory, Units, split_char};
 use std::alloc::Global;

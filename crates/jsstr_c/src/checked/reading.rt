@@ -1,5 +1,5 @@
 // Reading strings: their lengths and units.
-ghost use Rattle.std.specs.Prelude.{◌≡◌, ◌≢◌, ◌↔◌, ℕ, ◌+◌, ◌≤◌, ◌⊎◌, List, Bool, IsTrue, length, slice_range};
+ghost use Rattle.std.specs.Prelude.{◌≡◌, ◌≢◌, ◌↔◌, ℕ, ◌+◌, ◌≤◌, List, Bool, IsTrue, length, slice_range};
 ghost use Rattle.heap_rule.specs.Maps.{Has, HasKey};
 ghost use Rattle.heap_rule.specs.Views.{IsSettled};
 ghost use Rattle.heap_text.specs.declared.faults.TextFull as text_full;

@@ -1,10 +1,10 @@
 // Comparing strings, and finding one in another. Both are settled first.
-ghost use Rattle.std.specs.Prelude.{◌≡◌, ◌≢◌, ◌↔◌, ℕ, ◌≤◌, ◌⊎◌, List, Option, length, IsTrue};
+ghost use Rattle.std.specs.Prelude.{◌≡◌, ◌≢◌, ◌↔◌, ℕ, ◌⊎◌, List, Option, IsTrue};
 ghost use Rattle.std.specs.declared.cmp.Ordering as ordering;
 ghost use Rattle.heap_rule.specs.Maps.{Has};
 ghost use Rattle.js_search.specs.Order.{units_cmp};
 ghost use Rattle.js_search.specs.Places.{IsFirst, IsLast, Stands, first, last, stands};
-ghost use Rattle.heap_agents.specs.Ready.{Goes, Knows, view_in};
+ghost use Rattle.heap_agents.specs.Ready.{Knows, view_in};
 ghost use Rattle.heap_agents.specs.Searched.{IsOrder};
 ghost use Rattle.jsstr_c.specs.Checked.{Follows, IsRefused, Reaches, Sought};
 ghost use Rattle.jsstr_c.specs.Handles.{IsHandle};

@@ -1,9 +1,9 @@
 // The string table.
-ghost use Rattle.std.specs.Prelude.{◌≡◌, ◌≢◌, ◌↔◌, ◌⊎◌, ℕ, List, Result, IsTrue};
+ghost use Rattle.std.specs.Prelude.{◌≡◌, ◌≢◌, ◌↔◌, ◌⊎◌, ℕ, List, IsTrue};
 ghost use Rattle.heap_rule.specs.Maps.{Has};
 ghost use Rattle.heap_table.specs.Known.{KeepsKnown};
 ghost use Rattle.heap_agents.specs.Interned.{IsEntered, KeepsCalls};
-ghost use Rattle.heap_agents.specs.Ready.{HasInterned, IsBeside, IsReady, Knows, MarksStay, view_in};
+ghost use Rattle.heap_agents.specs.Ready.{HasInterned, IsBeside, Knows, MarksStay, view_in};
 ghost use Rattle.jsstr_c.specs.Checked.{IsEnteredIn, IsUnsettled};
 ghost use Rattle.jsstr_c.specs.Handles.{IsHandle};
 ghost use Rattle.jsstr_c.specs.Reports as reports;

@@ -1,5 +1,5 @@
 // How heaps and agents are made and given back.
-ghost use Rattle.std.specs.Prelude.{ℕ, ◌≡◌, ◌≢◌, ◌+◌, ◌≤◌, ◌<◌, None, IfOk, IfErr, OnOk, Err};
+ghost use Rattle.std.specs.Prelude.{ℕ, ◌≡◌, ◌≢◌, ◌+◌, ◌≤◌, ◌<◌, None, Err};
 ghost use Rattle.heap_rule.specs.Agents.{MayJoin, first_view, joined, left_after_split, right_after_split};
 ghost use Rattle.heap_rule.specs.Layout.{MAX};
 ghost use Rattle.heap_table.specs.MayMake.{MayMake};
@@ -77,7 +77,8 @@ pub extern "C" fn jsstr_split_unchecked(
     ensures right { result ≡ reports.DONE
         → view_in out.new.at.value ≡ right_after_split (view_in agent.old.at.value) give }
     ensures shares { result ≡ reports.DONE
-        → (share_in agent.new.at.value + give ≡ share_in agent.old.at.value) × (share_in out.new.at.value ≡ give) }
+        → (share_in agent.new.at.value + give ≡ share_in agent.old.at.value)
+        × (share_in out.new.at.value ≡ give) }
     ensures marks { MarksStay agent.old.at.value agent.new.at.value }
     ensures known { result ≡ reports.DONE
         → (i : ℕ) → Knows agent.old.at.value i → Knows out.new.at.value i }
@@ -111,7 +112,8 @@ pub extern "C" fn jsstr_join_unchecked(alloc: Global, agent: &mut JsAgent, other
     ensures handle { IsHandle agent.new }
     ensures ready { IsReady agent.new.at.value }
     ensures same { IsBeside agent.old.at.value agent.new.at.value }
-    ensures view { view_in agent.new.at.value ≡ joined (view_in agent.old.at.value) (view_in other.old.at.value) }
+    ensures view { view_in agent.new.at.value
+        ≡ joined (view_in agent.old.at.value) (view_in other.old.at.value) }
     ensures share { share_in agent.new.at.value ≡ share_in agent.old.at.value + share_in other.old.at.value }
     ensures marks { MarksStay agent.old.at.value agent.new.at.value }
     ensures known { (i : ℕ) → Knows other.old.at.value i → Knows agent.new.at.value i }

@@ -1,9 +1,7 @@
 // Reading strings: their lengths and units.
-ghost use Rattle.std.specs.Prelude.{◌≡◌, ◌≢◌, ℕ, ◌+◌, ◌≤◌, ◌<◌, List, length, slice_range, IfOk, IfErr, Bool};
-ghost use Rattle.heap_read.specs.Reads.{Reads};
+ghost use Rattle.std.specs.Prelude.{◌≡◌, ◌≢◌, ℕ, ◌+◌, ◌≤◌, List, length, slice_range, Bool};
 ghost use Rattle.heap_rule.specs.Maps.{Has, HasKey};
 ghost use Rattle.heap_rule.specs.Views.{IsSettled};
-ghost use Rattle.heap_table.specs.Agents.{Belongs, size_of, view_of};
 ghost use Rattle.heap_text.specs.declared.faults.TextFull as text_full;
 ghost use Rattle.heap_text.specs.Settling.{IsNoRoom};
 ghost use Rattle.heap_agents.specs.Ready.{Goes, IsReady, Knows, size_in, view_in};
@@ -46,7 +44,8 @@ pub extern "C" fn jsstr_settle_unchecked(alloc: Global, agent: &mut JsAgent, s: 
     ensures refused { result.status ≢ reports.DONE
         → (us : List ℕ) → Has (view_in agent.old.at.value).units s us
         → (f : text_full.TextFull) × (wide : Bool) × (result ≡ text_report f)
-        × IsNoRoom (view_in agent.old.at.value) (view_in agent.new.at.value) (size_in agent.old.at.value) us f wide }
+        × IsNoRoom (view_in agent.old.at.value) (view_in agent.new.at.value) (size_in agent.old.at.value)
+        us f wide }
 {
     let mut held = agent.take(alloc);
     let answer = held.settle(JsStr { id: s });
