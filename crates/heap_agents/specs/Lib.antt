@@ -1,5 +1,6 @@
 pub mod Members
 pub mod Interned
 pub mod Searched
+pub mod Words
 pub mod Held
 pub mod Ready

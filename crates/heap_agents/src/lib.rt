@@ -13,6 +13,8 @@ mod member;
 mod reading;
 mod search;
 mod table;
+mod words;
 
 pub use heap_table::MakeFault;
 pub use held::Held;
+pub use words::Shown;

@@ -1,5 +1,5 @@
 -- Content words that hold units.
-use Rattle.std.specs.Prelude.{◌≡◌, ℕ, ◌+◌, ◌-◌, ◌%◌, ◌<◌, ◌≤◌, ◌^◌, Bool, List, length, slice_index}
+use Rattle.std.specs.Prelude.{◌≡◌, ℕ, ◌+◌, ◌-◌, ◌/◌, ◌%◌, ◌<◌, ◌≤◌, ◌^◌, Bool, List, length, slice_index}
 use Rattle.js_units.specs.Lanes.{IsWordOf, lane_count, lane_of, words_over}
 use Rattle.heap_rule.specs.declared.view.View.{View}
 use Rattle.heap_rule.specs.Maps.{Has}
@@ -36,3 +36,9 @@ pub record HasAt (h : Held) (i count : ℕ) : Type 0 where
 pub record ShowsOn (w : Window) (us : List ℕ) (i word : ℕ) : Type 0 where
   pub each : (k : ℕ) → (w.offset + i) % lane_count w.wide + k < lane_count w.wide → i + k < w.len
       → lane_of w.wide word ((w.offset + i) % lane_count w.wide + k) ≡ slice_index us (i + k)
+
+-- The first `count` of these words are those of a list from word number `at` on, where unit i stands `lane + i` lanes behind the lowest lane of word
+-- number 0.
+pub record ShowsFrom (wide : Bool) (lane : ℕ) (us : List ℕ) (at count : ℕ) (words : List ℕ) : Type 0 where
+  pub each : (i : ℕ) → i < length us → at ≤ (lane + i) / lane_count wide → (lane + i) / lane_count wide < at + count
+      → lane_of wide (slice_index words ((lane + i) / lane_count wide - at)) ((lane + i) % lane_count wide) ≡ slice_index us i

@@ -1,11 +1,11 @@
 // Reading and searching the units of a window, a word at a time.
-ghost use Rattle.std.specs.Prelude.{◌≡◌, ℕ, List, ◌+◌, ◌≤◌, ◌<◌, false, true, length, slice_index, slice_range};
-ghost use Rattle.js_units.specs.Lanes.{lane_count, lane_of};
+ghost use Rattle.std.specs.Prelude.{◌≡◌, ℕ, List, ◌+◌, ◌-◌, ◌*◌, ◌%◌, ◌^◌, ◌≤◌, ◌<◌, false, true, length, slice_index, slice_range};
+ghost use Rattle.js_units.specs.Lanes.{lane_count, lane_of, words_over};
 ghost use Rattle.heap_read.specs.Readers.{Moves, view_in};
 ghost use Rattle.heap_read.specs.Reads.{KeepsForms, Reads};
 ghost use Rattle.heap_read.specs.Spans.{IsFirstUnit};
 ghost use Rattle.heap_read.specs.Windows.{IsFrozenWindow, IsWindow};
-ghost use Rattle.heap_read.specs.Written.{ShowsOn};
+ghost use Rattle.heap_read.specs.Written.{ShowsFrom, ShowsOn};
 
 use crate::reader::Reader;
 use crate::string::Window;
@@ -70,6 +70,26 @@ impl<'h> Reader<'h> {
         None
     }
 
+    /// Copies `count` content words of a window, from number `at` on, to the front of `into`, each by
+    /// one load.
+    pub fn words_into(&mut self, w: Window, at: u32, count: u32, into: &mut [u64])
+        requires window { (us : List ℕ) × IsWindow (view_in self.old) w us }
+        requires within { 0 < count
+            → (0 < w.len) × (at + count ≤ words_over w.wide (w.offset % lane_count w.wide + w.len)) }
+        requires room { count ≤ length into.old }
+        ensures reads { Moves Reads self.old self.new }
+        ensures forms { KeepsForms (view_in self.old) (view_in self.new) }
+        ensures rest { (k : ℕ) → count ≤ k → slice_index into.new k ≡ slice_index into.old k }
+        ensures words { (us : List ℕ) → IsWindow (view_in self.old) w us
+            → ShowsFrom w.wide (w.offset % lane_count w.wide) us at count into.new }
+    {
+        for k in 0..count {
+            let i = first_unit(w, at + k);
+            let word = self.word_with(w, i);
+            into[k as usize] = word;
+        }
+    }
+
     // The word with unit `i` of a window, by one load.
     #[inline(always)]
     fn word_with(&mut self, w: Window, i: u32) -> u64
@@ -82,6 +102,17 @@ impl<'h> Reader<'h> {
         let (at, _) = word_and_lane(w.wide, w.offset + i);
         self.agent.load_word(self.heap, w.start + at)
     }
+}
+
+// The first unit of a window that stands in its word number `j`.
+#[inline(always)]
+fn first_unit(w: Window, j: u32) -> u32
+    requires within { j * lane_count w.wide < w.offset % lane_count w.wide + w.len }
+    requires small { w.offset + w.len ≤ 2 ^ 32 }
+    ensures { result ≡ j * lane_count w.wide - w.offset % lane_count w.wide }
+{
+    let (_, lane) = word_and_lane(w.wide, w.offset);
+    (j * lanes(w.wide)).saturating_sub(lane)
 }
 
 // Puts the first `count` of some units into a slice, from place `at` on.

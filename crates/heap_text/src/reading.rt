@@ -1,5 +1,6 @@
 // Reading a string: its length, its window, its units.
-ghost use Rattle.std.specs.Prelude.{◌≡◌, ℕ, List, ◌+◌, ◌≤◌, ◌<◌, length, slice_index, slice_range};
+ghost use Rattle.std.specs.Prelude.{◌≡◌, ℕ, List, ◌+◌, ◌%◌, ◌≤◌, ◌<◌, length, slice_index, slice_range};
+ghost use Rattle.js_units.specs.Lanes.{lane_count, words_over};
 ghost use Rattle.heap_rule.specs.Contents.{lane_in};
 ghost use Rattle.heap_rule.specs.Maps.{Has, HasKey};
 ghost use Rattle.heap_rule.specs.Views.{IsSettled, shown};
@@ -7,6 +8,7 @@ ghost use Rattle.heap_table.specs.Agents.{view_of};
 ghost use Rattle.heap_read.specs.Reads.{KeepsForms, Reads};
 ghost use Rattle.heap_read.specs.Spans.{IsFirstUnit};
 ghost use Rattle.heap_read.specs.Windows.{IsFrozenWindow, IsWindow};
+ghost use Rattle.heap_read.specs.Written.{ShowsFrom};
 ghost use Rattle.heap_text.specs.Keeping.{Keeps};
 
 use crate::text::Text;
@@ -77,6 +79,22 @@ impl<'h> Text<'h> {
             → into.new ≡ slice_range us from (from + length into.old) }
     {
         self.reader.units_into(w, from, into)
+    }
+
+    /// Copies `count` content words of a window, from number `at` on, to the front of `into`.
+    pub fn words_in(&mut self, w: Window, at: u32, count: u32, into: &mut [u64])
+        requires window { (us : List ℕ) × IsWindow (view_of self.old.reader.agent) w us }
+        requires within { 0 < count
+            → (0 < w.len) × (at + count ≤ words_over w.wide (w.offset % lane_count w.wide + w.len)) }
+        requires room { count ≤ length into.old }
+        ensures kept { Keeps self.old self.new }
+        ensures reads { Reads (view_of self.old.reader.agent) (view_of self.new.reader.agent) }
+        ensures forms { KeepsForms (view_of self.old.reader.agent) (view_of self.new.reader.agent) }
+        ensures rest { (k : ℕ) → count ≤ k → slice_index into.new k ≡ slice_index into.old k }
+        ensures words { (us : List ℕ) → IsWindow (view_of self.old.reader.agent) w us
+            → ShowsFrom w.wide (w.offset % lane_count w.wide) us at count into.new }
+    {
+        self.reader.words_into(w, at, count, into)
     }
 
     /// The least place from `from` on whose unit is `unit`.
