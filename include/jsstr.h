@@ -67,6 +67,7 @@ typedef struct jsstr_number { uint32_t status, value; } jsstr_number;
 typedef struct jsstr_order { uint32_t status; int32_t order; } jsstr_order;
 typedef struct jsstr_truth { uint32_t status; bool holds; } jsstr_truth;
 typedef struct jsstr_place { uint32_t status, at; } jsstr_place;
+typedef struct jsstr_words { uint32_t status; bool wide; uint32_t lane, length, count; } jsstr_words;
 typedef struct jsstr_used { uint32_t status, ids, words; } jsstr_used;
 typedef struct jsstr_use { uint32_t ids, words; } jsstr_use;
 
@@ -127,6 +128,13 @@ jsstr_answer jsstr_settle(jsstr_agent *agent, jsstr_id s);
    DONE. Settles s. Condition: s is known, and from + len is at most its length. */
 uint32_t jsstr_read(jsstr_agent *agent, jsstr_id s, uint32_t from, uint16_t *out, size_t len);
 
+/* The words that the units of s lie in, from word number `at` on, into `out`: as many as there are, at most
+   `room`, and `count` says how many. A word has n lanes, 4 where `wide`, else 8, the first in its lowest
+   bits; of the `length` units number i stands in word (lane + i) / n, lane (lane + i) % n; other lanes may
+   hold anything. `wide` and `lane` are those of this call: after any call they may be others.
+   Nothing is written but where it answers DONE. Settles s. Condition: s is known. */
+jsstr_words jsstr_window(jsstr_agent *agent, jsstr_id s, uint32_t at, uint64_t *out, size_t room);
+
 /* The order of two strings by their units, where a proper prefix comes first: -1 where a comes before b,
    0 where both have the same units, 1 where a comes after b. Settles both. Condition: a and b are known. */
 jsstr_order jsstr_compare(jsstr_agent *agent, jsstr_id a, jsstr_id b);
@@ -176,6 +184,7 @@ jsstr_answer jsstr_slice_unchecked(jsstr_agent *agent, jsstr_id s, uint32_t from
 uint32_t jsstr_length_unchecked(jsstr_agent *agent, jsstr_id s);
 jsstr_answer jsstr_settle_unchecked(jsstr_agent *agent, jsstr_id s);
 void jsstr_read_unchecked(jsstr_agent *agent, jsstr_id s, uint32_t from, uint16_t *out, size_t len);
+jsstr_words jsstr_window_unchecked(jsstr_agent *agent, jsstr_id s, uint32_t at, uint64_t *out, size_t room);
 int32_t jsstr_compare_unchecked(jsstr_agent *agent, jsstr_id a, jsstr_id b);
 bool jsstr_equal_unchecked(jsstr_agent *agent, jsstr_id a, jsstr_id b);
 bool jsstr_starts_with_unchecked(jsstr_agent *agent, jsstr_id hay, jsstr_id needle, uint32_t at);

@@ -119,6 +119,60 @@ static void intern_by_two(void) {
   jsstr_free(&a.agent);
 }
 
+/* The words of a string, all at once and one by one, show its units; what is behind them stays. */
+static void show_words(jsstr_agent *a, jsstr_id s, const uint16_t *want, uint32_t n) {
+  uint64_t all[32];
+  memset(all, 0x5A, sizeof all);
+  jsstr_words w = jsstr_window(a, s, 0, all, 32), again = jsstr_window_unchecked(a, s, 0, all, 32);
+  uint32_t lanes = w.wide ? 4 : 8, bits = 64 / lanes, end = n ? (w.lane + n + lanes - 1) / lanes : 0;
+  CHECK(w.status == JSSTR_DONE && w.length == n && w.lane < lanes && w.count == end && end < 32);
+  CHECK(again.wide == w.wide && again.lane == w.lane && again.length == n && again.count == end && !again.status);
+  for (uint32_t i = 0; i < n; i++)
+    CHECK((all[(w.lane + i) / lanes] >> (w.lane + i) % lanes * bits & (w.wide ? 0xFFFF : 0xFF)) == want[i]);
+  for (uint32_t k = end; k < 32; k++) CHECK(all[k] == 0x5A5A5A5A5A5A5A5A);
+  for (uint32_t k = 0; k < end + 2; k++) {
+    uint64_t one[2] = {7, 7};
+    CHECK(jsstr_window(a, s, k, one, 1).count == (k < end) && one[0] == (k < end ? all[k] : 7) && one[1] == 7);
+    CHECK(jsstr_window(a, s, k, one, 0).count == 0);
+  }
+  CHECK(jsstr_window(a, s, UINT32_MAX, all, 32).count == 0);
+}
+
+/* Narrow and wide units, a part from each lane on, no units, a rope, an interned part, and a rope for which
+   there is no room. */
+static void windows(void) {
+  jsstr_agent a = {0};
+  uint16_t units[100];
+  uint64_t word = 7;
+  CHECK(jsstr_make((jsstr_size){100, 200, 10}, 1, 1000, &a) == JSSTR_DONE);
+  for (uint32_t wide = 0; wide < 2; wide++) {
+    for (int i = 0; i < 100; i++) units[i] = (uint16_t)(i * (wide ? 643 : 2) + 1);
+    jsstr_id half = jsstr_from_units(&a, units, 50).id, rest = jsstr_from_units(&a, units + 50, 50).id;
+    show_words(&a, half, units, 50);
+    jsstr_id rope = jsstr_concat(&a, half, rest).id;
+    jsstr_words first = jsstr_window(&a, rope, 0, &word, 1);
+    CHECK(first.status == JSSTR_DONE && first.wide == wide && first.lane == 0 && first.length == 100 && first.count == 1);
+    show_words(&a, rope, units, 100);
+    for (uint32_t from = 1; from <= 9; from++)
+      for (uint32_t n = 13; n < 22; n += 4) {
+        jsstr_id part = jsstr_slice(&a, rope, from, from + n).id;
+        CHECK(jsstr_window(&a, part, 0, &word, 0).lane == from % (wide ? 4 : 8));
+        show_words(&a, part, units + from, n);
+      }
+    jsstr_id part = jsstr_slice(&a, rope, 3, 20).id;
+    CHECK(jsstr_intern(&a, part).status == JSSTR_DONE);
+    show_words(&a, part, units + 3, 17);
+    show_words(&a, jsstr_slice(&a, rope, 5, 5).id, units, 0);
+  }
+  word = 7;
+  CHECK(jsstr_window(&a, 99, 0, &word, 1).status == JSSTR_BAD_ARGUMENT && word == 7 && jsstr_free(&a) == JSSTR_DONE);
+  CHECK(jsstr_make((jsstr_size){10, 2, 1}, 1, 100, &a) == JSSTR_DONE);
+  jsstr_id s = made(&a, "12345678"), two = jsstr_concat(&a, s, s).id, none = jsstr_concat(&a, two, s).id;
+  jsstr_words w = jsstr_window(&a, none, 0, &word, 1);
+  CHECK(w.status == JSSTR_NO_WORDS && !w.wide && !w.lane && !w.length && !w.count && word == 7);
+  CHECK(jsstr_free(&a) == JSSTR_DONE);
+}
+
 /* Each byte becomes the unit with its number, and is no part of a UTF-8 sequence. */
 static void every_byte(void) {
   jsstr_agent agent = {0};
@@ -153,6 +207,7 @@ static void refuse_empty(void) {
   jsstr_agent none = {0}, out = {0};
   uint16_t x = 'x';
   uint8_t y = 'y';
+  uint64_t w = 7;
   CHECK(jsstr_free(&none) == JSSTR_BAD_ARGUMENT);
   CHECK(jsstr_split(&none, 1, &out) == JSSTR_BAD_ARGUMENT && !out.at);
   CHECK(jsstr_join(&none, &out) == JSSTR_BAD_ARGUMENT);
@@ -165,6 +220,7 @@ static void refuse_empty(void) {
   CHECK(jsstr_length(&none, 0).status == JSSTR_BAD_ARGUMENT);
   CHECK(jsstr_settle(&none, 0).status == JSSTR_BAD_ARGUMENT);
   CHECK(jsstr_read(&none, 0, 0, &x, 1) == JSSTR_BAD_ARGUMENT && x == 'x');
+  CHECK(jsstr_window(&none, 0, 0, &w, 1).status == JSSTR_BAD_ARGUMENT && w == 7);
   CHECK(jsstr_compare(&none, 0, 0).status == JSSTR_BAD_ARGUMENT);
   CHECK(jsstr_equal(&none, 0, 0).status == JSSTR_BAD_ARGUMENT);
   CHECK(jsstr_starts_with(&none, 0, 0, 0).status == JSSTR_BAD_ARGUMENT);
@@ -180,6 +236,7 @@ static void refuse_empty(void) {
 static void refuse_strings(void) {
   jsstr_agent a = {0}, b = {0};
   uint16_t x = 'x';
+  uint64_t w = 7;
   CHECK(jsstr_make((jsstr_size){100, 100, 10}, 2, 1000, &a) == JSSTR_DONE);
   jsstr_id s = made(&a, "known to both"), none[4];
   CHECK(jsstr_split(&a, 1, &b) == JSSTR_DONE);
@@ -192,6 +249,7 @@ static void refuse_strings(void) {
     CHECK(jsstr_length(&a, u).status == JSSTR_BAD_ARGUMENT);
     CHECK(jsstr_settle(&a, u).status == JSSTR_BAD_ARGUMENT);
     CHECK(jsstr_read(&a, u, 0, &x, 1) == JSSTR_BAD_ARGUMENT && x == 'x');
+    CHECK(jsstr_window(&a, u, 0, &w, 1).status == JSSTR_BAD_ARGUMENT && w == 7);
     CHECK(jsstr_compare(&a, u, s).status == JSSTR_BAD_ARGUMENT);
     CHECK(jsstr_compare(&a, s, u).status == JSSTR_BAD_ARGUMENT);
     CHECK(jsstr_equal(&a, u, s).status == JSSTR_BAD_ARGUMENT);
@@ -322,6 +380,7 @@ int main(void) {
   refuse_sizes();
   refuse_calls();
   intern_by_two();
+  windows();
   every_byte();
   free_in_any_order();
   puts("ok");

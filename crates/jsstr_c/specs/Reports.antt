@@ -1,5 +1,5 @@
 -- The numbers of refusals, and what an answer tells of each.
-use Rattle.std.specs.Prelude.{ℕ, ℤ, pos, negsuc, Option, Some, None, Result, Ok, Err}
+use Rattle.std.specs.Prelude.{ℕ, ℤ, pos, negsuc, Option, Some, None, Result, Ok, Err, false}
 use Rattle.std.specs.declared.cmp.Ordering.{Ordering}
 use Rattle.std.specs.declared.cmp.Ordering.TheVariants.{Less, Equal, Greater}
 use Rattle.heap_read.specs.declared.string.JsStr.{JsStr}
@@ -13,6 +13,8 @@ use Rattle.heap_rule.specs.declared.size.HeapSize.{HeapSize}
 use Rattle.jsstr_c.specs.declared.answer.JsAnswer.{JsAnswer}
 use Rattle.jsstr_c.specs.declared.answer.JsPlace.{JsPlace}
 use Rattle.jsstr_c.specs.declared.answer.JsSize.{JsSize}
+use Rattle.jsstr_c.specs.declared.answer.JsWords.{JsWords}
+use Rattle.heap_agents.specs.declared.words.Shown.{Shown}
 
 abbrev pub DONE : ℕ
 DONE = 0
@@ -95,3 +97,13 @@ order_number Greater = pos 1
 abbrev pub place_answer : Option ℕ → JsPlace
 place_answer (Some k) = record { status = DONE; at = k }
 place_answer None = record { status = NONE; at = 0 }
+
+-- what is shown, and what an answer tells of it
+abbrev pub words_answer : Shown → JsWords
+words_answer r = record { status = DONE; wide = r.wide; lane = r.lane; len = r.len; count = r.count }
+
+abbrev pub shown_by : JsWords → Shown
+shown_by r = record { wide = r.wide; lane = r.lane; len = r.len; count = r.count }
+
+abbrev pub no_words : ℕ → JsWords
+no_words status = record { status = status; wide = false; lane = 0; len = 0; count = 0 }

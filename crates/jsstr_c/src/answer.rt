@@ -1,8 +1,9 @@
 // What a call answers.
 ghost use Rattle.std.specs.Prelude.{◌≡◌, ◌≢◌};
 ghost use Rattle.jsstr_c.specs.Reports as reports;
-ghost use Rattle.jsstr_c.specs.Reports.{join_answer, order_number, place_answer, table_answer, text_answer};
+ghost use Rattle.jsstr_c.specs.Reports.{join_answer, no_words, order_number, place_answer, table_answer, text_answer, words_answer};
 
+use heap_agents::Shown;
 use heap_string_table::TableFull;
 use heap_table::CounterFull;
 use heap_text::{JoinFault, JsStr, TextFull};
@@ -97,6 +98,19 @@ pub struct JsTotals {
 pub struct JsPlace {
     pub status: u32,
     pub at: u32,
+}
+
+/// A status, and at 0 how the content words of a string show its units: unit i stands `lane + i` lanes
+/// behind the lowest lane of word number 0, a word has 4 lanes where it is wide and else 8, the string
+/// has `len` units, and `count` words were written.
+#[repr(C)]
+#[derive(Clone, Copy)]
+pub struct JsWords {
+    pub status: u32,
+    pub wide: bool,
+    pub lane: u32,
+    pub len: u32,
+    pub count: u32,
 }
 
 fn done(s: JsStr) -> JsAnswer
@@ -236,5 +250,29 @@ pub(crate) fn not_utf8(at: u32) -> JsAnswer
         at,
         want: 0,
         end: 0,
+    }
+}
+
+pub(crate) fn of_words(shown: Shown) -> JsWords
+    ensures { result ≡ words_answer shown }
+{
+    JsWords {
+        status: DONE,
+        wide: shown.wide,
+        lane: shown.lane,
+        len: shown.len,
+        count: shown.count,
+    }
+}
+
+pub(crate) fn without_words(status: u32) -> JsWords
+    ensures { result ≡ no_words status }
+{
+    JsWords {
+        status,
+        wide: false,
+        lane: 0,
+        len: 0,
+        count: 0,
     }
 }

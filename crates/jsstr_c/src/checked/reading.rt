@@ -5,16 +5,17 @@ ghost use Rattle.heap_rule.specs.Views.{IsSettled};
 ghost use Rattle.heap_text.specs.declared.faults.TextFull as text_full;
 ghost use Rattle.heap_text.specs.Settling.{IsNoRoom};
 ghost use Rattle.heap_agents.specs.Ready.{Goes, IsReady, Knows, size_in, view_in};
+ghost use Rattle.heap_agents.specs.Words.{AreShown, AreThere};
 ghost use Rattle.jsstr_c.specs.declared.answer.JsAnswer as answer;
 ghost use Rattle.jsstr_c.specs.Checked.{Follows, IsUnsettled, Reaches};
 ghost use Rattle.jsstr_c.specs.Handles.{IsHandle};
-ghost use Rattle.jsstr_c.specs.Reports.{text_report};
+ghost use Rattle.jsstr_c.specs.Reports.{no_words, shown_by, text_report};
 ghost use Rattle.jsstr_c.specs.Reports as reports;
 
 use crate::agent::JsAgent;
-use crate::answer::{BAD_ARGUMENT, DONE, JsAnswer, JsNumber, bad_argument};
+use crate::answer::{BAD_ARGUMENT, DONE, JsAnswer, JsNumber, JsWords, bad_argument, without_words};
 use crate::unchecked::reading::{
-    jsstr_length_unchecked, jsstr_read_unchecked, jsstr_settle_unchecked,
+    jsstr_length_unchecked, jsstr_read_unchecked, jsstr_settle_unchecked, jsstr_window_unchecked,
 };
 use std::alloc::Global;
 
@@ -120,4 +121,43 @@ pub extern "C" fn jsstr_read(
     }
     jsstr_read_unchecked(alloc, agent, s, from, out);
     DONE
+}
+
+/// The content words of a string from word number `at` on, as many as there are and as there is room
+/// for, and where its units stand in them. The string is settled first.
+#[unsafe(no_mangle)]
+pub extern "C" fn jsstr_window(
+    alloc: Global,
+    agent: &mut JsAgent,
+    s: u32,
+    at: u32,
+    out: &mut [u64],
+) -> JsWords
+    requires { IsHandle agent.old }
+    ensures handle { IsHandle agent.new }
+    ensures bad { result.status ≡ reports.BAD_ARGUMENT ↔ ¬ (Knows agent.old.at.value s) }
+    ensures unchanged { result.status ≡ reports.BAD_ARGUMENT → agent.new.at.value ≡ agent.old.at.value }
+    ensures goes { result.status ≢ reports.BAD_ARGUMENT → Goes agent.old.at.value agent.new.at.value }
+    ensures shown { result.status ≡ reports.DONE → (us : List ℕ)
+        → Has (view_in agent.old.at.value).units s us
+        → AreShown us at out.old out.new (shown_by result) }
+    ensures there { result.status ≡ reports.DONE → (us : List ℕ)
+        → Has (view_in agent.old.at.value).units s us
+        → AreThere (view_in agent.new.at.value) us (shown_by result) }
+    ensures unread { result.status ≢ reports.DONE → out.new ≡ out.old }
+    ensures nothing { result.status ≢ reports.DONE → result ≡ no_words result.status }
+    ensures refused { result.status ≢ reports.DONE → result.status ≢ reports.BAD_ARGUMENT
+        → (us : List ℕ) → Has (view_in agent.old.at.value).units s us
+        → (f : text_full.TextFull) × (wide : Bool) × (result ≡ no_words (text_report f).status)
+        × IsNoRoom (view_in agent.old.at.value) (view_in agent.new.at.value) (size_in agent.old.at.value)
+        us f wide }
+{
+    if !agent.knows(alloc, s) {
+        return without_words(BAD_ARGUMENT);
+    }
+    let settled = jsstr_settle_unchecked(alloc, agent, s);
+    if settled.status != DONE {
+        return without_words(settled.status);
+    }
+    jsstr_window_unchecked(alloc, agent, s, at, out)
 }

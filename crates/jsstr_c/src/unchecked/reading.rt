@@ -5,12 +5,13 @@ ghost use Rattle.heap_rule.specs.Views.{IsSettled};
 ghost use Rattle.heap_text.specs.declared.faults.TextFull as text_full;
 ghost use Rattle.heap_text.specs.Settling.{IsNoRoom};
 ghost use Rattle.heap_agents.specs.Ready.{Goes, IsReady, Knows, size_in, view_in};
+ghost use Rattle.heap_agents.specs.Words.{AreShown, AreThere};
 ghost use Rattle.jsstr_c.specs.Handles.{IsHandle};
-ghost use Rattle.jsstr_c.specs.Reports.{text_report};
+ghost use Rattle.jsstr_c.specs.Reports.{shown_by, text_report};
 ghost use Rattle.jsstr_c.specs.Reports as reports;
 
 use crate::agent::JsAgent;
-use crate::answer::{JsAnswer, of_text};
+use crate::answer::{JsAnswer, JsWords, of_text, of_words};
 use heap_text::JsStr;
 use std::alloc::Global;
 
@@ -77,4 +78,31 @@ pub extern "C" fn jsstr_read_unchecked(
     let mut held = agent.take(alloc);
     held.read(JsStr { id: s }, from, out);
     agent.put(held);
+}
+
+/// The content words of a settled string from word number `at` on, as many as there are and as there is
+/// room for, and where its units stand in them.
+#[unsafe(no_mangle)]
+pub extern "C" fn jsstr_window_unchecked(
+    alloc: Global,
+    agent: &mut JsAgent,
+    s: u32,
+    at: u32,
+    out: &mut [u64],
+) -> JsWords
+    requires ready { IsReady agent.old.at.value }
+    requires known { HasKey (view_in agent.old.at.value).units s }
+    requires settled { IsSettled (view_in agent.old.at.value) s }
+    ensures handle { IsHandle agent.new }
+    ensures goes { Goes agent.old.at.value agent.new.at.value }
+    ensures told { result.status ≡ reports.DONE }
+    ensures shown { (us : List ℕ) → Has (view_in agent.old.at.value).units s us
+        → AreShown us at out.old out.new (shown_by result) }
+    ensures there { (us : List ℕ) → Has (view_in agent.old.at.value).units s us
+        → AreThere (view_in agent.new.at.value) us (shown_by result) }
+{
+    let mut held = agent.take(alloc);
+    let shown = held.window(JsStr { id: s }, at, out);
+    agent.put(held);
+    of_words(shown)
 }
