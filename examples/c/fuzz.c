@@ -155,6 +155,26 @@ static void read(agent *a) {
   CHECK(status == JSSTR_DONE && memcmp(units, texts[s].units + from, n * 2) == 0);
 }
 
+static void window(agent *a) {
+  uint64_t words[120];
+  jsstr_id s = some_id(a);
+  uint32_t at = chance(4) ? 0 : chance(20), room = chance(2) ? 120 : chance(20);
+  memset(words, 0x5A, sizeof words);
+  jsstr_words w = jsstr_window(&a->handle, s, at, words, room);
+  if (w.status != JSSTR_DONE) CHECK(!w.wide && !w.lane && !w.length && !w.count);
+  if (!knows(a, s)) { CHECK(w.status == JSSTR_BAD_ARGUMENT); return; }
+  lawful++;
+  if (refused_for_room(w.status)) return;
+  uint32_t n = w.wide ? 4 : 8, bits = 64 / n, len = texts[s].len, end = len ? (w.lane + len + n - 1) / n : 0, left = at < end ? end - at : 0;
+  CHECK(w.status == JSSTR_DONE && w.length == len && w.lane < n && w.count == (left < room ? left : room));
+  for (uint32_t i = 0; i < len; i++) {
+    uint32_t k = (w.lane + i) / n;
+    if (k >= at && k < at + w.count)
+      CHECK((words[k - at] >> (w.lane + i) % n * bits & (w.wide ? 0xFFFF : 0xFF)) == texts[s].units[i]);
+  }
+  for (uint32_t k = w.count; k < 120; k++) CHECK(words[k] == 0x5A5A5A5A5A5A5A5A);
+}
+
 static int stands(text hay, text needle, uint32_t at) {
   return at <= hay.len && needle.len <= hay.len - at && memcmp(hay.units + at, needle.units, needle.len * 2) == 0;
 }
@@ -287,7 +307,7 @@ int main(int count_of, char **told) {
   for (call = 0; call < calls; call++) {
     agent *a = &agents[chance(AGENTS)], *b = &agents[chance(AGENTS)];
     if (!a->handle.live && chance(3)) a = &agents[0];
-    switch (chance(16)) {
+    switch (chance(17)) {
     case 0: case 1: make(a); break;
     case 2: case 3: concat(a); break;
     case 4: case 5: slice(a); break;
@@ -298,6 +318,7 @@ int main(int count_of, char **told) {
     case 12: count(a); break;
     case 13: settle(a); break;
     case 14: split(a, b); break;
+    case 15: window(a); break;
     default: join(a, b);
     }
     if (full > 300) begin();

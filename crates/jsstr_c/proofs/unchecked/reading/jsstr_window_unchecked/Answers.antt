@@ -1,4 +1,4 @@
-use Rattle.std.proofs.Common.{ℕ, List, Option, Some, subst, sym, ap, ◌≡◌}
+use Rattle.std.proofs.Common.{ℕ, Option, subst, sym, ap, ◌≡◌}
 use Rattle.heap_rule.specs.Maps.{Has}
 use Rattle.heap_agents.specs.declared.held.Held.{Held}
 use Rattle.heap_agents.specs.declared.words.Shown.{Shown}
