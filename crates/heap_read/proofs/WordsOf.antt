@@ -33,3 +33,12 @@ words_more wide lane us at k word words l was next = record {
       ap (λ (x : ℕ). lane_of wide (get_or (set words k word) x 0) n) e' ∙ (ap (λ (x : ℕ). lane_of wide x n) (get_or-set_same words k word 0 l) ∙ next i a e))
       (cases_lt j (at + k));
 }
+
+-- the word of the first unit, which the window has
+pub first_number : (wide : Bool) (start o j first : ℕ) → first ≡ o / lane_count wide → start + first + j ≡ start + (o + (j * lane_count wide - o % lane_count wide)) / lane_count wide
+first_number true start o j first e = omega arith
+first_number false start o j first e = omega arith
+
+pub first_within : (wide : Bool) (j o len : ℕ) → 0 < len → j * lane_count wide < o % lane_count wide + len → j * lane_count wide - o % lane_count wide < len
+first_within true j o len a h = omega arith
+first_within false j o len a h = omega arith

@@ -1,5 +1,5 @@
 // Reading and searching the units of a window, a word at a time.
-ghost use Rattle.std.specs.Prelude.{◌≡◌, ℕ, List, ◌+◌, ◌-◌, ◌*◌, ◌%◌, ◌^◌, ◌≤◌, ◌<◌, false, true, length, slice_index, slice_range};
+ghost use Rattle.std.specs.Prelude.{◌≡◌, ℕ, List, ◌+◌, ◌-◌, ◌*◌, ◌/◌, ◌%◌, ◌≤◌, ◌<◌, false, true, length, slice_index, slice_range};
 ghost use Rattle.js_units.specs.Lanes.{lane_count, lane_of, words_over};
 ghost use Rattle.heap_read.specs.Readers.{Moves, view_in};
 ghost use Rattle.heap_read.specs.Reads.{KeepsForms, Reads};
@@ -83,11 +83,27 @@ impl<'h> Reader<'h> {
         ensures words { (us : List ℕ) → IsWindow (view_in self.old) w us
             → ShowsFrom w.wide (w.offset % lane_count w.wide) us at count into.new }
     {
+        let (first, _) = word_and_lane(w.wide, w.offset);
         for k in 0..count {
-            let i = first_unit(w, at + k);
-            let word = self.word_with(w, i);
+            let word = self.word_number(w, first, at + k);
             into[k as usize] = word;
         }
+    }
+
+    // Word number `j` of a window, which has a unit, by one load. The window begins in the word `first`
+    // behind its start.
+    #[inline(always)]
+    fn word_number(&mut self, w: Window, first: u32, j: u32) -> u64
+        requires frozen { IsFrozenWindow (view_in self.old) w }
+        requires some { 0 < w.len }
+        requires within { j * lane_count w.wide < w.offset % lane_count w.wide + w.len }
+        requires first { first ≡ w.offset / lane_count w.wide }
+        ensures reads { Moves Reads self.old self.new }
+        ensures forms { KeepsForms (view_in self.old) (view_in self.new) }
+        ensures word { (us : List ℕ) → IsWindow (view_in self.old) w us
+            → ShowsOn w us (j * lane_count w.wide - w.offset % lane_count w.wide) result }
+    {
+        self.agent.load_word(self.heap, w.start + first + j)
     }
 
     // The word with unit `i` of a window, by one load.
@@ -102,17 +118,6 @@ impl<'h> Reader<'h> {
         let (at, _) = word_and_lane(w.wide, w.offset + i);
         self.agent.load_word(self.heap, w.start + at)
     }
-}
-
-// The first unit of a window that stands in its word number `j`.
-#[inline(always)]
-fn first_unit(w: Window, j: u32) -> u32
-    requires within { j * lane_count w.wide < w.offset % lane_count w.wide + w.len }
-    requires small { w.offset + w.len ≤ 2 ^ 32 }
-    ensures { result ≡ j * lane_count w.wide - w.offset % lane_count w.wide }
-{
-    let (_, lane) = word_and_lane(w.wide, w.offset);
-    (j * lanes(w.wide)).saturating_sub(lane)
 }
 
 // Puts the first `count` of some units into a slice, from place `at` on.
