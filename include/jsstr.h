@@ -131,7 +131,7 @@ uint32_t jsstr_read(jsstr_agent *agent, jsstr_id s, uint32_t from, uint16_t *out
 /* The words that the units of s lie in, from word number `at` on, into `out`: as many as there are, at most
    `room`, and `count` says how many. A word has n lanes, 4 where `wide`, else 8, the first in its lowest
    bits; of the `length` units number i stands in word (lane + i) / n, lane (lane + i) % n; other lanes may
-   hold anything. `wide` and `lane` are those of this call: after any call they may be others.
+   hold anything. `wide` and `lane` are those of this call; at the next one they may be others.
    Nothing is written but where it answers DONE. Settles s. Condition: s is known. */
 jsstr_words jsstr_window(jsstr_agent *agent, jsstr_id s, uint32_t at, uint64_t *out, size_t room);
 
