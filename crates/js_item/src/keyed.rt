@@ -1,7 +1,7 @@
 // The members of objects, by their keys.
 ghost use Rattle.std.specs.Prelude.{◌≡◌, ◌<◌, OnOk, OnErr, MatchOption, IfSome, None, Some, is_some, bytes_eq};
 ghost use Rattle.js_store.specs.State.{text};
-ghost use Rattle.js_store.specs.Faults.{Step};
+ghost use Rattle.js_store.specs.Faults.{Uses};
 ghost use Rattle.js_item.specs.Fine.{strings_of, KeyFine, KeysFine, KeysDiffer};
 ghost use Rattle.js_item.specs.Puts.{width, has_units, names_key, place_by, value_by, put_by};
 ghost use Rattle.js_item.specs.Views.{content, fields_of};
@@ -21,8 +21,7 @@ impl<R: Copy> Object<R> {
         requires apart { KeysDiffer (strings_of (S.state store.old)) S.number self.now }
         requires key { KeyFine (strings_of (S.state store.old)) (S.number key) }
         ensures place { result ≡ place_by (names_key (S.state store.old) S.number key) self.now }
-        ensures step { Step (S.state store.old) (S.state store.new) None 0 0 }
-        ensures history { (S.state store.new).history ≡ (S.state store.old).history }
+        ensures uses { Uses (S.state store.old) (S.state store.new) None 0 0 }
     {
         match self.find_by_index(store, key) {
             Some(place) => Some(place),
@@ -37,8 +36,7 @@ impl<R: Copy> Object<R> {
         requires key { KeyFine (strings_of (S.state store.old)) (S.number key) }
         ensures place { IfSome result
             (λ place. place_by (names_key (S.state store.old) S.number key) self.now ≡ Some place) }
-        ensures step { Step (S.state store.old) (S.state store.new) None 0 0 }
-        ensures history { (S.state store.new).history ≡ (S.state store.old).history }
+        ensures uses { Uses (S.state store.old) (S.state store.new) None 0 0 }
     {
         let number = store.id_of(key)?;
         let place = self.index().place(number)?;
@@ -57,8 +55,7 @@ impl<R: Copy> Object<R> {
         requires keys { KeysFine (strings_of (S.state store.old)) S.number self.now }
         requires key { KeyFine (strings_of (S.state store.old)) (S.number key) }
         ensures place { result ≡ place_by (names_key (S.state store.old) S.number key) self.now }
-        ensures step { Step (S.state store.old) (S.state store.new) None 0 0 }
-        ensures history { (S.state store.new).history ≡ (S.state store.old).history }
+        ensures uses { Uses (S.state store.old) (S.state store.new) None 0 0 }
     {
         for (i, member) in self.members().iter().enumerate() {
             if store.same(member.key, key) {
@@ -78,8 +75,7 @@ impl<R: Copy> Object<R> {
             (value_by (names_key (S.state store.old) S.number key) self.now ≡ None)
             (λ item. value_by (names_key (S.state store.old) S.number key) self.now
             ≡ Some (content item.now)) }
-        ensures step { Step (S.state store.old) (S.state store.new) None 0 0 }
-        ensures history { (S.state store.new).history ≡ (S.state store.old).history }
+        ensures uses { Uses (S.state store.old) (S.state store.new) None 0 0 }
     {
         match self.find(store, key) {
             Some(place) => Some(&self.members()[place as usize].value),
@@ -102,8 +98,7 @@ impl<R: Copy> Object<R> {
         ensures added { OnOk result
             (self.new ≡ put_by (names_key (S.state store.old) S.number key) key (content value) self.old) }
         ensures unchanged { OnErr result (self.new ≡ self.old) }
-        ensures step { Step (S.state store.old) (S.state store.new) None 0 0 }
-        ensures history { (S.state store.new).history ≡ (S.state store.old).history }
+        ensures uses { Uses (S.state store.old) (S.state store.new) None 0 0 }
     {
         match self.find(store, key) {
             Some(place) => {
@@ -156,8 +151,7 @@ impl<R: Copy> Object<R> {
         requires { KeysFine (strings_of (S.state store.old)) S.number self.now }
         ensures value { result ≡ is_some
             (place_by (has_units (S.state store.old) S.number units.now) self.now) }
-        ensures step { Step (S.state store.old) (S.state store.new) None 0 0 }
-        ensures history { (S.state store.new).history ≡ (S.state store.old).history }
+        ensures uses { Uses (S.state store.old) (S.state store.new) None 0 0 }
     {
         for member in self.members() {
             if is_key(store, member.key, units) {
@@ -172,8 +166,7 @@ impl<R: Copy> Object<R> {
 fn is_key<S: Strings>(store: &mut S, key: S::Ref, units: &[u16]) -> bool
     requires { KeyFine (strings_of (S.state store.old)) (S.number key) }
     ensures value { result ≡ bytes_eq (text (S.state store.old) (S.number key)) units.now }
-    ensures step { Step (S.state store.old) (S.state store.new) None 0 0 }
-    ensures history { (S.state store.new).history ≡ (S.state store.old).history }
+    ensures uses { Uses (S.state store.old) (S.state store.new) None 0 0 }
 {
     let len = store.len(key);
     if len as usize != units.len() {

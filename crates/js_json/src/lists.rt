@@ -2,7 +2,7 @@
 ghost use Rattle.std.specs.Prelude.{◌≡◌, ◌+◌, ◌*◌, ◌≤◌, ◌++◌, ◌∷◌, [], length, IfOk, OnOk, IfErr};
 ghost use Rattle.js_store.specs.State.{Has, IsKnown, text as text_of};
 ghost use Rattle.js_store.specs.Rows.{flat_words, settle_words};
-ghost use Rattle.js_store.specs.Faults.{Step, NeverSlots};
+ghost use Rattle.js_store.specs.Faults.{Uses};
 ghost use Rattle.js_texts.specs.Answers.{ThrowsLong, full_of};
 ghost use Rattle.js_json.specs.Quoting.{quoted, elements, list_rest, list_text};
 ghost use Rattle.js_texts.specs.Texts.{texts, AllKnown, settle_most, full_fault_of};
@@ -28,10 +28,8 @@ pub fn stringify_list<S: Strings>(
         (list_text (texts (S.state store.old) S.number parts.now))) }
     ensures throws { ThrowsLong result (S.state store.old).limit
         (length (list_text (texts (S.state store.old) S.number parts.now))) }
-    ensures step { Step (S.state store.old) (S.state store.new) (full_of result)
+    ensures uses { Uses (S.state store.old) (S.state store.new) (full_of result)
         1 (2 * settle_most (S.state store.old) S.number parts.now + flat_words (list_text (texts (S.state store.old) S.number parts.now))) }
-    ensures slots { NeverSlots (full_of result) }
-    ensures history { (S.state store.new).history ≡ (S.state store.old).history }
 {
     let length = list_len(alloc, store, parts)?;
     if length > u128::from(store.limit()) {
@@ -51,10 +49,8 @@ pub fn list_len<S: Strings>(
     requires { AllKnown (S.state store.old) S.number parts.now }
     ensures value { IfOk result (λ n. n ≡ length (list_text (texts (S.state store.old) S.number parts.now))) }
     ensures most { IfOk result (λ n. n ≤ 2 + length parts.now * 4294967296) }
-    ensures step { Step (S.state store.old) (S.state store.new) (full_fault_of result) 0
+    ensures uses { Uses (S.state store.old) (S.state store.new) (full_fault_of result) 0
         (settle_most (S.state store.old) S.number parts.now) }
-    ensures slots { NeverSlots (full_fault_of result) }
-    ensures history { (S.state store.new).history ≡ (S.state store.old).history }
 {
     let len = rest_len(alloc, store, parts)?;
     // the comma that it counts before the first element takes the place of the first bracket
@@ -66,10 +62,8 @@ fn rest_len<S: Strings>(alloc: Global, store: &mut S, rest: &[S::Ref]) -> Result
     requires { AllKnown (S.state store.old) S.number rest.now }
     ensures value { IfOk result (λ n. n ≡ length (list_rest (texts (S.state store.old) S.number rest.now))) }
     ensures most { IfOk result (λ n. n ≤ 1 + length rest.now * 4294967296) }
-    ensures step { Step (S.state store.old) (S.state store.new) (full_fault_of result) 0
+    ensures uses { Uses (S.state store.old) (S.state store.new) (full_fault_of result) 0
         (settle_most (S.state store.old) S.number rest.now) }
-    ensures slots { NeverSlots (full_fault_of result) }
-    ensures history { (S.state store.new).history ≡ (S.state store.old).history }
 {
     let mut len = 1;
     for s in rest {
@@ -83,11 +77,9 @@ pub fn element_len<S: Strings>(alloc: Global, store: &mut S, s: S::Ref) -> Resul
     requires { IsKnown (S.state store.old) (S.number s) }
     ensures value { IfOk result (λ n. n ≡ length (quoted (text_of (S.state store.old) (S.number s)))) }
     ensures most { IfOk result (λ n. n ≤ 2 + 6 * length (text_of (S.state store.old) (S.number s))) }
-    ensures step { Step (S.state store.old) (S.state store.new) (full_fault_of result) 0
+    ensures uses { Uses (S.state store.old) (S.state store.new) (full_fault_of result) 0
         (settle_words ((S.state store.old).settled (S.number s))
         (length (text_of (S.state store.old) (S.number s)))) }
-    ensures slots { NeverSlots (full_fault_of result) }
-    ensures history { (S.state store.new).history ≡ (S.state store.old).history }
 {
     let units = read(alloc, store, s)?;
     Ok(quoted_len(units.as_slice()))
@@ -100,10 +92,8 @@ fn list_units<S: Strings>(
 ) -> Result<Units, StoreFault>
     requires { AllKnown (S.state store.old) S.number parts.now }
     ensures value { IfOk result (λ u. u ≡ list_text (texts (S.state store.old) S.number parts.now)) }
-    ensures step { Step (S.state store.old) (S.state store.new) (full_fault_of result) 0
+    ensures uses { Uses (S.state store.old) (S.state store.new) (full_fault_of result) 0
         (settle_most (S.state store.old) S.number parts.now) }
-    ensures slots { NeverSlots (full_fault_of result) }
-    ensures history { (S.state store.new).history ≡ (S.state store.old).history }
 {
     let mut text = Units::new(alloc);
     push_unit(&mut text, 0x5B)?;
@@ -121,10 +111,8 @@ pub fn append_elements<S: Strings>(
     requires { AllKnown (S.state store.old) S.number parts.now }
     ensures added { OnOk result
         (text.new ≡ text.old ++ elements (texts (S.state store.old) S.number parts.now)) }
-    ensures step { Step (S.state store.old) (S.state store.new) (full_fault_of result) 0
+    ensures uses { Uses (S.state store.old) (S.state store.new) (full_fault_of result) 0
         (settle_most (S.state store.old) S.number parts.now) }
-    ensures slots { NeverSlots (full_fault_of result) }
-    ensures history { (S.state store.new).history ≡ (S.state store.old).history }
 {
     match parts {
         [] => push_unit(text, 0x5D),
@@ -145,10 +133,8 @@ fn append_rest<S: Strings>(
     requires { AllKnown (S.state store.old) S.number rest.now }
     ensures added { OnOk result
         (text.new ≡ text.old ++ list_rest (texts (S.state store.old) S.number rest.now)) }
-    ensures step { Step (S.state store.old) (S.state store.new) (full_fault_of result) 0
+    ensures uses { Uses (S.state store.old) (S.state store.new) (full_fault_of result) 0
         (settle_most (S.state store.old) S.number rest.now) }
-    ensures slots { NeverSlots (full_fault_of result) }
-    ensures history { (S.state store.new).history ≡ (S.state store.old).history }
 {
     for s in rest {
         push_unit(text, 0x2C)?;
@@ -166,11 +152,9 @@ pub fn append_quoted<S: Strings>(
 ) -> Result<(), StoreFault>
     requires { IsKnown (S.state store.old) (S.number s) }
     ensures added { OnOk result (text.new ≡ text.old ++ quoted (text_of (S.state store.old) (S.number s))) }
-    ensures step { Step (S.state store.old) (S.state store.new) (full_fault_of result) 0
+    ensures uses { Uses (S.state store.old) (S.state store.new) (full_fault_of result) 0
         (settle_words ((S.state store.old).settled (S.number s))
         (length (text_of (S.state store.old) (S.number s)))) }
-    ensures slots { NeverSlots (full_fault_of result) }
-    ensures history { (S.state store.new).history ≡ (S.state store.old).history }
 {
     let units = read(alloc, store, s)?;
     push_text(text, units.as_slice())

@@ -4,7 +4,7 @@ ghost use Rattle.js_units.specs.Text;
 ghost use Rattle.js_units.specs.Text.{well};
 ghost use Rattle.js_store.specs.State.{Has, IsKnown, IsSettled, text};
 ghost use Rattle.js_store.specs.Rows.{flat_words, wide_words};
-ghost use Rattle.js_store.specs.Faults.{Step, NeverSlots};
+ghost use Rattle.js_store.specs.Faults.{Uses};
 ghost use Rattle.js_texts.specs.Answers.{NeverThrows, ThrowsLong, full_of};
 ghost use Rattle.js_number.specs.Places.{IsLawful};
 ghost use Rattle.js_number.specs.Arith.{modulo};
@@ -27,10 +27,8 @@ pub fn from_char_code<S: Strings>(
     requires count { length codes.now ≤ 1048576 }
     ensures value { IfOk result (λ r. Has (S.state store.new) (S.number r) (map (modulo 65536) codes.now)) }
     ensures throws { NeverThrows result }
-    ensures step { Step (S.state store.old) (S.state store.new) (full_of result)
+    ensures uses { Uses (S.state store.old) (S.state store.new) (full_of result)
         1 (flat_words (map (modulo 65536) codes.now)) }
-    ensures slots { NeverSlots (full_of result) }
-    ensures history { (S.state store.new).history ≡ (S.state store.old).history }
 {
     let units = units_of_codes(alloc, codes)?;
     Ok(store.from_units(units.as_slice())?)
@@ -59,10 +57,8 @@ pub fn from_code_point<S: Strings>(
     requires { length points.now ≤ 1048576 }
     ensures value { IfOk result (λ r. Has (S.state store.new) (S.number r) (code_units_of points.now)) }
     ensures throws { ThrowsBadPoint result points.now }
-    ensures step { Step (S.state store.old) (S.state store.new) (full_of result)
+    ensures uses { Uses (S.state store.old) (S.state store.new) (full_of result)
         1 (flat_words (code_units_of points.now)) }
-    ensures slots { NeverSlots (full_of result) }
-    ensures history { (S.state store.new).history ≡ (S.state store.old).history }
 {
     match units_of_points(alloc, points)? {
         None => Err(MethodFault::RangeError(Cause::BadCodePoint)),
@@ -114,10 +110,8 @@ pub fn to_well_formed<S: Strings>(
         (λ r. Has (S.state store.new) (S.number r) (well (text (S.state store.old) (S.number s)))) }
     ensures throws { ThrowsLong result (S.state store.old).limit
         (length (well (text (S.state store.old) (S.number s)))) }
-    ensures step { Step (S.state store.old) (S.state store.new) (full_of result)
+    ensures uses { Uses (S.state store.old) (S.state store.new) (full_of result)
         1 (wide_words (length (text (S.state store.old) (S.number s))) + flat_words (well (text (S.state store.old) (S.number s)))) }
-    ensures slots { NeverSlots (full_of result) }
-    ensures history { (S.state store.new).history ≡ (S.state store.old).history }
 {
     let len = store.len(s);
     if len > store.limit() {
@@ -134,8 +128,7 @@ fn well_formed<S: Strings>(alloc: Global, store: &mut S, s: S::Ref) -> Result<Un
     requires known { IsKnown (S.state store.old) (S.number s) }
     requires settled { IsSettled (S.state store.old) (S.number s) }
     ensures value { IfOk result (λ u. u ≡ well (text (S.state store.old) (S.number s))) }
-    ensures step { Step (S.state store.old) (S.state store.new) None 0 0 }
-    ensures history { (S.state store.new).history ≡ (S.state store.old).history }
+    ensures uses { Uses (S.state store.old) (S.state store.new) None 0 0 }
 {
     let len = store.len(s);
     let mut units = Units::new(alloc);

@@ -2,7 +2,7 @@
 ghost use Rattle.std.specs.Prelude.{◌≡◌, ◌+◌, ◌*◌, ◌≤◌, ◌++◌, length, slice_range, IfOk, IfSome};
 ghost use Rattle.js_store.specs.State.{Has, IsKnown, IsSettled, text};
 ghost use Rattle.js_store.specs.Rows.{wide_words, join_ids, join_words};
-ghost use Rattle.js_store.specs.Faults.{Step, fault_of, NeverSlots};
+ghost use Rattle.js_store.specs.Faults.{fault_of, Uses};
 ghost use Rattle.js_texts.specs.Answers.{method_fault_of, ThrowsLong};
 ghost use Rattle.js_number.specs.Places.{IsLawful};
 ghost use Rattle.js_methods.specs.Cuts.{slice_of, substring_of, substr_of};
@@ -30,10 +30,8 @@ pub fn slice<S: Strings>(
         (slice_of (text (S.state store.old) (S.number s)) start end)) }
     ensures throws { ThrowsLong result (S.state store.old).limit
         (length (slice_of (text (S.state store.old) (S.number s)) start end)) }
-    ensures step { Step (S.state store.old) (S.state store.new) (method_fault_of result)
+    ensures uses { Uses (S.state store.old) (S.state store.new) (method_fault_of result)
         1 (2 * wide_words (length (text (S.state store.old) (S.number s))) + 3) }
-    ensures slots { NeverSlots (method_fault_of result) }
-    ensures history { (S.state store.new).history ≡ (S.state store.old).history }
 {
     let len = store.len(s);
     let from = start.relative_to(len);
@@ -57,10 +55,8 @@ pub fn substring<S: Strings>(
         (substring_of (text (S.state store.old) (S.number s)) start end)) }
     ensures throws { ThrowsLong result (S.state store.old).limit
         (length (substring_of (text (S.state store.old) (S.number s)) start end)) }
-    ensures step { Step (S.state store.old) (S.state store.new) (method_fault_of result)
+    ensures uses { Uses (S.state store.old) (S.state store.new) (method_fault_of result)
         1 (2 * wide_words (length (text (S.state store.old) (S.number s))) + 3) }
-    ensures slots { NeverSlots (method_fault_of result) }
-    ensures history { (S.state store.new).history ≡ (S.state store.old).history }
 {
     let len = store.len(s);
     let first = start.clamp_to(len);
@@ -84,10 +80,8 @@ pub fn substr<S: Strings>(
         (substr_of (text (S.state store.old) (S.number s)) start count)) }
     ensures throws { ThrowsLong result (S.state store.old).limit
         (length (substr_of (text (S.state store.old) (S.number s)) start count)) }
-    ensures step { Step (S.state store.old) (S.state store.new) (method_fault_of result)
+    ensures uses { Uses (S.state store.old) (S.state store.new) (method_fault_of result)
         1 (2 * wide_words (length (text (S.state store.old) (S.number s))) + 3) }
-    ensures slots { NeverSlots (method_fault_of result) }
-    ensures history { (S.state store.new).history ≡ (S.state store.old).history }
 {
     let len = store.len(s);
     let first = start.relative_to(len);
@@ -105,10 +99,8 @@ fn cut<S: Strings>(store: &mut S, s: S::Ref, from: u32, to: u32) -> Result<S::Re
         (slice_range (text (S.state store.old) (S.number s)) from to)) }
     ensures throws { ThrowsLong result (S.state store.old).limit
         (length (slice_range (text (S.state store.old) (S.number s)) from to)) }
-    ensures step { Step (S.state store.old) (S.state store.new) (method_fault_of result)
+    ensures uses { Uses (S.state store.old) (S.state store.new) (method_fault_of result)
         1 (2 * wide_words (length (text (S.state store.old) (S.number s))) + 3) }
-    ensures slots { NeverSlots (method_fault_of result) }
-    ensures history { (S.state store.new).history ≡ (S.state store.old).history }
 {
     let length = to - from;
     if length > store.limit() {
@@ -128,11 +120,9 @@ pub fn concat<S: Strings>(store: &mut S, s: S::Ref, t: S::Ref) -> Result<S::Ref,
         (text (S.state store.old) (S.number s) ++ text (S.state store.old) (S.number t))) }
     ensures throws { ThrowsLong result (S.state store.old).limit
         (length (text (S.state store.old) (S.number s)) + length (text (S.state store.old) (S.number t))) }
-    ensures step { Step (S.state store.old) (S.state store.new) (method_fault_of result)
+    ensures uses { Uses (S.state store.old) (S.state store.new) (method_fault_of result)
         (join_ids (length (text (S.state store.old) (S.number s))) (length (text (S.state store.old) (S.number t))))
         (join_words (length (text (S.state store.old) (S.number s))) (length (text (S.state store.old) (S.number t)))) }
-    ensures slots { NeverSlots (method_fault_of result) }
-    ensures history { (S.state store.new).history ≡ (S.state store.old).history }
 {
     Ok(store.concat(s, t)?)
 }
@@ -146,9 +136,7 @@ pub(crate) fn joined<S: Strings>(store: &mut S, a: S::Ref, b: S::Ref) -> Result<
     ensures value { IfOk result
         (λ r. Has (S.state store.new) (S.number r)
         (text (S.state store.old) (S.number a) ++ text (S.state store.old) (S.number b))) }
-    ensures step { Step (S.state store.old) (S.state store.new) (fault_of result) 1 3 }
-    ensures slots { NeverSlots (fault_of result) }
-    ensures history { (S.state store.new).history ≡ (S.state store.old).history }
+    ensures uses { Uses (S.state store.old) (S.state store.new) (fault_of result) 1 3 }
 {
     match store.concat(a, b) {
         Ok(both) => Ok(both),

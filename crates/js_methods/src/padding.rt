@@ -2,7 +2,7 @@
 ghost use Rattle.std.specs.Prelude.{◌≡◌, ◌+◌, ◌-◌, ◌*◌, ◌≤◌, length, take, None, IfOk};
 ghost use Rattle.js_store.specs.State.{Has, IsKnown, text};
 ghost use Rattle.js_store.specs.Rows.{wide_words};
-ghost use Rattle.js_store.specs.Faults.{Step, fault_of, NeverSlots};
+ghost use Rattle.js_store.specs.Faults.{fault_of, Uses};
 ghost use Rattle.js_texts.specs.Answers.{method_fault_of, ThrowsLong};
 ghost use Rattle.js_methods.specs.Padding.{filling, pad_start_of, pad_end_of, pad_ids, pad_words};
 
@@ -29,10 +29,8 @@ pub fn pad_end<S: Strings>(
     ensures throws { ThrowsLong result (S.state store.old).limit
         (length (pad_end_of (text (S.state store.old) (S.number s)) max
         (text (S.state store.old) (S.number filler)))) }
-    ensures step { Step (S.state store.old) (S.state store.new) (method_fault_of result)
+    ensures uses { Uses (S.state store.old) (S.state store.new) (method_fault_of result)
         pad_ids (pad_words (length (text (S.state store.old) (S.number filler)))) }
-    ensures slots { NeverSlots (method_fault_of result) }
-    ensures history { (S.state store.new).history ≡ (S.state store.old).history }
 {
     let room = missing(store, s, max, filler)?;
     if room == 0 {
@@ -60,10 +58,8 @@ pub fn pad_start<S: Strings>(
     ensures throws { ThrowsLong result (S.state store.old).limit
         (length (pad_start_of (text (S.state store.old) (S.number s)) max
         (text (S.state store.old) (S.number filler)))) }
-    ensures step { Step (S.state store.old) (S.state store.new) (method_fault_of result)
+    ensures uses { Uses (S.state store.old) (S.state store.new) (method_fault_of result)
         pad_ids (pad_words (length (text (S.state store.old) (S.number filler)))) }
-    ensures slots { NeverSlots (method_fault_of result) }
-    ensures history { (S.state store.new).history ≡ (S.state store.old).history }
 {
     let room = missing(store, s, max, filler)?;
     if room == 0 {
@@ -91,8 +87,7 @@ fn missing<S: Strings>(
         (filling (text (S.state store.old) (S.number filler))
         (max - length (text (S.state store.old) (S.number s))))) }
     ensures fault { method_fault_of result ≡ None }
-    ensures step { Step (S.state store.old) (S.state store.new) None 0 0 }
-    ensures history { (S.state store.new).history ≡ (S.state store.old).history }
+    ensures uses { Uses (S.state store.old) (S.state store.new) None 0 0 }
 {
     let len = store.len(s);
     let size = store.len(filler);
@@ -121,10 +116,8 @@ fn filled<S: Strings>(store: &mut S, filler: S::Ref, room: u32) -> Result<S::Ref
     ensures value { IfOk result
         (λ r. Has (S.state store.new) (S.number r)
         (filling (text (S.state store.old) (S.number filler)) room)) }
-    ensures step { Step (S.state store.old) (S.state store.new) (fault_of result)
+    ensures uses { Uses (S.state store.old) (S.state store.new) (fault_of result)
         64 (2 * wide_words (length (text (S.state store.old) (S.number filler))) + 256) }
-    ensures slots { NeverSlots (fault_of result) }
-    ensures history { (S.state store.new).history ≡ (S.state store.old).history }
 {
     let size = store.len(filler);
     let whole = room / size;
@@ -146,10 +139,8 @@ fn front<S: Strings>(store: &mut S, s: S::Ref, size: u32) -> Result<S::Ref, Stor
     requires within { size ≤ length (text (S.state store.old) (S.number s)) }
     ensures value { IfOk result
         (λ r. Has (S.state store.new) (S.number r) (take size (text (S.state store.old) (S.number s)))) }
-    ensures step { Step (S.state store.old) (S.state store.new) (fault_of result)
+    ensures uses { Uses (S.state store.old) (S.state store.new) (fault_of result)
         1 (2 * wide_words (length (text (S.state store.old) (S.number s))) + 3) }
-    ensures slots { NeverSlots (fault_of result) }
-    ensures history { (S.state store.new).history ≡ (S.state store.old).history }
 {
     store.settle(s)?;
     store.slice(s, 0, size)

@@ -2,7 +2,7 @@
 ghost use Rattle.std.specs.Prelude.{◌≡◌, ◌+◌, length, IfOk};
 ghost use Rattle.js_store.specs.State.{Has, IsKnown, text};
 ghost use Rattle.js_store.specs.Rows.{wide_words};
-ghost use Rattle.js_store.specs.Faults.{Step, NeverSlots};
+ghost use Rattle.js_store.specs.Faults.{Uses};
 ghost use Rattle.js_texts.specs.Answers.{method_fault_of, MaybeHas, NeverThrows};
 ghost use Rattle.js_number.specs.Places.{IsLawful};
 ghost use Rattle.js_methods.specs.Places.{relative_place, exact_place, at_of, char_at_of, char_code_of, code_point_of};
@@ -20,10 +20,8 @@ pub fn at<S: Strings>(store: &mut S, s: S::Ref, i: Num) -> Result<Option<S::Ref>
     ensures value { IfOk result
         (λ r. MaybeHas (S.state store.new) S.number r (at_of (text (S.state store.old) (S.number s)) i)) }
     ensures throws { NeverThrows result }
-    ensures step { Step (S.state store.old) (S.state store.new) (method_fault_of result)
+    ensures uses { Uses (S.state store.old) (S.state store.new) (method_fault_of result)
         1 (wide_words (length (text (S.state store.old) (S.number s))) + 3) }
-    ensures slots { NeverSlots (method_fault_of result) }
-    ensures history { (S.state store.new).history ≡ (S.state store.old).history }
 {
     let len = store.len(s);
     match place_from_either_end(i, len) {
@@ -43,10 +41,8 @@ pub fn char_at<S: Strings>(store: &mut S, s: S::Ref, i: Num) -> Result<S::Ref, M
     ensures value { IfOk result
         (λ r. Has (S.state store.new) (S.number r) (char_at_of (text (S.state store.old) (S.number s)) i)) }
     ensures throws { NeverThrows result }
-    ensures step { Step (S.state store.old) (S.state store.new) (method_fault_of result)
+    ensures uses { Uses (S.state store.old) (S.state store.new) (method_fault_of result)
         1 (wide_words (length (text (S.state store.old) (S.number s))) + 3) }
-    ensures slots { NeverSlots (method_fault_of result) }
-    ensures history { (S.state store.new).history ≡ (S.state store.old).history }
 {
     let len = store.len(s);
     match place_in(i, len) {
@@ -66,10 +62,8 @@ pub fn char_code_at<S: Strings>(store: &mut S, s: S::Ref, i: Num) -> Result<Num,
     ensures value { IfOk result (λ r. r ≡ char_code_of (text (S.state store.old) (S.number s)) i) }
     ensures lawful { IfOk result IsLawful }
     ensures throws { NeverThrows result }
-    ensures step { Step (S.state store.old) (S.state store.new) (method_fault_of result)
+    ensures uses { Uses (S.state store.old) (S.state store.new) (method_fault_of result)
         0 (wide_words (length (text (S.state store.old) (S.number s)))) }
-    ensures slots { NeverSlots (method_fault_of result) }
-    ensures history { (S.state store.new).history ≡ (S.state store.old).history }
 {
     let len = store.len(s);
     match place_in(i, len) {
@@ -92,10 +86,8 @@ pub fn code_point_at<S: Strings>(
     requires lawful { IsLawful i }
     ensures value { IfOk result (λ r. r ≡ code_point_of (text (S.state store.old) (S.number s)) i) }
     ensures throws { NeverThrows result }
-    ensures step { Step (S.state store.old) (S.state store.new) (method_fault_of result)
+    ensures uses { Uses (S.state store.old) (S.state store.new) (method_fault_of result)
         0 (wide_words (length (text (S.state store.old) (S.number s)))) }
-    ensures slots { NeverSlots (method_fault_of result) }
-    ensures history { (S.state store.new).history ≡ (S.state store.old).history }
 {
     let len = store.len(s);
     match place_in(i, len) {

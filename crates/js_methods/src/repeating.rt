@@ -2,7 +2,7 @@
 ghost use Rattle.std.specs.Prelude.{◌≡◌, ℕ, ◌+◌, ◌-◌, ◌*◌, ◌/◌, ◌<◌, ◌≤◌, ◌^◌, length, IfOk, MatchOption, true, false};
 ghost use Rattle.std.specs.List.{repeat as repeated};
 ghost use Rattle.js_store.specs.State.{Has, IsKnown, text};
-ghost use Rattle.js_store.specs.Faults.{Step, fault_of, NeverSlots};
+ghost use Rattle.js_store.specs.Faults.{fault_of, Uses};
 ghost use Rattle.js_texts.specs.Answers.{method_fault_of};
 ghost use Rattle.js_methods.specs.Repeating.{is_count, copies, repeat_of, ThrowsCount, repeat_ids, repeat_words};
 
@@ -20,10 +20,8 @@ pub fn repeat<S: Strings>(store: &mut S, s: S::Ref, count: Num) -> Result<S::Ref
         (repeat_of (text (S.state store.old) (S.number s)) count)) }
     ensures throws { ThrowsCount result (is_count count) (S.state store.old).limit
         (length (repeat_of (text (S.state store.old) (S.number s)) count)) }
-    ensures step { Step (S.state store.old) (S.state store.new) (method_fault_of result)
+    ensures uses { Uses (S.state store.old) (S.state store.new) (method_fault_of result)
         repeat_ids repeat_words }
-    ensures slots { NeverSlots (method_fault_of result) }
-    ensures history { (S.state store.new).history ≡ (S.state store.old).history }
 {
     let Some(count) = whole_count(count) else {
         return Err(MethodFault::RangeError(Cause::BadCount));
@@ -66,10 +64,8 @@ pub(crate) fn doubled<S: Strings>(
         ≤ (S.state store.old).limit }
     ensures value { IfOk result
         (λ r. Has (S.state store.new) (S.number r) (repeated count (text (S.state store.old) (S.number s)))) }
-    ensures step { (k : ℕ) → count < 2 ^ (k + 1) → Step (S.state store.old) (S.state store.new) (fault_of result)
+    ensures uses { (k : ℕ) → count < 2 ^ (k + 1) → Uses (S.state store.old) (S.state store.new) (fault_of result)
         (2 * k) (6 * k) }
-    ensures slots { NeverSlots (fault_of result) }
-    ensures history { (S.state store.new).history ≡ (S.state store.old).history }
 {
     if count == 1 {
         return Ok(s);
@@ -92,9 +88,7 @@ fn twice<S: Strings>(
         ≤ (S.state store.old).limit }
     ensures value { IfOk result
         (λ r. Has (S.state store.new) (S.number r) (repeated count (text (S.state store.old) (S.number s)))) }
-    ensures step { Step (S.state store.old) (S.state store.new) (fault_of result) 2 6 }
-    ensures slots { NeverSlots (fault_of result) }
-    ensures history { (S.state store.new).history ≡ (S.state store.old).history }
+    ensures uses { Uses (S.state store.old) (S.state store.new) (fault_of result) 2 6 }
 {
     let even = joined(store, half, half)?;
     if count % 2 == 0 {

@@ -2,7 +2,7 @@
 ghost use Rattle.std.specs.Prelude.{◌≡◌, ◌+◌, ◌≤◌, length, IfOk, IfSome, OnOk};
 ghost use Rattle.js_store.specs.State.{IsKnown, IsSettled, text};
 ghost use Rattle.js_store.specs.Rows.{wide_words};
-ghost use Rattle.js_store.specs.Faults.{Step, fault_of, NeverSlots};
+ghost use Rattle.js_store.specs.Faults.{fault_of, Uses};
 ghost use Rattle.js_texts.specs.Answers.{method_fault_of, NeverThrows};
 ghost use Rattle.js_number.specs.Places.{IsLawful};
 ghost use Rattle.js_methods.specs.Searching.{index_from, includes_from, last_index_up_to, limit_of, starts_at, ends_at, end_at};
@@ -28,10 +28,8 @@ pub fn ends_with<S: Strings>(
     ensures throws { NeverThrows result }
     ensures settled { OnOk result (IsSettled (S.state store.new) (S.number s)) }
     ensures needle_settled { OnOk result (IsSettled (S.state store.new) (S.number w)) }
-    ensures step { Step (S.state store.old) (S.state store.new) (method_fault_of result)
+    ensures uses { Uses (S.state store.old) (S.state store.new) (method_fault_of result)
         0 (wide_words (length (text (S.state store.old) (S.number s))) + wide_words (length (text (S.state store.old) (S.number w)))) }
-    ensures slots { NeverSlots (method_fault_of result) }
-    ensures history { (S.state store.new).history ≡ (S.state store.old).history }
 {
     let len = store.len(s);
     let end = end.map_or(len, |end| end.clamp_to(len));
@@ -56,10 +54,8 @@ pub fn includes<S: Strings>(
     ensures throws { NeverThrows result }
     ensures settled { OnOk result (IsSettled (S.state store.new) (S.number s)) }
     ensures needle_settled { OnOk result (IsSettled (S.state store.new) (S.number w)) }
-    ensures step { Step (S.state store.old) (S.state store.new) (method_fault_of result)
+    ensures uses { Uses (S.state store.old) (S.state store.new) (method_fault_of result)
         0 (wide_words (length (text (S.state store.old) (S.number s))) + wide_words (length (text (S.state store.old) (S.number w)))) }
-    ensures slots { NeverSlots (method_fault_of result) }
-    ensures history { (S.state store.new).history ≡ (S.state store.old).history }
 {
     Ok(index_of(store, s, w, from)?.is_some())
 }
@@ -80,10 +76,8 @@ pub fn index_of<S: Strings>(
     ensures throws { NeverThrows result }
     ensures settled { OnOk result (IsSettled (S.state store.new) (S.number s)) }
     ensures needle_settled { OnOk result (IsSettled (S.state store.new) (S.number w)) }
-    ensures step { Step (S.state store.old) (S.state store.new) (method_fault_of result)
+    ensures uses { Uses (S.state store.old) (S.state store.new) (method_fault_of result)
         0 (wide_words (length (text (S.state store.old) (S.number s))) + wide_words (length (text (S.state store.old) (S.number w)))) }
-    ensures slots { NeverSlots (method_fault_of result) }
-    ensures history { (S.state store.new).history ≡ (S.state store.old).history }
 {
     let len = store.len(s);
     settle_both(store, s, w)?;
@@ -107,10 +101,8 @@ pub fn last_index_of<S: Strings>(
     ensures throws { NeverThrows result }
     ensures settled { OnOk result (IsSettled (S.state store.new) (S.number s)) }
     ensures needle_settled { OnOk result (IsSettled (S.state store.new) (S.number w)) }
-    ensures step { Step (S.state store.old) (S.state store.new) (method_fault_of result)
+    ensures uses { Uses (S.state store.old) (S.state store.new) (method_fault_of result)
         0 (wide_words (length (text (S.state store.old) (S.number s))) + wide_words (length (text (S.state store.old) (S.number w)))) }
-    ensures slots { NeverSlots (method_fault_of result) }
-    ensures history { (S.state store.new).history ≡ (S.state store.old).history }
 {
     let len = store.len(s);
     let most = match limit {
@@ -137,10 +129,8 @@ pub fn starts_with<S: Strings>(
     ensures throws { NeverThrows result }
     ensures settled { OnOk result (IsSettled (S.state store.new) (S.number s)) }
     ensures needle_settled { OnOk result (IsSettled (S.state store.new) (S.number w)) }
-    ensures step { Step (S.state store.old) (S.state store.new) (method_fault_of result)
+    ensures uses { Uses (S.state store.old) (S.state store.new) (method_fault_of result)
         0 (wide_words (length (text (S.state store.old) (S.number s))) + wide_words (length (text (S.state store.old) (S.number w)))) }
-    ensures slots { NeverSlots (method_fault_of result) }
-    ensures history { (S.state store.new).history ≡ (S.state store.old).history }
 {
     let len = store.len(s);
     settle_both(store, s, w)?;
@@ -153,10 +143,8 @@ fn settle_both<S: Strings>(store: &mut S, s: S::Ref, w: S::Ref) -> Result<(), St
     requires needle_known { IsKnown (S.state store.old) (S.number w) }
     ensures settled { OnOk result (IsSettled (S.state store.new) (S.number s)) }
     ensures needle_settled { OnOk result (IsSettled (S.state store.new) (S.number w)) }
-    ensures step { Step (S.state store.old) (S.state store.new) (fault_of result)
+    ensures uses { Uses (S.state store.old) (S.state store.new) (fault_of result)
         0 (wide_words (length (text (S.state store.old) (S.number s))) + wide_words (length (text (S.state store.old) (S.number w)))) }
-    ensures slots { NeverSlots (fault_of result) }
-    ensures history { (S.state store.new).history ≡ (S.state store.old).history }
 {
     store.settle(s)?;
     store.settle(w)

@@ -2,7 +2,7 @@
 ghost use Rattle.std.specs.Prelude.{◌≡◌, ◌+◌, ◌*◌, ◌≤◌, ℕ, ◌-◌, length, drop, reverse, slice_range, IfOk, OnOk};
 ghost use Rattle.js_store.specs.State.{Has, IsKnown, IsSettled, text};
 ghost use Rattle.js_store.specs.Rows.{wide_words, cut_ids, cut_words};
-ghost use Rattle.js_store.specs.Faults.{Step, NeverSlots};
+ghost use Rattle.js_store.specs.Faults.{Uses};
 ghost use Rattle.js_texts.specs.Answers.{method_fault_of, ThrowsLong};
 ghost use Rattle.js_methods.specs.Trimming.{blanks, trimmed, trimmed_start, trimmed_end};
 
@@ -19,10 +19,8 @@ pub fn trim<S: Strings>(store: &mut S, s: S::Ref) -> Result<S::Ref, MethodFault>
     ensures result_settled { IfOk result (λ r. IsSettled (S.state store.new) (S.number r)) }
     ensures throws { ThrowsLong result (S.state store.old).limit
         (length (trimmed (text (S.state store.old) (S.number s)))) }
-    ensures step { Step (S.state store.old) (S.state store.new) (method_fault_of result)
+    ensures uses { Uses (S.state store.old) (S.state store.new) (method_fault_of result)
         1 (2 * wide_words (length (text (S.state store.old) (S.number s))) + 3) }
-    ensures slots { NeverSlots (method_fault_of result) }
-    ensures history { (S.state store.new).history ≡ (S.state store.old).history }
 {
     store.settle(s)?;
     let from = start_of_rest(store, s);
@@ -39,10 +37,8 @@ pub fn trim_end<S: Strings>(store: &mut S, s: S::Ref) -> Result<S::Ref, MethodFa
     ensures result_settled { IfOk result (λ r. IsSettled (S.state store.new) (S.number r)) }
     ensures throws { ThrowsLong result (S.state store.old).limit
         (length (trimmed_end (text (S.state store.old) (S.number s)))) }
-    ensures step { Step (S.state store.old) (S.state store.new) (method_fault_of result)
+    ensures uses { Uses (S.state store.old) (S.state store.new) (method_fault_of result)
         1 (2 * wide_words (length (text (S.state store.old) (S.number s))) + 3) }
-    ensures slots { NeverSlots (method_fault_of result) }
-    ensures history { (S.state store.new).history ≡ (S.state store.old).history }
 {
     store.settle(s)?;
     let to = end_of_rest(store, s, 0);
@@ -58,10 +54,8 @@ pub fn trim_start<S: Strings>(store: &mut S, s: S::Ref) -> Result<S::Ref, Method
     ensures result_settled { IfOk result (λ r. IsSettled (S.state store.new) (S.number r)) }
     ensures throws { ThrowsLong result (S.state store.old).limit
         (length (trimmed_start (text (S.state store.old) (S.number s)))) }
-    ensures step { Step (S.state store.old) (S.state store.new) (method_fault_of result)
+    ensures uses { Uses (S.state store.old) (S.state store.new) (method_fault_of result)
         1 (2 * wide_words (length (text (S.state store.old) (S.number s))) + 3) }
-    ensures slots { NeverSlots (method_fault_of result) }
-    ensures history { (S.state store.new).history ≡ (S.state store.old).history }
 {
     store.settle(s)?;
     let from = start_of_rest(store, s);
@@ -75,8 +69,7 @@ fn start_of_rest<S: Strings>(store: &mut S, s: S::Ref) -> u32
     requires settled { IsSettled (S.state store.old) (S.number s) }
     ensures value { result ≡ blanks (text (S.state store.old) (S.number s)) }
     ensures within { result ≤ length (text (S.state store.old) (S.number s)) }
-    ensures step { Step (S.state store.old) (S.state store.new) None 0 0 }
-    ensures history { (S.state store.new).history ≡ (S.state store.old).history }
+    ensures uses { Uses (S.state store.old) (S.state store.new) None 0 0 }
 {
     let len = store.len(s);
     for i in 0..len {
@@ -95,8 +88,7 @@ fn end_of_rest<S: Strings>(store: &mut S, s: S::Ref, from: u32) -> u32
     ensures value { result + blanks (reverse (drop from (text (S.state store.old) (S.number s))))
         ≡ length (text (S.state store.old) (S.number s)) }
     ensures order { from ≤ result }
-    ensures step { Step (S.state store.old) (S.state store.new) None 0 0 }
-    ensures history { (S.state store.new).history ≡ (S.state store.old).history }
+    ensures uses { Uses (S.state store.old) (S.state store.new) None 0 0 }
 {
     let len = store.len(s);
     for i in (from..len).rev() {
@@ -118,10 +110,8 @@ fn part<S: Strings>(store: &mut S, s: S::Ref, from: u32, to: u32) -> Result<S::R
         (slice_range (text (S.state store.old) (S.number s)) from to)) }
     ensures settled { IfOk result (λ r. IsSettled (S.state store.new) (S.number r)) }
     ensures throws { ThrowsLong result (S.state store.old).limit (to - from) }
-    ensures step { Step (S.state store.old) (S.state store.new) (method_fault_of result)
+    ensures uses { Uses (S.state store.old) (S.state store.new) (method_fault_of result)
         1 (wide_words (length (text (S.state store.old) (S.number s))) + 3) }
-    ensures slots { NeverSlots (method_fault_of result) }
-    ensures history { (S.state store.new).history ≡ (S.state store.old).history }
 {
     if to - from > store.limit() {
         let length = u128::from(to - from);

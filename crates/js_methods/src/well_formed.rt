@@ -3,7 +3,7 @@ ghost use Rattle.std.specs.Prelude.{◌≡◌, ◌↔◌, IsTrue, length, IfOk, 
 ghost use Rattle.js_units.specs.Text.{well};
 ghost use Rattle.js_store.specs.State.{IsKnown, IsSettled, text};
 ghost use Rattle.js_store.specs.Rows.{settle_words};
-ghost use Rattle.js_store.specs.Faults.{Step, NeverSlots};
+ghost use Rattle.js_store.specs.Faults.{Uses};
 ghost use Rattle.js_texts.specs.Answers.{method_fault_of, NeverThrows};
 ghost use Rattle.js_methods.specs.WellFormed.{all_paired};
 
@@ -21,10 +21,8 @@ pub fn is_well_formed<S: Strings>(store: &mut S, s: S::Ref) -> Result<bool, Meth
         (well (text (S.state store.old) (S.number s)) ≡ text (S.state store.old) (S.number s))) }
     ensures throws { NeverThrows result }
     ensures settled { OnOk result (IsSettled (S.state store.new) (S.number s)) }
-    ensures step { Step (S.state store.old) (S.state store.new) (method_fault_of result)
+    ensures uses { Uses (S.state store.old) (S.state store.new) (method_fault_of result)
         0 (settle_words ((S.state store.old).settled (S.number s)) (length (text (S.state store.old) (S.number s)))) }
-    ensures slots { NeverSlots (method_fault_of result) }
-    ensures history { (S.state store.new).history ≡ (S.state store.old).history }
 {
     store.settle(s)?;
     Ok(has_pairs_alone(store, s))
@@ -35,8 +33,7 @@ fn has_pairs_alone<S: Strings>(store: &mut S, s: S::Ref) -> bool
     requires known { IsKnown (S.state store.old) (S.number s) }
     requires settled { IsSettled (S.state store.old) (S.number s) }
     ensures value { result ≡ all_paired (text (S.state store.old) (S.number s)) }
-    ensures step { Step (S.state store.old) (S.state store.new) None 0 0 }
-    ensures history { (S.state store.new).history ≡ (S.state store.old).history }
+    ensures uses { Uses (S.state store.old) (S.state store.new) None 0 0 }
 {
     let len = store.len(s);
     // whether a leading surrogate waits for its trailing one

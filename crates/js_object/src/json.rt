@@ -3,7 +3,7 @@ ghost use Rattle.std.specs.Prelude.{◌≡◌, ◌++◌, ◌∷◌, [], ◌≤�
 ghost use Rattle.js_number.specs.Places.{IsLawful};
 ghost use Rattle.js_store.specs.State.{text as text_of};
 ghost use Rattle.js_texts.specs.Texts.{AllKnown, texts, settle_most, full_fault_of};
-ghost use Rattle.js_store.specs.Faults.{Step, NeverSlots};
+ghost use Rattle.js_store.specs.Faults.{Uses};
 ghost use Rattle.js_store.specs.declared.faults.StoreFault.TheVariants.{Memory};
 ghost use Rattle.js_object.specs.Use.{settle_in, settle_fields};
 ghost use Rattle.js_json.specs.Quoting.{quoted, list_text};
@@ -33,10 +33,8 @@ pub(crate) fn append_item<S: Strings>(
     requires { Readable (strings_of (S.state store.old)) S.number (content item.now) }
     ensures added { OnOk result
         (text.new ≡ text.old ++ text_json (says (S.state store.old) S.number) (content item.now)) }
-    ensures step { Step (S.state store.old) (S.state store.new) (full_fault_of result) 0
+    ensures uses { Uses (S.state store.old) (S.state store.new) (full_fault_of result) 0
         (settle_in (S.state store.old) S.number (content item.now)) }
-    ensures slots { NeverSlots (full_fault_of result) }
-    ensures history { (S.state store.new).history ≡ (S.state store.old).history }
 {
     match item {
         Item::Undefined | Item::Symbol(_) => Ok(()),
@@ -62,10 +60,8 @@ pub(crate) fn append_object<S: Strings>(
     requires { ReadableFields (strings_of (S.state store.old)) S.number of.now }
     ensures added { OnOk result
         (text.new ≡ text.old ++ json_of (says (S.state store.old) S.number) of.now) }
-    ensures step { Step (S.state store.old) (S.state store.new) (full_fault_of result) 0
+    ensures uses { Uses (S.state store.old) (S.state store.new) (full_fault_of result) 0
         (settle_fields (S.state store.old) S.number of.now) }
-    ensures slots { NeverSlots (full_fault_of result) }
-    ensures history { (S.state store.new).history ≡ (S.state store.old).history }
 {
     let members = in_order(alloc, store, of)?;
     let mut sep = 0x7B;
@@ -105,9 +101,7 @@ fn append_key<S: Strings>(
     requires { KeyFine (strings_of (S.state store.old)) (S.number key) }
     ensures added { OnOk result
         (text.new ≡ text.old ++ (sep ∷ quoted (text_of (S.state store.old) (S.number key)) ++ 0x3A ∷ [])) }
-    ensures step { Step (S.state store.old) (S.state store.new) (full_fault_of result) 0 0 }
-    ensures slots { NeverSlots (full_fault_of result) }
-    ensures history { (S.state store.new).history ≡ (S.state store.old).history }
+    ensures uses { Uses (S.state store.old) (S.state store.new) (full_fault_of result) 0 0 }
 {
     text.push(sep)?;
     append_quoted(alloc, store, key, text)?;
@@ -137,10 +131,8 @@ fn append_list<S: Strings>(
     requires { AllKnown (S.state store.old) S.number list.now }
     ensures added { OnOk result
         (text.new ≡ text.old ++ list_text (texts (S.state store.old) S.number list.now)) }
-    ensures step { Step (S.state store.old) (S.state store.new) (full_fault_of result) 0
+    ensures uses { Uses (S.state store.old) (S.state store.new) (full_fault_of result) 0
         (settle_most (S.state store.old) S.number list.now) }
-    ensures slots { NeverSlots (full_fault_of result) }
-    ensures history { (S.state store.new).history ≡ (S.state store.old).history }
 {
     text.push(0x5B)?;
     append_elements(alloc, store, list, text)

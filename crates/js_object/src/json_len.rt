@@ -3,7 +3,7 @@ ghost use Rattle.std.specs.Prelude.{◌≡◌, ◌+◌, ◌*◌, ◌<◌, ◌≤
 ghost use Rattle.js_number.specs.Places.{IsLawful};
 ghost use Rattle.js_store.specs.State.{IsKnown, text as text_of};
 ghost use Rattle.js_store.specs.Rows.{settle_words};
-ghost use Rattle.js_store.specs.Faults.{Step, NeverSlots};
+ghost use Rattle.js_store.specs.Faults.{Uses};
 ghost use Rattle.js_store.specs.declared.faults.StoreFault.TheVariants.{Memory};
 ghost use Rattle.js_texts.specs.Texts.{full_fault_of};
 ghost use Rattle.js_object.specs.Use.{settle_in, settle_fields};
@@ -37,10 +37,8 @@ pub(crate) fn item_len<S: Strings>(
         (λ n. n ≡ length (text_json (says (S.state store.old) S.number) (content item.now))) }
     ensures most { IfOk result
         (λ n. n + 8589934592 ≤ 158456325028528675187087900672 * (count_in (content item.now) + 1)) }
-    ensures step { Step (S.state store.old) (S.state store.new) (full_fault_of result) 0
+    ensures uses { Uses (S.state store.old) (S.state store.new) (full_fault_of result) 0
         (settle_in (S.state store.old) S.number (content item.now)) }
-    ensures slots { NeverSlots (full_fault_of result) }
-    ensures history { (S.state store.new).history ≡ (S.state store.old).history }
 {
     match item {
         Item::Undefined | Item::Symbol(_) => Ok(0),
@@ -64,10 +62,8 @@ pub(crate) fn object_len<S: Strings>(
     requires many { count of.now ≤ 65536 }
     ensures value { IfOk result (λ n. n ≡ length (json_of (says (S.state store.old) S.number) of.now)) }
     ensures most { IfOk result (λ n. n ≤ 2 + 158456325028528675187087900672 * count of.now) }
-    ensures step { Step (S.state store.old) (S.state store.new) (full_fault_of result) 0
+    ensures uses { Uses (S.state store.old) (S.state store.new) (full_fault_of result) 0
         (settle_fields (S.state store.old) S.number of.now) }
-    ensures slots { NeverSlots (full_fault_of result) }
-    ensures history { (S.state store.new).history ≡ (S.state store.old).history }
 {
     let members = in_order(alloc, store, of)?;
     let mut len: u128 = 1;
@@ -87,9 +83,7 @@ fn key_len<S: Strings>(alloc: Global, store: &mut S, key: S::Ref) -> Result<u128
     requires { KeyFine (strings_of (S.state store.old)) (S.number key) }
     ensures value { IfOk result (λ n. n ≡ length (quoted (text_of (S.state store.old) (S.number key)))) }
     ensures most { IfOk result (λ n. n ≤ 3221225330) }
-    ensures step { Step (S.state store.old) (S.state store.new) (full_fault_of result) 0 0 }
-    ensures slots { NeverSlots (full_fault_of result) }
-    ensures history { (S.state store.new).history ≡ (S.state store.old).history }
+    ensures uses { Uses (S.state store.old) (S.state store.new) (full_fault_of result) 0 0 }
 {
     text_len(alloc, store, key)
 }
@@ -98,11 +92,9 @@ fn text_len<S: Strings>(alloc: Global, store: &mut S, s: S::Ref) -> Result<u128,
     requires { IsKnown (S.state store.old) (S.number s) }
     ensures value { IfOk result (λ n. n ≡ length (quoted (text_of (S.state store.old) (S.number s)))) }
     ensures most { IfOk result (λ n. n ≤ 3221225330) }
-    ensures step { Step (S.state store.old) (S.state store.new) (full_fault_of result) 0
+    ensures uses { Uses (S.state store.old) (S.state store.new) (full_fault_of result) 0
         (settle_words ((S.state store.old).settled (S.number s))
         (length (text_of (S.state store.old) (S.number s)))) }
-    ensures slots { NeverSlots (full_fault_of result) }
-    ensures history { (S.state store.new).history ≡ (S.state store.old).history }
 {
     element_len(alloc, store, s)
 }

@@ -3,7 +3,7 @@ ghost use Rattle.std.specs.Prelude.{◌≡◌, ◌++◌, ◌∷◌, [], ◌≤�
 ghost use Rattle.std.specs.Str.{all_ascii_digits};
 ghost use Rattle.std.specs.BTreeMap.{values};
 ghost use Rattle.js_store.specs.State.{text};
-ghost use Rattle.js_store.specs.Faults.{Step};
+ghost use Rattle.js_store.specs.Faults.{Uses};
 ghost use Rattle.js_store.specs.declared.faults.StoreFault.TheVariants.{Memory};
 ghost use Rattle.js_item.specs.Fine.{strings_of, KeyFine, KeysFine};
 ghost use Rattle.js_object.specs.Keys.{index_of, has_form, read_on, entered, put_off, ordered, entries, lent_entry, index_in};
@@ -33,8 +33,7 @@ pub fn own_keys<S: Strings>(
         (λ keys. map (says (S.state store.old) S.number) keys.items
         ≡ unit_keys (fields_mapped (says (S.state store.old) S.number) of.now)) }
     ensures fault { IfErr result (λ f. f ≡ Memory) }
-    ensures step { Step (S.state store.old) (S.state store.new) None 0 0 }
-    ensures history { (S.state store.new).history ≡ (S.state store.old).history }
+    ensures uses { Uses (S.state store.old) (S.state store.new) None 0 0 }
 {
     match keys(alloc, store, of) {
         Ok(keys) => Ok(keys),
@@ -49,8 +48,7 @@ fn keys<S: Strings>(
 ) -> Result<Vec<S::Ref>, NoMemory>
     requires { KeysFine (strings_of (S.state store.old)) S.number of.now }
     ensures value { IfOk result (λ keys. keys.items ≡ Keys.own_keys (S.state store.old) S.number of.now) }
-    ensures step { Step (S.state store.old) (S.state store.new) None 0 0 }
-    ensures history { (S.state store.new).history ≡ (S.state store.old).history }
+    ensures uses { Uses (S.state store.old) (S.state store.new) None 0 0 }
 {
     let members = in_order(alloc, store, of)?;
     keys_of(alloc, &members)
@@ -76,8 +74,7 @@ pub fn in_order<'a, S: Strings>(
     ensures value { IfOk result
         (λ members. map lent_entry members.items
         ≡ ordered (index_in (S.state store.old) S.number) (entries of.now)) }
-    ensures step { Step (S.state store.old) (S.state store.new) None 0 0 }
-    ensures history { (S.state store.new).history ≡ (S.state store.old).history }
+    ensures uses { Uses (S.state store.old) (S.state store.new) None 0 0 }
 {
     let mut indexes = BTreeMap::new(alloc);
     let mut others = Vec::new(alloc);
@@ -92,8 +89,7 @@ pub fn in_order<'a, S: Strings>(
 fn key_index<S: Strings>(alloc: Global, store: &mut S, key: S::Ref) -> Result<Option<u32>, NoMemory>
     requires { KeyFine (strings_of (S.state store.old)) (S.number key) }
     ensures value { IfOk result (λ index. index ≡ index_of (text (S.state store.old) (S.number key))) }
-    ensures step { Step (S.state store.old) (S.state store.new) None 0 0 }
-    ensures history { (S.state store.new).history ≡ (S.state store.old).history }
+    ensures uses { Uses (S.state store.old) (S.state store.new) None 0 0 }
 {
     if store.len(key) > 10 {
         return Ok(None);

@@ -2,7 +2,7 @@
 ghost use Rattle.std.specs.Prelude.{◌≡◌, ◌+◌, ◌*◌, length, IfOk};
 ghost use Rattle.js_store.specs.State.{Has};
 ghost use Rattle.js_store.specs.Rows.{flat_words};
-ghost use Rattle.js_store.specs.Faults.{Step, NeverSlots};
+ghost use Rattle.js_store.specs.Faults.{Uses};
 ghost use Rattle.js_texts.specs.Answers.{ThrowsLong, full_of};
 ghost use Rattle.js_object.specs.Use.{settle_fields};
 ghost use Rattle.js_item.specs.Fine.{strings_of, Bounded};
@@ -31,11 +31,9 @@ pub fn stringify<S: Strings>(
         (λ r. Has (S.state store.new) (S.number r) (json_of (says (S.state store.old) S.number) of.now)) }
     ensures throws { ThrowsLong result (S.state store.old).limit
         (length (json_of (says (S.state store.old) S.number) of.now)) }
-    ensures step { Step (S.state store.old) (S.state store.new) (full_of result)
+    ensures uses { Uses (S.state store.old) (S.state store.new) (full_of result)
         1 (2 * settle_fields (S.state store.old) S.number of.now
         + flat_words (json_of (says (S.state store.old) S.number) of.now)) }
-    ensures slots { NeverSlots (full_of result) }
-    ensures history { (S.state store.new).history ≡ (S.state store.old).history }
 {
     let length = object_len(alloc, store, of)?;
     if length > u128::from(store.limit()) {

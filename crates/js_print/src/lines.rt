@@ -1,6 +1,6 @@
 // The lines of a run.
 ghost use Rattle.std.specs.Prelude.{◌≡◌, ◌++◌, [], OnOk, OnErr};
-ghost use Rattle.js_store.specs.Faults.{Step, NeverSlots};
+ghost use Rattle.js_store.specs.Faults.{Uses};
 ghost use Rattle.js_texts.specs.Texts.{texts as texts_seen, AllKnown, settle_most, full_fault_of};
 ghost use Rattle.js_print.specs.Printing.{line};
 
@@ -51,10 +51,8 @@ impl Lines {
         ensures added { OnOk result (self.new ≡ self.old ++ line
             (texts_seen (S.state store.old) S.number parts.now)) }
         ensures unchanged { OnErr result (self.new ≡ self.old) }
-        ensures step { Step (S.state store.old) (S.state store.new) (full_fault_of result)
+        ensures uses { Uses (S.state store.old) (S.state store.new) (full_fault_of result)
             0 (settle_most (S.state store.old) S.number parts.now) }
-        ensures slots { NeverSlots (full_fault_of result) }
-        ensures history { (S.state store.new).history ≡ (S.state store.old).history }
     {
         print_line(alloc, store, parts, &mut self.bytes)
     }
@@ -72,10 +70,8 @@ pub fn print_line<S: Strings>(
     ensures added { OnOk result (out.new.items ≡ out.old.items ++ line
         (texts_seen (S.state store.old) S.number parts.now)) }
     ensures unchanged { OnErr result (out.new.items ≡ out.old.items) }
-    ensures step { Step (S.state store.old) (S.state store.new) (full_fault_of result) 0
+    ensures uses { Uses (S.state store.old) (S.state store.new) (full_fault_of result) 0
         (settle_most (S.state store.old) S.number parts.now) }
-    ensures slots { NeverSlots (full_fault_of result) }
-    ensures history { (S.state store.new).history ≡ (S.state store.old).history }
 {
     let before = out.len();
     match append_line(alloc, store, parts, out) {

@@ -2,7 +2,7 @@
 ghost use Rattle.std.specs.Prelude.{◌≡◌, ◌+◌, ◌<◌, ◌≤◌, ◌++◌, ◌∷◌, [], drop, length, take, All, vec_capacity, vec_len, None, OnOk, OnErr, IfErr};
 ghost use Rattle.js_units.specs.Text.{utf8};
 ghost use Rattle.js_store.specs.State.{IsKnown, IsSettled, text};
-ghost use Rattle.js_store.specs.Faults.{Step, NeverSlots};
+ghost use Rattle.js_store.specs.Faults.{Uses};
 ghost use Rattle.js_store.specs.Rows.{settle_words};
 ghost use Rattle.js_print.specs.Printing.{line, line_rest};
 ghost use Rattle.js_print.specs.Printing;
@@ -24,10 +24,8 @@ pub fn append_line<S: Strings>(
     ensures added { OnOk result
         (line.new.items ≡ line.old.items ++ Printing.line (texts (S.state store.old) S.number parts.now)) }
     ensures kept { take (length line.old.items) line.new.items ≡ line.old.items }
-    ensures step { Step (S.state store.old) (S.state store.new) (full_fault_of result) 0
+    ensures uses { Uses (S.state store.old) (S.state store.new) (full_fault_of result) 0
         (settle_most (S.state store.old) S.number parts.now) }
-    ensures slots { NeverSlots (full_fault_of result) }
-    ensures history { (S.state store.new).history ≡ (S.state store.old).history }
 {
     match parts {
         [] => push_byte(line, b'\n'),
@@ -49,10 +47,8 @@ fn append_rest<S: Strings>(
     ensures added { OnOk result
         (line.new.items ≡ line.old.items ++ line_rest (texts (S.state store.old) S.number rest.now)) }
     ensures kept { take (length line.old.items) line.new.items ≡ line.old.items }
-    ensures step { Step (S.state store.old) (S.state store.new) (full_fault_of result) 0
+    ensures uses { Uses (S.state store.old) (S.state store.new) (full_fault_of result) 0
         (settle_most (S.state store.old) S.number rest.now) }
-    ensures slots { NeverSlots (full_fault_of result) }
-    ensures history { (S.state store.new).history ≡ (S.state store.old).history }
 {
     for s in rest {
         push_byte(line, b' ')?;
@@ -72,11 +68,9 @@ fn append_string<S: Strings>(
     ensures added { OnOk result
         (line.new.items ≡ line.old.items ++ utf8 (text (S.state store.old) (S.number s))) }
     ensures kept { take (length line.old.items) line.new.items ≡ line.old.items }
-    ensures step { Step (S.state store.old) (S.state store.new) (full_fault_of result) 0
+    ensures uses { Uses (S.state store.old) (S.state store.new) (full_fault_of result) 0
         (settle_words ((S.state store.old).settled (S.number s))
         (length (text (S.state store.old) (S.number s)))) }
-    ensures slots { NeverSlots (full_fault_of result) }
-    ensures history { (S.state store.new).history ≡ (S.state store.old).history }
 {
     store.settle(s)?;
     Ok(append_settled(alloc, store, s, line)?)
@@ -94,8 +88,7 @@ fn append_settled<S: Strings>(
     ensures added { OnOk result
         (line.new.items ≡ line.old.items ++ utf8 (text (S.state store.old) (S.number s))) }
     ensures kept { take (length line.old.items) line.new.items ≡ line.old.items }
-    ensures step { Step (S.state store.old) (S.state store.new) None 0 0 }
-    ensures history { (S.state store.new).history ≡ (S.state store.old).history }
+    ensures uses { Uses (S.state store.old) (S.state store.new) None 0 0 }
 {
     let len = store.len(s);
     line.reserve(len as usize + 1)?;
@@ -120,8 +113,7 @@ fn push_ascii<S: Strings>(store: &mut S, s: S::Ref, len: u32, line: &mut Vec<u8>
     ensures added { line.new.items ++ utf8 (drop result (text (S.state store.old) (S.number s)))
         ≡ line.old.items ++ utf8 (text (S.state store.old) (S.number s)) }
     ensures kept { take (length line.old.items) line.new.items ≡ line.old.items }
-    ensures step { Step (S.state store.old) (S.state store.new) None 0 0 }
-    ensures history { (S.state store.new).history ≡ (S.state store.old).history }
+    ensures uses { Uses (S.state store.old) (S.state store.new) None 0 0 }
 {
     let mut block = [0; 256];
     let mut done = 0;
@@ -173,8 +165,7 @@ fn append_behind<S: Strings>(
     ensures added { OnOk result
         (line.new.items ≡ line.old.items ++ utf8 (drop from (text (S.state store.old) (S.number s)))) }
     ensures unchanged { OnErr result (line.new.items ≡ line.old.items) }
-    ensures step { Step (S.state store.old) (S.state store.new) None 0 0 }
-    ensures history { (S.state store.new).history ≡ (S.state store.old).history }
+    ensures uses { Uses (S.state store.old) (S.state store.new) None 0 0 }
 {
     let units = copied(alloc, store, s)?;
     append_utf8(&units.as_slice()[from as usize..], line)

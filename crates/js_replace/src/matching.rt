@@ -1,7 +1,7 @@
 // The places of matches.
 ghost use Rattle.std.specs.Prelude.{◌≡◌, ◌≤◌, length, IfOk};
 ghost use Rattle.js_store.specs.State.{IsKnown, IsSettled, text};
-ghost use Rattle.js_store.specs.Faults.{Step};
+ghost use Rattle.js_store.specs.Faults.{Uses};
 ghost use Rattle.js_search.specs.Places.{first};
 ghost use Rattle.js_replace.specs.Matches.{first_matches, InOrder};
 
@@ -30,8 +30,7 @@ pub fn places<S: Strings>(
         (λ v. InOrder (length (text (S.state store.old) (S.number s)))
         (length (text (S.state store.old) (S.number w))) 0 v.items) }
     ensures count { IfOk result (λ v. length v.items ≤ most) }
-    ensures step { Step (S.state store.old) (S.state store.new) None 0 0 }
-    ensures history { (S.state store.new).history ≡ (S.state store.old).history }
+    ensures uses { Uses (S.state store.old) (S.state store.new) None 0 0 }
 {
     let places = found_places(alloc, store, s, w, most)?;
     Ok(places)
@@ -52,8 +51,7 @@ fn found_places<S: Strings>(
         (λ v. v.items
         ≡ first_matches most (text (S.state store.old) (S.number s))
         (text (S.state store.old) (S.number w)) 0) }
-    ensures step { Step (S.state store.old) (S.state store.new) None 0 0 }
-    ensures history { (S.state store.new).history ≡ (S.state store.old).history }
+    ensures uses { Uses (S.state store.old) (S.state store.new) None 0 0 }
 {
     let size = store.len(w).max(1);
     let mut places = Vec::new(alloc);
@@ -79,8 +77,7 @@ fn next_place<S: Strings>(store: &mut S, s: S::Ref, w: S::Ref, from: u32) -> Opt
     requires needle_settled { IsSettled (S.state store.old) (S.number w) }
     ensures value { result ≡ first (text (S.state store.old) (S.number s))
         (text (S.state store.old) (S.number w)) from }
-    ensures step { Step (S.state store.old) (S.state store.new) None 0 0 }
-    ensures history { (S.state store.new).history ≡ (S.state store.old).history }
+    ensures uses { Uses (S.state store.old) (S.state store.new) None 0 0 }
 {
     if from > store.len(s) {
         return None;

@@ -1,7 +1,7 @@
 // Matches in a string replaced.
 ghost use Rattle.std.specs.Prelude.{◌≡◌, ◌+◌, ◌≤◌, ◌++◌, ℕ, List, length, IfOk, OnOk};
 ghost use Rattle.js_store.specs.State.{Has, IsKnown, IsSettled, text};
-ghost use Rattle.js_store.specs.Faults.{Step, fault_of, NeverSlots};
+ghost use Rattle.js_store.specs.Faults.{fault_of, Uses};
 ghost use Rattle.js_texts.specs.Answers.{ThrowsLong, full_of};
 ghost use Rattle.js_replace.specs.Matches.{AreMatches, first_matches, matches, InOrder};
 ghost use Rattle.js_replace.specs.Replaced.{replaced_at, replaced_first, replaced_all};
@@ -34,10 +34,8 @@ pub fn replace<S: Strings>(
     ensures throws { ThrowsLong result (S.state store.old).limit
         (length (replaced_first (text (S.state store.old) (S.number s))
         (text (S.state store.old) (S.number w)) (text (S.state store.old) (S.number template)))) }
-    ensures step { Step (S.state store.old) (S.state store.new) (full_of result)
+    ensures uses { Uses (S.state store.old) (S.state store.new) (full_of result)
         1 (settling (S.state store.old) (S.number s) + settling (S.state store.old) (S.number w) + settling (S.state store.old) (S.number template) + made_words (S.state store.old).limit (replaced_first (text (S.state store.old) (S.number s)) (text (S.state store.old) (S.number w)) (text (S.state store.old) (S.number template)))) }
-    ensures slots { NeverSlots (full_of result) }
-    ensures history { (S.state store.new).history ≡ (S.state store.old).history }
 {
     settle_all(store, s, w, template)?;
     replaced(alloc, store, s, w, template, 1)
@@ -68,10 +66,8 @@ pub fn replace_all<S: Strings>(
     ensures throws { ThrowsLong result (S.state store.old).limit
         (length (replaced_all (text (S.state store.old) (S.number s)) (text (S.state store.old) (S.number w))
         (text (S.state store.old) (S.number template)))) }
-    ensures step { Step (S.state store.old) (S.state store.new) (full_of result)
+    ensures uses { Uses (S.state store.old) (S.state store.new) (full_of result)
         1 (settling (S.state store.old) (S.number s) + settling (S.state store.old) (S.number w) + settling (S.state store.old) (S.number template) + made_words (S.state store.old).limit (replaced_all (text (S.state store.old) (S.number s)) (text (S.state store.old) (S.number w)) (text (S.state store.old) (S.number template)))) }
-    ensures slots { NeverSlots (full_of result) }
-    ensures history { (S.state store.new).history ≡ (S.state store.old).history }
 {
     settle_all(store, s, w, template)?;
     // a match for each place, the end among them
@@ -92,11 +88,9 @@ fn settle_all<S: Strings>(
     ensures settled { OnOk result (IsSettled (S.state store.new) (S.number s)) }
     ensures needle_settled { OnOk result (IsSettled (S.state store.new) (S.number w)) }
     ensures template_settled { OnOk result (IsSettled (S.state store.new) (S.number template)) }
-    ensures step { Step (S.state store.old) (S.state store.new) (fault_of result) 0
+    ensures uses { Uses (S.state store.old) (S.state store.new) (fault_of result) 0
         (settling (S.state store.old) (S.number s) + settling (S.state store.old) (S.number w) + settling
         (S.state store.old) (S.number template)) }
-    ensures slots { NeverSlots (fault_of result) }
-    ensures history { (S.state store.new).history ≡ (S.state store.old).history }
 {
     store.settle(s)?;
     store.settle(w)?;
@@ -130,10 +124,8 @@ fn replaced<S: Strings>(
         (text (S.state store.old) (S.number template)) 0
         (first_matches most (text (S.state store.old) (S.number s))
         (text (S.state store.old) (S.number w)) 0))) }
-    ensures step { Step (S.state store.old) (S.state store.new) (full_of result)
+    ensures uses { Uses (S.state store.old) (S.state store.new) (full_of result)
         1 (made_words (S.state store.old).limit (replaced_at (text (S.state store.old) (S.number s)) (text (S.state store.old) (S.number w)) (text (S.state store.old) (S.number template)) 0 (first_matches most (text (S.state store.old) (S.number s)) (text (S.state store.old) (S.number w)) 0))) }
-    ensures slots { NeverSlots (full_of result) }
-    ensures history { (S.state store.new).history ≡ (S.state store.old).history }
 {
     let places = places(alloc, store, s, w, most)?;
     let template = copied(alloc, store, template)?;
@@ -164,10 +156,8 @@ fn with_places<S: Strings>(
     ensures throws { ThrowsLong result (S.state store.old).limit
         (length (replaced_at (text (S.state store.old) (S.number s))
         (text (S.state store.old) (S.number w)) template.now 0 places.now)) }
-    ensures step { Step (S.state store.old) (S.state store.new) (full_of result)
+    ensures uses { Uses (S.state store.old) (S.state store.new) (full_of result)
         1 (made_words (S.state store.old).limit (replaced_at (text (S.state store.old) (S.number s)) (text (S.state store.old) (S.number w)) template.now 0 places.now)) }
-    ensures slots { NeverSlots (full_of result) }
-    ensures history { (S.state store.new).history ≡ (S.state store.old).history }
 {
     let length = result_len(store, s, w, template, places);
     if length > u128::from(store.limit()) {
@@ -196,8 +186,7 @@ fn result_len<S: Strings>(
     ensures value { result ≡ length
         (replaced_at (text (S.state store.old) (S.number s))
         (text (S.state store.old) (S.number w)) template.now 0 places.now) }
-    ensures step { Step (S.state store.old) (S.state store.new) None 0 0 }
-    ensures history { (S.state store.new).history ≡ (S.state store.old).history }
+    ensures uses { Uses (S.state store.old) (S.state store.new) None 0 0 }
 {
     let len = store.len(s);
     let size = store.len(w);
@@ -221,8 +210,7 @@ fn result_units<S: Strings>(
     ensures value { IfOk result
         (λ u. u ≡ replaced_at (text (S.state store.old) (S.number s))
         (text (S.state store.old) (S.number w)) template.now 0 places.now) }
-    ensures step { Step (S.state store.old) (S.state store.new) None 0 0 }
-    ensures history { (S.state store.new).history ≡ (S.state store.old).history }
+    ensures uses { Uses (S.state store.old) (S.state store.new) None 0 0 }
 {
     let s = copied(alloc, store, s)?;
     let w = copied(alloc, store, w)?;

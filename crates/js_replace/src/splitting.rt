@@ -2,7 +2,7 @@
 ghost use Rattle.std.specs.Prelude.{◌≡◌, ◌+◌, ◌-◌, ◌<◌, ◌≤◌, ◌++◌, ◌∷◌, [], length, take, slice_range, IfOk, IfErr, OnOk, IfSome, Some};
 ghost use Rattle.std.specs.Option.{option_map};
 ghost use Rattle.js_store.specs.State.{IsKnown, IsSettled, text};
-ghost use Rattle.js_store.specs.Faults.{Step, NeverSlots};
+ghost use Rattle.js_store.specs.Faults.{Uses};
 ghost use Rattle.js_store.specs.Rows.{copy_words};
 ghost use Rattle.js_texts.specs.Answers.{NeverThrows, full_of};
 ghost use Rattle.js_texts.specs.Texts.{texts, AllKnown, full_fault_of};
@@ -35,10 +35,8 @@ pub fn split<S: Strings>(
         (option_map (λ r. text (S.state store.old) (S.number r)) sep) limit) }
     ensures known { IfOk result (λ v. AllKnown (S.state store.new) S.number v.items) }
     ensures throws { NeverThrows result }
-    ensures step { Step (S.state store.old) (S.state store.new) (full_of result)
+    ensures uses { Uses (S.state store.old) (S.state store.new) (full_of result)
         (split_ids (S.state store.old) S.number s sep limit) (split_words (S.state store.old) S.number s sep limit) }
-    ensures slots { NeverSlots (full_of result) }
-    ensures history { (S.state store.new).history ≡ (S.state store.old).history }
 {
     match sep {
         None => Ok(whole(alloc, store, s, limit)?),
@@ -82,11 +80,9 @@ fn split_by<S: Strings>(
         ≡ Parts.parts (text (S.state store.old) (S.number s))
         (Some (text (S.state store.old) (S.number sep))) limit) }
     ensures known { IfOk result (λ v. AllKnown (S.state store.new) S.number v.items) }
-    ensures step { Step (S.state store.old) (S.state store.new) (full_fault_of result)
+    ensures uses { Uses (S.state store.old) (S.state store.new) (full_fault_of result)
         (length (Parts.parts (text (S.state store.old) (S.number s)) (Some (text (S.state store.old) (S.number sep))) limit))
         (settling (S.state store.old) (S.number s) + settling (S.state store.old) (S.number sep) + copies (Parts.parts (text (S.state store.old) (S.number s)) (Some (text (S.state store.old) (S.number sep))) limit)) }
-    ensures slots { NeverSlots (full_fault_of result) }
-    ensures history { (S.state store.new).history ≡ (S.state store.old).history }
 {
     store.settle(s)?;
     store.settle(sep)?;
@@ -110,11 +106,9 @@ fn split_settled<S: Strings>(
         ≡ Parts.parts (text (S.state store.old) (S.number s))
         (Some (text (S.state store.old) (S.number sep))) limit) }
     ensures known { IfOk result (λ v. AllKnown (S.state store.new) S.number v.items) }
-    ensures step { Step (S.state store.old) (S.state store.new) (full_fault_of result)
+    ensures uses { Uses (S.state store.old) (S.state store.new) (full_fault_of result)
         (length (Parts.parts (text (S.state store.old) (S.number s)) (Some (text (S.state store.old) (S.number sep))) limit))
         (copies (Parts.parts (text (S.state store.old) (S.number s)) (Some (text (S.state store.old) (S.number sep))) limit)) }
-    ensures slots { NeverSlots (full_fault_of result) }
-    ensures history { (S.state store.new).history ≡ (S.state store.old).history }
 {
     let len = store.len(s);
     let size = store.len(sep);
@@ -138,11 +132,9 @@ fn single_units<S: Strings>(
         (λ v. texts (S.state store.new) S.number v.items
         ≡ take limit (Parts.singles (text (S.state store.old) (S.number s)))) }
     ensures known { IfOk result (λ v. AllKnown (S.state store.new) S.number v.items) }
-    ensures step { Step (S.state store.old) (S.state store.new) (full_fault_of result)
+    ensures uses { Uses (S.state store.old) (S.state store.new) (full_fault_of result)
         (length (take limit (Parts.singles (text (S.state store.old) (S.number s)))))
         (copies (take limit (Parts.singles (text (S.state store.old) (S.number s))))) }
-    ensures slots { NeverSlots (full_fault_of result) }
-    ensures history { (S.state store.new).history ≡ (S.state store.old).history }
 {
     let most = store.len(s).min(limit);
     let mut parts = Vec::new(alloc);
@@ -170,11 +162,9 @@ fn cut_at<S: Strings>(
         (λ v. texts (S.state store.new) S.number v.items
         ≡ take limit (pieces (text (S.state store.old) (S.number s)) size 0 places.now)) }
     ensures known { IfOk result (λ v. AllKnown (S.state store.new) S.number v.items) }
-    ensures step { Step (S.state store.old) (S.state store.new) (full_fault_of result)
+    ensures uses { Uses (S.state store.old) (S.state store.new) (full_fault_of result)
         (length (take limit (pieces (text (S.state store.old) (S.number s)) size 0 places.now)))
         (copies (take limit (pieces (text (S.state store.old) (S.number s)) size 0 places.now))) }
-    ensures slots { NeverSlots (full_fault_of result) }
-    ensures history { (S.state store.new).history ≡ (S.state store.old).history }
 {
     let len = store.len(s);
     let mut parts = Vec::new(alloc);
@@ -209,10 +199,8 @@ fn push_part<S: Strings>(
         ≡ texts (S.state store.old) S.number parts.old.items ++ slice_range
         (text (S.state store.old) (S.number s)) from to ∷ []) }
     ensures known { OnOk result (AllKnown (S.state store.new) S.number parts.new.items) }
-    ensures step { Step (S.state store.old) (S.state store.new) (full_fault_of result) 1
+    ensures uses { Uses (S.state store.old) (S.state store.new) (full_fault_of result) 1
         (copy_words (to - from)) }
-    ensures slots { NeverSlots (full_fault_of result) }
-    ensures history { (S.state store.new).history ≡ (S.state store.old).history }
 {
     let part = store.slice(s, from, to)?;
     keep::<S>(parts, part)

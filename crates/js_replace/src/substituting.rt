@@ -1,7 +1,7 @@
 // What a template stands for at a match.
 ghost use Rattle.std.specs.Prelude.{◌≡◌, ◌+◌, ◌≤◌, length, IfOk};
 ghost use Rattle.js_store.specs.State.{Has, IsKnown, IsSettled, text};
-ghost use Rattle.js_store.specs.Faults.{Step, NeverSlots};
+ghost use Rattle.js_store.specs.Faults.{Uses};
 ghost use Rattle.js_texts.specs.Answers.{ThrowsLong, full_of};
 ghost use Rattle.js_texts.specs.Texts.{full_fault_of};
 ghost use Rattle.js_search.specs.Places.{Stands};
@@ -38,10 +38,8 @@ pub fn substitution<S: Strings>(
     ensures throws { ThrowsLong result (S.state store.old).limit
         (length (substituted (text (S.state store.old) (S.number template))
         (text (S.state store.old) (S.number s)) at (text (S.state store.old) (S.number w)))) }
-    ensures step { Step (S.state store.old) (S.state store.new) (full_of result)
+    ensures uses { Uses (S.state store.old) (S.state store.new) (full_of result)
         1 (settling (S.state store.old) (S.number template) + settling (S.state store.old) (S.number s) + settling (S.state store.old) (S.number w) + made_words (S.state store.old).limit (substituted (text (S.state store.old) (S.number template)) (text (S.state store.old) (S.number s)) at (text (S.state store.old) (S.number w)))) }
-    ensures slots { NeverSlots (full_of result) }
-    ensures history { (S.state store.new).history ≡ (S.state store.old).history }
 {
     let template = read(alloc, store, template)?;
     let length = match_len(store, template.as_slice(), s, at, w);
@@ -62,8 +60,7 @@ fn match_len<S: Strings>(store: &mut S, template: &[u16], s: S::Ref, at: u32, w:
     ensures value { result ≡ length
         (substituted template.now (text (S.state store.old) (S.number s)) at
         (text (S.state store.old) (S.number w))) }
-    ensures step { Step (S.state store.old) (S.state store.new) None 0 0 }
-    ensures history { (S.state store.new).history ≡ (S.state store.old).history }
+    ensures uses { Uses (S.state store.old) (S.state store.new) None 0 0 }
 {
     let len = store.len(s);
     let size = store.len(w);
@@ -85,10 +82,8 @@ fn match_units<S: Strings>(
     ensures value { IfOk result
         (λ u. u ≡ substituted template.now (text (S.state store.old) (S.number s)) at
         (text (S.state store.old) (S.number w))) }
-    ensures step { Step (S.state store.old) (S.state store.new) (full_fault_of result) 0
+    ensures uses { Uses (S.state store.old) (S.state store.new) (full_fault_of result) 0
         (settling (S.state store.old) (S.number s) + settling (S.state store.old) (S.number w)) }
-    ensures slots { NeverSlots (full_fault_of result) }
-    ensures history { (S.state store.new).history ≡ (S.state store.old).history }
 {
     let s = read(alloc, store, s)?;
     let w = read(alloc, store, w)?;

@@ -2,7 +2,7 @@
 ghost use Rattle.std.specs.Prelude.{◌≡◌, ◌↔◌, ℕ, ◌+◌, ◌<◌, ◌≤◌, IsTrue, None, length, slice_index};
 ghost use Rattle.std.specs.Int.{bit_at};
 ghost use Rattle.js_store.specs.State.{IsKnown, IsSettled, text};
-ghost use Rattle.js_store.specs.Faults.{Step};
+ghost use Rattle.js_store.specs.Faults.{Uses};
 ghost use Rattle.js_search.specs.Blocks.{IsPart};
 ghost use Rattle.js_search.specs.Pairs.{HasPair, IsFirstPair, IsLastPair, IsPairOf};
 
@@ -36,8 +36,7 @@ pub(crate) fn pair_of<S: Strings>(store: &mut S, needle: S::Ref, size: u32) -> P
     requires size { size ≡ length (text (S.state store.old) (S.number needle)) }
     requires some { 0 < size }
     ensures pair { IsPairOf (text (S.state store.old) (S.number needle)) result }
-    ensures step { Step (S.state store.old) (S.state store.new) None 0 0 }
-    ensures history { (S.state store.new).history ≡ (S.state store.old).history }
+    ensures uses { Uses (S.state store.old) (S.state store.new) None 0 0 }
 {
     let apart = MOST_APART.min(size - 1);
     let first = store.unit_at(needle, 0);
@@ -68,8 +67,7 @@ pub(crate) fn next_pair<S: Strings>(
     requires part { IsPart (text (S.state store.old) (S.number hay)) block.old }
     ensures least { IsFirstPair (text (S.state store.old) (S.number hay)) pair from result }
     ensures part { IsPart (text (S.state store.old) (S.number hay)) block.new }
-    ensures step { Step (S.state store.old) (S.state store.new) None 0 0 }
-    ensures history { (S.state store.new).history ≡ (S.state store.old).history }
+    ensures uses { Uses (S.state store.old) (S.state store.new) None 0 0 }
 {
     let mut place = from;
     while place + pair.apart < len {
@@ -103,8 +101,7 @@ pub(crate) fn previous_pair<S: Strings>(
     requires part { IsPart (text (S.state store.old) (S.number hay)) block.old }
     ensures greatest { IsLastPair (text (S.state store.old) (S.number hay)) pair end result }
     ensures part { IsPart (text (S.state store.old) (S.number hay)) block.new }
-    ensures step { Step (S.state store.old) (S.state store.new) None 0 0 }
-    ensures history { (S.state store.new).history ≡ (S.state store.old).history }
+    ensures uses { Uses (S.state store.old) (S.state store.new) None 0 0 }
 {
     let mut left = end;
     while 0 < left {

@@ -1,7 +1,7 @@
 // Units of two strings that are the same, by runs of units that are read into two buffers.
 ghost use Rattle.std.specs.Prelude.{◌≡◌, ◌≢◌, ℕ, ◌+◌, ◌<◌, ◌≤◌, None, length, slice_index};
 ghost use Rattle.js_store.specs.State.{IsKnown, IsSettled, text};
-ghost use Rattle.js_store.specs.Faults.{Step};
+ghost use Rattle.js_store.specs.Faults.{Uses};
 
 use js_store::Strings;
 
@@ -35,8 +35,7 @@ pub(crate) fn same_behind<S: Strings>(
         ≡ slice_index (text (S.state store.old) (S.number needle)) k }
     ensures differs { result < size → slice_index (text (S.state store.old) (S.number hay)) (place + result)
         ≢ slice_index (text (S.state store.old) (S.number needle)) result }
-    ensures step { Step (S.state store.old) (S.state store.new) None 0 0 }
-    ensures history { (S.state store.new).history ≡ (S.state store.old).history }
+    ensures uses { Uses (S.state store.old) (S.state store.new) None 0 0 }
 {
     let (mut left, mut right) = ([0; 256], [0; 256]);
     let mut done = from;
@@ -86,8 +85,7 @@ fn same_run<S: Strings>(
     ensures differs { result < length left.old
         → slice_index (text (S.state store.old) (S.number hay)) (at + result)
         ≢ slice_index (text (S.state store.old) (S.number needle)) (from + result) }
-    ensures step { Step (S.state store.old) (S.state store.new) None 0 0 }
-    ensures history { (S.state store.new).history ≡ (S.state store.old).history }
+    ensures uses { Uses (S.state store.old) (S.state store.new) None 0 0 }
 {
     store.read(hay, at, left);
     store.read(needle, from, right);

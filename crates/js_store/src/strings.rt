@@ -15,7 +15,7 @@ use crate::faults::{ConcatFault, StoreFault};
 pub trait Strings {
     type Ref: Copy;
 
-    ghost use Rattle.js_store.specs.Faults.{Step, fault_of, concat_fault_of, JoinAnswer, SlotsShut, NeverSlots};
+    ghost use Rattle.js_store.specs.Faults.{Step, fault_of, concat_fault_of, JoinAnswer, SlotsShut, Uses};
     ghost use Rattle.js_store.specs.Units.{IsFirstUnit};
     ghost use Rattle.js_store.specs.Rows.{flat_words, join_ids, join_words, cut_ids, cut_words, settle_words, intern_words};
 
@@ -33,26 +33,21 @@ pub trait Strings {
         requires { length units.now ≤ (state self.old).limit }
         ensures ok { IfOk result
             (λ r. Has (state self.new) (number r) units.now × IsSettled (state self.new) (number r)) }
-        ensures step { Step (state self.old) (state self.new) (fault_of result) 1 (flat_words units.now) }
-        ensures no_slots { NeverSlots (fault_of result) }
-        ensures history { (state self.new).history ≡ (state self.old).history };
+        ensures uses { Uses (state self.old) (state self.new) (fault_of result) 1 (flat_words units.now) };
 
     /// The number of units.
     fn len(&mut self, s: Self::Ref) -> u32
         requires { IsKnown (state self.old) (number s) }
         ensures value { result ≡ length (text (state self.old) (number s)) }
         ensures most { result ≤ 536870888 }
-        ensures step { Step (state self.old) (state self.new) None 0 0 }
-        ensures history { (state self.new).history ≡ (state self.old).history };
+        ensures uses { Uses (state self.old) (state self.new) None 0 0 };
 
     /// Makes the string ready to be read and cut, as by flattening.
     fn settle(&mut self, s: Self::Ref) -> Result<(), StoreFault>
         requires { IsKnown (state self.old) (number s) }
         ensures ok { OnOk result (IsSettled (state self.new) (number s)) }
-        ensures step { Step (state self.old) (state self.new) (fault_of result) 0
-            (settle_words ((state self.old).settled (number s)) (length (text (state self.old) (number s)))) }
-        ensures no_slots { NeverSlots (fault_of result) }
-        ensures history { (state self.new).history ≡ (state self.old).history };
+        ensures uses { Uses (state self.old) (state self.new) (fault_of result) 0
+            (settle_words ((state self.old).settled (number s)) (length (text (state self.old) (number s)))) };
 
     /// The unit at place `i`, counted from 0.
     fn unit_at(&mut self, s: Self::Ref, i: u32) -> u16
@@ -60,8 +55,7 @@ pub trait Strings {
         requires settled { IsSettled (state self.old) (number s) }
         requires within { i < length (text (state self.old) (number s)) }
         ensures value { result ≡ slice_index (text (state self.old) (number s)) i }
-        ensures step { Step (state self.old) (state self.new) None 0 0 }
-        ensures history { (state self.new).history ≡ (state self.old).history };
+        ensures uses { Uses (state self.old) (state self.new) None 0 0 };
 
     /// Copies the units from place `from` on into `into`, as many as it holds.
     fn read(&mut self, s: Self::Ref, from: u32, into: &mut [u16])
@@ -70,8 +64,7 @@ pub trait Strings {
         requires within { from + length into.old ≤ length (text (state self.old) (number s)) }
         ensures units { into.new
             ≡ slice_range (text (state self.old) (number s)) from (from + length into.old) }
-        ensures step { Step (state self.old) (state self.new) None 0 0 }
-        ensures history { (state self.new).history ≡ (state self.old).history }
+        ensures uses { Uses (state self.old) (state self.new) None 0 0 }
     {
         for k in 0..into.len() {
             into[k] = self.unit_at(s, from + k as u32);
@@ -84,8 +77,7 @@ pub trait Strings {
         requires settled { IsSettled (state self.old) (number s) }
         requires within { from ≤ length (text (state self.old) (number s)) }
         ensures least { IsFirstUnit (text (state self.old) (number s)) unit from result }
-        ensures step { Step (state self.old) (state self.new) None 0 0 }
-        ensures history { (state self.new).history ≡ (state self.old).history }
+        ensures uses { Uses (state self.old) (state self.new) None 0 0 }
     {
         for i in from..self.len(s) {
             if self.unit_at(s, i) == unit {
@@ -105,11 +97,9 @@ pub trait Strings {
             (text (state self.old) (number a) ++ text (state self.old) (number b))) }
         ensures answer { JoinAnswer result (state self.old).limit
             (length (text (state self.old) (number a))) (length (text (state self.old) (number b))) }
-        ensures step { Step (state self.old) (state self.new) (concat_fault_of result)
+        ensures uses { Uses (state self.old) (state self.new) (concat_fault_of result)
             (join_ids (length (text (state self.old) (number a))) (length (text (state self.old) (number b))))
-            (join_words (length (text (state self.old) (number a))) (length (text (state self.old) (number b)))) }
-        ensures no_slots { NeverSlots (concat_fault_of result) }
-        ensures history { (state self.new).history ≡ (state self.old).history };
+            (join_words (length (text (state self.old) (number a))) (length (text (state self.old) (number b)))) };
 
     /// The units from place `from` to before place `to`, a settled string.
     fn slice(&mut self, s: Self::Ref, from: u32, to: u32) -> Result<Self::Ref, StoreFault>
@@ -120,11 +110,9 @@ pub trait Strings {
         ensures ok { IfOk result
             (λ r. Has (state self.new) (number r) (slice_range (text (state self.old) (number s)) from to)
             × IsSettled (state self.new) (number r)) }
-        ensures step { Step (state self.old) (state self.new) (fault_of result)
+        ensures uses { Uses (state self.old) (state self.new) (fault_of result)
             (cut_ids from to (length (text (state self.old) (number s))))
-            (cut_words from to (length (text (state self.old) (number s)))) }
-        ensures no_slots { NeverSlots (fault_of result) }
-        ensures history { (state self.new).history ≡ (state self.old).history };
+            (cut_words from to (length (text (state self.old) (number s)))) };
 
     /// The interned string of the units of `s`. The history gains one pair at its end, the units
     /// and the number of the answer; a refused call leaves the history as it was.
@@ -150,8 +138,7 @@ pub trait Strings {
         ensures numbers { IsTrue result ↔ (number a ≡ number b) }
         ensures units { IsTrue result ↔
             (text (state self.old) (number a) ≡ text (state self.old) (number b)) }
-        ensures step { Step (state self.old) (state self.new) None 0 0 }
-        ensures history { (state self.new).history ≡ (state self.old).history };
+        ensures uses { Uses (state self.old) (state self.new) None 0 0 };
 
     /// The number as which the reference is seen, where the store tells it, as an engine's number
     /// of a string. References with one number name one string, and interned strings of the same

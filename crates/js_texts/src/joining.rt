@@ -1,7 +1,7 @@
 // Lists of strings joined.
 ghost use Rattle.std.specs.Prelude.{◌≡◌, ◌+◌, ◌++◌, length, IfOk, IfErr, OnOk};
 ghost use Rattle.js_store.specs.State.{Has, IsKnown, IsSettled, text as text_of};
-ghost use Rattle.js_store.specs.Faults.{Step, NeverSlots};
+ghost use Rattle.js_store.specs.Faults.{Uses};
 ghost use Rattle.js_texts.specs.Answers.{ThrowsLong, full_of};
 ghost use Rattle.js_texts.specs.Texts.{texts, AllKnown, settle_most, full_fault_of};
 ghost use Rattle.js_texts.specs.Joined.{joined, with_each};
@@ -32,10 +32,8 @@ pub fn join<S: Strings>(
     ensures throws { ThrowsLong result (S.state store.old).limit
         (length (joined (text_of (S.state store.old) (S.number sep))
         (texts (S.state store.old) S.number parts.now))) }
-    ensures step { Step (S.state store.old) (S.state store.new) (full_of result)
+    ensures uses { Uses (S.state store.old) (S.state store.new) (full_of result)
         1 (settle_most (S.state store.old) S.number parts.now + settling (S.state store.old) (S.number sep) + made_words (S.state store.old).limit (joined (text_of (S.state store.old) (S.number sep)) (texts (S.state store.old) S.number parts.now))) }
-    ensures slots { NeverSlots (full_of result) }
-    ensures history { (S.state store.new).history ≡ (S.state store.old).history }
 {
     let length = joined_len(store, parts, sep);
     if length > u128::from(store.limit()) {
@@ -52,8 +50,7 @@ fn joined_len<S: Strings>(store: &mut S, parts: &[S::Ref], sep: S::Ref) -> u128
     requires separator_known { IsKnown (S.state store.old) (S.number sep) }
     ensures value { result ≡ length
         (joined (text_of (S.state store.old) (S.number sep)) (texts (S.state store.old) S.number parts.now)) }
-    ensures step { Step (S.state store.old) (S.state store.new) None 0 0 }
-    ensures history { (S.state store.new).history ≡ (S.state store.old).history }
+    ensures uses { Uses (S.state store.old) (S.state store.new) None 0 0 }
 {
     let size = u128::from(store.len(sep));
     // the separator is counted before each string, the first among them
@@ -76,10 +73,8 @@ fn joined_units<S: Strings>(
     ensures value { IfOk result
         (λ u. u ≡ joined (text_of (S.state store.old) (S.number sep))
         (texts (S.state store.old) S.number parts.now)) }
-    ensures step { Step (S.state store.old) (S.state store.new) (full_fault_of result) 0
+    ensures uses { Uses (S.state store.old) (S.state store.new) (full_fault_of result) 0
         (settle_most (S.state store.old) S.number parts.now + settling (S.state store.old) (S.number sep)) }
-    ensures slots { NeverSlots (full_fault_of result) }
-    ensures history { (S.state store.new).history ≡ (S.state store.old).history }
 {
     let sep = read(alloc, store, sep)?;
     let mut text = Units::new(alloc);
@@ -98,10 +93,8 @@ fn append_joined<S: Strings>(
     requires { AllKnown (S.state store.old) S.number parts.now }
     ensures added { OnOk result
         (text.new ≡ text.old ++ joined sep.now (texts (S.state store.old) S.number parts.now)) }
-    ensures step { Step (S.state store.old) (S.state store.new) (full_fault_of result) 0
+    ensures uses { Uses (S.state store.old) (S.state store.new) (full_fault_of result) 0
         (settle_most (S.state store.old) S.number parts.now) }
-    ensures slots { NeverSlots (full_fault_of result) }
-    ensures history { (S.state store.new).history ≡ (S.state store.old).history }
 {
     match parts {
         [] => Ok(()),
@@ -123,10 +116,8 @@ fn append_rest<S: Strings>(
     requires { AllKnown (S.state store.old) S.number rest.now }
     ensures added { OnOk result
         (text.new ≡ text.old ++ with_each sep.now (texts (S.state store.old) S.number rest.now)) }
-    ensures step { Step (S.state store.old) (S.state store.new) (full_fault_of result) 0
+    ensures uses { Uses (S.state store.old) (S.state store.new) (full_fault_of result) 0
         (settle_most (S.state store.old) S.number rest.now) }
-    ensures slots { NeverSlots (full_fault_of result) }
-    ensures history { (S.state store.new).history ≡ (S.state store.old).history }
 {
     for s in rest {
         push_units(text, sep)?;
@@ -144,10 +135,8 @@ fn append<S: Strings>(
 ) -> Result<(), StoreFault>
     requires { IsKnown (S.state store.old) (S.number s) }
     ensures added { OnOk result (text.new ≡ text.old ++ text_of (S.state store.old) (S.number s)) }
-    ensures step { Step (S.state store.old) (S.state store.new) (full_fault_of result) 0
+    ensures uses { Uses (S.state store.old) (S.state store.new) (full_fault_of result) 0
         (settling (S.state store.old) (S.number s)) }
-    ensures slots { NeverSlots (full_fault_of result) }
-    ensures history { (S.state store.new).history ≡ (S.state store.old).history }
 {
     let units = read(alloc, store, s)?;
     push_units(text, units.as_slice())

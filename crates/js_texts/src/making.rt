@@ -1,7 +1,7 @@
 // New strings of a store.
 ghost use Rattle.std.specs.Prelude.{◌≡◌, ◌≤◌, length, IfOk};
 ghost use Rattle.js_store.specs.State.{Has, IsSettled};
-ghost use Rattle.js_store.specs.Faults.{Step, fault_of, NeverSlots};
+ghost use Rattle.js_store.specs.Faults.{fault_of, Uses};
 ghost use Rattle.js_texts.specs.Use.{made_words};
 
 use js_store::{StoreFault, Strings};
@@ -12,10 +12,8 @@ pub fn make<S: Strings>(store: &mut S, units: &[u16]) -> Result<S::Ref, StoreFau
     requires { length units.now ≤ (S.state store.old).limit }
     ensures value { IfOk result (λ r. Has (S.state store.new) (S.number r) units.now) }
     ensures settled { IfOk result (λ r. IsSettled (S.state store.new) (S.number r)) }
-    ensures step { Step (S.state store.old) (S.state store.new) (fault_of result) 1
+    ensures uses { Uses (S.state store.old) (S.state store.new) (fault_of result) 1
         (made_words (S.state store.old).limit units.now) }
-    ensures slots { NeverSlots (fault_of result) }
-    ensures history { (S.state store.new).history ≡ (S.state store.old).history }
 {
     store.from_units(units)
 }

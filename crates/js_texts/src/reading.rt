@@ -2,7 +2,7 @@
 ghost use Rattle.std.specs.Prelude.{◌≡◌, length, IfOk, None};
 ghost use Rattle.js_store.specs.State.{IsKnown, IsSettled, text};
 ghost use Rattle.js_store.specs.Rows.{settle_words};
-ghost use Rattle.js_store.specs.Faults.{Step, NeverSlots};
+ghost use Rattle.js_store.specs.Faults.{Uses};
 ghost use Rattle.js_texts.specs.Texts.{full_fault_of};
 
 use js_store::{StoreFault, Strings};
@@ -18,8 +18,7 @@ pub fn copied<S: Strings>(alloc: Global, store: &mut S, s: S::Ref) -> Result<Uni
     requires known { IsKnown (S.state store.old) (S.number s) }
     requires settled { IsSettled (S.state store.old) (S.number s) }
     ensures value { IfOk result (λ u. u ≡ text (S.state store.old) (S.number s)) }
-    ensures step { Step (S.state store.old) (S.state store.new) None 0 0 }
-    ensures history { (S.state store.new).history ≡ (S.state store.old).history }
+    ensures uses { Uses (S.state store.old) (S.state store.new) None 0 0 }
 {
     let len = store.len(s);
     let mut units = Units::new(alloc);
@@ -40,11 +39,9 @@ pub fn copied<S: Strings>(alloc: Global, store: &mut S, s: S::Ref) -> Result<Uni
 pub fn read<S: Strings>(alloc: Global, store: &mut S, s: S::Ref) -> Result<Units, StoreFault>
     requires { IsKnown (S.state store.old) (S.number s) }
     ensures value { IfOk result (λ u. u ≡ text (S.state store.old) (S.number s)) }
-    ensures step { Step (S.state store.old) (S.state store.new) (full_fault_of result) 0
+    ensures uses { Uses (S.state store.old) (S.state store.new) (full_fault_of result) 0
         (settle_words ((S.state store.old).settled (S.number s))
         (length (text (S.state store.old) (S.number s)))) }
-    ensures slots { NeverSlots (full_fault_of result) }
-    ensures history { (S.state store.new).history ≡ (S.state store.old).history }
 {
     store.settle(s)?;
     Ok(copied(alloc, store, s)?)

@@ -1,7 +1,7 @@
 // How the four URI functions answer.
 ghost use Rattle.std.specs.Prelude.{◌≡◌, ◌+◌, ◌++◌, ◌<◌, ◌^◌, IfOk, OnOk, IsOk, IsTrue, Ok, None, length};
 ghost use Rattle.js_store.specs.State.{IsKnown, IsSettled, text as text_of};
-ghost use Rattle.js_store.specs.Faults.{Step, NeverSlots};
+ghost use Rattle.js_store.specs.Faults.{Uses};
 ghost use Rattle.js_texts.specs.Use.{settling};
 ghost use Rattle.js_uri.specs.Outcome.{measure, units as units_of};
 ghost use Rattle.js_uri.specs.Answers.{HasOutcome, Throws, full_of, outcome_words};
@@ -91,11 +91,9 @@ impl UriCall {
         ensures settled { IfOk result (λ r. IsSettled (S.state store.new) (S.number r)) }
         ensures throws { Throws result (S.state store.old).limit
             (outcome self (text_of (S.state store.old) (S.number s))) }
-        ensures step { Step (S.state store.old) (S.state store.new) (full_of result) 1
+        ensures uses { Uses (S.state store.old) (S.state store.new) (full_of result) 1
             (settling (S.state store.old) (S.number s) + outcome_words (S.state store.old).limit
             (outcome self (text_of (S.state store.old) (S.number s)))) }
-        ensures slots { NeverSlots (full_of result) }
-        ensures history { (S.state store.new).history ≡ (S.state store.old).history }
     {
         store.settle(s)?;
         let copy = copied(alloc, store, s)?;

@@ -1,7 +1,7 @@
 // The URI functions.
 ghost use Rattle.std.specs.Prelude.{◌≡◌, ◌+◌, IfOk};
 ghost use Rattle.js_store.specs.State.{IsKnown, IsSettled, text};
-ghost use Rattle.js_store.specs.Faults.{Step, NeverSlots};
+ghost use Rattle.js_store.specs.Faults.{Uses};
 ghost use Rattle.js_texts.specs.Use.{settling};
 ghost use Rattle.js_uri.specs.Answers.{HasOutcome, Throws, full_of, outcome_words};
 ghost use Rattle.js_uri.specs.Sets.{component_keep, uri_keep, no_hold, uri_hold};
@@ -26,11 +26,9 @@ pub fn encode_uri<S: Strings>(alloc: Global, store: &mut S, s: S::Ref) -> Result
     ensures settled { IfOk result (λ r. IsSettled (S.state store.new) (S.number r)) }
     ensures throws { Throws result (S.state store.old).limit
         (encoded (text (S.state store.old) (S.number s)) uri_keep) }
-    ensures step { Step (S.state store.old) (S.state store.new) (full_of result) 1
+    ensures uses { Uses (S.state store.old) (S.state store.new) (full_of result) 1
         (settling (S.state store.old) (S.number s) + outcome_words (S.state store.old).limit
         (encoded (text (S.state store.old) (S.number s)) uri_keep)) }
-    ensures slots { NeverSlots (full_of result) }
-    ensures history { (S.state store.new).history ≡ (S.state store.old).history }
 {
     UriCall::Encode(UriPart::Whole).answer(alloc, store, s)
 }
@@ -50,11 +48,9 @@ pub fn encode_uri_component<S: Strings>(
     ensures settled { IfOk result (λ r. IsSettled (S.state store.new) (S.number r)) }
     ensures throws { Throws result (S.state store.old).limit
         (encoded (text (S.state store.old) (S.number s)) component_keep) }
-    ensures step { Step (S.state store.old) (S.state store.new) (full_of result) 1
+    ensures uses { Uses (S.state store.old) (S.state store.new) (full_of result) 1
         (settling (S.state store.old) (S.number s) + outcome_words (S.state store.old).limit
         (encoded (text (S.state store.old) (S.number s)) component_keep)) }
-    ensures slots { NeverSlots (full_of result) }
-    ensures history { (S.state store.new).history ≡ (S.state store.old).history }
 {
     UriCall::Encode(UriPart::Component).answer(alloc, store, s)
 }
@@ -72,11 +68,9 @@ pub fn decode_uri<S: Strings>(alloc: Global, store: &mut S, s: S::Ref) -> Result
     ensures settled { IfOk result (λ r. IsSettled (S.state store.new) (S.number r)) }
     ensures throws { Throws result (S.state store.old).limit
         (decoded (text (S.state store.old) (S.number s)) uri_hold) }
-    ensures step { Step (S.state store.old) (S.state store.new) (full_of result) 1
+    ensures uses { Uses (S.state store.old) (S.state store.new) (full_of result) 1
         (settling (S.state store.old) (S.number s) + outcome_words (S.state store.old).limit
         (decoded (text (S.state store.old) (S.number s)) uri_hold)) }
-    ensures slots { NeverSlots (full_of result) }
-    ensures history { (S.state store.new).history ≡ (S.state store.old).history }
 {
     UriCall::Decode(UriPart::Whole).answer(alloc, store, s)
 }
@@ -96,11 +90,9 @@ pub fn decode_uri_component<S: Strings>(
     ensures settled { IfOk result (λ r. IsSettled (S.state store.new) (S.number r)) }
     ensures throws { Throws result (S.state store.old).limit
         (decoded (text (S.state store.old) (S.number s)) no_hold) }
-    ensures step { Step (S.state store.old) (S.state store.new) (full_of result) 1
+    ensures uses { Uses (S.state store.old) (S.state store.new) (full_of result) 1
         (settling (S.state store.old) (S.number s) + outcome_words (S.state store.old).limit
         (decoded (text (S.state store.old) (S.number s)) no_hold)) }
-    ensures slots { NeverSlots (full_of result) }
-    ensures history { (S.state store.new).history ≡ (S.state store.old).history }
 {
     UriCall::Decode(UriPart::Component).answer(alloc, store, s)
 }

@@ -7,5 +7,5 @@ use Rattle.js_methods.proofs.well_formed.is_well_formed.Goals as goal
 
 pub returns-clause-unchanged : goal.returns-clause-unchanged
 returns-clause-unchanged g c =
-    let same = text_still c.settle.ensures.step.grows (g.S.Strings.number c.args.s) c.requires.known in
+    let same = text_still c.settle.ensures.uses.step.grows (g.S.Strings.number c.args.s) c.requires.known in
     is_kept (text (g.S.Strings.state c.args.store.now) (g.S.Strings.number c.args.s)) c.has_pairs_alone.result (c.has_pairs_alone.ensures.value ∙ ap all_paired same)

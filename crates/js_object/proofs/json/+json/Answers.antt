@@ -1,4 +1,4 @@
-use Rattle.std.proofs.Common.{◌≡◌, ◌∙◌, arith, sym, map}
+use Rattle.std.proofs.Common.{◌≡◌, ◌∙◌, arith, sym, map, rules}
 use Rattle.std.proofs.lemmas.Result.{err_from_is_err_and}
 use Rattle.js_store.proofs.Laws.{grows_trans}
 use Rattle.js_texts.proofs.Lists.{on_ok_map}
@@ -28,7 +28,7 @@ append_object-append_item-requires g t c κs within =
     let ms = c.deref-member-items.result.now in
     let a = state c.args.store.now in
     let d = state c.append_key.new.store in
-    let grows = grows_trans c.loop-member.invariant.grows c.in_ok-append_key.ensures.step.grows in
+    let grows = grows_trans c.loop-member.invariant.grows c.in_ok-append_key.ensures.uses.step.grows in
     let order : map lent_entry ms ≡ ordered (index_in a g.S.Strings.number) (entries c.args.of.now) = rw c.deref-member-items.ensures.value c.in_ok-members.ensures.value in
     let smaller = item_smaller a d g.S.Strings.number grows c.args.of.now c.requires ms order c.loop-member.member-index c.member-item.result c.loop-member-test.true c.member-item.is in
     let ready = item_ready a d g.S.Strings.number grows c.args.of.now c.requires ms order c.loop-member.member-index c.member-item.result c.loop-member-test.true c.member-item.is in
@@ -72,8 +72,8 @@ append_object-returns-clause-added g t c =
     (λ e. json_end (says a g.S.Strings.number) c.args.of.now ms c.loop-member.member-index c.args.text.now c.loop-member.text c.append_end.new.text c.loop-member.sep order c.loop-member-test.false c.loop-member.invariant.made e)
     c.append_end.ensures.added
 
-pub append_object-returns-in_err-append_key-clause-step : goal.append_object-returns-in_err-append_key-clause-step
-append_object-returns-in_err-append_key-clause-step g t c =
+pub append_object-returns-in_err-append_key-clause-uses : goal.append_object-returns-in_err-append_key-clause-uses
+append_object-returns-in_err-append_key-clause-uses g t c =
     let state = g.S.Strings.state in
     let ms = c.deref-member-items.result.now in
     let a = state c.args.store.now in
@@ -81,10 +81,11 @@ append_object-returns-in_err-append_key-clause-step g t c =
     let i = c.loop-member.invariant in
     let order : map lent_entry ms ≡ ordered (index_in a g.S.Strings.number) (entries c.args.of.now) = rw c.deref-member-items.ensures.value c.in_ok-members.ensures.value in
     let p = err_from_is_err_and c.from_residual-in_err-append_key.result c.from_residual-in_err-append_key.ensures.1 in
-    rw (p.1, p.2) (key_uses a b b g.S.Strings.number i.grows i.grows c.args.of.now c.requires ms order c.loop-member.member-index c.member-item.result c.loop-member-test.true c.member-item.is i.ids i.words _ _ c.in_err-append_key.ensures.step)
+    let uses_step = rw (p.1, p.2) (key_uses a b b g.S.Strings.number i.grows i.grows c.args.of.now c.requires ms order c.loop-member.member-index c.member-item.result c.loop-member-test.true c.member-item.is i.ids i.words _ _ c.in_err-append_key.ensures.uses.step) in
+    search rules
 
-pub append_object-returns-in_err-append_item-clause-step : goal.append_object-returns-in_err-append_item-clause-step
-append_object-returns-in_err-append_item-clause-step g t c =
+pub append_object-returns-in_err-append_item-clause-uses : goal.append_object-returns-in_err-append_item-clause-uses
+append_object-returns-in_err-append_item-clause-uses g t c =
     let state = g.S.Strings.state in
     let ms = c.deref-member-items.result.now in
     let a = state c.args.store.now in
@@ -93,13 +94,15 @@ append_object-returns-in_err-append_item-clause-step g t c =
     let k = c.in_ok-append_key.ensures in
     let order : map lent_entry ms ≡ ordered (index_in a g.S.Strings.number) (entries c.args.of.now) = rw c.deref-member-items.ensures.value c.in_ok-members.ensures.value in
     let p = err_from_is_err_and c.from_residual-in_err-append_item.result c.from_residual-in_err-append_item.ensures.1 in
-    rw (p.1, p.2) (item_uses a b (state c.append_key.new.store) g.S.Strings.number i.grows (grows_trans i.grows k.step.grows) c.args.of.now c.requires ms order c.loop-member.member-index c.member-item.result c.loop-member-test.true c.member-item.is i.ids i.words _ _ k.step c.in_err-append_item.ensures.step)
+    let uses_step = rw (p.1, p.2) (item_uses a b (state c.append_key.new.store) g.S.Strings.number i.grows (grows_trans i.grows k.step.grows) c.args.of.now c.requires ms order c.loop-member.member-index c.member-item.result c.loop-member-test.true c.member-item.is i.ids i.words _ _ k.step c.in_err-append_item.ensures.uses.step) in
+    search rules
 
-pub append_object-returns-clause-step : goal.append_object-returns-clause-step
-append_object-returns-clause-step g t c =
+pub append_object-returns-clause-uses : goal.append_object-returns-clause-uses
+append_object-returns-clause-uses g t c =
     let state = g.S.Strings.state in
     let ms = c.deref-member-items.result.now in
     let a = state c.args.store.now in
     let i = c.loop-member.invariant in
     let order : map lent_entry ms ≡ ordered (index_in a g.S.Strings.number) (entries c.args.of.now) = rw c.deref-member-items.ensures.value c.in_ok-members.ensures.value in
-    rw (none_told c.append_end.result c.append_end.ensures.fault) (all_uses a (state c.loop-member.store) g.S.Strings.number c.args.of.now ms _ order i.grows i.ids i.words)
+    let uses_step = rw (none_told c.append_end.result c.append_end.ensures.fault) (all_uses a (state c.loop-member.store) g.S.Strings.number c.args.of.now ms _ order i.grows i.ids i.words) in
+    search rules

@@ -1,4 +1,4 @@
-use Rattle.std.proofs.Common.{◌≡◌, ◌∙◌, arith, sym, map}
+use Rattle.std.proofs.Common.{◌≡◌, ◌∙◌, arith, sym, map, rules}
 use Rattle.std.proofs.lemmas.Result.{err_from_is_err_and}
 use Rattle.js_store.proofs.Laws.{grows_trans}
 use Rattle.js_item.specs.Fine.{strings_of}
@@ -28,7 +28,7 @@ object_len-item_len-requires g t c κs within =
     let ms = c.deref-member-items.result.now in
     let a = state c.args.store.now in
     let d = state c.key_len.new.store in
-    let grows = grows_trans c.loop-member.invariant.grows c.in_ok-key.ensures.step.grows in
+    let grows = grows_trans c.loop-member.invariant.grows c.in_ok-key.ensures.uses.step.grows in
     let order : map lent_entry ms ≡ ordered (index_in a g.S.Strings.number) (entries c.args.of.now) = rw c.deref-member-items.ensures.value c.in_ok-members.ensures.value in
     let smaller = item_smaller a d g.S.Strings.number grows c.args.of.now c.requires.readable ms order c.loop-member.member-index c.member-item.result c.loop-member-test.true c.member-item.is in
     let ready = item_ready a d g.S.Strings.number grows c.args.of.now c.requires.readable ms order c.loop-member.member-index c.member-item.result c.loop-member-test.true c.member-item.is in
@@ -42,7 +42,7 @@ object_len-overflow_add-len-then-is_shown-2 g t c =
     let b = state c.loop-member.store in
     let d = state c.key_len.new.store in
     let order : map lent_entry ms ≡ ordered (index_in a g.S.Strings.number) (entries c.args.of.now) = rw c.deref-member-items.ensures.value c.in_ok-members.ensures.value in
-    let fits = len_fits a b d g.S.Strings.number c.loop-member.invariant.grows (grows_trans c.loop-member.invariant.grows c.in_ok-key.ensures.step.grows) c.args.of.now c.requires.readable ms order c.loop-member.member-index c.member-item.result c.loop-member-test.true c.member-item.is
+    let fits = len_fits a b d g.S.Strings.number c.loop-member.invariant.grows (grows_trans c.loop-member.invariant.grows c.in_ok-key.ensures.uses.step.grows) c.args.of.now c.requires.readable ms order c.loop-member.member-index c.member-item.result c.loop-member-test.true c.member-item.is
     c.loop-member.len c.loop-member.invariant.most c.in_ok-key.key c.in_ok-value.value c.requires.many c.in_ok-key.ensures.most c.in_ok-value.ensures.most in
     omega (arith, fits)
 
@@ -54,7 +54,7 @@ object_len-overflow_add-len-then-is_shown g t c =
     let b = state c.loop-member.store in
     let d = state c.key_len.new.store in
     let order : map lent_entry ms ≡ ordered (index_in a g.S.Strings.number) (entries c.args.of.now) = rw c.deref-member-items.ensures.value c.in_ok-members.ensures.value in
-    let fits = len_fits a b d g.S.Strings.number c.loop-member.invariant.grows (grows_trans c.loop-member.invariant.grows c.in_ok-key.ensures.step.grows) c.args.of.now c.requires.readable ms order c.loop-member.member-index c.member-item.result c.loop-member-test.true c.member-item.is
+    let fits = len_fits a b d g.S.Strings.number c.loop-member.invariant.grows (grows_trans c.loop-member.invariant.grows c.in_ok-key.ensures.uses.step.grows) c.args.of.now c.requires.readable ms order c.loop-member.member-index c.member-item.result c.loop-member-test.true c.member-item.is
     c.loop-member.len c.loop-member.invariant.most c.in_ok-key.key c.in_ok-value.value c.requires.many c.in_ok-key.ensures.most c.in_ok-value.ensures.most in
     omega (arith, fits)
 
@@ -118,8 +118,8 @@ object_len-returns-clause-most g t c =
       | object_len-else-len-lt2 w ↦ omega (arith, w.result-is, c.loop-member.invariant.most, weighs)
     ]
 
-pub object_len-returns-in_err-key-clause-step : goal.object_len-returns-in_err-key-clause-step
-object_len-returns-in_err-key-clause-step g t c =
+pub object_len-returns-in_err-key-clause-uses : goal.object_len-returns-in_err-key-clause-uses
+object_len-returns-in_err-key-clause-uses g t c =
     let state = g.S.Strings.state in
     let ms = c.deref-member-items.result.now in
     let a = state c.args.store.now in
@@ -127,10 +127,11 @@ object_len-returns-in_err-key-clause-step g t c =
     let i = c.loop-member.invariant in
     let order : map lent_entry ms ≡ ordered (index_in a g.S.Strings.number) (entries c.args.of.now) = rw c.deref-member-items.ensures.value c.in_ok-members.ensures.value in
     let p = err_from_is_err_and c.from_residual-in_err-key.result c.from_residual-in_err-key.ensures.1 in
-    rw (p.1, p.2) (key_uses a b b g.S.Strings.number i.grows i.grows c.args.of.now c.requires.readable ms order c.loop-member.member-index c.member-item.result c.loop-member-test.true c.member-item.is i.ids i.words _ _ c.in_err-key.ensures.step)
+    let uses_step = rw (p.1, p.2) (key_uses a b b g.S.Strings.number i.grows i.grows c.args.of.now c.requires.readable ms order c.loop-member.member-index c.member-item.result c.loop-member-test.true c.member-item.is i.ids i.words _ _ c.in_err-key.ensures.uses.step) in
+    search rules
 
-pub object_len-returns-in_err-value-clause-step : goal.object_len-returns-in_err-value-clause-step
-object_len-returns-in_err-value-clause-step g t c =
+pub object_len-returns-in_err-value-clause-uses : goal.object_len-returns-in_err-value-clause-uses
+object_len-returns-in_err-value-clause-uses g t c =
     let state = g.S.Strings.state in
     let ms = c.deref-member-items.result.now in
     let a = state c.args.store.now in
@@ -139,14 +140,16 @@ object_len-returns-in_err-value-clause-step g t c =
     let order : map lent_entry ms ≡ ordered (index_in a g.S.Strings.number) (entries c.args.of.now) = rw c.deref-member-items.ensures.value c.in_ok-members.ensures.value in
     let k = c.in_ok-key.ensures in
     let p = err_from_is_err_and c.from_residual-in_err-value.result c.from_residual-in_err-value.ensures.1 in
-    rw (p.1, p.2) (item_uses a b (state c.key_len.new.store) g.S.Strings.number i.grows (grows_trans i.grows k.step.grows) c.args.of.now c.requires.readable ms order c.loop-member.member-index c.member-item.result c.loop-member-test.true c.member-item.is i.ids i.words _ _ k.step c.in_err-value.ensures.step)
+    let uses_step = rw (p.1, p.2) (item_uses a b (state c.key_len.new.store) g.S.Strings.number i.grows (grows_trans i.grows k.step.grows) c.args.of.now c.requires.readable ms order c.loop-member.member-index c.member-item.result c.loop-member-test.true c.member-item.is i.ids i.words _ _ k.step c.in_err-value.ensures.uses.step) in
+    search rules
 
-pub object_len-returns-clause-step : goal.object_len-returns-clause-step
-object_len-returns-clause-step g t c =
+pub object_len-returns-clause-uses : goal.object_len-returns-clause-uses
+object_len-returns-clause-uses g t c =
     let state = g.S.Strings.state in
     let ms = c.deref-member-items.result.now in
     let a = state c.args.store.now in
     let b = state c.loop-member.store in
     let i = c.loop-member.invariant in
     let order : map lent_entry ms ≡ ordered (index_in a g.S.Strings.number) (entries c.args.of.now) = rw c.deref-member-items.ensures.value c.in_ok-members.ensures.value in
-    all_uses a b g.S.Strings.number c.args.of.now ms _ order i.grows i.ids i.words
+    let uses_step = all_uses a b g.S.Strings.number c.args.of.now ms _ order i.grows i.ids i.words in
+    search rules

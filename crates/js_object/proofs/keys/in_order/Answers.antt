@@ -1,4 +1,4 @@
-use Rattle.std.proofs.Common.{◌≡◌, ◌++◌, [], ◌∙◌, map, take, ap, refl}
+use Rattle.std.proofs.Common.{◌≡◌, ◌++◌, [], ◌∙◌, map, take, ap, refl, rules}
 use Rattle.std.proofs.lemmas.Result.{IfOk-weaker}
 use Rattle.std.specs.BTreeMap.{values}
 use Rattle.js_store.proofs.Laws.{step_trans}
@@ -12,11 +12,15 @@ key_index-requires g c =
     let state = g.S.Strings.state in
     now_fine (state c.args.store.now) (state c.loop-member.store) g.S.Strings.number c.loop-member.invariant.step.grows c.args.of.now c.members-member-items.result.now c.members-member-items.ensures.fields c.requires c.loop-member.member-index c.member-item.result c.loop-member-test.true c.member-item.is
 
-pub returns-in_err-index-clause-step : goal.returns-in_err-index-clause-step
-returns-in_err-index-clause-step g c = step_trans c.loop-member.invariant.step c.in_err-index.ensures.step
+pub returns-in_err-index-clause-uses : goal.returns-in_err-index-clause-uses
+returns-in_err-index-clause-uses g c =
+    let uses_step = step_trans c.loop-member.invariant.step c.in_err-index.ensures.uses.step in
+    search rules
 
-pub returns-in_err-enter-clause-step : goal.returns-in_err-enter-clause-step
-returns-in_err-enter-clause-step g c = step_trans c.loop-member.invariant.step c.in_ok-index.ensures.step
+pub returns-in_err-enter-clause-uses : goal.returns-in_err-enter-clause-uses
+returns-in_err-enter-clause-uses g c =
+    let uses_step = step_trans c.loop-member.invariant.step c.in_ok-index.ensures.uses.step in
+    search rules
 
 pub loop-member-preserved : goal.loop-member-preserved
 loop-member-preserved g c =
@@ -34,8 +38,8 @@ loop-member-preserved g c =
     record {
       indexes = indexes_turn lent_entry index _ (member_entry m) c.in_ok-index.index c.loop-member.indexes.entries c.enter.new.indexes.entries (map member_entry (take i items)) _ refl is c.loop-member.invariant.indexes c.in_ok-enter.ensures.indexes more;
       others = others_turn lent_entry index _ (member_entry m) c.in_ok-index.index c.loop-member.others.items c.enter.new.others.items (map member_entry (take i items)) _ refl is c.loop-member.invariant.others c.in_ok-enter.ensures.others more;
-      step = step_trans c.loop-member.invariant.step c.in_ok-index.ensures.step;
-      history = c.in_ok-index.ensures.history ∙ c.loop-member.invariant.history;
+      step = step_trans c.loop-member.invariant.step c.in_ok-index.ensures.uses.step;
+      history = c.in_ok-index.ensures.uses.history ∙ c.loop-member.invariant.history;
     }
 
 pub returns-clause-value : goal.returns-clause-value

@@ -51,8 +51,8 @@ loop-turn-preserved g c =
     let room = found_room u (text b (number c.args.s)) w (text b (number c.args.w)) c.loop-turn.from at same needle c.in-Some.ensures.value in
     let size = i.size in
     record {
-      step = step_trans i.step c.in-Some.ensures.step;
-      history = c.in-Some.ensures.history ∙ i.history;
+      step = step_trans i.step c.in-Some.ensures.uses.step;
+      history = c.in-Some.ensures.uses.history ∙ i.history;
       places =
           found_more (c.args.most - c.loop-turn._turn) (c.args.most - (c.loop-turn._turn + 1)) u (text b (number c.args.s)) w (text b (number c.args.w))
           c.loop-turn.places.items c.push.new.self.items (first_matches c.args.most u w 0) c.loop-turn.from at (at + c.max-size.result)

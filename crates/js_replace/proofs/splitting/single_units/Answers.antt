@@ -1,4 +1,4 @@
-use Rattle.std.proofs.Common.{arith, ◌∙◌, ap, ◌-◌, ◌+◌, ◌++◌, ◌∷◌, [], take, drop}
+use Rattle.std.proofs.Common.{arith, ◌∙◌, ap, ◌-◌, ◌+◌, ◌++◌, ◌∷◌, [], take, drop, rules}
 use Rattle.std.specs.Prelude.{slice_range}
 use Rattle.std.proofs.lemmas.Result.{err_from_is_err_and}
 use Rattle.js_store.specs.State.{text}
@@ -8,8 +8,8 @@ use Rattle.js_replace.specs.Parts.{singles}
 use Rattle.js_replace.proofs.Cutting.{refused, answered, more_parts, no_more, range_length, single_turn, singles_end}
 use Rattle.js_replace.proofs.splitting.single_units.Goals as goal
 
-pub returns-in_err-push_part-clause-step : goal.returns-in_err-push_part-clause-step
-returns-in_err-push_part-clause-step g c =
+pub returns-in_err-push_part-clause-uses : goal.returns-in_err-push_part-clause-uses
+returns-in_err-push_part-clause-uses g c =
     let state = g.S.Strings.state in
     let number = g.S.Strings.number in
     let a = state c.args.store.now in
@@ -22,9 +22,10 @@ returns-in_err-push_part-clause-step g c =
     let size = c.len.ensures.value in
     let most = c.min-most.ensures in
     let p = err_from_is_err_and c.from_residual.result c.from_residual.ensures.1 in
-    rw (p.1, p.2) (refused (k + 1 - k) (limit - k) (limit - (k + 1)) (texts b number c.loop-i.parts.items) (singles (drop k u)) (singles (drop (k + 1) u)) (take limit (singles u)) (slice_range u k (k + 1))
+    let uses_step = rw (p.1, p.2) (refused (k + 1 - k) (limit - k) (limit - (k + 1)) (texts b number c.loop-i.parts.items) (singles (drop k u)) (singles (drop (k + 1) u)) (take limit (singles u)) (slice_range u k (k + 1))
     (range_length u k (k + 1) (omega arith) (omega (arith, below, size, most))) (omega (arith, below, most)) (omega arith)
-    (single_turn u k (omega (arith, below, size, most))) i.made i.step c.in_err-push_part.ensures.step)
+    (single_turn u k (omega (arith, below, size, most))) i.made i.step c.in_err-push_part.ensures.uses.step) in
+    search rules
 
 pub loop-i-preserved : goal.loop-i-preserved
 loop-i-preserved g c =

@@ -62,6 +62,6 @@ loop-end-preserved g c =
           (subst (λ (x : List ℕ). Stands x (text (g.S.Strings.state c.previous_pair.new.store) (g.S.Strings.number c.args.needle)) at) (sym f)
           (subst (λ (x : List ℕ). Stands u x at) (sym h) there))));
       part = subst (λ (x : List ℕ). IsPart x c.previous_pair.new.block) g1 e.part;
-      step = step_trans grows c.same_units-same.ensures.step;
-      history = c.same_units-same.ensures.history ∙ (e.history ∙ s.history);
+      step = step_trans grows c.same_units-same.ensures.uses.step;
+      history = c.same_units-same.ensures.uses.history ∙ (e.history ∙ s.history);
     }

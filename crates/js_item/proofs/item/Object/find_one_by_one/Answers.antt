@@ -30,6 +30,6 @@ loop-i-preserved g c =
     record {
       none = turn_on (state c.args.store.now) (state c.loop-i.store) g.S.Strings.number c.loop-i.invariant.step.grows c.args.self.now c.members-member-items.result.now c.members-member-items.ensures.fields c.requires.keys c.loop-i.i c.member-item.result c.loop-i-test.true c.member-item.is
           c.args.key c.same.result c.requires.key c.loop-i.invariant.none c.same.ensures.units c.if-same.false;
-      step = step_trans c.loop-i.invariant.step c.same.ensures.step;
-      history = c.same.ensures.history ∙ c.loop-i.invariant.history;
+      step = step_trans c.loop-i.invariant.step c.same.ensures.uses.step;
+      history = c.same.ensures.uses.history ∙ c.loop-i.invariant.history;
     }

@@ -21,6 +21,6 @@ loop-member-preserved g c =
     record {
       none = units_on (state c.args.store.now) (state c.loop-member.store) g.S.Strings.number c.loop-member.invariant.step.grows c.args.self.now c.members-member-items.result.now c.members-member-items.ensures.fields c.requires c.loop-member.member-index c.member-item.result c.loop-member-test.true c.member-item.is
           c.args.units.now c.is_key.result c.loop-member.invariant.none c.is_key.ensures.value c.if-is_key.false;
-      step = step_trans c.loop-member.invariant.step c.is_key.ensures.step;
-      history = c.is_key.ensures.history ∙ c.loop-member.invariant.history;
+      step = step_trans c.loop-member.invariant.step c.is_key.ensures.uses.step;
+      history = c.is_key.ensures.uses.history ∙ c.loop-member.invariant.history;
     }
