@@ -2,7 +2,7 @@
 ghost use Rattle.std.specs.Prelude.{◌≡◌, ◌+◌, ◌++◌, ◌≤◌, ℕ, [], length, IfOk, OnOk};
 ghost use Rattle.js_store.specs.State.{Has, Grows, IsKnown, text};
 ghost use Rattle.js_store.specs.Rows.{wide_words, flat_words};
-ghost use Rattle.js_store.specs.Faults.{Step, NeverSlots};
+ghost use Rattle.js_store.specs.Faults.{Uses};
 ghost use Rattle.js_texts.specs.Answers.{NeverThrows, full_of};
 ghost use Rattle.eval_values.specs.Arguments.{first_of};
 ghost use Rattle.eval_values.specs.Outcome.{needing};
@@ -109,10 +109,8 @@ fn shown<S: Strings>(alloc: Global, store: &mut S, key: S::Ref) -> Result<S::Ref
     ensures value { IfOk result
         (λ r. Has (S.state store.new) (S.number r) (shown_symbol (text (S.state store.old) (S.number key)))) }
     ensures throws { NeverThrows result }
-    ensures step { Step (S.state store.old) (S.state store.new) (full_of result)
+    ensures uses { Uses (S.state store.old) (S.state store.new) (full_of result)
         1 (wide_words (length (text (S.state store.old) (S.number key))) + flat_words (shown_symbol (text (S.state store.old) (S.number key)))) }
-    ensures slots { NeverSlots (full_of result) }
-    ensures history { (S.state store.new).history ≡ (S.state store.old).history }
 {
     let units = read(alloc, store, key)?;
     let mut text = Units::new(alloc);

@@ -2,7 +2,7 @@
 ghost use Rattle.std.specs.Prelude.{◌≡◌, ◌+◌, ◌≤◌, ℕ, IfOk};
 ghost use Rattle.js_store.specs.State.{Grows, IsKnown, IsSettled, text};
 ghost use Rattle.js_store.specs.Rows.{wide_words};
-ghost use Rattle.js_store.specs.Faults.{Step, NeverSlots};
+ghost use Rattle.js_store.specs.Faults.{Uses};
 ghost use Rattle.js_texts.specs.Use.{settling};
 ghost use Rattle.js_uri.specs.Answers.{HasOutcome, Throws, full_of, outcome_words};
 ghost use Rattle.eval_values.specs.Arguments.{first_of};
@@ -107,11 +107,9 @@ fn answer<S: Strings>(
         (outcome_of which (text (S.state store.old) (S.number s)))) }
     ensures throws { Throws result (S.state store.old).limit
         (outcome_of which (text (S.state store.old) (S.number s))) }
-    ensures step { Step (S.state store.old) (S.state store.new) (full_of result) 1
+    ensures uses { Uses (S.state store.old) (S.state store.new) (full_of result) 1
         (settling (S.state store.old) (S.number s) + outcome_words (S.state store.old).limit
         (outcome_of which (text (S.state store.old) (S.number s)))) }
-    ensures slots { NeverSlots (full_of result) }
-    ensures history { (S.state store.new).history ≡ (S.state store.old).history }
 {
     match which {
         UriFunction::Encode => encode_uri(alloc, store, s),

@@ -4,7 +4,7 @@ ghost use Rattle.js_number.specs.Places.{IsLawful};
 ghost use Rattle.js_units.specs.Text.{well};
 ghost use Rattle.js_store.specs.State.{Has, Grows, IsKnown, text};
 ghost use Rattle.js_store.specs.Rows.{wide_words};
-ghost use Rattle.js_store.specs.Faults.{Step, NeverSlots};
+ghost use Rattle.js_store.specs.Faults.{Uses};
 ghost use Rattle.js_texts.specs.Answers.{method_fault_of, ThrowsLong};
 ghost use Rattle.eval_values.specs.Conversions.{to_number, all_units};
 ghost use Rattle.eval_values.specs.Arguments.{first_of, second_of, end_in};
@@ -99,10 +99,8 @@ fn part<S: Strings>(
         (part_of cut (text (S.state store.old) (S.number s)) start end)) }
     ensures throws { ThrowsLong result (S.state store.old).limit
         (length (part_of cut (text (S.state store.old) (S.number s)) start end)) }
-    ensures step { Step (S.state store.old) (S.state store.new) (method_fault_of result)
+    ensures uses { Uses (S.state store.old) (S.state store.new) (method_fault_of result)
         1 (2 * wide_words (length (text (S.state store.old) (S.number s))) + 3) }
-    ensures slots { NeverSlots (method_fault_of result) }
-    ensures history { (S.state store.new).history ≡ (S.state store.old).history }
 {
     match cut {
         Cut::Slice => js_methods::slice(store, s, start, end),
@@ -131,10 +129,8 @@ fn trimmed<S: Strings>(store: &mut S, trim: Trim, s: S::Ref) -> Result<S::Ref, M
         (trimmed_of trim (text (S.state store.old) (S.number s)))) }
     ensures throws { ThrowsLong result (S.state store.old).limit
         (length (trimmed_of trim (text (S.state store.old) (S.number s)))) }
-    ensures step { Step (S.state store.old) (S.state store.new) (method_fault_of result)
+    ensures uses { Uses (S.state store.old) (S.state store.new) (method_fault_of result)
         1 (2 * wide_words (length (text (S.state store.old) (S.number s))) + 3) }
-    ensures slots { NeverSlots (method_fault_of result) }
-    ensures history { (S.state store.new).history ≡ (S.state store.old).history }
 {
     match trim {
         Trim::Both => js_methods::trim(store, s),

@@ -1,7 +1,7 @@
 // Methods that repeat a string or a filler.
 ghost use Rattle.std.specs.Prelude.{◌≡◌, ◌+◌, ◌∷◌, [], length, IfOk};
 ghost use Rattle.js_store.specs.State.{Has, Grows, IsKnown, text};
-ghost use Rattle.js_store.specs.Faults.{Step, NeverSlots};
+ghost use Rattle.js_store.specs.Faults.{Uses};
 ghost use Rattle.js_texts.specs.Answers.{method_fault_of, ThrowsLong};
 ghost use Rattle.js_methods.specs.Padding as methods;
 ghost use Rattle.eval_values.specs.Conversions.{to_number};
@@ -150,10 +150,8 @@ fn padded_with_space<S: Strings>(
         (padded_of pad (text (S.state store.old) (S.number s)) max (32 ∷ []))) }
     ensures throws { ThrowsLong result (S.state store.old).limit
         (length (padded_of pad (text (S.state store.old) (S.number s)) max (32 ∷ []))) }
-    ensures step { Step (S.state store.old) (S.state store.new) (method_fault_of result) pad_ids
+    ensures uses { Uses (S.state store.old) (S.state store.new) (method_fault_of result) pad_ids
         (pad_words (length (text (S.state store.old) (S.number s)) + 1)) }
-    ensures slots { NeverSlots (method_fault_of result) }
-    ensures history { (S.state store.new).history ≡ (S.state store.old).history }
 {
     let space = store.from_units(&[32])?;
     padded_with(store, pad, s, max, space)
@@ -198,10 +196,8 @@ fn padded_with<S: Strings>(
     ensures throws { ThrowsLong result (S.state store.old).limit
         (length (padded_of pad (text (S.state store.old) (S.number s)) max
         (text (S.state store.old) (S.number w)))) }
-    ensures step { Step (S.state store.old) (S.state store.new) (method_fault_of result) methods.pad_ids
+    ensures uses { Uses (S.state store.old) (S.state store.new) (method_fault_of result) methods.pad_ids
         (methods.pad_words (length (text (S.state store.old) (S.number w)))) }
-    ensures slots { NeverSlots (method_fault_of result) }
-    ensures history { (S.state store.new).history ≡ (S.state store.old).history }
 {
     match pad {
         Pad::Start => js_methods::pad_start(store, s, max, w),

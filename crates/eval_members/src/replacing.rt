@@ -1,7 +1,7 @@
 // Methods that put a template in the place of matches.
 ghost use Rattle.std.specs.Prelude.{◌≡◌, ℕ, ◌+◌, ◌≤◌, length, IfOk};
 ghost use Rattle.js_store.specs.State.{Has, Grows, IsKnown, text};
-ghost use Rattle.js_store.specs.Faults.{Step, NeverSlots};
+ghost use Rattle.js_store.specs.Faults.{Uses};
 ghost use Rattle.js_texts.specs.Answers.{ThrowsLong, full_of};
 ghost use Rattle.js_texts.specs.Use.{settling, made_words};
 ghost use Rattle.eval_values.specs.Conversions.{text_units, all_units, first_text_units};
@@ -141,10 +141,8 @@ fn replaced<S: Strings>(
     ensures throws { ThrowsLong result (S.state store.old).limit
         (length (replaced_of replace (text (S.state store.old) (S.number s))
         (text (S.state store.old) (S.number w)) (text (S.state store.old) (S.number template)))) }
-    ensures step { Step (S.state store.old) (S.state store.new) (full_of result)
+    ensures uses { Uses (S.state store.old) (S.state store.new) (full_of result)
         1 (settling (S.state store.old) (S.number s) + settling (S.state store.old) (S.number w) + settling (S.state store.old) (S.number template) + made_words (S.state store.old).limit (replaced_of replace (text (S.state store.old) (S.number s)) (text (S.state store.old) (S.number w)) (text (S.state store.old) (S.number template)))) }
-    ensures slots { NeverSlots (full_of result) }
-    ensures history { (S.state store.new).history ≡ (S.state store.old).history }
 {
     match replace {
         Replace::First => js_replace::replace(alloc, store, s, w, template),

@@ -3,7 +3,7 @@ ghost use Rattle.std.specs.Prelude.{◌≡◌, ℕ, ◌+◌, ◌≤◌, length, 
 ghost use Rattle.js_number.specs.Places.{IsLawful};
 ghost use Rattle.js_store.specs.State.{Grows, IsKnown, text};
 ghost use Rattle.js_store.specs.Rows.{wide_words};
-ghost use Rattle.js_store.specs.Faults.{Step, NeverSlots};
+ghost use Rattle.js_store.specs.Faults.{Uses};
 ghost use Rattle.js_texts.specs.Answers.{method_fault_of, NeverThrows};
 ghost use Rattle.js_methods.specs.Searching.{ends_at};
 ghost use Rattle.js_item.specs.Contents;
@@ -99,10 +99,8 @@ fn searched<S: Strings>(
         (text (S.state store.old) (S.number w)) n) }
     ensures fine { IfOk result (λ v. IsFine (S.state store.new) S.number v) }
     ensures throws { NeverThrows result }
-    ensures step { Step (S.state store.old) (S.state store.new) (method_fault_of result)
+    ensures uses { Uses (S.state store.old) (S.state store.new) (method_fault_of result)
         0 (wide_words (length (text (S.state store.old) (S.number s))) + wide_words (length (text (S.state store.old) (S.number w)))) }
-    ensures slots { NeverSlots (method_fault_of result) }
-    ensures history { (S.state store.new).history ≡ (S.state store.old).history }
 {
     match search {
         Search::Includes => Ok(Value::Bool(js_methods::includes(store, s, w, n)?)),

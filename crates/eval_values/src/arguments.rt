@@ -3,7 +3,7 @@
 ghost use Rattle.std.specs.Prelude.{◌≡◌, ◌+◌, ◌≤◌, length, IfOk, None};
 ghost use Rattle.js_number.specs.Places.{IsLawful};
 ghost use Rattle.js_store.specs.State.{Grows, IsKnown, text};
-ghost use Rattle.js_store.specs.Faults.{Step};
+ghost use Rattle.js_store.specs.Faults.{Uses};
 ghost use Rattle.eval_values.specs.Conversions.{to_number, to_string, first_text_units};
 ghost use Rattle.eval_values.specs.Arguments.{first_of, second_of, is_undefined, end_in, second_units};
 ghost use Rattle.eval_values.specs.Stops.{converted_of};
@@ -106,8 +106,7 @@ pub fn first_number<S: Strings>(
         (first_of (all_seen (S.state store.old) S.number args.now)) }
     ensures lawful { IfOk result IsLawful }
     ensures same { IfOk result (λ _. S.state store.new ≡ S.state store.old) }
-    ensures step { Step (S.state store.old) (S.state store.new) None 0 0 }
-    ensures history { (S.state store.new).history ≡ (S.state store.old).history }
+    ensures uses { Uses (S.state store.old) (S.state store.new) None 0 0 }
 {
     match args {
         [first, ..] => number_of(store, at, first),
@@ -126,8 +125,7 @@ pub fn second_number<S: Strings>(
         (second_of (all_seen (S.state store.old) S.number args.now)) }
     ensures lawful { IfOk result IsLawful }
     ensures same { IfOk result (λ _. S.state store.new ≡ S.state store.old) }
-    ensures step { Step (S.state store.old) (S.state store.new) None 0 0 }
-    ensures history { (S.state store.new).history ≡ (S.state store.old).history }
+    ensures uses { Uses (S.state store.old) (S.state store.new) None 0 0 }
 {
     match args {
         [_, second, ..] => number_of(store, at, second),
@@ -146,8 +144,7 @@ pub fn second_or_none<S: Strings>(
         (second_of (all_seen (S.state store.old) S.number args.now)) }
     ensures lawful { IfOk result LawfulEnd }
     ensures same { IfOk result (λ _. S.state store.new ≡ S.state store.old) }
-    ensures step { Step (S.state store.old) (S.state store.new) None 0 0 }
-    ensures history { (S.state store.new).history ≡ (S.state store.old).history }
+    ensures uses { Uses (S.state store.old) (S.state store.new) None 0 0 }
 {
     match args {
         [_, second, ..] => number_or_none(store, at, second),
@@ -164,8 +161,7 @@ fn number_or_none<S: Strings>(
     ensures value { converted_of result ≡ end_in at (seen (S.state store.old) S.number value.now) }
     ensures lawful { IfOk result LawfulEnd }
     ensures same { IfOk result (λ _. S.state store.new ≡ S.state store.old) }
-    ensures step { Step (S.state store.old) (S.state store.new) None 0 0 }
-    ensures history { (S.state store.new).history ≡ (S.state store.old).history }
+    ensures uses { Uses (S.state store.old) (S.state store.new) None 0 0 }
 {
     match value {
         Value::Undefined => Ok(None),

@@ -4,7 +4,7 @@ ghost use Rattle.js_number.specs.Places.{IsLawful};
 ghost use Rattle.js_search.specs.Order.{units_cmp};
 ghost use Rattle.js_store.specs.State.{Grows, IsKnown, IsSettled, text};
 ghost use Rattle.js_store.specs.Rows.{wide_words};
-ghost use Rattle.js_store.specs.Faults.{Step, fault_of, NeverSlots};
+ghost use Rattle.js_store.specs.Faults.{fault_of, Uses};
 ghost use Rattle.eval_values.specs.Outcome.{gave, free};
 ghost use Rattle.eval_values.specs.Comparing;
 ghost use Rattle.eval_values.specs.Comparing.{compared, same_out, same_as_text, same_as_list, same_as_object, order_out, order_primitives, order_numbers, order_text, number_order};
@@ -229,10 +229,8 @@ fn settle_both<S: Strings>(store: &mut S, a: S::Ref, b: S::Ref) -> Result<(), St
     requires right { IsKnown (S.state store.old) (S.number b) }
     ensures left_settled { OnOk result (IsSettled (S.state store.new) (S.number a)) }
     ensures right_settled { OnOk result (IsSettled (S.state store.new) (S.number b)) }
-    ensures step { Step (S.state store.old) (S.state store.new) (fault_of result)
+    ensures uses { Uses (S.state store.old) (S.state store.new) (fault_of result)
         0 (wide_words (length (text (S.state store.old) (S.number a))) + wide_words (length (text (S.state store.old) (S.number b)))) }
-    ensures slots { NeverSlots (fault_of result) }
-    ensures history { (S.state store.new).history ≡ (S.state store.old).history }
 {
     store.settle(a)?;
     store.settle(b)

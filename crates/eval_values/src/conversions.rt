@@ -3,7 +3,7 @@ ghost use Rattle.std.specs.Prelude.{◌≡◌, ◌+◌, ◌≤◌, [], length, I
 ghost use Rattle.js_number.specs.Places.{IsLawful};
 ghost use Rattle.js_number.specs.Arith.{text_of};
 ghost use Rattle.js_store.specs.State.{Has, Grows, IsKnown, IsSettled, text};
-ghost use Rattle.js_store.specs.Faults.{Step, NeverSlots};
+ghost use Rattle.js_store.specs.Faults.{Uses};
 ghost use Rattle.js_texts.specs.Answers.{ThrowsLong, full_of};
 ghost use Rattle.js_texts.specs.Use.{made_words};
 ghost use Rattle.js_store.specs.Rows.{wide_words, settle_words};
@@ -99,8 +99,7 @@ fn has_to_string<S: Strings>(store: &mut S, object: &Object<S::Ref>) -> bool
     requires { FineFields (strings_of (S.state store.old)) S.number object.now }
     ensures value { result ≡ own_to_string
         (fields_mapped (says (S.state store.old) S.number) object.now) }
-    ensures step { Step (S.state store.old) (S.state store.new) None 0 0 }
-    ensures history { (S.state store.new).history ≡ (S.state store.old).history }
+    ensures uses { Uses (S.state store.old) (S.state store.new) None 0 0 }
 {
     object.has(store, &[0x74, 0x6F, 0x53, 0x74, 0x72, 0x69, 0x6E, 0x67])
 }
@@ -119,10 +118,8 @@ pub fn joined_by_commas<S: Strings>(
     ensures settled { IfOk result (λ r. IsSettled (S.state store.new) (S.number r)) }
     ensures throws { ThrowsLong result (S.state store.old).limit
         (length (comma_joined (texts_seen (S.state store.old) S.number list.now))) }
-    ensures step { Step (S.state store.old) (S.state store.new) (full_of result)
+    ensures uses { Uses (S.state store.old) (S.state store.new) (full_of result)
         2 (settle_most (S.state store.old) S.number list.now + made_words (S.state store.old).limit (comma_joined (texts_seen (S.state store.old) S.number list.now)) + 1) }
-    ensures slots { NeverSlots (full_of result) }
-    ensures history { (S.state store.new).history ≡ (S.state store.old).history }
 {
     let comma = store.from_units(&[0x2C])?;
     js_texts::join(alloc, store, list, comma)
@@ -186,8 +183,7 @@ pub fn number_of<S: Strings>(store: &mut S, at: u32, value: &Value<S::Ref>) -> R
     ensures value { converted_of result ≡ to_number at (seen (S.state store.old) S.number value.now) }
     ensures lawful { IfOk result IsLawful }
     ensures same { IfOk result (λ _. S.state store.new ≡ S.state store.old) }
-    ensures step { Step (S.state store.old) (S.state store.new) None 0 0 }
-    ensures history { (S.state store.new).history ≡ (S.state store.old).history }
+    ensures uses { Uses (S.state store.old) (S.state store.new) None 0 0 }
 {
     match value {
         Value::Undefined => Ok(Num::NaN),
@@ -206,8 +202,7 @@ pub(crate) fn object_refusal<S: Strings>(store: &mut S, at: u32, object: &Object
     requires { FineFields (strings_of (S.state store.old)) S.number object.now }
     ensures value { fails (ending_of result) ≡ to_number at
         (Contents.object (fields_mapped (says (S.state store.old) S.number) object.now)) }
-    ensures step { Step (S.state store.old) (S.state store.new) None 0 0 }
-    ensures history { (S.state store.new).history ≡ (S.state store.old).history }
+    ensures uses { Uses (S.state store.old) (S.state store.new) None 0 0 }
 {
     if has_to_string(store, object) {
         Refusal::Threw(Kind::TypeError)
@@ -220,8 +215,7 @@ pub(crate) fn object_refusal<S: Strings>(store: &mut S, at: u32, object: &Object
 pub fn truth<S: Strings>(store: &mut S, value: &Value<S::Ref>) -> bool
     requires { IsFine (S.state store.old) S.number value.now }
     ensures value { result ≡ to_boolean (seen (S.state store.old) S.number value.now) }
-    ensures step { Step (S.state store.old) (S.state store.new) None 0 0 }
-    ensures history { (S.state store.new).history ≡ (S.state store.old).history }
+    ensures uses { Uses (S.state store.old) (S.state store.new) None 0 0 }
 {
     match value {
         Value::Undefined | Value::Null => false,

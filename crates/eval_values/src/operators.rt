@@ -2,7 +2,7 @@
 ghost use Rattle.std.specs.Prelude.{◌≡◌, ◌≤◌, ◌+◌, ◌||◌, length, IfOk, IfSome, None};
 ghost use Rattle.js_number.specs.Places.{IsLawful};
 ghost use Rattle.js_store.specs.State.{Grows, IsKnown, text};
-ghost use Rattle.js_store.specs.Faults.{Step};
+ghost use Rattle.js_store.specs.Faults.{Uses};
 ghost use Rattle.js_item.specs.Contents;
 ghost use Rattle.eval_values.specs.Outcome.{gave, bind, free};
 ghost use Rattle.eval_values.specs.Conversions.{is_text, to_number, to_string};
@@ -202,8 +202,7 @@ pub fn two_numbers<S: Strings>(
         (to_number at (seen (S.state store.old) S.number right.now)) }
     ensures lawful { IfOk result (λ p. IsLawful p.0 × IsLawful p.1) }
     ensures same { IfOk result (λ _. S.state store.new ≡ S.state store.old) }
-    ensures step { Step (S.state store.old) (S.state store.new) None 0 0 }
-    ensures history { (S.state store.new).history ≡ (S.state store.old).history }
+    ensures uses { Uses (S.state store.old) (S.state store.new) None 0 0 }
 {
     match number_of(store, at, left) {
         Ok(m) => match number_of(store, at, right) {

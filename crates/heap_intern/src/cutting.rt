@@ -1,6 +1,6 @@
 // New strings of units and of parts, and those of one unit.
 ghost use Rattle.std.specs.Prelude.{◌≡◌, ◌+◌, ◌≤◌, length, slice_range, IfOk};
-ghost use Rattle.js_store.specs.Faults.{NeverSlots, Step, fault_of};
+ghost use Rattle.js_store.specs.Faults.{fault_of, Uses};
 ghost use Rattle.js_store.specs.Rows.{cut_ids, cut_words, flat_words};
 ghost use Rattle.js_store.specs.State.{Has, IsKnown, IsSettled, text};
 ghost use Rattle.heap_intern.specs.Sessions.{state_in};
@@ -16,10 +16,8 @@ impl<'h> Session<'h> {
         requires { length units.now ≤ (state_in self.old).limit }
         ensures ok { IfOk result
             (λ r. Has (state_in self.new) r.id units.now × IsSettled (state_in self.new) r.id) }
-        ensures step { Step (state_in self.old) (state_in self.new) (fault_of result)
+        ensures uses { Uses (state_in self.old) (state_in self.new) (fault_of result)
             1 (flat_words units.now) }
-        ensures no_slots { NeverSlots (fault_of result) }
-        ensures history { (state_in self.new).history ≡ (state_in self.old).history }
     {
         match self.text.make_flat(units) {
             Ok(s) => Ok(s),
@@ -33,10 +31,8 @@ impl<'h> Session<'h> {
         requires one { length units.now ≡ 1 }
         ensures ok { IfOk result
             (λ r. Has (state_in self.new) r.id units.now × IsSettled (state_in self.new) r.id) }
-        ensures step { Step (state_in self.old) (state_in self.new) (fault_of result)
+        ensures uses { Uses (state_in self.old) (state_in self.new) (fault_of result)
             1 (flat_words units.now) }
-        ensures no_slots { NeverSlots (fault_of result) }
-        ensures history { (state_in self.new).history ≡ (state_in self.old).history }
     {
         let unit = units[0];
         if let Some(kept) = self.singles.get(unit) {
@@ -60,11 +56,9 @@ impl<'h> Session<'h> {
         ensures ok { IfOk result
             (λ r. Has (state_in self.new) r.id (slice_range (text (state_in self.old) s.id) from to)
             × IsSettled (state_in self.new) r.id) }
-        ensures step { Step (state_in self.old) (state_in self.new) (fault_of result)
+        ensures uses { Uses (state_in self.old) (state_in self.new) (fault_of result)
             (cut_ids from to (length (text (state_in self.old) s.id)))
             (cut_words from to (length (text (state_in self.old) s.id))) }
-        ensures no_slots { NeverSlots (fault_of result) }
-        ensures history { (state_in self.new).history ≡ (state_in self.old).history }
     {
         match self.text.slice(s, from, to) {
             Ok(part) => Ok(part),
@@ -81,11 +75,9 @@ impl<'h> Session<'h> {
         ensures ok { IfOk result
             (λ r. Has (state_in self.new) r.id (slice_range (text (state_in self.old) s.id) from to)
             × IsSettled (state_in self.new) r.id) }
-        ensures step { Step (state_in self.old) (state_in self.new) (fault_of result)
+        ensures uses { Uses (state_in self.old) (state_in self.new) (fault_of result)
             (cut_ids from to (length (text (state_in self.old) s.id)))
             (cut_words from to (length (text (state_in self.old) s.id))) }
-        ensures no_slots { NeverSlots (fault_of result) }
-        ensures history { (state_in self.new).history ≡ (state_in self.old).history }
     {
         let unit = self.unit_at(s, from);
         if let Some(kept) = self.singles.get(unit) {

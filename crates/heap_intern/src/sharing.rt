@@ -1,7 +1,7 @@
 // How sessions are made, split and joined, and what they count.
 ghost use Rattle.std.specs.Prelude.{◌≡◌, ◌≤◌, ◌<◌, None};
 ghost use Rattle.std.specs.FinMap.{contains_key};
-ghost use Rattle.js_store.specs.Faults.{Step};
+ghost use Rattle.js_store.specs.Faults.{Uses};
 ghost use Rattle.js_store.specs.Limits.{limit_units};
 ghost use Rattle.heap_rule.specs.Agents.{joined, left_after_split, right_after_split};
 ghost use Rattle.heap_table.specs.Agents.{Belongs, view_of};
@@ -74,8 +74,7 @@ impl<'h> Session<'h> {
         ensures count { result ≡ different (state_in self.old).history }
         ensures used { result ≡ count_below (λ k. contains_key (view_in self.new).slots k)
             (view_in self.new).sizes.slots }
-        ensures step { Step (state_in self.old) (state_in self.new) None 0 0 }
-        ensures history { (state_in self.new).history ≡ (state_in self.old).history }
+        ensures uses { Uses (state_in self.old) (state_in self.new) None 0 0 }
     {
         let text = &mut self.text;
         count_interned(&mut text.reader)

@@ -1,6 +1,6 @@
 // Short strings, which a session keeps for a while after it made them.
 ghost use Rattle.std.specs.Prelude.{◌≡◌, ◌≤◌, ◌↔◌, ℕ, List, length, IsTrue, None, IfOk, IfSome};
-ghost use Rattle.js_store.specs.Faults.{NeverSlots, Step, fault_of};
+ghost use Rattle.js_store.specs.Faults.{fault_of, Uses};
 ghost use Rattle.js_store.specs.Rows.{flat_words};
 ghost use Rattle.js_store.specs.State.{Has, IsSettled};
 ghost use Rattle.heap_rule.specs.Maps as maps;
@@ -26,10 +26,8 @@ impl<'h> Session<'h> {
         requires few { length units.now ≤ 32 }
         ensures ok { IfOk result
             (λ r. Has (state_in self.new) r.id units.now × IsSettled (state_in self.new) r.id) }
-        ensures step { Step (state_in self.old) (state_in self.new) (fault_of result)
+        ensures uses { Uses (state_in self.old) (state_in self.new) (fault_of result)
             1 (flat_words units.now) }
-        ensures no_slots { NeverSlots (fault_of result) }
-        ensures history { (state_in self.new).history ≡ (state_in self.old).history }
     {
         let mark = Mark::new(units);
         if let Some(kept) = self.recent_of(mark, units) {
@@ -49,8 +47,7 @@ impl<'h> Session<'h> {
         requires { length units.now ≤ 32 }
         ensures has { IfSome result
             (λ r. Has (state_in self.new) r.id units.now × IsSettled (state_in self.new) r.id) }
-        ensures step { Step (state_in self.old) (state_in self.new) None 0 0 }
-        ensures history { (state_in self.new).history ≡ (state_in self.old).history }
+        ensures uses { Uses (state_in self.old) (state_in self.new) None 0 0 }
     {
         let kept = match self.recent.get(mark) {
             Some(kept) => kept,

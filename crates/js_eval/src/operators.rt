@@ -2,7 +2,7 @@
 ghost use Rattle.std.specs.Prelude.{◌≡◌, ℕ, Ok, None, IfOk, IfSome};
 ghost use Rattle.js_number.specs.Places.{IsLawful};
 ghost use Rattle.js_store.specs.State.{Grows};
-ghost use Rattle.js_store.specs.Faults.{Step};
+ghost use Rattle.js_store.specs.Faults.{Uses};
 ghost use Rattle.eval_values.specs.Comparing.{is_less as less_in, is_greater as greater_in, is_at_most as at_most_in, is_at_least as at_least_in};
 ghost use Rattle.eval_values.specs.Conversions.{to_boolean};
 ghost use Rattle.js_item.specs.Contents.{number};
@@ -25,8 +25,7 @@ pub fn is_true<S: Strings>(store: &mut S, _context: &Context<S::Ref>, value: &Va
     requires context { ContextFine (S.state store.old) S.number _context.now }
     requires value { IsFine (S.state store.old) S.number value.now }
     ensures value { result ≡ to_boolean (seen (S.state store.old) S.number value.now) }
-    ensures step { Step (S.state store.old) (S.state store.new) None 0 0 }
-    ensures history { (S.state store.new).history ≡ (S.state store.old).history }
+    ensures uses { Uses (S.state store.old) (S.state store.new) None 0 0 }
     ensures context { ContextFine (S.state store.new) S.number _context.now }
 {
     truth(store, value)
@@ -42,8 +41,7 @@ pub fn is_decided<S: Strings>(
     requires context { ContextFine (S.state store.old) S.number context.now }
     requires left { IsFine (S.state store.old) S.number left.now }
     ensures value { result ≡ decides op (seen (S.state store.old) S.number left.now) }
-    ensures step { Step (S.state store.old) (S.state store.new) None 0 0 }
-    ensures history { (S.state store.new).history ≡ (S.state store.old).history }
+    ensures uses { Uses (S.state store.old) (S.state store.new) None 0 0 }
     ensures context { ContextFine (S.state store.new) S.number context.now }
 {
     match op {

@@ -1,6 +1,6 @@
 // A heap, the files on it, and what is told of it.
 ghost use Rattle.std.specs.Prelude.{◌≡◌, ◌≤◌, length, All, IfOk, None};
-ghost use Rattle.js_store.specs.Faults.{Step};
+ghost use Rattle.js_store.specs.Faults.{Uses};
 ghost use Rattle.js_store.specs.Limits.{limit_units};
 ghost use Rattle.heap_rule.specs.Agents.{first_view};
 ghost use Rattle.heap_table.specs.Agents.{Belongs, size_of, view_of};
@@ -29,8 +29,7 @@ use std::thread::Threads;
 fn count_if(session: &mut Session<'_>, count: bool) -> Option<u32>
     requires { IsWhole (state_in session.old) }
     ensures count { result ≡ counted count (different (state_in session.old).history) }
-    ensures step { Step (state_in session.old) (state_in session.new) None 0 0 }
-    ensures history { (state_in session.new).history ≡ (state_in session.old).history }
+    ensures uses { Uses (state_in session.old) (state_in session.new) None 0 0 }
 {
     if !count {
         return None;

@@ -1,6 +1,6 @@
 // A player of lines on a session, as `OnText` is one on a text.
 ghost use Rattle.std.specs.Prelude.{◌≡◌, ◌+◌, ◌≤◌, None, IfOk, IfSome, length};
-ghost use Rattle.js_store.specs.Faults.{Step};
+ghost use Rattle.js_store.specs.Faults.{Uses};
 ghost use Rattle.js_store.specs.State.{IsKnown, IsSettled, text};
 ghost use Rattle.heap_intern.specs.Sessions.{state_in};
 ghost use Rattle.heap_intern.specs.Shares.{IsOf, IsWhole, MayJoin};
@@ -90,8 +90,7 @@ fn has_units(session: &mut Session, s: JsStr, n: u32, want: &[u16]) -> bool
     requires settled { IsSettled (state_in session.old) s.id }
     requires long { length (text (state_in session.old) s.id) ≡ n }
     requires count { length want.now ≡ n }
-    ensures step { Step (state_in session.old) (state_in session.new) None 0 0 }
-    ensures history { (state_in session.new).history ≡ (state_in session.old).history }
+    ensures uses { Uses (state_in session.old) (state_in session.new) None 0 0 }
 {
     for i in 0..n {
         if session.unit_at(s, i) != want[i as usize] {

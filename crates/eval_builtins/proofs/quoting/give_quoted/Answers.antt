@@ -16,7 +16,7 @@ returns-clause-did g c =
     let a = state c.args.store.now in
     let u = text a (number c.args.s) in
     let e = c.in_ok-r.ensures in
-    within_given number a (state c.quote.new.store) {k = wide_words (length u) + flat_words (quoted u)} a.limit row_ids (λ r. row_words (length u + r)) (quoted u) c.in_ok-r.r e.value e.throws e.step e.history (omega arith) (omega (arith, flat_words_most (quoted u)))
+    within_given number a (state c.quote.new.store) {k = wide_words (length u) + flat_words (quoted u)} a.limit row_ids (λ r. row_words (length u + r)) (quoted u) c.in_ok-r.r e.value e.throws e.uses.step e.uses.history (omega arith) (omega (arith, flat_words_most (quoted u)))
 
 pub returns-in_err-r-clause-did : goal.returns-in_err-r-clause-did
 returns-in_err-r-clause-did g c =
@@ -26,4 +26,4 @@ returns-in_err-r-clause-did g c =
     let u = text a (number c.args.s) in
     let e = c.in_err-r.ensures in
     let p = err_from_is_err_and c.from_residual.result c.from_residual.ensures.1 in
-    rw (p.1, p.2) (within_ends number a (state c.quote.new.store) {k = wide_words (length u) + flat_words (quoted u)} a.limit row_ids (λ r. row_words (length u + r)) (quoted u) c.in_err-r.field-0.0 e.throws e.step e.history e.slots (omega arith) (omega (arith, flat_words_most (quoted u))) (omega (arith, flat_words_most (quoted u), quoted_most u)))
+    rw (p.1, p.2) (within_ends number a (state c.quote.new.store) {k = wide_words (length u) + flat_words (quoted u)} a.limit row_ids (λ r. row_words (length u + r)) (quoted u) c.in_err-r.field-0.0 e.throws e.uses.step e.uses.history e.uses.no_slots (omega arith) (omega (arith, flat_words_most (quoted u))) (omega (arith, flat_words_most (quoted u), quoted_most u)))

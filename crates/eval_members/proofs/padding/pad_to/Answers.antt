@@ -14,11 +14,11 @@ returns-then-max-from-clause-did g c =
     let a = state c.args.store.now in
     let e = c.len-len.ensures in
     let l : c.args.max ≤ length (text a (number c.args.s)) = omega (arith, c.if-max-from.true, c.from.ensures, e.value) in
-    pads_itself number a (state c.len-len.new.self) (state c.itself.new.store) (padded_of c.args.pad) c.args.s c.args.max (second_of (all_seen a number c.args.args.now)) c.itself.result e.step e.history c.requires.known l c.itself.ensures.did
+    pads_itself number a (state c.len-len.new.self) (state c.itself.new.store) (padded_of c.args.pad) c.args.s c.args.max (second_of (all_seen a number c.args.args.now)) c.itself.result e.uses.step e.uses.history c.requires.known l c.itself.ensures.did
 
 pub fill-requires-clause-args : goal.fill-requires-clause-args
 fill-requires-clause-args g c =
-    values_fine_still (g.S.Strings.state c.args.store.now) (g.S.Strings.state c.len-len.new.self) g.S.Strings.number c.len-len.ensures.step.grows c.args.args.now c.requires.args
+    values_fine_still (g.S.Strings.state c.args.store.now) (g.S.Strings.state c.len-len.new.self) g.S.Strings.number c.len-len.ensures.uses.step.grows c.args.args.now c.requires.args
 
 pub returns-else-max-from-clause-did : goal.returns-else-max-from-clause-did
 returns-else-max-from-clause-did g c =
@@ -27,4 +27,4 @@ returns-else-max-from-clause-did g c =
     let a = state c.args.store.now in
     let e = c.len-len.ensures in
     let l : length (text a (number c.args.s)) < c.args.max = omega (arith, c.if-max-from.false, c.from.ensures, e.value) in
-    pads_more number a (state c.len-len.new.self) (state c.fill.new.store) (padded_of c.args.pad) c.args.s c.args.max c.args.args.now c.fill.result e.step e.history c.requires.known c.requires.args l c.fill.ensures.did
+    pads_more number a (state c.len-len.new.self) (state c.fill.new.store) (padded_of c.args.pad) c.args.s c.args.max c.args.args.now c.fill.result e.uses.step e.uses.history c.requires.known c.requires.args l c.fill.ensures.did

@@ -21,4 +21,4 @@ returns-in_err-r-clause-did g c = λ t k.
     let by = text a (number c.args.template) in
     let e = c.in_err-r.ensures in
     let p = err_from_is_err_and c.from_residual.result c.from_residual.ensures.1 in
-    rw (p.1, p.2) (parts_stops a.limit t (match_count c.args.replace u w) 1 (settling a (number c.args.s) + settling a (number c.args.w) + settling a (number c.args.template)) (replaced_of c.args.replace u w by) e.history (omega arith) (settling_fits a (match_count c.args.replace u w) (number c.args.s) (number c.args.w) (number c.args.template) t k) number c.in_err-r.field-0.0 e.throws e.step e.slots)
+    rw (p.1, p.2) (parts_stops a.limit t (match_count c.args.replace u w) 1 (settling a (number c.args.s) + settling a (number c.args.w) + settling a (number c.args.template)) (replaced_of c.args.replace u w by) e.uses.history (omega arith) (settling_fits a (match_count c.args.replace u w) (number c.args.s) (number c.args.w) (number c.args.template) t k) number c.in_err-r.field-0.0 e.throws e.uses.step e.uses.no_slots)

@@ -10,4 +10,4 @@ returns-in_err-parts-clause-did g c = λ t.
     let a = g.S.Strings.state c.args.store.now in
     let e = c.in_err-parts.ensures in
     let p = err_from_is_err_and c.from_residual.result c.from_residual.ensures.1 in
-    rw (p.1, p.2) (split_stops number t (text a (number c.args.s)) None c.args.most _ _ e.history (omega arith) (omega arith) c.in_err-parts.field-0.0 e.throws e.step e.slots)
+    rw (p.1, p.2) (split_stops number t (text a (number c.args.s)) None c.args.most _ _ e.uses.history (omega arith) (omega arith) c.in_err-parts.field-0.0 e.throws e.uses.step e.uses.no_slots)

@@ -8,4 +8,4 @@ returns-in-Symbol-clause-did g c =
     let number = g.S.Strings.number in
     let a = state c.args.store.now in
     let e = c.same.ensures in
-    rw c.in-Symbol.is (keys_same a (state c.same.new.self) (text a (number c.args.key)) (text a (number c.in-Symbol.other)) c.same.result e.step e.history e.units)
+    rw c.in-Symbol.is (keys_same a (state c.same.new.self) (text a (number c.args.key)) (text a (number c.in-Symbol.other)) c.same.result e.uses.step e.uses.history e.units)

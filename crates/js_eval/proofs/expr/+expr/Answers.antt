@@ -104,24 +104,24 @@ links-returns-clause-did g t c =
 
 pub one_link-returns-then-is_decided-clause-context : goal.one_link-returns-then-is_decided-clause-context
 one_link-returns-then-is_decided-clause-context g t c =
-    context_fine_still (g.S.Strings.state c.args.store.now) (g.S.Strings.state c.is_decided.new.store) g.S.Strings.number c.is_decided.ensures.step.grows c.args.context.now c.requires.context
+    context_fine_still (g.S.Strings.state c.args.store.now) (g.S.Strings.state c.is_decided.new.store) g.S.Strings.number c.is_decided.ensures.uses.step.grows c.args.context.now c.requires.context
 
 pub one_link-returns-then-is_decided-clause-fine : goal.one_link-returns-then-is_decided-clause-fine
 one_link-returns-then-is_decided-clause-fine g t c =
-    fine_still (g.S.Strings.state c.args.store.now) (g.S.Strings.state c.is_decided.new.store) g.S.Strings.number c.is_decided.ensures.step.grows c.args.left c.requires.left
+    fine_still (g.S.Strings.state c.args.store.now) (g.S.Strings.state c.is_decided.new.store) g.S.Strings.number c.is_decided.ensures.uses.step.grows c.args.left c.requires.left
 
 pub one_link-returns-then-is_decided-clause-did : goal.one_link-returns-then-is_decided-clause-did
 one_link-returns-then-is_decided-clause-did g t c =
     let state = g.S.Strings.state in
     let d = c.is_decided.ensures in
-    link_decided g.S.Strings.number (state c.args.store.now) (state c.is_decided.new.store) c.args.left (link_tree c.args.link.now) d.step d.history c.requires.left (scope_of (state c.args.store.now) g.S.Strings.number c.args.context.now) (sym d.value ∙ c.if-is_decided.true)
+    link_decided g.S.Strings.number (state c.args.store.now) (state c.is_decided.new.store) c.args.left (link_tree c.args.link.now) d.uses.step d.uses.history c.requires.left (scope_of (state c.args.store.now) g.S.Strings.number c.args.context.now) (sym d.value ∙ c.if-is_decided.true)
 
 pub one_link-returns-in_err-right-clause-did : goal.one_link-returns-in_err-right-clause-did
 one_link-returns-in_err-right-clause-did g t c =
     let p = err_from_is_err_and c.from_residual.result c.from_residual.ensures.1 in
     let state = g.S.Strings.state in
     let d = c.is_decided.ensures in
-    rw (p.1, p.2) (link_stops g.S.Strings.number (state c.args.store.now) (state c.is_decided.new.store) c.args.left (link_tree c.args.link.now) d.step d.history c.requires.left (state c.expr.new.store) c.in_err-right.field-0.0 c.args.context.now c.requires.context (sym d.value ∙ c.if-is_decided.false) c.in_err-right.ensures.did)
+    rw (p.1, p.2) (link_stops g.S.Strings.number (state c.args.store.now) (state c.is_decided.new.store) c.args.left (link_tree c.args.link.now) d.uses.step d.uses.history c.requires.left (state c.expr.new.store) c.in_err-right.field-0.0 c.args.context.now c.requires.context (sym d.value ∙ c.if-is_decided.false) c.in_err-right.ensures.did)
 
 pub one_link-returns-clause-context : goal.one_link-returns-clause-context
 one_link-returns-clause-context g t c =
@@ -131,7 +131,7 @@ pub one_link-returns-clause-did : goal.one_link-returns-clause-did
 one_link-returns-clause-did g t c =
     let state = g.S.Strings.state in
     let d = c.is_decided.ensures in
-    link_does g.S.Strings.number (state c.args.store.now) (state c.is_decided.new.store) c.args.left (link_tree c.args.link.now) d.step d.history c.requires.left
+    link_does g.S.Strings.number (state c.args.store.now) (state c.is_decided.new.store) c.args.left (link_tree c.args.link.now) d.uses.step d.uses.history c.requires.left
     (state c.expr.new.store) (state c.apply.new.store) c.in_ok-right.right c.apply.result c.args.context.now
     c.in_ok-right.ensures.grows c.requires.context (sym d.value ∙ c.if-is_decided.false) c.in_ok-right.ensures.did c.apply.ensures.did
 
@@ -319,14 +319,14 @@ conditional-returns-then-is_true-clause-did g t c =
     let state = g.S.Strings.state in
     let i = c.in_ok-value.ensures.did in
     let k = c.expr-then-is_true.ensures.did in
-    (condition_holds g.S.Strings.number (state c.args.store.now) (state c.expr.new.store) (state c.is_true.new.store) (state c.expr-then-is_true.new.store) c.in_ok-value.value c.expr-then-is_true.result (expr_tree c.args.test.now) (expr_tree c.args.yes.now) (expr_tree c.args.no.now) c.args.context.now c.in_ok-value.ensures.grows c.is_true.ensures.step c.is_true.ensures.history c.requires i (sym c.is_true.ensures.value ∙ c.if-is_true.true) k)
+    (condition_holds g.S.Strings.number (state c.args.store.now) (state c.expr.new.store) (state c.is_true.new.store) (state c.expr-then-is_true.new.store) c.in_ok-value.value c.expr-then-is_true.result (expr_tree c.args.test.now) (expr_tree c.args.yes.now) (expr_tree c.args.no.now) c.args.context.now c.in_ok-value.ensures.grows c.is_true.ensures.uses.step c.is_true.ensures.uses.history c.requires i (sym c.is_true.ensures.value ∙ c.if-is_true.true) k)
 
 pub conditional-returns-clause-did : goal.conditional-returns-clause-did
 conditional-returns-clause-did g t c =
     let state = g.S.Strings.state in
     let i = c.in_ok-value.ensures.did in
     let k = c.expr-else-is_true.ensures.did in
-    (condition_fails g.S.Strings.number (state c.args.store.now) (state c.expr.new.store) (state c.is_true.new.store) (state c.expr-else-is_true.new.store) c.in_ok-value.value c.expr-else-is_true.result (expr_tree c.args.test.now) (expr_tree c.args.yes.now) (expr_tree c.args.no.now) c.args.context.now c.in_ok-value.ensures.grows c.is_true.ensures.step c.is_true.ensures.history c.requires i (sym c.is_true.ensures.value ∙ c.if-is_true.false) k)
+    (condition_fails g.S.Strings.number (state c.args.store.now) (state c.expr.new.store) (state c.is_true.new.store) (state c.expr-else-is_true.new.store) c.in_ok-value.value c.expr-else-is_true.result (expr_tree c.args.test.now) (expr_tree c.args.yes.now) (expr_tree c.args.no.now) c.args.context.now c.in_ok-value.ensures.grows c.is_true.ensures.uses.step c.is_true.ensures.uses.history c.requires i (sym c.is_true.ensures.value ∙ c.if-is_true.false) k)
 
 pub steps_of_name-returns-in-None-clause-did : goal.steps_of_name-returns-in-None-clause-did
 steps_of_name-returns-in-None-clause-did g t c =
@@ -355,7 +355,7 @@ builtin-returns-clause-grows g t c = grows_trans c.in_ok-values.ensures.grows c.
 pub one_link-apply-requires-clause-left : goal.one_link-apply-requires-clause-left
 one_link-apply-requires-clause-left g t c =
     let state = g.S.Strings.state in
-    fine_still (state c.args.store.now) (state c.expr.new.store) g.S.Strings.number (grows_trans c.is_decided.ensures.step.grows c.in_ok-right.ensures.grows) c.args.left c.requires.left
+    fine_still (state c.args.store.now) (state c.expr.new.store) g.S.Strings.number (grows_trans c.is_decided.ensures.uses.step.grows c.in_ok-right.ensures.grows) c.args.left c.requires.left
 
 pub post-returns-in_err-value-in-None-clause-did : goal.post-returns-in_err-value-in-None-clause-did
 post-returns-in_err-value-in-None-clause-did g t c =

@@ -16,14 +16,14 @@ returns-in_err-value-clause-did g c =
 
 pub returns-clause-context : goal.returns-clause-context
 returns-clause-context g c =
-    context_fine_still (g.S.Strings.state c.expr.new.store) (g.S.Strings.state c.truth.new.store) g.S.Strings.number c.truth.ensures.step.grows c.args.context.now c.in_ok-value.ensures.context
+    context_fine_still (g.S.Strings.state c.expr.new.store) (g.S.Strings.state c.truth.new.store) g.S.Strings.number c.truth.ensures.uses.step.grows c.args.context.now c.in_ok-value.ensures.context
 
 pub returns-clause-grows : goal.returns-clause-grows
-returns-clause-grows g c = grows_trans c.in_ok-value.ensures.grows c.truth.ensures.step.grows
+returns-clause-grows g c = grows_trans c.in_ok-value.ensures.grows c.truth.ensures.uses.step.grows
 
 pub returns-clause-did : goal.returns-clause-did
 returns-clause-did g c =
     let state = g.S.Strings.state in
     let a = state c.args.store.now in
     let t = c.truth.ensures in
-    test_holds g.S.Strings.number a (state c.expr.new.store) (state c.truth.new.store) c.in_ok-value.value c.truth.result (expr_out (expr_tree c.args.test.now) (scope_of a g.S.Strings.number c.args.context.now)) t.value t.step t.history c.in_ok-value.ensures.did
+    test_holds g.S.Strings.number a (state c.expr.new.store) (state c.truth.new.store) c.in_ok-value.value c.truth.result (expr_out (expr_tree c.args.test.now) (scope_of a g.S.Strings.number c.args.context.now)) t.value t.uses.step t.uses.history c.in_ok-value.ensures.did

@@ -94,7 +94,7 @@ append_object-returns-in_err-append_item-clause-uses g t c =
     let k = c.in_ok-append_key.ensures in
     let order : map lent_entry ms ≡ ordered (index_in a g.S.Strings.number) (entries c.args.of.now) = rw c.deref-member-items.ensures.value c.in_ok-members.ensures.value in
     let p = err_from_is_err_and c.from_residual-in_err-append_item.result c.from_residual-in_err-append_item.ensures.1 in
-    let uses_step = rw (p.1, p.2) (item_uses a b (state c.append_key.new.store) g.S.Strings.number i.grows (grows_trans i.grows k.step.grows) c.args.of.now c.requires ms order c.loop-member.member-index c.member-item.result c.loop-member-test.true c.member-item.is i.ids i.words _ _ k.step c.in_err-append_item.ensures.uses.step) in
+    let uses_step = rw (p.1, p.2) (item_uses a b (state c.append_key.new.store) g.S.Strings.number i.grows (grows_trans i.grows k.uses.step.grows) c.args.of.now c.requires ms order c.loop-member.member-index c.member-item.result c.loop-member-test.true c.member-item.is i.ids i.words _ _ k.uses.step c.in_err-append_item.ensures.uses.step) in
     search rules
 
 pub append_object-returns-clause-uses : goal.append_object-returns-clause-uses

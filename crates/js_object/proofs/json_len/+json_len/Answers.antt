@@ -140,7 +140,7 @@ object_len-returns-in_err-value-clause-uses g t c =
     let order : map lent_entry ms ≡ ordered (index_in a g.S.Strings.number) (entries c.args.of.now) = rw c.deref-member-items.ensures.value c.in_ok-members.ensures.value in
     let k = c.in_ok-key.ensures in
     let p = err_from_is_err_and c.from_residual-in_err-value.result c.from_residual-in_err-value.ensures.1 in
-    let uses_step = rw (p.1, p.2) (item_uses a b (state c.key_len.new.store) g.S.Strings.number i.grows (grows_trans i.grows k.step.grows) c.args.of.now c.requires.readable ms order c.loop-member.member-index c.member-item.result c.loop-member-test.true c.member-item.is i.ids i.words _ _ k.step c.in_err-value.ensures.uses.step) in
+    let uses_step = rw (p.1, p.2) (item_uses a b (state c.key_len.new.store) g.S.Strings.number i.grows (grows_trans i.grows k.uses.step.grows) c.args.of.now c.requires.readable ms order c.loop-member.member-index c.member-item.result c.loop-member-test.true c.member-item.is i.ids i.words _ _ k.uses.step c.in_err-value.ensures.uses.step) in
     search rules
 
 pub object_len-returns-clause-uses : goal.object_len-returns-clause-uses

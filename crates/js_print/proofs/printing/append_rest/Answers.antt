@@ -21,16 +21,16 @@ loop-s-preserved g c =
     let k = c.loop-s.s-index in
     let i = c.loop-s.invariant in
     let e = c.in_ok-append_string.ensures in
-    let front = settle_front number b d rest k r c.loop-s-test.true c.s-item.is e.step.grows i.known in
-    let words = e.step.within_words in
+    let front = settle_front number b d rest k r c.loop-s-test.true c.s-item.is e.uses.step.grows i.known in
+    let words = e.uses.step.within_words in
     let before = i.words in
-    let ids = e.step.within_ids in
+    let ids = e.uses.step.within_ids in
     let known = every_at (λ q. IsKnown a (number q)) rest k r c.requires c.loop-s-test.true c.s-item.is in
     let same = text_still i.grows (number r) known in
     record {
-      grows = grows_trans i.grows e.step.grows;
-      history = e.history ∙ i.history;
-      known = every_map (λ q h. known_still e.step.grows (number q) h) rest i.known;
+      grows = grows_trans i.grows e.uses.step.grows;
+      history = e.uses.history ∙ i.history;
+      known = every_map (λ q h. known_still e.uses.step.grows (number q) h) rest i.known;
       ids = let done = i.ids in omega (arith, ids, done);
       words = omega (arith, front, words, before);
       bytes =

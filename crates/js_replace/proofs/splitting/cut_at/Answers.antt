@@ -55,8 +55,8 @@ loop-at-preserved g c =
     let part = slice_range u from at in
     let added = e.added ∙ ap (λ t. done ++ slice_range t from at ∷ []) (text_still i.step.grows (number c.args.s) c.requires.known) in
     record {
-      step = answered (at - from) (limit - k) (limit - (k + 1)) done left rest whole part more (range_length u from at o.0 (omega (arith, room))) added i.step e.step;
-      history = e.history ∙ i.history;
+      step = answered (at - from) (limit - k) (limit - (k + 1)) done left rest whole part more (range_length u from at o.0 (omega (arith, room))) added i.step e.uses.step;
+      history = e.uses.history ∙ i.history;
       known = e.known;
       made = more_parts (limit - k) (limit - (k + 1)) done more left rest whole part (omega (arith, below, count)) (omega arith) (piece_turn u size from places k below) added i.made;
       order = o.2;

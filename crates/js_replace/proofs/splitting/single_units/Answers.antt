@@ -48,8 +48,8 @@ loop-i-preserved g c =
     let added = e.added ∙ ap (λ t. done ++ slice_range t k (k + 1) ∷ []) same in
     record {
       step = answered (k + 1 - k) (limit - k) (limit - (k + 1)) done (singles (drop k u)) (singles (drop (k + 1) u)) (take limit (singles u)) part more
-          (range_length u k (k + 1) (omega arith) (omega (arith, below, size, most))) added i.step e.step;
-      history = e.history ∙ i.history;
+          (range_length u k (k + 1) (omega arith) (omega (arith, below, size, most))) added i.step e.uses.step;
+      history = e.uses.history ∙ i.history;
       known = e.known;
       made = more_parts (limit - k) (limit - (k + 1)) done more (singles (drop k u)) (singles (drop (k + 1) u)) (take limit (singles u)) part
           (omega (arith, below, most)) (omega arith) (single_turn u k (omega (arith, below, size, most))) added i.made;

@@ -36,6 +36,6 @@ loop-place-preserved g c =
       high = omega arith;
       none = none_to u c.cover.new.self c.args.pair part c.args.from c.loop-place.place (c.cover.new.self.count - c.args.pair.apart) e.low (omega arith) s.none (λ k a b. f.none k a (omega arith));
       part = part;
-      step = step_trans s.step e.step;
-      history = e.history ∙ s.history;
+      step = step_trans s.step e.uses.step;
+      history = e.uses.history ∙ s.history;
     }

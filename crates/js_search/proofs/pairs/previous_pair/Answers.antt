@@ -30,6 +30,6 @@ loop-left-preserved g c =
       high = omega arith;
       none = λ k a b. none_down u c.cover.new.self c.args.pair part c.args.end c.loop-left.left 0 e.high s.none (λ j l m. c.in_default.ensures j m) k (omega arith) b;
       part = part;
-      step = step_trans s.step e.step;
-      history = e.history ∙ s.history;
+      step = step_trans s.step e.uses.step;
+      history = e.uses.history ∙ s.history;
     }

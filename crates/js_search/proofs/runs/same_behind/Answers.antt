@@ -21,6 +21,6 @@ loop-done-preserved g c =
       some = omega arith;
       most = omega arith;
       same = same_more _ _ _ _ c.args.place c.args.from c.loop-done.done c.min-count.result (text_still s.step.grows _ c.requires.hay_known) (text_still s.step.grows _ c.requires.needle_known) s.same (λ k l. e.same k (omega arith));
-      step = step_trans s.step e.step;
-      history = e.history ∙ s.history;
+      step = step_trans s.step e.uses.step;
+      history = e.uses.history ∙ s.history;
     }

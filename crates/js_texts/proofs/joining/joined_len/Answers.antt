@@ -29,9 +29,9 @@ loop-s-preserved g c =
     let most = i.most in
     let size = i.size in
     record {
-      step = step_trans i.step e.step;
-      history = e.history ∙ i.history;
-      known = every_map (λ q h. known_still e.step.grows (number q) h) parts i.known;
+      step = step_trans i.step e.uses.step;
+      history = e.uses.history ∙ i.history;
+      known = every_map (λ q h. known_still e.uses.step.grows (number q) h) parts i.known;
       size = i.size;
       units = omega (arith, done, more, from, value, same, size);
       most = omega (arith, most, from, short, sized, first);

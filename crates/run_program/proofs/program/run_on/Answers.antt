@@ -14,7 +14,7 @@ returns-clause-belongs g c = let h = c.args.heap.now in let setup = c.args.setup
     let is : state_in c.new-session.result ≡ begun setup (table_of h) = c.new-session.ensures.state ∙ ap (λ (v : View). state_by v (limit_units setup.limit) (table_of h)) c.requires.view in
     c.into_agent.ensures.belongs h (kept_of setup h (tree_if c.args.prelude) (job_trees c.args.jobs.now) f.result f.new.outcomes.items k.result
     (state_in c.new-session.result) (state_in f.new.session) (state_in c.totals.new.self) (state_in k.new.session)
-    is c.requires.size f.ensures.grows f.ensures.ran c.whole_has_all.ensures c.totals.ensures.state k.ensures.step k.ensures.history k.ensures.count)
+    is c.requires.size f.ensures.grows f.ensures.ran c.whole_has_all.ensures c.totals.ensures.state k.ensures.uses.step k.ensures.uses.history k.ensures.count)
 
 pub returns-clause-told : goal.returns-clause-told
 returns-clause-told g c = let h = c.args.heap.now in let setup = c.args.setup in let f = c.run_files-first in let k = c.count_if-interned in let s = k.new.session in
@@ -22,10 +22,10 @@ returns-clause-told g c = let h = c.args.heap.now in let setup = c.args.setup in
     let a = state_in c.new-session.result in let b = state_in f.new.session in let t = state_in c.totals.new.self in let d = state_in s in
     let is : a ≡ begun setup (table_of h) = c.new-session.ensures.state ∙ ap (λ (v : View). state_by v (limit_units setup.limit) (table_of h)) c.requires.view in
     let of = kept_of setup h prelude trees f.result os k.result a b t d
-    is c.requires.size f.ensures.grows f.ensures.ran c.whole_has_all.ensures c.totals.ensures.state k.ensures.step k.ensures.history k.ensures.count in
+    is c.requires.size f.ensures.grows f.ensures.ran c.whole_has_all.ensures c.totals.ensures.state k.ensures.uses.step k.ensures.uses.history k.ensures.count in
     let limit = kept_limit setup h prelude trees f.result os k.result a b t d
-    is c.requires.size f.ensures.grows f.ensures.ran c.whole_has_all.ensures c.totals.ensures.state k.ensures.step k.ensures.history k.ensures.count in
+    is c.requires.size f.ensures.grows f.ensures.ran c.whole_has_all.ensures c.totals.ensures.state k.ensures.uses.step k.ensures.uses.history k.ensures.count in
     subst (λ (x : State SessionFrame). IsTold setup x prelude trees f.result os k.result)
     (same_state (view_in s) (view_of c.into_agent.result) (limit_units s.limit) (limit_units setup.limit) (table_of s.text.reader.heap.now) (table_of h) (sym c.into_agent.ensures.view) limit of.0)
     (kept_told setup h prelude trees f.result os k.result a b t d
-    is c.requires.size f.ensures.grows f.ensures.ran c.whole_has_all.ensures c.totals.ensures.state k.ensures.step k.ensures.history k.ensures.count)
+    is c.requires.size f.ensures.grows f.ensures.ran c.whole_has_all.ensures c.totals.ensures.state k.ensures.uses.step k.ensures.uses.history k.ensures.count)

@@ -1,4 +1,4 @@
-use Rattle.std.proofs.Common.{◌≡◌, ◌∙◌, ℕ, List, None, Some, length, ap, arith}
+use Rattle.std.proofs.Common.{◌≡◌, ◌∙◌, ℕ, List, None, Some, length, ap, arith, rules}
 use Rattle.js_header.specs.declared.form.Form.TheVariants.{Flat}
 use Rattle.js_units.specs.Lanes.{words_over}
 use Rattle.js_store.specs.Rows.{flat_words}
@@ -23,25 +23,26 @@ pub returns-in-Ok-clause-ok : goal.returns-in-Ok-clause-ok
 returns-in-Ok-clause-ok c = let w : View = c.make_flat.new.self.reader.agent.seat.me.0 in let f = c.in-Ok.ensures.form in
     (c.in-Ok.ensures.units, settled_test w c.in-Ok.s.id (Flat (texts.is_wide c.args.units.now) f.0 _, f.1, λ x. x))
 
-pub returns-in-Ok-clause-step : goal.returns-in-Ok-clause-step
-returns-in-Ok-clause-step c = let s = c.args.self.now in let v : View = s.text.reader.agent.seat.me.0 in let w : View = c.make_flat.new.self.reader.agent.seat.me.0 in let us : List ℕ = c.args.units.now in let l = limit_units s.limit in let t = table_of s.text.reader.heap.now in
-    step_at v w l t (table_of c.make_flat.new.self.reader.heap.now) None 1 (flat_words us) (ap (λ x. table_of x.now) c.make_flat.ensures.kept.heap)
-    (step_used v w l t 1 (words_over (texts.is_wide us) (length us)) 1 (flat_words us) (omega arith) (let e = flat_is us in omega arith) s.text.reader.belongs.5 c.make_flat.ensures.continues c.in-Ok.ensures.used)
+pub returns-in-Ok-clause-uses : goal.returns-in-Ok-clause-uses
+returns-in-Ok-clause-uses c =
+    let s = c.args.self.now in let v : View = s.text.reader.agent.seat.me.0 in let w : View = c.make_flat.new.self.reader.agent.seat.me.0 in let us : List ℕ = c.args.units.now in let l = limit_units s.limit in let t = table_of s.text.reader.heap.now in
+    let uses_step = step_at v w l t (table_of c.make_flat.new.self.reader.heap.now) None 1 (flat_words us) (ap (λ x. table_of x.now) c.make_flat.ensures.kept.heap)
+    (step_used v w l t 1 (words_over (texts.is_wide us) (length us)) 1 (flat_words us) (omega arith) (let e = flat_is us in omega arith) s.text.reader.belongs.5 c.make_flat.ensures.continues c.in-Ok.ensures.used) in
+    let history =
+    history_continues c.args.self.now.text.reader.agent.seat.me.0 c.make_flat.new.self.reader.agent.seat.me.0 c.make_flat.ensures.continues in
+    search rules
 
-pub returns-in-Ok-clause-history : goal.returns-in-Ok-clause-history
-returns-in-Ok-clause-history c = history_continues c.args.self.now.text.reader.agent.seat.me.0 c.make_flat.new.self.reader.agent.seat.me.0 c.make_flat.ensures.continues
-
-pub returns-in-Err-clause-step : goal.returns-in-Err-clause-step
-returns-in-Err-clause-step c = let s = c.args.self.now in let v : View = s.text.reader.agent.seat.me.0 in let w : View = c.make_flat.new.self.reader.agent.seat.me.0 in let us : List ℕ = c.args.units.now in let l = limit_units s.limit in let t = table_of s.text.reader.heap.now in
+pub returns-in-Err-clause-uses : goal.returns-in-Err-clause-uses
+returns-in-Err-clause-uses c =
+    let s = c.args.self.now in let v : View = s.text.reader.agent.seat.me.0 in let w : View = c.make_flat.new.self.reader.agent.seat.me.0 in let us : List ℕ = c.args.units.now in let l = limit_units s.limit in let t = table_of s.text.reader.heap.now in
     let words : ℕ = words_over (texts.is_wide us) (length us) in let sizes : w.sizes ≡ size_of s.text.reader.heap.now = c.make_flat.new.self.reader.belongs.1 ∙ ap (λ x. size_of x.now) c.make_flat.ensures.kept.heap in
-    rw c.text_fault.ensures (step_at v w l t (table_of c.make_flat.new.self.reader.heap.now) (Some (fault_in_text c.in-Err.full)) 1 (flat_words us) (ap (λ x. table_of x.now) c.make_flat.ensures.kept.heap)
-    (step_refused v w l t words (flat_words us) c.in-Err.full (let e = flat_is us in omega arith) s.text.reader.belongs.5 c.make_flat.ensures.continues (told_here w (size_of s.text.reader.heap.now) words c.in-Err.full sizes c.in-Err.ensures.refused) c.in-Err.ensures.spared))
-
-pub returns-in-Err-clause-no_slots : goal.returns-in-Err-clause-no_slots
-returns-in-Err-clause-no_slots c = rw c.text_fault.ensures (never_slots c.in-Err.full)
-
-pub returns-in-Err-clause-history : goal.returns-in-Err-clause-history
-returns-in-Err-clause-history c = history_continues c.args.self.now.text.reader.agent.seat.me.0 c.make_flat.new.self.reader.agent.seat.me.0 c.make_flat.ensures.continues
+    let uses_step = rw c.text_fault.ensures (step_at v w l t (table_of c.make_flat.new.self.reader.heap.now) (Some (fault_in_text c.in-Err.full)) 1 (flat_words us) (ap (λ x. table_of x.now) c.make_flat.ensures.kept.heap)
+    (step_refused v w l t words (flat_words us) c.in-Err.full (let e = flat_is us in omega arith) s.text.reader.belongs.5 c.make_flat.ensures.continues (told_here w (size_of s.text.reader.heap.now) words c.in-Err.full sizes c.in-Err.ensures.refused) c.in-Err.ensures.spared)) in
+    let history =
+    history_continues c.args.self.now.text.reader.agent.seat.me.0 c.make_flat.new.self.reader.agent.seat.me.0 c.make_flat.ensures.continues in
+    let no_slots =
+    rw c.text_fault.ensures (never_slots c.in-Err.full) in
+    search rules
 
 pub invariant_of-self-clause-last_kept : goal.invariant_of-self-clause-last_kept
 invariant_of-self-clause-last_kept c = let s = c.args.self.now in let v : View = s.text.reader.agent.seat.me.0 in let w : View = c.make_flat.new.self.reader.agent.seat.me.0 in kept_by v w (c.make_flat.ensures.continues.known) s.last s.last_kept

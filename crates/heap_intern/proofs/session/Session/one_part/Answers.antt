@@ -10,7 +10,7 @@ use Rattle.heap_intern.proofs.session.Session.one_part.Goals as goal
 pub invariant_of-self-in-Ok : goal.invariant_of-self-in-Ok
 invariant_of-self-in-Ok c = let p = c.part_of.new.self in let x : View = c.unit_at-unit.new.self.text.reader.agent.seat.me.0 in let w : View = p.text.reader.agent.seat.me.0 in
     let i = c.args.s.id in let us : List ℕ = unwrap_or (get x.units i) [] in let ok = c.in-Ok.ensures.ok in
-    let same = text_still c.unit_at-unit.ensures.step.grows i c.requires.known in
+    let same = text_still c.unit_at-unit.ensures.uses.step.grows i c.requires.known in
     let within : c.args.to ≤ length us = subst (λ (xs : List ℕ). c.args.to ≤ length xs) (sym same) c.requires.within in
     let unit : slice_index us c.args.from ≡ c.unit_at-unit.result = ap (λ (xs : List ℕ). slice_index xs c.args.from) same ∙ sym c.unit_at-unit.ensures.value in
     let one = subst (λ (xs : List ℕ). Has w.units c.in-Ok.part.id xs) (one_of_part us c.args.from c.args.to c.requires.one within ∙ ap (λ (u : ℕ). u ∷ []) unit) ok.0 in record {

@@ -1,4 +1,4 @@
-use Rattle.std.proofs.Common.{◌∙◌, None, ap}
+use Rattle.std.proofs.Common.{◌∙◌, None, ap, rules}
 use Rattle.js_store.specs.Limits.{limit_units}
 use Rattle.heap_rule.specs.declared.view.View.{View}
 use Rattle.heap_intern.specs.Sessions.{table_of}
@@ -20,10 +20,14 @@ invariant_of-self c = let s = c.args.self.now in let v : View = s.text.reader.ag
   recent_kept = recent_by v w k s.recent.ids s.recent_kept;
 }
 
-pub returns-then-has_units-clause-step : goal.returns-then-has_units-clause-step
-returns-then-has_units-clause-step c = let s = c.args.self.now in let v : View = s.text.reader.agent.seat.me.0 in let w : View = c.has_units.new.text.reader.agent.seat.me.0 in let l = limit_units s.limit in let t = table_of s.text.reader.heap.now in let e = c.has_units.ensures in
-    step_at v w l t (table_of c.has_units.new.text.reader.heap.now) None 0 0 (ap (λ x. table_of x.now) e.heap) (step_reads v w l t s.text.reader.belongs.5 e.reads)
+pub returns-then-has_units-clause-uses : goal.returns-then-has_units-clause-uses
+returns-then-has_units-clause-uses c =
+    let s = c.args.self.now in let v : View = s.text.reader.agent.seat.me.0 in let w : View = c.has_units.new.text.reader.agent.seat.me.0 in let l = limit_units s.limit in let t = table_of s.text.reader.heap.now in let e = c.has_units.ensures in
+    let uses_step = step_at v w l t (table_of c.has_units.new.text.reader.heap.now) None 0 0 (ap (λ x. table_of x.now) e.heap) (step_reads v w l t s.text.reader.belongs.5 e.reads) in
+    search rules
 
-pub returns-clause-step : goal.returns-clause-step
-returns-clause-step c = let s = c.args.self.now in let v : View = s.text.reader.agent.seat.me.0 in let w : View = c.has_units.new.text.reader.agent.seat.me.0 in let l = limit_units s.limit in let t = table_of s.text.reader.heap.now in let e = c.has_units.ensures in
-    step_at v w l t (table_of c.has_units.new.text.reader.heap.now) None 0 0 (ap (λ x. table_of x.now) e.heap) (step_reads v w l t s.text.reader.belongs.5 e.reads)
+pub returns-clause-uses : goal.returns-clause-uses
+returns-clause-uses c =
+    let s = c.args.self.now in let v : View = s.text.reader.agent.seat.me.0 in let w : View = c.has_units.new.text.reader.agent.seat.me.0 in let l = limit_units s.limit in let t = table_of s.text.reader.heap.now in let e = c.has_units.ensures in
+    let uses_step = step_at v w l t (table_of c.has_units.new.text.reader.heap.now) None 0 0 (ap (λ x. table_of x.now) e.heap) (step_reads v w l t s.text.reader.belongs.5 e.reads) in
+    search rules

@@ -1,4 +1,4 @@
-use Rattle.std.proofs.Common.{◌∙◌, ℕ, List, [], None, Ok, Err, length, ap}
+use Rattle.std.proofs.Common.{◌∙◌, ℕ, List, [], None, Ok, Err, length, ap, rules}
 use Rattle.std.specs.Prelude.{unwrap_or}
 use Rattle.std.specs.FinMap.{get}
 use Rattle.js_store.specs.Faults.{concat_part}
@@ -27,14 +27,16 @@ returns-in-Ok-clause-answer c = let s = c.args.self.now in let v : View = s.text
     let j = joined_in v w (size_of s.text.reader.heap.now) s.text.limit l c.args.a c.args.b us vs (Ok c.in-Ok.s) (c.concat.new.self.reader.belongs.1 ∙ ap (λ x. size_of x.now) e.kept.heap) s.one_limit (c.in-Ok.ensures.joined us vs h k) in
     joined_fits v w l t c.args.a c.args.b us vs s.text.reader.belongs.5 e.continues l c.in-Ok.s j
 
-pub returns-in-Ok-clause-step : goal.returns-in-Ok-clause-step
-returns-in-Ok-clause-step c = let s = c.args.self.now in let v : View = s.text.reader.agent.seat.me.0 in let w : View = c.concat.new.self.reader.agent.seat.me.0 in let e = c.concat.ensures in
+pub returns-in-Ok-clause-uses : goal.returns-in-Ok-clause-uses
+returns-in-Ok-clause-uses c =
+    let s = c.args.self.now in let v : View = s.text.reader.agent.seat.me.0 in let w : View = c.concat.new.self.reader.agent.seat.me.0 in let e = c.concat.ensures in
     let us : List ℕ = unwrap_or (get v.units c.args.a.id) [] in let vs : List ℕ = unwrap_or (get v.units c.args.b.id) [] in
     let h = has_text v.units c.args.a.id c.requires.left in let k = has_text v.units c.args.b.id c.requires.right in
     let l = limit_units s.limit in let t = table_of s.text.reader.heap.now in
     let j = joined_in v w (size_of s.text.reader.heap.now) s.text.limit l c.args.a c.args.b us vs (Ok c.in-Ok.s) (c.concat.new.self.reader.belongs.1 ∙ ap (λ x. size_of x.now) e.kept.heap) s.one_limit (c.in-Ok.ensures.joined us vs h k) in
-    step_at v w l t (table_of c.concat.new.self.reader.heap.now) None (join_ids (length us) (length vs)) (join_words (length us) (length vs)) (ap (λ x. table_of x.now) e.kept.heap)
-    (joined_ok v w l t c.args.a c.args.b us vs s.text.reader.belongs.5 e.continues l c.in-Ok.s j)
+    let uses_step = step_at v w l t (table_of c.concat.new.self.reader.heap.now) None (join_ids (length us) (length vs)) (join_words (length us) (length vs)) (ap (λ x. table_of x.now) e.kept.heap)
+    (joined_ok v w l t c.args.a c.args.b us vs s.text.reader.belongs.5 e.continues l c.in-Ok.s j) in
+    search rules
 
 pub returns-in-Err-clause-answer : goal.returns-in-Err-clause-answer
 returns-in-Err-clause-answer c = let s = c.args.self.now in let v : View = s.text.reader.agent.seat.me.0 in let w : View = c.concat.new.self.reader.agent.seat.me.0 in let e = c.concat.ensures in
@@ -44,14 +46,16 @@ returns-in-Err-clause-answer c = let s = c.args.self.now in let v : View = s.tex
     let j = joined_in v w (size_of s.text.reader.heap.now) s.text.limit l c.args.a c.args.b us vs (Err c.in-Err.fault) (c.concat.new.self.reader.belongs.1 ∙ ap (λ x. size_of x.now) e.kept.heap) s.one_limit (c.in-Err.ensures.joined us vs h k) in
     rw c.join_fault.ensures (joined_told v w l t c.args.a c.args.b us vs s.text.reader.belongs.5 e.continues l c.in-Err.fault j)
 
-pub returns-in-Err-clause-step : goal.returns-in-Err-clause-step
-returns-in-Err-clause-step c = let s = c.args.self.now in let v : View = s.text.reader.agent.seat.me.0 in let w : View = c.concat.new.self.reader.agent.seat.me.0 in let e = c.concat.ensures in
+pub returns-in-Err-clause-uses : goal.returns-in-Err-clause-uses
+returns-in-Err-clause-uses c =
+    let s = c.args.self.now in let v : View = s.text.reader.agent.seat.me.0 in let w : View = c.concat.new.self.reader.agent.seat.me.0 in let e = c.concat.ensures in
     let us : List ℕ = unwrap_or (get v.units c.args.a.id) [] in let vs : List ℕ = unwrap_or (get v.units c.args.b.id) [] in
     let h = has_text v.units c.args.a.id c.requires.left in let k = has_text v.units c.args.b.id c.requires.right in
     let l = limit_units s.limit in let t = table_of s.text.reader.heap.now in
     let j = joined_in v w (size_of s.text.reader.heap.now) s.text.limit l c.args.a c.args.b us vs (Err c.in-Err.fault) (c.concat.new.self.reader.belongs.1 ∙ ap (λ x. size_of x.now) e.kept.heap) s.one_limit (c.in-Err.ensures.joined us vs h k) in
-    rw c.join_fault.ensures (step_at v w l t (table_of c.concat.new.self.reader.heap.now) (concat_part (fault_in_join c.in-Err.fault)) (join_ids (length us) (length vs)) (join_words (length us) (length vs)) (ap (λ x. table_of x.now) e.kept.heap)
-    (joined_step v w l t c.args.a c.args.b us vs s.text.reader.belongs.5 e.continues l c.in-Err.fault j))
+    let uses_step = rw c.join_fault.ensures (step_at v w l t (table_of c.concat.new.self.reader.heap.now) (concat_part (fault_in_join c.in-Err.fault)) (join_ids (length us) (length vs)) (join_words (length us) (length vs)) (ap (λ x. table_of x.now) e.kept.heap)
+    (joined_step v w l t c.args.a c.args.b us vs s.text.reader.belongs.5 e.continues l c.in-Err.fault j)) in
+    search rules
 
 pub invariant_of-self-clause-last_kept : goal.invariant_of-self-clause-last_kept
 invariant_of-self-clause-last_kept c = let s = c.args.self.now in let v : View = s.text.reader.agent.seat.me.0 in let w : View = c.concat.new.self.reader.agent.seat.me.0 in kept_by v w c.concat.ensures.continues.known s.last s.last_kept

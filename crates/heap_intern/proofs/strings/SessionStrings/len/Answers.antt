@@ -1,4 +1,4 @@
-use Rattle.std.proofs.Common.{◌∙◌, ℕ, None, length, ap, sym, arith}
+use Rattle.std.proofs.Common.{◌∙◌, ℕ, None, length, ap, sym, arith, rules}
 use Rattle.heap_rule.specs.declared.view.View.{View}
 use Rattle.js_store.specs.Limits.{limit_units}
 use Rattle.heap_rule.proofs.MapLemmas.{has_key}
@@ -16,12 +16,13 @@ returns-clause-value c = let v : View = c.args.self.now.text.reader.agent.seat.m
 pub returns-clause-most : goal.returns-clause-most
 returns-clause-most c = let v : View = c.args.self.now.text.reader.agent.seat.me.0 in let u = has_key v.units c.args.s.id c.requires in let n = c.len.ensures.length u.0 u.1 in let m = possible_short v c.args.self.now.text.reader.belongs.5 c.args.s.id u.0 u.1 in omega arith
 
-pub returns-clause-step : goal.returns-clause-step
-returns-clause-step c = let s = c.args.self.now in let v : View = s.text.reader.agent.seat.me.0 in let w : View = c.len.new.self.reader.agent.seat.me.0 in
-    step_at v w (limit_units s.limit) (table_of s.text.reader.heap.now) (table_of c.len.new.self.reader.heap.now) None 0 0 (ap (λ x. table_of x.now) c.len.ensures.kept.heap) (step_reads v w (limit_units s.limit) (table_of s.text.reader.heap.now) s.text.reader.belongs.5 c.len.ensures.reads)
-
-pub returns-clause-history : goal.returns-clause-history
-returns-clause-history c = history_reads c.args.self.now.text.reader.agent.seat.me.0 c.len.new.self.reader.agent.seat.me.0 c.len.ensures.reads
+pub returns-clause-uses : goal.returns-clause-uses
+returns-clause-uses c =
+    let s = c.args.self.now in let v : View = s.text.reader.agent.seat.me.0 in let w : View = c.len.new.self.reader.agent.seat.me.0 in
+    let uses_step = step_at v w (limit_units s.limit) (table_of s.text.reader.heap.now) (table_of c.len.new.self.reader.heap.now) None 0 0 (ap (λ x. table_of x.now) c.len.ensures.kept.heap) (step_reads v w (limit_units s.limit) (table_of s.text.reader.heap.now) s.text.reader.belongs.5 c.len.ensures.reads) in
+    let history =
+    history_reads c.args.self.now.text.reader.agent.seat.me.0 c.len.new.self.reader.agent.seat.me.0 c.len.ensures.reads in
+    search rules
 
 pub invariant_of-self-clause-last_kept : goal.invariant_of-self-clause-last_kept
 invariant_of-self-clause-last_kept c = let s = c.args.self.now in let v : View = s.text.reader.agent.seat.me.0 in let w : View = c.len.new.self.reader.agent.seat.me.0 in kept_by v w (c.len.ensures.reads.known) s.last s.last_kept
