@@ -1,3 +1,4 @@
+pub mod Bits
 pub mod Interned
 pub mod Settled
 pub mod Searched

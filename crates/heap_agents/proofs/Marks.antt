@@ -14,8 +14,8 @@ use Rattle.heap_table.specs.declared.agent.Agent.{Agent}
 use Rattle.heap_table.specs.declared.heap.Heap.{Heap}
 use Rattle.heap_table.specs.Agents.{size_of, view_of}
 use Rattle.heap_table.specs.Known.{KeepsKnown}
-use Rattle.id_set.specs.declared.IdSet.{IdSet}
-use Rattle.id_set.specs.Sets.{Covers, IsIn}
+use Rattle.heap_agents.specs.declared.ids.IdSet.{IdSet}
+use Rattle.heap_agents.specs.Sets.{Covers, IsIn}
 use Rattle.heap_agents.specs.declared.held.Held.{Held}
 use Rattle.heap_agents.specs.declared.member.Member.{Member}
 use Rattle.heap_agents.specs.Held.{IsHeld, IsMarked, KeepsMarks, Leaves, share_by, size_by, view_by}

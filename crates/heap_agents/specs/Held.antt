@@ -7,8 +7,8 @@ use Rattle.heap_rule.specs.declared.size.HeapSize.{HeapSize}
 use Rattle.heap_rule.specs.declared.view.View.{View}
 use Rattle.heap_table.specs.Agents.{size_of}
 use Rattle.heap_read.specs.Reads.{Continues}
-use Rattle.id_set.specs.declared.IdSet.{IdSet}
-use Rattle.id_set.specs.Sets.{Covers, IsIn}
+use Rattle.heap_agents.specs.declared.ids.IdSet.{IdSet}
+use Rattle.heap_agents.specs.Sets.{Covers, IsIn}
 use Rattle.heap_agents.specs.declared.held.Held.{Held}
 use Rattle.heap_agents.specs.Members.{IsSame, IsWhole, heap_of, share_if, view_if}
 use Rattle.heap_agents.specs.Searched.{KeepsStrings}

@@ -1,3 +1,4 @@
+pub mod Sets
 pub mod Members
 pub mod Interned
 pub mod Searched

@@ -3,7 +3,7 @@ use Rattle.std.specs.Prelude.{◌≡◌, ℕ, Option, None, Some}
 use Rattle.heap_rule.specs.Agents.{spent}
 use Rattle.heap_rule.specs.declared.size.HeapSize.{HeapSize}
 use Rattle.heap_rule.specs.declared.view.View.{View}
-use Rattle.id_set.specs.Sets.{IsIn}
+use Rattle.heap_agents.specs.Sets.{IsIn}
 use Rattle.heap_agents.specs.declared.held.Held.{Held}
 use Rattle.heap_agents.specs.Held.{IsHeld, KeepsMarks, Leaves, Searched, share_by, size_by, view_by}
 use Rattle.heap_agents.specs.Members.{IsSame}

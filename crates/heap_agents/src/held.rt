@@ -4,10 +4,10 @@ ghost use Rattle.heap_rule.specs.Maps.{HasKey};
 ghost use Rattle.heap_rule.specs.Views.{history};
 ghost use Rattle.heap_agents.specs.Held.{IsHeld, KeepsMarks, view_by};
 ghost use Rattle.heap_agents.specs.Members.{view_if};
-ghost use Rattle.id_set.specs.Sets.{IsIn};
+ghost use Rattle.heap_agents.specs.Sets.{IsIn};
 
+use crate::ids::IdSet;
 use crate::member::Member;
-use id_set::IdSet;
 use std::alloc::Global;
 use std::sync::Arc;
 use std::sync::atomic::AtomicU64;

@@ -7,6 +7,7 @@
 
 mod counts;
 mod held;
+mod ids;
 mod life;
 mod making;
 mod member;

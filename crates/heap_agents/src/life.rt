@@ -8,13 +8,13 @@ ghost use Rattle.heap_table.specs.Known.{KeepsKnown};
 ghost use Rattle.heap_table.specs.MayMake.{MayMake};
 ghost use Rattle.heap_agents.specs.Held.{IsHeld, KeepsMarks, share_by, view_by};
 ghost use Rattle.heap_agents.specs.Members.{IsSame, IsWhole, heap_of, share_if, view_if};
-ghost use Rattle.id_set.specs.Sets.{Covers, IsIn};
+ghost use Rattle.heap_agents.specs.Sets.{Covers, IsIn};
 
 use crate::held::Held;
+use crate::ids::IdSet;
 use crate::member::Member;
 use heap_rule::{HeapSize, MAX};
 use heap_table::{Heap, MakeFault};
-use id_set::IdSet;
 use std::alloc::{AllocError, Global};
 use std::sync::Arc;
 use std::sync::atomic::{AtomicU64, Ordering};

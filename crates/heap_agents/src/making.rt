@@ -12,7 +12,7 @@ ghost use Rattle.heap_text.specs.declared.faults.TextFull as text_full;
 ghost use Rattle.heap_text.specs.Joins.{IsCut, IsJoined};
 ghost use Rattle.heap_text.specs.Texts.{Told, Uses};
 ghost use Rattle.heap_agents.specs.Held.{IsHeld, Leaves, size_by, view_by};
-ghost use Rattle.id_set.specs.Sets.{IsIn};
+ghost use Rattle.heap_agents.specs.Sets.{IsIn};
 ghost use Rattle.heap_agents.specs.Members.{IsWhole, MemberLeaves, heap_of, view_if};
 
 use crate::held::Held;

@@ -8,7 +8,7 @@ ghost use Rattle.heap_table.specs.Agents.{view_of};
 ghost use Rattle.heap_table.specs.Known.{KeepsKnown};
 ghost use Rattle.heap_agents.specs.Interned.{IsEntered, KeepsCalls};
 ghost use Rattle.heap_agents.specs.Held.{IsHeld, KeepsMarks, view_by};
-ghost use Rattle.id_set.specs.Sets.{IsIn};
+ghost use Rattle.heap_agents.specs.Sets.{IsIn};
 ghost use Rattle.heap_agents.specs.Members.{IsSame, IsWhole, view_if};
 
 use crate::held::Held;

@@ -6,7 +6,7 @@ use Rattle.js_store.specs.Faults.{Step, NeverSlots}
 use Rattle.js_store.specs.declared.faults.StoreFault.{StoreFault}
 use Rattle.eval_tree.specs.Tree.{Exprs, print}
 use Rattle.js_texts.specs.Texts.{AllKnown, texts as texts_seen, full_only, settle_most}
-use Rattle.js_print.specs.Printing.{line}
+use Rattle.js_json.specs.Printing.{line}
 use Rattle.js_item.specs.declared.item.Item.{Item}
 use Rattle.eval_values.specs.declared.value.Stop.{Stop}
 use Rattle.eval_values.specs.declared.value.Stop.TheVariants.{Store}

@@ -1,7 +1,7 @@
 -- What statements and a script mean: how they end, the lines that they print, and the bindings that they leave.
 use Rattle.std.specs.Prelude.{ℕ, zero, suc, ◌+◌, Bool, true, false, List, [], ◌∷◌, ◌++◌, length, nat_le, if◌then◌else◌, Option, Some, None, pos}
 use Rattle.js_number.specs.declared.Num.TheVariants.{Int}
-use Rattle.js_print.specs.Printing.{line}
+use Rattle.js_json.specs.Printing.{line}
 use Rattle.eval_tree.specs.declared.tree.Op.TheVariants.{Plus}
 use Rattle.eval_tree.specs.Tree.{ExprTree, Exprs, StmtTree, block, let_line, const_line, assign, append, print, if_line, for_line, Stmts, no_stmts, stmt, BlockTree, block_of, Arms, no_arms, arm, Tree}
 use Rattle.eval_scopes.specs.Bindings.{Bound, Bindings, meant, written, declared, entered, turned, outer}

@@ -17,5 +17,5 @@ mod short;
 pub use ending::End;
 pub use env::Env;
 pub use eval_values::{Kind, Value};
-pub use js_print::Lines;
+pub use js_json::Lines;
 pub use script::eval;

@@ -30,7 +30,7 @@ use eval_scopes::{Blocks, Place, Scope};
 use eval_tree::{Arm, Block, Expr, Name, Op, Script, Stmt};
 use eval_values::{Kind, Stop, Value, texts, truth};
 use js_number::Num;
-use js_print::Lines;
+use js_json::Lines;
 use js_store::{StoreFault, Strings};
 use std::alloc::Global;
 use std::mem;

@@ -1,5 +1,7 @@
 //! Strings, and lists of strings, as JSON text (ECMA-262, "QuoteJSONString",
-//! "SerializeJSONArray"), and as printed lines, over any store of strings.
+//! "SerializeJSONArray"), and the lines that scripts print, over any store of strings.
+//!
+//! [`print_line`] adds a printed line to bytes, and [`Lines`] are the bytes of lines alone.
 //!
 //! Each call settles what it reads, keeps what the store knows and the history of interned
 //! strings, and never finds the string table full. Every fault but a RangeError is one that the
@@ -7,9 +9,11 @@
 #![tactic(auto)]
 
 mod escapes;
+mod lines;
 mod lists;
+mod printing;
 mod quoting;
 
-pub use js_print::print_line;
+pub use lines::{Lines, print_line};
 pub use lists::{append_elements, append_quoted, element_len, list_len, stringify_list};
 pub use quoting::quote;

@@ -5,9 +5,9 @@ use Rattle.js_lex.specs.declared.token.Token.{Token as Lexed}
 use Rattle.js_lex.specs.Tokens.{LexFaultOf, TokensOf}
 use Rattle.js_lex.proofs.OneList as lexer
 use Rattle.js_lex.proofs.SomeAnswer as lexed
-use Rattle.parse_laws.specs.Reader.{Answer, Got, Bad, Kind, read_whole}
-use Rattle.parse_laws.specs.Refused.{IsRefused}
-use Rattle.parse_laws.proofs.One as grammar
+use Rattle.parse_syntax.specs.Reader.{Answer, Got, Bad, Kind, read_whole}
+use Rattle.parse_syntax.specs.Refused.{IsRefused}
+use Rattle.parse_syntax.proofs.One as grammar
 use Rattle.parse_syntax.specs.declared.token.Token.{Token}
 use Rattle.eval_tree.specs.Tree.{Tree, StmtTree, Stmts, stmts}
 use Rattle.parse_syntax.specs.Tables.{Tables}

@@ -3,8 +3,8 @@ use Rattle.std.proofs.Common.{◌≡◌, ◌∙◌, sym, ℕ, List, length, map,
 use Rattle.js_lex.specs.declared.token.LexFault.{LexFault}
 use Rattle.js_lex.specs.declared.token.LexFault.TheVariants as lex
 use Rattle.js_lex.specs.Tokens.{LexFaultOf}
-use Rattle.parse_laws.specs.Reader.{Kind, Wrong, TooDeep}
-use Rattle.parse_laws.specs.Refused.{IsRefused}
+use Rattle.parse_syntax.specs.Reader.{Kind, Wrong, TooDeep}
+use Rattle.parse_syntax.specs.Refused.{IsRefused}
 use Rattle.parse_look.specs.declared.fault.Fault.{Fault}
 use Rattle.parse_look.specs.declared.fault.Fault.TheVariants as parser
 use Rattle.parse_look.specs.Gives.{OnFault}

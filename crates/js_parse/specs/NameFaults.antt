@@ -4,7 +4,7 @@ use Rattle.std.specs.List.{list_any}
 use Rattle.std.specs.Str.{bytes_eq}
 use Rattle.eval_tree.specs.Tree as tree
 use Rattle.eval_tree.specs.Tree.{Tree, StmtTree, BlockTree, block_of, Stmts, Arms}
-use Rattle.parse_laws.specs.Reader.{is_some}
+use Rattle.parse_syntax.specs.Reader.{is_some}
 use Rattle.parse_syntax.specs.declared.token.Token.{Token}
 use Rattle.parse_syntax.specs.Tables.{Tables}
 use Rattle.parse_syntax.specs.Terminals.{colon, place}

@@ -2,7 +2,7 @@
 use Rattle.std.specs.Prelude.{◌≡◌, ℕ, List, [], ◌∷◌, codes, get_or, Bool, true, false}
 use Rattle.std.specs.Str.{bytes_eq}
 use Rattle.js_lex.specs.declared.token.Mark.TheVariants as mark
-use Rattle.parse_laws.specs.Reader.{is_some}
+use Rattle.parse_syntax.specs.Reader.{is_some}
 use Rattle.parse_syntax.specs.declared.token.Token.{Token}
 use Rattle.parse_syntax.specs.declared.token.Token.TheVariants as token
 use Rattle.parse_syntax.specs.Tables.{Tables}

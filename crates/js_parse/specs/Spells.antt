@@ -2,8 +2,8 @@
 use Rattle.std.specs.Prelude.{◌≡◌, ℕ, ◌-◌, List, [], ◌∷◌, length, take, drop, Bool, true, false, if◌then◌else◌, Option, Some, None, Result, Ok, Err}
 use Rattle.js_lex.specs.declared.token.LexFault.{LexFault}
 use Rattle.js_lex.specs.Tokens.{LexFaultOf}
-use Rattle.parse_laws.specs.Reader.{Kind, Wrong, TooDeep, is_some}
-use Rattle.parse_laws.specs.Refused.{IsRefused}
+use Rattle.parse_syntax.specs.Reader.{Kind, Wrong, TooDeep, is_some}
+use Rattle.parse_syntax.specs.Refused.{IsRefused}
 use Rattle.parse_syntax.specs.declared.token.Token.{Token}
 use Rattle.parse_syntax.specs.Tables.{Tables}
 use Rattle.parse_syntax.specs.Terminals.{is_word, place, point, opening}

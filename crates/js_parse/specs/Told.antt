@@ -2,7 +2,7 @@
 use Rattle.std.specs.Prelude.{◌≡◌, ◌⊎◌, ℕ, List, Option, None}
 use Rattle.js_lex.specs.declared.token.LexFault.{LexFault}
 use Rattle.js_lex.specs.declared.token.LexFault.TheVariants as lexical
-use Rattle.parse_laws.specs.Reader.{Wrong, TooDeep}
+use Rattle.parse_syntax.specs.Reader.{Wrong, TooDeep}
 use Rattle.parse_look.specs.declared.fault.Fault.{Fault}
 use Rattle.parse_look.specs.declared.fault.Fault.TheVariants as grammatical
 use Rattle.js_parse.specs.declared.fault.Role.{Role}

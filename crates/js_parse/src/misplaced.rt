@@ -1,6 +1,6 @@
 // The fault of a token that can't stand where it stands.
 ghost use Rattle.std.specs.Prelude.{◌≡◌};
-ghost use Rattle.parse_laws.specs.Reader.{Wrong, TooDeep, is_some};
+ghost use Rattle.parse_syntax.specs.Reader.{Wrong, TooDeep, is_some};
 ghost use Rattle.parse_syntax.specs.Terminals as terminals;
 ghost use Rattle.js_parse.specs.Spells as definition;
 ghost use Rattle.js_parse.specs.Spells.{front_of, misplaced};

@@ -1,6 +1,6 @@
 // Keys of object literals that are `__proto__`.
 ghost use Rattle.std.specs.Prelude.{◌≡◌, [], codes, get_or, None, bytes_eq};
-ghost use Rattle.parse_laws.specs.Reader.{is_some};
+ghost use Rattle.parse_syntax.specs.Reader.{is_some};
 ghost use Rattle.parse_syntax.specs.Tables.{tables_of};
 ghost use Rattle.parse_syntax.specs.Terminals as terminals;
 ghost use Rattle.js_parse.specs.NameFaults.{offers, proto_behind, proto_faults};

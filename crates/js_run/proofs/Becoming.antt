@@ -9,7 +9,7 @@ use Rattle.js_io.specs.FilesState.{FilesState}
 use Rattle.js_eval.specs.declared.ending.End.{End}
 use Rattle.js_eval.specs.declared.ending.End.TheVariants.{Done, Threw, Unsupported, Full, Memory}
 use Rattle.js_eval.specs.Script.{Flow, meaning}
-use Rattle.run_jobs.specs.declared.job.Outcome.{Outcome}
+use Rattle.run_program.specs.declared.job.Outcome.{Outcome}
 use Rattle.js_store.specs.Limits.{limit_units}
 use Rattle.run_program.specs.Files.{RunFile, AreFilesOf, AfterPrelude}
 use Rattle.std.specs.Borrow.{Bor}

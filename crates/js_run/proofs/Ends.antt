@@ -8,7 +8,7 @@ use Rattle.js_eval.specs.declared.ending.End.{End}
 use Rattle.js_eval.specs.declared.ending.End.TheVariants.{Done, Threw, Unsupported, Full, Memory}
 use Rattle.js_eval.specs.Evaluates.{end_of}
 use Rattle.js_eval.specs.Script.{Flow}
-use Rattle.run_jobs.specs.declared.job.Outcome.{Outcome}
+use Rattle.run_program.specs.declared.job.Outcome.{Outcome}
 use Rattle.run_program.specs.Files.{RunFile, IsAsMeant, means_of}
 use Rattle.run_program.specs.Fits.{Fits, all_meant}
 use Rattle.run_program.specs.Tells.{EndTells, FileTells, IsMeantOrMemory}

@@ -4,7 +4,7 @@ use Rattle.js_io.specs.SinkState.{SinkState, WritesAll}
 use Rattle.js_io.proofs.Prefixes.{Appends-nil, then_second, first_failed}
 use Rattle.js_eval.specs.declared.ending.End.{End}
 use Rattle.js_eval.specs.declared.ending.End.TheVariants.{Done, Threw, Unsupported, Full, Memory}
-use Rattle.run_jobs.specs.declared.job.Outcome.{Outcome}
+use Rattle.run_program.specs.declared.job.Outcome.{Outcome}
 use Rattle.run_sources.specs.declared.sources.Source.{Source}
 use Rattle.run_sources.specs.Answers.{source_for}
 use Rattle.run_sources.specs.Program.{with_prelude}

@@ -1,7 +1,7 @@
 -- What the parts of a call answer in the code, and what that reports. No public contract cites it.
 use Rattle.std.specs.Prelude.{◌≡◌, ◌≤◌, ⊤, List, Option, None, Some, length, map}
 use Rattle.js_eval.specs.declared.ending.End.{End}
-use Rattle.run_jobs.specs.declared.job.Outcome.{Outcome}
+use Rattle.run_program.specs.declared.job.Outcome.{Outcome}
 use Rattle.run_program.specs.declared.ran.Ran.{Ran}
 use Rattle.run_sources.specs.declared.sources.Source.{Source}
 use Rattle.run_sources.specs.declared.sources.Sources.{Sources}

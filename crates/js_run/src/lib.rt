@@ -14,6 +14,6 @@ mod status;
 mod telling;
 
 pub use run::run_words;
-pub use run_jobs::{Job, Outcome, run_all, run_group};
+pub use run_program::{Job, Outcome, run_all, run_group};
 pub use run_program::Kept;
 pub use status::Status;

@@ -14,7 +14,7 @@ use js_eval::{End, Kind};
 use js_io::{Failed, Sink, write_all};
 use js_parse::ParseFault;
 use js_store::FullReport;
-use run_jobs::Outcome;
+use run_program::Outcome;
 use run_program::Ran;
 use run_sources::{Source, Sources, Stop};
 

@@ -1,6 +1,6 @@
 -- What a function of the parser gives.
 use Rattle.std.specs.Prelude.{◌≡◌, List, Result, Ok, Err}
-use Rattle.parse_laws.specs.Reader.{Answer, Got, Bad, Kind, Wrong, TooDeep}
+use Rattle.parse_syntax.specs.Reader.{Answer, Got, Bad, Kind, Wrong, TooDeep}
 use Rattle.parse_syntax.specs.declared.token.Token.{Token}
 use Rattle.parse_look.specs.declared.fault.Fault.{Fault}
 use Rattle.parse_look.specs.declared.fault.Fault.TheVariants as fault

@@ -1,7 +1,7 @@
 -- What the parser looks for at the next token.
 use Rattle.std.specs.Prelude.{ℕ, List, [], ◌∷◌, Option, Some, None}
-use Rattle.parse_laws.specs.Lang.{second_of}
-use Rattle.parse_laws.specs.Reader.{Reader, and_then, one_of, choose, heads, succeed}
+use Rattle.parse_syntax.specs.Lang.{second_of}
+use Rattle.parse_syntax.specs.Reader.{Reader, and_then, one_of, choose, heads, succeed}
 use Rattle.parse_syntax.specs.declared.token.Token.{Token}
 use Rattle.parse_syntax.specs.declared.token.Token.TheVariants as token
 use Rattle.js_lex.specs.declared.token.Mark.TheVariants as mark

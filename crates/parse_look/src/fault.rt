@@ -1,6 +1,6 @@
 // Faults of the grammar.
 ghost use Rattle.std.specs.Prelude.{◌≡◌, ℕ};
-ghost use Rattle.parse_laws.specs.Reader.{wrong, too_deep};
+ghost use Rattle.parse_syntax.specs.Reader.{wrong, too_deep};
 ghost use Rattle.parse_look.specs.Gives.{Fails};
 ghost use Rattle.parse_look.specs.declared.fault.Fault.TheVariants.{Memory};
 

@@ -1,6 +1,6 @@
 // Looks at the next token.
 ghost use Rattle.std.specs.Prelude.{◌≡◌, [], ◌∷◌, ℕ, MatchOption, None, Some, IfOk, IfErr, false, true};
-ghost use Rattle.parse_laws.specs.Reader.{Got, one_of, heads, heads_two};
+ghost use Rattle.parse_syntax.specs.Reader.{Got, one_of, heads, heads_two};
 ghost use Rattle.eval_tree.specs.Tree.{expr_tree, step_tree};
 ghost use Rattle.parse_syntax.specs.Tables.{tables_of};
 ghost use Rattle.parse_syntax.specs.Terminals as terminals;

@@ -1,6 +1,6 @@
 // Words, keys and properties, which look into the tables.
 ghost use Rattle.std.specs.Prelude.{◌≡◌, [], decimal, MatchOption, IfOk, false, get_or};
-ghost use Rattle.parse_laws.specs.Reader.{Got, one_of, heads};
+ghost use Rattle.parse_syntax.specs.Reader.{Got, one_of, heads};
 ghost use Rattle.eval_tree.specs.Tree.{step_tree, of_property};
 ghost use Rattle.parse_syntax.specs.Tables.{tables_of};
 ghost use Rattle.parse_syntax.specs.Terminals as terminals;

@@ -1,11 +1,11 @@
 -- What the parser's loops read is something.
 use Rattle.std.proofs.Common.{ℕ, zero, suc}
-use Rattle.parse_laws.specs.Lang.{Lang, Never, second_of}
-use Rattle.parse_laws.specs.Reader.{Answer, Kind, wrong, and_then, one_of}
-use Rattle.parse_laws.proofs.Local.{IsEating}
-use Rattle.parse_laws.proofs.Part.{Rooms, same_room, same_end, eats_by}
-use Rattle.parse_laws.proofs.Heads.{begins_length}
-use Rattle.parse_laws.proofs.Loops.{then_eats}
+use Rattle.parse_syntax.specs.Lang.{Lang, Never, second_of}
+use Rattle.parse_syntax.specs.Reader.{Answer, Kind, wrong, and_then, one_of}
+use Rattle.parse_syntax.proofs.Local.{IsEating}
+use Rattle.parse_syntax.proofs.Part.{Rooms, same_room, same_end, eats_by}
+use Rattle.parse_syntax.proofs.Heads.{begins_length}
+use Rattle.parse_syntax.proofs.Loops.{then_eats}
 use Rattle.parse_syntax.specs.declared.token.Token.{Token}
 use Rattle.parse_syntax.specs.Tables.{Tables}
 use Rattle.eval_tree.specs.Tree.{ExprTree}

@@ -1,8 +1,8 @@
 -- The readers of statements at their first tokens, over those that the parser's functions call.
 use Rattle.std.proofs.Common.{◌≡◌, ℕ, zero, suc, ◌-◌, ◌<◌, Bool, true, false, List, [], ◌∷◌, Option, Some, None, refl, sym, ap, ◌∙◌, subst, arith}
 use Rattle.js_lex.specs.declared.token.Mark.TheVariants as mark
-use Rattle.parse_laws.specs.Lang.{first_of, second_of}
-use Rattle.parse_laws.specs.Reader.{Answer, Got, Bad, Reader, ◌>>=◌, wrong, too_deep, and_then, map_by, one_of, all_of, heads, at_end, read_whole}
+use Rattle.parse_syntax.specs.Lang.{first_of, second_of}
+use Rattle.parse_syntax.specs.Reader.{Answer, Got, Bad, Reader, ◌>>=◌, wrong, too_deep, and_then, map_by, one_of, all_of, heads, at_end, read_whole}
 use Rattle.parse_syntax.specs.declared.token.Token.{Token}
 use Rattle.parse_syntax.specs.Tables.{Tables}
 use Rattle.parse_syntax.specs.declared.token.Token.TheVariants as token

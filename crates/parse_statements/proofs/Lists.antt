@@ -1,12 +1,12 @@
 -- The loops of statements, over plain values.
 use Rattle.std.proofs.Common.{◌≡◌, ℕ, zero, suc, ◌<◌, List, [], ◌∷◌, ◌++◌, length, map, Bool, true, false, refl, sym, ap, ◌∙◌, subst, arith}
 use Rattle.std.proofs.lemmas.List.{map_push}
-use Rattle.parse_laws.specs.Lang.{One, both, one, second_of, ◌▸◌}
-use Rattle.parse_laws.specs.Reader.{Answer, Got, Bad, Kind, Reader, one_of, all_of, and_then, heads_two, with_front}
-use Rattle.parse_laws.proofs.Local.{IsEating}
-use Rattle.parse_laws.proofs.Part.{eats_by, next_part}
-use Rattle.parse_laws.proofs.Heads.{begins_length, over}
-use Rattle.parse_laws.proofs.Loops.{keeps_on, fails_on, ends_on}
+use Rattle.parse_syntax.specs.Lang.{One, both, one, second_of, ◌▸◌}
+use Rattle.parse_syntax.specs.Reader.{Answer, Got, Bad, Kind, Reader, one_of, all_of, and_then, heads_two, with_front}
+use Rattle.parse_syntax.proofs.Local.{IsEating}
+use Rattle.parse_syntax.proofs.Part.{eats_by, next_part}
+use Rattle.parse_syntax.proofs.Heads.{begins_length, over}
+use Rattle.parse_syntax.proofs.Loops.{keeps_on, fails_on, ends_on}
 use Rattle.parse_syntax.specs.declared.token.Token.{Token}
 use Rattle.parse_syntax.specs.Tables.{Tables}
 use Rattle.eval_tree.specs.declared.tree.Stmt.{Stmt}

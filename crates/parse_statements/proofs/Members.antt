@@ -1,10 +1,10 @@
 -- The members of object literals, over plain values.
 use Rattle.std.proofs.Common.{◌≡◌, ℕ, ◌<◌, List, [], ◌∷◌, ◌++◌, length, map, false, refl, sym, ap, ◌∙◌, subst}
 use Rattle.std.proofs.lemmas.List.{map_push}
-use Rattle.parse_laws.specs.Lang.{second_of}
-use Rattle.parse_laws.specs.Reader.{Answer, Got, Bad, Reader, ◌>>=◌, one_of, all_of, and_then, heads, with_front}
-use Rattle.parse_laws.proofs.Local.{IsEating}
-use Rattle.parse_laws.proofs.Loops.{then_eats, keeps_on, fails_on, ends_on}
+use Rattle.parse_syntax.specs.Lang.{second_of}
+use Rattle.parse_syntax.specs.Reader.{Answer, Got, Bad, Reader, ◌>>=◌, one_of, all_of, and_then, heads, with_front}
+use Rattle.parse_syntax.proofs.Local.{IsEating}
+use Rattle.parse_syntax.proofs.Loops.{then_eats, keeps_on, fails_on, ends_on}
 use Rattle.parse_syntax.specs.declared.token.Token.{Token}
 use Rattle.parse_syntax.specs.Tables.{Tables}
 use Rattle.eval_tree.specs.declared.tree.Expr.{Expr}

@@ -1,6 +1,6 @@
 -- The functions of expressions without a loop, over plain values.
 use Rattle.std.proofs.Common.{◌≡◌, ℕ, ◌-◌, ◌<◌, List, Bool, false, Some, refl, sym, ap, ◌∙◌}
-use Rattle.parse_laws.specs.Reader.{Got, one_of, heads}
+use Rattle.parse_syntax.specs.Reader.{Got, one_of, heads}
 use Rattle.parse_syntax.specs.declared.token.Token.{Token}
 use Rattle.parse_syntax.specs.Tables.{Tables}
 use Rattle.eval_tree.specs.declared.tree.Method.{Method}

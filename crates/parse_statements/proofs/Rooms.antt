@@ -1,9 +1,9 @@
 -- The readers of expressions at their first tokens, over those that the parser's functions call.
 use Rattle.std.proofs.Common.{◌≡◌, ℕ, zero, suc, ◌-◌, ◌<◌, Bool, true, false, List, [], ◌∷◌, Option, Some, None, refl, sym, ap, ◌∙◌, subst, arith}
 use Rattle.js_lex.specs.declared.token.Mark.TheVariants as mark
-use Rattle.parse_laws.specs.Lang.{first_of, second_of}
-use Rattle.parse_laws.specs.Reader.{Answer, Got, Bad, Wrong, Reader, ◌>>=◌, wrong, too_deep, and_then, map_by, take_or, one_of, choose, opens, heads, is_some}
-use Rattle.parse_laws.proofs.Part.{then_strict}
+use Rattle.parse_syntax.specs.Lang.{first_of, second_of}
+use Rattle.parse_syntax.specs.Reader.{Answer, Got, Bad, Wrong, Reader, ◌>>=◌, wrong, too_deep, and_then, map_by, take_or, one_of, choose, opens, heads, is_some}
+use Rattle.parse_syntax.proofs.Part.{then_strict}
 use Rattle.parse_syntax.specs.declared.token.Token.{Token}
 use Rattle.parse_syntax.specs.Tables.{Tables}
 use Rattle.parse_syntax.specs.declared.token.Token.TheVariants as token

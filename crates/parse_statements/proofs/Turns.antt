@@ -1,9 +1,9 @@
 -- The loops of expressions, over plain values.
 use Rattle.std.proofs.Common.{◌≡◌, ℕ, ◌-◌, ◌<◌, List, [], ◌∷◌, ◌++◌, length, map, true, false, refl, sym, ap, ◌∙◌, subst}
 use Rattle.std.proofs.lemmas.List.{map_push}
-use Rattle.parse_laws.specs.Lang.{second_of}
-use Rattle.parse_laws.specs.Reader.{Answer, Got, Bad, Kind, Wrong, TooDeep, Reader, ◌>>=◌, one_of, all_of, and_then, heads, with_front}
-use Rattle.parse_laws.proofs.Loops.{keeps_on, fails_on, ends_on}
+use Rattle.parse_syntax.specs.Lang.{second_of}
+use Rattle.parse_syntax.specs.Reader.{Answer, Got, Bad, Kind, Wrong, TooDeep, Reader, ◌>>=◌, one_of, all_of, and_then, heads, with_front}
+use Rattle.parse_syntax.proofs.Loops.{keeps_on, fails_on, ends_on}
 use Rattle.parse_syntax.specs.declared.token.Token.{Token}
 use Rattle.parse_syntax.specs.Tables.{Tables}
 use Rattle.eval_tree.specs.declared.tree.Op.{Op}

@@ -1,8 +1,8 @@
 -- What the parser answers, by the grammar.
 use Rattle.std.proofs.Common.{◌≡◌, ℕ, List, [], Bool, sym, ◌∙◌}
 use Rattle.std.specs.Prelude.{Result, Ok, Err, IfOk}
-use Rattle.parse_laws.specs.Reader.{Got, Bad, Wrong, TooDeep, read_whole}
-use Rattle.parse_laws.specs.Refused.{IsRefused}
+use Rattle.parse_syntax.specs.Reader.{Got, Bad, Wrong, TooDeep, read_whole}
+use Rattle.parse_syntax.specs.Refused.{IsRefused}
 use Rattle.parse_syntax.specs.declared.token.Token.{Token}
 use Rattle.parse_syntax.specs.Tables.{Tables}
 use Rattle.eval_tree.specs.Tree.{StmtTree}

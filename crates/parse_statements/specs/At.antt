@@ -1,7 +1,7 @@
 -- The readers with room for so many that are open, as the parser's functions give them.
 use Rattle.std.specs.Prelude.{ℕ, zero, suc, Bool, true, false, List, Option, None}
-use Rattle.parse_laws.specs.Lang.{second_of}
-use Rattle.parse_laws.specs.Reader.{Reader, ◌>>=◌, Got, wrong, and_then, map_by, one_of, choose, all_of, opens, heads, heads_two, succeed}
+use Rattle.parse_syntax.specs.Lang.{second_of}
+use Rattle.parse_syntax.specs.Reader.{Reader, ◌>>=◌, Got, wrong, and_then, map_by, one_of, choose, all_of, opens, heads, heads_two, succeed}
 use Rattle.parse_syntax.specs.declared.token.Token.{Token}
 use Rattle.parse_syntax.specs.Tables.{Tables}
 use Rattle.eval_tree.specs.declared.tree.Builtin.{Builtin}

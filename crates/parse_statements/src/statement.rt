@@ -1,7 +1,7 @@
 // From tokens to statements.
 ghost use Rattle.std.specs.Prelude.{◌≡◌, ◌<◌, [], List, map, IfOk};
-ghost use Rattle.parse_laws.specs.Reader.{read_whole};
-ghost use Rattle.parse_laws.specs.Refused.{IsRefused};
+ghost use Rattle.parse_syntax.specs.Reader.{read_whole};
+ghost use Rattle.parse_syntax.specs.Refused.{IsRefused};
 ghost use Rattle.eval_tree.specs.Tree.{StmtTree, init_tree, stmt_tree, arm_tree, block_tree};
 ghost use Rattle.parse_syntax.specs.Grammar.{Statements, most};
 ghost use Rattle.parse_syntax.specs.Reading.{read_strict, read_statements};

@@ -2,12 +2,12 @@
 use Rattle.std.proofs.Common.{◌≡◌, ℕ, ◌≤◌, List, [], ◌∷◌, ◌++◌, Bool, true, false, nat_lt, Option, Some, None, refl, ap, ◌∙◌, arith, append_assoc}
 use Rattle.std.specs.Prelude.{decimal}
 use Rattle.js_lex.specs.declared.token.Mark.TheVariants as mark
-use Rattle.parse_laws.specs.Lang.{Lang, One, one, Then, both, Mapped, mapped, Nothing, nothing, Either, left, right, Many, end, more, if_room, first_of, second_of, ◌▸◌, ◌◂◌}
-use Rattle.parse_laws.specs.Reader.{Reader, Kind, map_by, and_then, one_of, choose, heads}
-use Rattle.parse_laws.proofs.Laws.{Holds}
-use Rattle.parse_laws.proofs.Wider.{Begins, Starts, one_starts, then_starts, either_starts, head_gives, some_of}
-use Rattle.parse_laws.proofs.Part.{anything, Branch, Part, both_hold, one_part, then_part, next_part, map_part, branch, sooner, part_of, choose_branch, nothing_branch, heads_test, Rooms, then_strict, map_strict, open_branch, many_part}
-use Rattle.parse_laws.proofs.Heads.{one_heads, then_heads, mapped_heads, then_some, begins_length, either_lacks, room_of, in_room, deeper, over, one_lacks, then_lacks, lacks, one_over, first_over, lower}
+use Rattle.parse_syntax.specs.Lang.{Lang, One, one, Then, both, Mapped, mapped, Nothing, nothing, Either, left, right, Many, end, more, if_room, first_of, second_of, ◌▸◌, ◌◂◌}
+use Rattle.parse_syntax.specs.Reader.{Reader, Kind, map_by, and_then, one_of, choose, heads}
+use Rattle.parse_syntax.proofs.Laws.{Holds}
+use Rattle.parse_syntax.proofs.Wider.{Begins, Starts, one_starts, then_starts, either_starts, head_gives, some_of}
+use Rattle.parse_syntax.proofs.Part.{anything, Branch, Part, both_hold, one_part, then_part, next_part, map_part, branch, sooner, part_of, choose_branch, nothing_branch, heads_test, Rooms, then_strict, map_strict, open_branch, many_part}
+use Rattle.parse_syntax.proofs.Heads.{one_heads, then_heads, mapped_heads, then_some, begins_length, either_lacks, room_of, in_room, deeper, over, one_lacks, then_lacks, lacks, one_over, first_over, lower}
 use Rattle.parse_syntax.specs.declared.token.Token.{Token}
 use Rattle.parse_syntax.specs.declared.token.Token.TheVariants as token
 use Rattle.parse_syntax.specs.declared.token.Word.TheVariants as word

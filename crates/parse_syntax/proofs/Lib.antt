@@ -1,3 +1,13 @@
+pub mod Laws
+pub mod Local
+pub mod Wider
+pub mod Bound
+pub mod Series
+pub mod Part
+pub mod Whole
+pub mod One
+pub mod Heads
+pub mod Loops
 pub mod Stops
 pub mod Expressions
 pub mod Statements

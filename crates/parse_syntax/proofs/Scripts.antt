@@ -1,14 +1,14 @@
 -- What the reader of a whole text answers, by the grammar, at every level.
 use Rattle.std.proofs.Common.{◌≡◌, ℕ, zero, suc, ◌≤◌, List, [], ◌∷◌, ◌++◌, Bool, true, false, cond, None, refl, ap, arith, append_assoc}
-use Rattle.parse_laws.specs.Lang.{one, left, right, Never, end, both, Many, more, nothing, second_of}
-use Rattle.parse_laws.specs.Reader.{Got, Bad, Reader, Kind, TooDeep, wrong, read_whole}
-use Rattle.parse_laws.specs.Refused.{IsRefused}
-use Rattle.parse_laws.proofs.Laws.{Holds}
-use Rattle.parse_laws.proofs.Wider.{Starts, head_gives}
-use Rattle.parse_laws.proofs.Part.{Part, above, then_part, many_part, same_room, same_end, more_room, no_such}
-use Rattle.parse_laws.proofs.Heads.{over, none_over}
-use Rattle.parse_laws.proofs.Whole as whole
-use Rattle.parse_laws.proofs.Whole.{Shallow, Family}
+use Rattle.parse_syntax.specs.Lang.{one, left, right, Never, end, both, Many, more, nothing, second_of}
+use Rattle.parse_syntax.specs.Reader.{Got, Bad, Reader, Kind, TooDeep, wrong, read_whole}
+use Rattle.parse_syntax.specs.Refused.{IsRefused}
+use Rattle.parse_syntax.proofs.Laws.{Holds}
+use Rattle.parse_syntax.proofs.Wider.{Starts, head_gives}
+use Rattle.parse_syntax.proofs.Part.{Part, above, then_part, many_part, same_room, same_end, more_room, no_such}
+use Rattle.parse_syntax.proofs.Heads.{over, none_over}
+use Rattle.parse_syntax.proofs.Whole as whole
+use Rattle.parse_syntax.proofs.Whole.{Shallow, Family}
 use Rattle.parse_syntax.specs.declared.token.Token.{Token}
 use Rattle.parse_syntax.specs.declared.token.Token.TheVariants as token
 use Rattle.eval_tree.specs.Tree as tree

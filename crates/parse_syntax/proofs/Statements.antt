@@ -2,13 +2,13 @@
 use Rattle.std.proofs.Common.{◌≡◌, ℕ, List, [], ◌∷◌, ◌++◌, Bool, true, false, cond, nat_lt, nat_eq, Option, Some, None, refl, sym, ap, arith, append_assoc}
 use Rattle.std.proofs.lemmas.Bool.Decides.{nat_tests}
 use Rattle.js_lex.specs.declared.token.Mark.TheVariants as mark
-use Rattle.parse_laws.specs.Lang.{Lang, One, one, Then, both, Bind, Mapped, mapped, Nothing, nothing, Either, left, right, Many, end, if_room, first_of, second_of, ◌▸◌, ◌◂◌}
-use Rattle.parse_laws.specs.Reader.{Reader, Kind, map_by, and_then, and_bind, one_of, opens, all_of, is_some, heads, heads_two, allowed}
-use Rattle.parse_laws.proofs.Laws.{Holds}
-use Rattle.parse_laws.proofs.Local.{SameHead, IsTest}
-use Rattle.parse_laws.proofs.Wider.{Starts, then_starts, mapped_starts, either_starts, head_gives}
-use Rattle.parse_laws.proofs.Part.{anything, Branch, Part, both_hold, one_part, then_part, next_part, map_part, bind_part, branch, sooner, part_of, choose_branch, nothing_branch, never_branch, heads_test, Rooms, then_strict, first_strict, map_strict, open_branch, IsItem, many_part, no_such, series_part}
-use Rattle.parse_laws.proofs.Heads.{one_heads, then_heads, begins_length, room_of, in_room, deeper, IsOf, over, none_over, then_lacks, lacks, first_over, lower}
+use Rattle.parse_syntax.specs.Lang.{Lang, One, one, Then, both, Bind, Mapped, mapped, Nothing, nothing, Either, left, right, Many, end, if_room, first_of, second_of, ◌▸◌, ◌◂◌}
+use Rattle.parse_syntax.specs.Reader.{Reader, Kind, map_by, and_then, and_bind, one_of, opens, all_of, is_some, heads, heads_two, allowed}
+use Rattle.parse_syntax.proofs.Laws.{Holds}
+use Rattle.parse_syntax.proofs.Local.{SameHead, IsTest}
+use Rattle.parse_syntax.proofs.Wider.{Starts, then_starts, mapped_starts, either_starts, head_gives}
+use Rattle.parse_syntax.proofs.Part.{anything, Branch, Part, both_hold, one_part, then_part, next_part, map_part, bind_part, branch, sooner, part_of, choose_branch, nothing_branch, never_branch, heads_test, Rooms, then_strict, first_strict, map_strict, open_branch, IsItem, many_part, no_such, series_part}
+use Rattle.parse_syntax.proofs.Heads.{one_heads, then_heads, begins_length, room_of, in_room, deeper, IsOf, over, none_over, then_lacks, lacks, first_over, lower}
 use Rattle.parse_syntax.specs.declared.token.Token.{Token}
 use Rattle.parse_syntax.specs.declared.token.Token.TheVariants as token
 use Rattle.parse_syntax.specs.declared.token.Word.TheVariants as word

@@ -2,8 +2,8 @@
 use Rattle.std.proofs.Common.{◌≡◌, ℕ, ◌≤◌, List, [], ◌∷◌, Bool, true, false, Option, Some, None, refl, nat_lt, arith}
 use Rattle.std.proofs.lemmas.Bool.Decides.{nat_tests}
 use Rattle.js_lex.specs.declared.token.Mark.TheVariants as mark
-use Rattle.parse_laws.specs.Reader.{is_some, heads}
-use Rattle.parse_laws.proofs.Heads.{IsOf}
+use Rattle.parse_syntax.specs.Reader.{is_some, heads}
+use Rattle.parse_syntax.proofs.Heads.{IsOf}
 use Rattle.parse_syntax.specs.declared.token.Token.{Token}
 use Rattle.parse_syntax.specs.declared.token.Token.TheVariants as token
 use Rattle.parse_syntax.specs.declared.token.Word.TheVariants as word

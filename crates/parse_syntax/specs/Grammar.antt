@@ -1,6 +1,6 @@
 -- The grammar of scripts, one line a production.
 use Rattle.std.specs.Prelude.{ℕ, zero, suc, Bool, true, false, List, [], ◌∷◌, ◌++◌, Option, Some, None, get_or}
-use Rattle.parse_laws.specs.Lang.{Lang, One, Then, Bind, Mapped, Nothing, Either, Many, Never, if_room, ◌▸◌, ◌◂◌}
+use Rattle.parse_syntax.specs.Lang.{Lang, One, Then, Bind, Mapped, Nothing, Either, Many, Never, if_room, ◌▸◌, ◌◂◌}
 use Rattle.parse_syntax.specs.declared.token.Token.{Token}
 use Rattle.eval_tree.specs.declared.tree.Op.{Op}
 use Rattle.eval_tree.specs.declared.tree.Method.{Method}

@@ -1,3 +1,6 @@
+pub mod Lang
+pub mod Reader
+pub mod Refused
 pub mod Tables
 pub mod Terminals
 pub mod Grammar

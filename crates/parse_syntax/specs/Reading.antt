@@ -1,8 +1,8 @@
 -- Reading scripts from the front. No public contract cites these: they are what the parser's functions give.
 use Rattle.std.specs.Prelude.{ℕ, zero, suc, Bool, true, false, cond, List, [], ◌∷◌, Option, Some, None}
 use Rattle.js_lex.specs.declared.token.Mark.TheVariants as mark
-use Rattle.parse_laws.specs.Lang.{first_of, second_of}
-use Rattle.parse_laws.specs.Reader.{Reader, wrong, map_by, and_then, and_bind, one_of, choose, all_of, succeed, opens, is_some, heads, heads_two, allowed}
+use Rattle.parse_syntax.specs.Lang.{first_of, second_of}
+use Rattle.parse_syntax.specs.Reader.{Reader, wrong, map_by, and_then, and_bind, one_of, choose, all_of, succeed, opens, is_some, heads, heads_two, allowed}
 use Rattle.parse_syntax.specs.declared.token.Token.{Token}
 use Rattle.parse_syntax.specs.declared.token.Token.TheVariants as token
 use Rattle.eval_tree.specs.declared.tree.Op.{Op}

@@ -19,10 +19,10 @@ use Rattle.js_eval.specs.Script.{Flow}
 use Rattle.heap_intern.specs.Sessions.{SessionFrame}
 use Rattle.heap_intern.specs.Shares.{total_by}
 use Rattle.heap_intern.specs.Whole.{HasAll}
-use Rattle.run_jobs.specs.declared.job.Job.{Job}
-use Rattle.run_jobs.specs.declared.job.Outcome.{Outcome}
-use Rattle.run_jobs.specs.Jobs.{Part, Reports, Whole, Broken, Ended, CameOf, AtEach, pairs_of, ids_of, words_of, Later, RanJobs}
-use Rattle.run_jobs.proofs.Jobs.{grows_later, pairs_append, ids_append, words_append, ran_one}
+use Rattle.run_program.specs.declared.job.Job.{Job}
+use Rattle.run_program.specs.declared.job.Outcome.{Outcome}
+use Rattle.run_program.specs.Jobs.{Part, Reports, Whole, Broken, Ended, CameOf, AtEach, pairs_of, ids_of, words_of, Later, RanJobs}
+use Rattle.run_program.proofs.Jobs.{grows_later, pairs_append, ids_append, words_append, ran_one}
 use Rattle.run_program.specs.Files.{RunFile, Came, AreRun, AreJobs, parts_of}
 
 -- a later moment

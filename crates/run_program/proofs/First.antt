@@ -7,7 +7,7 @@ use Rattle.js_eval.specs.declared.ending.End.{End}
 use Rattle.js_eval.specs.declared.ending.End.TheVariants.{Done, Threw, Unsupported, Full, Memory}
 use Rattle.js_eval.specs.Evaluates.{end_of}
 use Rattle.js_eval.specs.Script.{Flow}
-use Rattle.run_jobs.specs.Jobs.{Ended}
+use Rattle.run_program.specs.Jobs.{Ended}
 use Rattle.run_program.specs.Fits.{all_meant, after_prelude}
 use Rattle.run_program.specs.Files.{RunFile, Came, IsAsMeant, AfterPrelude, AreFilesOf, means_of}
 

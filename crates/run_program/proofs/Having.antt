@@ -15,9 +15,9 @@ use Rattle.js_eval.specs.Script.{Flow, meaning}
 use Rattle.js_eval.specs.Seen.{bounds_seen}
 use Rattle.heap_read.specs.declared.string.JsStr.{JsStr}
 use Rattle.heap_intern.specs.Sessions.{SessionFrame}
-use Rattle.run_jobs.specs.declared.job.Job.{Job}
-use Rattle.run_jobs.specs.declared.job.Outcome.{Outcome}
-use Rattle.run_jobs.specs.Jobs.{Part, Runs, number, means}
+use Rattle.run_program.specs.declared.job.Job.{Job}
+use Rattle.run_program.specs.declared.job.Outcome.{Outcome}
+use Rattle.run_program.specs.Jobs.{Part, Runs, number, means}
 use Rattle.run_program.specs.Files.{RunFile, AreRun, AfterPrelude}
 use Rattle.run_program.proofs.Files.{run_jobs, run_one}
 use Rattle.run_program.specs.Meant.{scripts_meant}

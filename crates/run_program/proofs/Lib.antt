@@ -1,3 +1,6 @@
+pub mod Copies
+pub mod Jobs
+pub mod Sharing
 pub mod Counts
 pub mod Files
 pub mod First

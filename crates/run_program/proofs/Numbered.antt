@@ -7,9 +7,9 @@ use Rattle.eval_tree.specs.Tree.{tree_of}
 use Rattle.eval_scopes.specs.Bindings.{Bound}
 use Rattle.js_item.specs.Seen.{Val}
 use Rattle.js_eval.specs.Script.{Flow, meaning}
-use Rattle.run_jobs.specs.declared.job.Job.{Job}
-use Rattle.run_jobs.specs.declared.job.Outcome.{Outcome}
-use Rattle.run_jobs.specs.Jobs.{Part, CameOf, AtEach}
+use Rattle.run_program.specs.declared.job.Job.{Job}
+use Rattle.run_program.specs.declared.job.Outcome.{Outcome}
+use Rattle.run_program.specs.Jobs.{Part, CameOf, AtEach}
 use Rattle.run_program.specs.Ran.{AreInPlaces}
 use Rattle.run_program.specs.Stages.{AreNumbered, job_trees}
 

@@ -17,7 +17,7 @@ use Rattle.heap_intern.specs.Shares.{IsWhole, IsOf, total_by}
 use Rattle.heap_intern.specs.Sound.{sound_of}
 use Rattle.heap_intern.specs.Whole.{HasAll}
 use Rattle.heap_intern.proofs.Whole.{whole_all}
-use Rattle.run_jobs.specs.declared.job.Outcome.{Outcome}
+use Rattle.run_program.specs.declared.job.Outcome.{Outcome}
 use Rattle.run_program.specs.Files.{RunFile, AreRun}
 use Rattle.run_program.proofs.Files.{run_stays, run_totals}
 use Rattle.run_program.proofs.First.{are_first}

@@ -20,7 +20,7 @@ use Rattle.js_eval.specs.Script.{Flow, interned, need_words}
 use Rattle.heap_string_table.specs.Counting.{different}
 use Rattle.heap_intern.specs.Sessions.{SessionFrame}
 use Rattle.heap_intern.specs.Whole.{HasAll}
-use Rattle.run_jobs.specs.Jobs.{Part, Whole, Broken, Ended, fault_in, pairs_of, ids_of, words_of}
+use Rattle.run_program.specs.Jobs.{Part, Whole, Broken, Ended, fault_in, pairs_of, ids_of, words_of}
 use Rattle.run_program.specs.Fits.{Fits, count_different, ids_needed, words_needed, lists_interned}
 use Rattle.run_program.specs.Files.{RunFile, Came, AreRun, IsAsMeant, IsOwnEnd, means_of, parts_of}
 use Rattle.run_program.specs.Tells.{IdsRanOut, WordsRanOut, SlotsRanOut, RanOut, EndTells, FirstLines, FirstLists, FileTells, Tells}

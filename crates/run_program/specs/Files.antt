@@ -7,9 +7,9 @@ use Rattle.js_eval.specs.declared.ending.End.{End}
 use Rattle.js_eval.specs.declared.ending.End.TheVariants.{Done, Threw, Unsupported, Full, Memory}
 use Rattle.js_eval.specs.Evaluates.{end_of}
 use Rattle.js_eval.specs.Script.{Flow, need_ids, need_words}
-use Rattle.run_jobs.specs.declared.job.Job.{Job}
-use Rattle.run_jobs.specs.declared.job.Outcome.{Outcome}
-use Rattle.run_jobs.specs.Jobs.{Part, Ended, fault_in, pairs_of, ids_of, words_of}
+use Rattle.run_program.specs.declared.job.Job.{Job}
+use Rattle.run_program.specs.declared.job.Outcome.{Outcome}
+use Rattle.run_program.specs.Jobs.{Part, Ended, fault_in, pairs_of, ids_of, words_of}
 
 -- a file that was run: what it means, how it ended, the bytes of the lines that it printed, and what it did to the heap
 pub record RunFile : Type 0 where

@@ -15,9 +15,9 @@ use Rattle.heap_rule.specs.declared.size.HeapSize.{HeapSize}
 use Rattle.heap_intern.specs.Sessions.{SessionFrame, state_by}
 use Rattle.heap_intern.specs.Shares.{total_by}
 use Rattle.heap_intern.specs.Whole.{HasAll}
-use Rattle.run_jobs.specs.declared.job.Job.{Job}
-use Rattle.run_jobs.specs.declared.job.Outcome.{Outcome}
-use Rattle.run_jobs.specs.Jobs.{Part, RanJobs}
+use Rattle.run_program.specs.declared.job.Job.{Job}
+use Rattle.run_program.specs.declared.job.Outcome.{Outcome}
+use Rattle.run_program.specs.Jobs.{Part, RanJobs}
 use Rattle.run_program.specs.Files.{RunFile, AreRun, AreJobs}
 
 -- on a heap that was just made no file was run

@@ -1,3 +1,4 @@
+pub mod Jobs
 pub mod Fits
 pub mod Files
 pub mod Tells

@@ -10,7 +10,7 @@ use Rattle.heap_table.specs.Agents.{Belongs, size_of, view_of}
 use Rattle.heap_string_table.specs.Counting.{different}
 use Rattle.heap_intern.specs.Sessions.{SessionFrame, state_by, table_of}
 use Rattle.heap_intern.specs.Shares.{IsWhole}
-use Rattle.run_jobs.specs.declared.job.Outcome.{Outcome}
+use Rattle.run_program.specs.declared.job.Outcome.{Outcome}
 use Rattle.run_program.specs.Fits.{all_meant}
 use Rattle.run_program.specs.Files.{RunFile, AreRun, AreFilesOf}
 use Rattle.run_program.specs.Tells.{Tells}

@@ -6,8 +6,8 @@ use Rattle.js_eval.specs.Script.{Flow}
 use Rattle.heap_string_table.specs.Counting.{different}
 use Rattle.heap_intern.specs.Sessions.{SessionFrame}
 use Rattle.heap_intern.specs.Shares.{IsWhole}
-use Rattle.run_jobs.specs.declared.job.Job.{Job}
-use Rattle.run_jobs.specs.declared.job.Outcome.{Outcome}
+use Rattle.run_program.specs.declared.job.Job.{Job}
+use Rattle.run_program.specs.declared.job.Outcome.{Outcome}
 use Rattle.run_program.specs.Files.{RunFile, AreRun, AreFilesOf}
 use Rattle.run_program.specs.Meant.{prelude_meant, scripts_meant}
 use Rattle.run_program.specs.declared.ran.Setup.{Setup}

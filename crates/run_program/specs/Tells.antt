@@ -14,7 +14,7 @@ use Rattle.heap_rule.specs.Paths.{IsLegal}
 use Rattle.heap_string_table.specs.Counting.{different}
 use Rattle.heap_intern.specs.Sessions.{SessionFrame}
 use Rattle.heap_intern.specs.Shares.{IsWhole}
-use Rattle.run_jobs.specs.Jobs.{Part}
+use Rattle.run_program.specs.Jobs.{Part}
 use Rattle.run_program.specs.Fits.{FitsIds, FitsWords, FitsSlots, Fits, count_different, all_meant, ids_needed, words_needed, lists_interned}
 use Rattle.run_program.specs.Files.{RunFile, AreRun, AreFilesOf, IsAsMeant, IsOwnEnd, means_of}
 

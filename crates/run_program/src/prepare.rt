@@ -1,13 +1,13 @@
 // Jobs of scripts, and places for their outcomes.
 ghost use Rattle.std.specs.Prelude.{◌≡◌, ◌≤◌, length, map, All, IfOk};
 ghost use Rattle.eval_tree.specs.Tree.{tree_of};
-ghost use Rattle.run_jobs.specs.Jobs.{HasNoLines};
+ghost use Rattle.run_program.specs.Jobs.{HasNoLines};
 ghost use Rattle.run_program.specs.Stages.{AreNumbered, job_trees};
 
+use crate::job::{Job, Outcome};
 use eval_tree::Script;
 use js_eval::{End, Lines};
 use js_units::NoMemory;
-use run_jobs::{Job, Outcome};
 use std::alloc::Global;
 
 // A job for each script, with the number of its place.

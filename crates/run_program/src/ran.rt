@@ -1,8 +1,8 @@
 // How a program is to be run, and what comes of it.
+use crate::job::Outcome;
 use heap_rule::HeapSize;
 use heap_table::{Agent, Heap};
 use js_store::Limit;
-use run_jobs::Outcome;
 
 /// How a program is to be run: in how many groups of scripts, on a heap of which sizes, with which
 /// limit of the length of a string, and whether the different strings that were interned are

@@ -4,15 +4,16 @@ ghost use Rattle.js_store.specs.State.{Grows};
 ghost use Rattle.eval_tree.specs.Tree.{tree_of};
 ghost use Rattle.js_eval.specs.declared.ending.End.TheVariants.{Done};
 ghost use Rattle.heap_intern.specs.Sessions.{state_in};
-ghost use Rattle.run_jobs.specs.Jobs.{HasNoLines};
+ghost use Rattle.run_program.specs.Jobs.{HasNoLines};
 ghost use Rattle.run_program.specs.Ran.{tree_if};
 ghost use Rattle.run_program.specs.Stages.{AreNumbered, HaveRunFrom, IsUnused, job_trees};
 
+use crate::job::{Job, Outcome};
+use crate::on_heap::run_all;
 use eval_tree::Script;
 use heap_intern::Session;
 use js_eval::{End, Env, Lines, eval};
 use js_io::Gate;
-use run_jobs::{Job, Outcome, run_all};
 use std::alloc::Global;
 use std::marker::Sync;
 use std::thread::Threads;

@@ -1,6 +1,6 @@
 use Rattle.std.proofs.Common.{Ok, Err, refl, drop_of_length-le}
 use Rattle.std.proofs.lemmas.Result.{err_from_is_err_and}
-use Rattle.run_jobs.specs.declared.job.Outcome.{Outcome}
+use Rattle.run_program.specs.declared.job.Outcome.{Outcome}
 use Rattle.js_run.specs.Verdict.{printed_by}
 use Rattle.js_run.proofs.Written.{nothing, piece_then, piece_failed}
 use Rattle.js_run.proofs.telling.write_lines.Goals as goal

@@ -1,7 +1,7 @@
 use Rattle.std.proofs.Common.{◌≡◌, ℕ, length, ◌+◌, ◌*◌, map}
 use Rattle.parse_syntax.specs.Tables.{tables_of}
-use Rattle.parse_laws.specs.Lang.{second_of}
-use Rattle.parse_laws.specs.Reader.{and_then, one_of, all_of, heads, with_front}
+use Rattle.parse_syntax.specs.Lang.{second_of}
+use Rattle.parse_syntax.specs.Reader.{and_then, one_of, all_of, heads, with_front}
 use Rattle.eval_tree.specs.Tree.{expr_tree, step_tree, link_tree, entry_tree}
 use Rattle.parse_syntax.specs.Terminals.{comma}
 use Rattle.parse_syntax.specs.Grammar.{link_of, Whole}

@@ -1,6 +1,6 @@
 use Rattle.std.proofs.Common.{◌≡◌, length, ◌+◌, ◌*◌, map}
 use Rattle.parse_syntax.specs.Tables.{tables_of}
-use Rattle.parse_laws.specs.Reader.{with_front}
+use Rattle.parse_syntax.specs.Reader.{with_front}
 use Rattle.eval_tree.specs.Tree.{arm_tree, stmt_tree}
 use Rattle.parse_statements.specs.At.{others_at, statements_at}
 use Rattle.parse_statements.proofs.statement.+statements.Given as goal

@@ -1,6 +1,6 @@
 use Rattle.std.proofs.Common.{subst, map, []}
 use Rattle.parse_syntax.specs.Tables.{tables_of}
-use Rattle.parse_laws.specs.Reader.{read_whole}
+use Rattle.parse_syntax.specs.Reader.{read_whole}
 use Rattle.eval_tree.specs.Tree.{stmt_tree}
 use Rattle.parse_syntax.specs.Reading.{read_statements}
 use Rattle.parse_look.specs.Gives.{Gives}

@@ -1,7 +1,7 @@
 use Rattle.std.proofs.Common.{◌≡◌, ◌∷◌, [], ◌++◌, length, sym, ap, subst, ◌∙◌, append_assoc, arith, List}
 use Rattle.std.proofs.lemmas.List.{length_push}
 use Rattle.std.specs.Vec.Iter.{into_iter_items}
-use Rattle.run_jobs.specs.declared.job.Job.{Job}
+use Rattle.run_program.specs.declared.job.Job.{Job}
 use Rattle.run_program.specs.Stages.{AreNumbered, job_trees}
 use Rattle.run_program.proofs.Numbered.{numbered_more, trees_more}
 use Rattle.run_program.proofs.prepare.jobs_of.Goals as goal

@@ -1,5 +1,5 @@
 use Rattle.std.proofs.Common.{◌≡◌, length, All}
-use Rattle.run_jobs.specs.Jobs.{HasNoLines}
+use Rattle.run_program.specs.Jobs.{HasNoLines}
 use Rattle.run_program.proofs.prepare.places.Given as goal
 
 abbrev pub invariant-loop-turn : goal.invariant-loop-turn

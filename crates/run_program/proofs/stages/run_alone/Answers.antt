@@ -3,7 +3,7 @@ use Rattle.eval_scopes.specs.declared.env.Binding.{Binding}
 use Rattle.js_item.specs.declared.item.Item.{Item}
 use Rattle.heap_read.specs.declared.string.JsStr.{JsStr}
 use Rattle.heap_intern.specs.Sessions.{state_in}
-use Rattle.run_jobs.specs.Jobs.{Runs}
+use Rattle.run_program.specs.Jobs.{Runs}
 use Rattle.run_program.proofs.Having.{have_alone}
 use Rattle.run_program.proofs.stages.run_alone.Goals as goal
 

@@ -11,8 +11,8 @@ use Rattle.js_eval.specs.Script.{meaning}
 use Rattle.js_eval.specs.Seen.{bounds_seen}
 use Rattle.heap_read.specs.declared.string.JsStr.{JsStr}
 use Rattle.heap_intern.specs.Sessions.{state_in}
-use Rattle.run_jobs.specs.declared.job.Outcome.{Outcome}
-use Rattle.run_jobs.specs.Jobs.{means, number}
+use Rattle.run_program.specs.declared.job.Outcome.{Outcome}
+use Rattle.run_program.specs.Jobs.{means, number}
 use Rattle.run_program.specs.Stages.{HaveRunFrom, job_trees}
 use Rattle.run_program.proofs.Having.{have_behind, have_stopped}
 use Rattle.run_program.proofs.Numbered.{as_many}

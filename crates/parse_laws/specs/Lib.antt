@@ -1,3 +1,0 @@
-pub mod Lang
-pub mod Reader
-pub mod Refused

@@ -1,0 +1,164 @@
+-- What jobs leave that were run on one heap: each outcome in its job's place, and what all did together.
+use Rattle.std.specs.Prelude.{◌≡◌, ℕ, ◌+◌, ◌<◌, ◌≤◌, List, [], ◌∷◌, ◌++◌, length, map, max, All, Contains, Option, Some, None, IsSome, IsTrue}
+use Rattle.std.specs.List.{concat}
+use Rattle.js_store.specs.State.{State, Has, Grows}
+use Rattle.js_store.specs.Faults.{ids_wanted, words_wanted}
+use Rattle.js_store.specs.declared.faults.FullReport.TheVariants.{Ids, Words, Slots}
+use Rattle.js_store.specs.declared.faults.StoreFault.{StoreFault}
+use Rattle.js_store.specs.declared.faults.StoreFault.TheVariants as store
+use Rattle.eval_tree.specs.Tree.{tree_of}
+use Rattle.eval_scopes.specs.declared.env.Binding.{Binding}
+use Rattle.eval_scopes.specs.Seen.{bounds_of}
+use Rattle.js_item.specs.declared.item.Item.{Item}
+use Rattle.eval_values.specs.Ran.{NextShut}
+use Rattle.js_eval.specs.declared.ending.End.{End}
+use Rattle.js_eval.specs.declared.ending.End.TheVariants.{Done, Threw, Unsupported, Full, Memory}
+use Rattle.js_eval.specs.Evaluates.{end_of}
+use Rattle.js_eval.specs.Script as meant
+use Rattle.js_eval.specs.Script.{Flow, meaning, need_ids, need_words}
+use Rattle.js_eval.specs.Seen.{BoundsFine, bounds_seen}
+use Rattle.heap_rule.specs.Paths.{StartsWith}
+use Rattle.heap_read.specs.declared.string.JsStr.{JsStr}
+use Rattle.heap_intern.specs.Sessions.{SessionFrame}
+use Rattle.run_program.specs.declared.job.Job.{Job}
+use Rattle.run_program.specs.declared.job.Outcome.{Outcome}
+
+-- the number of a string of the heap
+abbrev pub number : JsStr → ℕ
+number s = s.id
+
+-- what a job means that begins with these bindings in a store
+abbrev pub means : {F : Type 0} → State F → List (Binding (Item JsStr)) → Job → Flow
+means s env job = meaning (tree_of job.script) (bounds_seen s number (bounds_of env)) s.limit
+
+-- what one job did to the store: the pairs that it added to the history, and the ids and content words that it used
+pub record Part : Type 0 where
+  pub pairs : List (List ℕ × ℕ)
+  pub ids : ℕ
+  pub words : ℕ
+
+-- the fault of the store, or the lack of memory, by which a script ended
+abbrev pub fault_in : End → Option StoreFault
+fault_in Done = None
+fault_in (Threw kind) = None
+fault_in (Unsupported at) = None
+fault_in (Full report) = Some (store.Full report)
+fault_in Memory = Some store.Memory
+
+-- what a report says of a store at the moment when it came and at every later one: what was wanted passes the end of the counter from a
+-- value that it had, and the end is the store's
+abbrev pub Reports : {F : Type 0} → State F → StoreFault → Type 0
+Reports s (store.Full (Ids at want end)) = (end < at + want) × (end ≡ s.sizes.ids) × (at ≤ s.low_ids) × (want ≡ 1)
+Reports s (store.Full (Words at want end)) = (end < at + want) × (end ≡ s.sizes.words) × (at ≤ s.low_words)
+Reports s (store.Full (Slots slots)) = slots ≡ s.sizes.slots
+Reports s store.Memory = Unit {0}
+
+-- A job that came to its own end: the end and the lines are those that are meant, it interned what is meant, and every string that an
+-- expression gave is known.
+pub record Whole {F : Type 0} (s : State F) (m : Flow) (lines : List ℕ) (end : End) (part : Part) : Type 0 where
+  pub end_is : end ≡ end_of m.out
+  pub lines_are : lines ≡ concat m.lines
+  pub interned : map (λ p. p.0) part.pairs ≡ meant.interned m
+  pub texts : (u : List ℕ) → Contains (meant.texts m) u → (n : ℕ) × Has s n u
+
+-- A job that a full store or lack of memory ended: the report is true, the first ones of the lines are there, each of them whole, and the
+-- first ones of what is meant were interned. Where the string table was full the next one is shut.
+pub record Broken {F : Type 0} (s : State F) (m : Flow) (lines : List ℕ) (fault : StoreFault) (part : Part) : Type 0 where
+  pub reports : Reports s fault
+  pub lines_done : List (List ℕ)
+  pub lines_left : List (List ℕ)
+  pub lines_split : m.lines ≡ lines_done ++ lines_left
+  pub lines_are : lines ≡ concat lines_done
+  pub left : List (List ℕ)
+  pub interned : meant.interned m ≡ map (λ p. p.0) part.pairs ++ left
+  pub next : NextShut s fault left
+
+abbrev pub Ended : {F : Type 0} → State F → Flow → List ℕ → End → Part → Type 0
+Ended s m lines Done part = Whole s m lines Done part
+Ended s m lines (Threw kind) part = Whole s m lines (Threw kind) part
+Ended s m lines (Unsupported at) part = Whole s m lines (Unsupported at) part
+Ended s m lines (Full report) part = Broken s m lines (store.Full report) part
+Ended s m lines Memory part = Broken s m lines store.Memory part
+
+-- a job and what came of it, said of the store at any moment afterwards: what it used, with what a full store was asked for besides, is at
+-- most its need
+pub record CameOf {F : Type 0} (s : State F) (m : Flow) (job : Job) (outcome : Outcome) (part : Part) : Type 0 where
+  pub index : outcome.index ≡ job.index
+  pub ended : Ended s m outcome.lines outcome.end part
+  pub within_ids : part.ids + ids_wanted (fault_in outcome.end) ≤ need_ids m
+  pub within_words : part.words + words_wanted (fault_in outcome.end) ≤ need_words m
+
+-- three lists of one length, and so it is at each place
+abbrev pub AtEach : {X Y Z : Type 0} → (X → Y → Z → Type 0) → List X → List Y → List Z → Type 0
+AtEach P [] [] [] = Unit {0}
+AtEach P (x ∷ xs) (y ∷ ys) (z ∷ zs) = P x y z × AtEach P xs ys zs
+AtEach P [] [] (z ∷ zs) = ⊥
+AtEach P [] (y ∷ ys) zs = ⊥
+AtEach P (x ∷ xs) [] zs = ⊥
+AtEach P (x ∷ xs) (y ∷ ys) [] = ⊥
+
+-- what the parts are together, in the order of the jobs
+abbrev pub pairs_of : List Part → List (List ℕ × ℕ)
+pairs_of [] = []
+pairs_of (p ∷ ps) = p.pairs ++ pairs_of ps
+
+abbrev pub ids_of : List Part → ℕ
+ids_of [] = 0
+ids_of (p ∷ ps) = p.ids + ids_of ps
+
+abbrev pub words_of : List Part → ℕ
+words_of [] = 0
+words_of (p ∷ ps) = p.words + words_of ps
+
+-- Between two moments these jobs were run and nothing else. Each outcome stands in its job's place. What stays of the store stays: its
+-- heap, share, sizes and limit, the history at its split, and all that is known. The history is the one before, followed by what the jobs
+-- added, in their order, and what was used is what they used.
+pub record RanJobs {F : Type 0} (mean : Job → Flow) (before after : State F) (jobs : List Job) (outcomes : List Outcome) : Type 0 where
+  pub grows : Grows before after
+  pub parts : List Part
+  pub each : AtEach (λ job. CameOf after (mean job) job) jobs outcomes parts
+  pub history : after.history ≡ before.history ++ pairs_of parts
+  pub used_ids : after.used_ids ≡ before.used_ids + ids_of parts
+  pub used_words : after.used_words ≡ before.used_words + words_of parts
+
+-- every job began with these bindings
+abbrev pub Runs : {F : Type 0} → State F → State F → List (Binding (Item JsStr)) → List Job → List Outcome → Type 0
+Runs before after env jobs outcomes = RanJobs (means before env) before after jobs outcomes
+
+-- what the jobs need together, and the greatest want that a report of theirs tells
+abbrev pub ids_needed : (Job → Flow) → List Job → ℕ
+ids_needed mean [] = 0
+ids_needed mean (j ∷ js) = need_ids (mean j) + ids_needed mean js
+
+abbrev pub words_needed : (Job → Flow) → List Job → ℕ
+words_needed mean [] = 0
+words_needed mean (j ∷ js) = need_words (mean j) + words_needed mean js
+
+abbrev pub most_ids_wanted : List Outcome → ℕ
+most_ids_wanted [] = 0
+most_ids_wanted (o ∷ os) = max (ids_wanted (fault_in o.end)) (most_ids_wanted os)
+
+abbrev pub most_words_wanted : List Outcome → ℕ
+most_words_wanted [] = 0
+most_words_wanted (o ∷ os) = max (words_wanted (fault_in o.end)) (most_words_wanted os)
+
+abbrev pub HasNoLines : Outcome → Type 0
+HasNoLines o = o.lines ≡ []
+
+-- Jobs may be run in so many groups: the session has a share for each, and its history begins with that at its split. No public contract
+-- cites this.
+pub record MayRun (s : State SessionFrame) (groups : ℕ) (env : List (Binding (Item JsStr))) (jobs : List Job) (outcomes : List Outcome) : Type 0 where
+  pub some : 1 ≤ groups
+  pub share : groups ≤ s.frame.share
+  pub lengths : length outcomes ≡ length jobs
+  pub empty : All HasNoLines outcomes
+  pub fine : BoundsFine s number (bounds_of env)
+  pub begins : StartsWith s.history s.frame.seen
+
+-- What a later moment keeps of a session, also where it was split or joined in between. No public contract cites this.
+pub record Later {F : Type 0} (b c : State F) : Type 0 where
+  pub known : (n : ℕ) → IsSome (b.known n) → c.known n ≡ b.known n
+  pub shut : (u : List ℕ) → IsTrue (b.shut u) → IsTrue (c.shut u)
+  pub low_ids : b.low_ids ≤ c.low_ids
+  pub low_words : b.low_words ≤ c.low_words
+  pub sizes : c.sizes ≡ b.sizes

@@ -1,0 +1,53 @@
+// Jobs in a row.
+ghost use Rattle.std.specs.Prelude.{◌≡◌, ◌≤◌, ◌<◌, ◌+◌, ℕ, List, length, All, [], ◌∷◌};
+ghost use Rattle.eval_scopes.specs.Seen.{bounds_of};
+ghost use Rattle.js_eval.specs.Seen.{BoundsFine};
+ghost use Rattle.run_program.specs.Jobs.{number, HasNoLines, Runs};
+
+use crate::job::{Job, Outcome};
+use crate::shared::Shared;
+use heap_read::JsStr;
+use js_eval::{End, Env};
+use js_io::Gate;
+use std::alloc::Global;
+
+// Runs the jobs in order, each on a copy of the bindings.
+pub(crate) fn run_in_order<S: Shared, G: Gate>(
+    alloc: Global,
+    session: &mut S,
+    jobs: &[Job],
+    outcomes: &mut [Outcome],
+    env: &Env<JsStr>,
+    gate: &G,
+)
+    requires lengths { length outcomes.old ≡ length jobs.now }
+    requires empty { All HasNoLines outcomes.old }
+    requires env { BoundsFine (S.state session.old) number (bounds_of env.now) }
+    ensures { Runs (S.state session.old) (S.state session.new) env.now jobs.now outcomes.new }
+{
+    for k in 0..jobs.len() {
+        gate.enter(jobs[k].index);
+        run_job(alloc, session, &jobs[k], &mut outcomes[k], env);
+        gate.leave(jobs[k].index);
+    }
+}
+
+// Runs one job. Where no memory is found for the copy it ends so, without lines.
+fn run_job<S: Shared>(
+    alloc: Global,
+    session: &mut S,
+    job: &Job,
+    outcome: &mut Outcome,
+    env: &Env<JsStr>,
+)
+    requires empty { HasNoLines outcome.old }
+    requires env { BoundsFine (S.state session.old) number (bounds_of env.now) }
+    ensures { Runs (S.state session.old) (S.state session.new) env.now (job.now ∷ []) (outcome.new ∷ []) }
+{
+    outcome.index = job.index;
+    outcome.end = End::Memory;
+    let Ok(mut copy) = env.copy() else {
+        return;
+    };
+    outcome.end = session.run(alloc, &job.script, &mut copy, &mut outcome.lines);
+}
