@@ -91,9 +91,9 @@
 //!
 //! # The heap of a case
 //!
-//! A case whose words name no option runs on a small heap, which is made at once; where that is
-//! full, on a larger one, and at last on the heap that the program makes by itself. The run that
-//! doesn't find its heap full counts, or the last one. Other words have the heap that they ask for.
+//! The sizes of the heap that a case's words don't name are small, so that the heap is made at once; where
+//! it is full they are larger, and at last those that the program takes by itself. The run that doesn't
+//! find its heap full counts, or the last one. Words that name all three have the heap that they ask for.
 #![tactic(auto)]
 
 mod block;

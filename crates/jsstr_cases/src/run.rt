@@ -13,10 +13,21 @@ pub(crate) const ROOM: u32 = 65_536;
 // The status that tells of a full heap.
 const FULL: u8 = 5;
 
-// The sizes of heaps that are made at once, and in a moment.
-const SMALL: &str = "--ids 256 --heap-words 1024 --slots 64";
+// The options that tell the sizes of a heap, each with its value.
+type Sizes = [(&'static str, &'static str); 3];
 
-const LARGER: &str = "--ids 32768 --heap-words 131072 --slots 2048";
+// The sizes of heaps that are made at once, and in a moment.
+const SMALL: Sizes = [
+    ("--ids", "256"),
+    ("--heap-words", "1024"),
+    ("--slots", "64"),
+];
+
+const LARGER: Sizes = [
+    ("--ids", "32768"),
+    ("--heap-words", "131072"),
+    ("--slots", "2048"),
+];
 
 /// How many bytes the sinks take: of a write, and of all writes to each.
 #[derive(Clone, Copy)]
@@ -97,26 +108,26 @@ fn are_of_player(words: &[String]) -> bool {
     }
 }
 
-// Whether scripts are run, and no word is an option.
-fn has_names_alone(words: &[String]) -> bool {
-    if are_of_player(words) {
-        return false;
-    }
+// Whether some word is this option, with its value or before it.
+fn names(words: &[String], option: &str) -> bool {
     for word in words {
-        if word.starts_with('-') {
-            return false;
+        if word.starts_with(option) {
+            return true;
         }
     }
-    true
+    false
 }
 
-// The words, with the sizes of a heap behind the first.
-fn sized(alloc: Global, sizes: &str, words: &[String]) -> Result<Vec<String>, Fault> {
+// The words, with those of these sizes of a heap that they don't name behind the first.
+fn sized(alloc: Global, sizes: &Sizes, words: &[String]) -> Result<Vec<String>, Fault> {
     let mut all = Vec::new(alloc);
     if let Some((first, rest)) = words.split_first() {
         all.push(first.clone()?)?;
-        for word in sizes.split(' ') {
-            all.push(String::from_str(alloc, word)?)?;
+        for (option, size) in sizes {
+            if !names(words, option) {
+                all.push(String::from_str(alloc, option)?)?;
+                all.push(String::from_str(alloc, size)?)?;
+            }
         }
         for word in rest {
             all.push(word.clone()?)?;
@@ -125,8 +136,8 @@ fn sized(alloc: Global, sizes: &str, words: &[String]) -> Result<Vec<String>, Fa
     Ok(all)
 }
 
-/// The same with room for all. Where the words name no option it is on a small heap, and where that is
-/// full on a larger one, before it is on the heap that the program makes by itself.
+/// The same with room for all. What the words don't name of the heap's sizes is small, and where such a
+/// heap is full larger, before it is what the program takes by itself.
 pub(crate) fn run_on_a_heap<R>(
     rt: &R,
     words: &[String],
@@ -135,10 +146,13 @@ pub(crate) fn run_on_a_heap<R>(
 where
     R: AllocGlobal + Sync + Threads,
 {
-    if has_names_alone(words) {
+    if !are_of_player(words) {
         for sizes in [SMALL, LARGER] {
-            let words = sized(rt.alloc(), sizes, words)?;
-            let got = run(rt, &words, files, AMPLE, &FreeGate)?;
+            let filled = sized(rt.alloc(), &sizes, words)?;
+            if filled.len() == words.len() {
+                break;
+            }
+            let got = run(rt, &filled, files, AMPLE, &FreeGate)?;
             if got.status != FULL {
                 return Ok(got);
             }
