@@ -27,11 +27,11 @@ const SIZE: HeapSize = HeapSize {
 /// Does what is measured, over that store, so many times.
 pub fn run_over(
     alloc: Global,
-    kept: StoreKind,
+    kind: StoreKind,
     what: StoreMeasure,
     count: u32,
 ) -> Result<u64, NoRoom> {
-    match kept {
+    match kind {
         StoreKind::Plain => {
             let mut store = PlainStore::new(alloc, Limit::Bits64);
             run_on(alloc, &mut store, what, count)

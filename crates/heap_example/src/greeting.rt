@@ -7,7 +7,7 @@ ghost use Rattle.heap_table.specs.Known.{KeepsKnown};
 ghost use Rattle.heap_text.specs.Turns.{GoesOn};
 ghost use Rattle.heap_example.specs.Greeting.{Greets};
 
-use crate::refusal::ExampleFault;
+use crate::fault::ExampleFault;
 use heap_rule::{HeapSize, MAX};
 use heap_table::Heap;
 use heap_text::{JsStr, Text};
