@@ -5,14 +5,14 @@
 #![tactic(auto)]
 
 mod blocks;
-mod env;
+mod binding_list;
 mod frames;
 mod index;
 mod mask;
 mod scope;
 
 pub use blocks::Blocks;
-pub use env::{Binding, Env};
+pub use binding_list::{Binding, BindingList};
 pub use frames::Frame;
 pub use index::Declared;
 pub use scope::{Place, Scope};
