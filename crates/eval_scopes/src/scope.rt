@@ -3,8 +3,8 @@ ghost use Rattle.std.specs.Prelude.{◌≡◌, Some, None, MatchOption, OnOk, On
 ghost use Rattle.eval_scopes.specs.Bindings.{is_among, meant, declared, entered, turned, outer};
 ghost use Rattle.eval_scopes.specs.Seen.{bound_of, names_of, bindings_of, bound_at, put_at, Within, IsPlace};
 
-use crate::blocks::Blocks;
 use crate::binding_list::{Binding, BindingList};
+use crate::blocks::Blocks;
 use crate::frames::Frame;
 use eval_tree::{Name, Names};
 use js_units::NoMemory;

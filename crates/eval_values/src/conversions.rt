@@ -199,7 +199,11 @@ pub fn number_of<S: Strings>(store: &mut S, at: u32, value: &Value<S::Ref>) -> R
 }
 
 // Why an object becomes no number.
-pub(crate) fn abrupt_of_object<S: Strings>(store: &mut S, at: u32, object: &Object<S::Ref>) -> Abrupt
+pub(crate) fn abrupt_of_object<S: Strings>(
+    store: &mut S,
+    at: u32,
+    object: &Object<S::Ref>,
+) -> Abrupt
     requires { FineFields (strings_of (S.state store.old)) S.number object.now }
     ensures value { fails (ending_of result) ≡ to_number at
         (Contents.object (fields_mapped (says (S.state store.old) S.number) object.now)) }
