@@ -29,7 +29,8 @@ pub fn stringify_list<S: Strings>(
     ensures throws { ThrowsLong result (S.state store.old).limit
         (length (list_text (texts (S.state store.old) S.number parts.now))) }
     ensures uses { Uses (S.state store.old) (S.state store.new) (full_of result)
-        1 (2 * settle_most (S.state store.old) S.number parts.now + flat_words (list_text (texts (S.state store.old) S.number parts.now))) }
+        1 (2 * settle_most (S.state store.old) S.number parts.now
+        + flat_words (list_text (texts (S.state store.old) S.number parts.now))) }
 {
     let length = list_len(alloc, store, parts)?;
     if length > u128::from(store.limit()) {

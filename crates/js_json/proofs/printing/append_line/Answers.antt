@@ -1,4 +1,4 @@
-use Rattle.std.proofs.Common.{arith, rules}
+use Rattle.std.proofs.Common.{arith, ◌∙◌}
 use Rattle.js_units.specs.Text.{utf8}
 use Rattle.js_store.proofs.Laws.{step_after}
 use Rattle.js_texts.proofs.Lists.{on_ok_map, rest_is, settle_front}
@@ -17,8 +17,12 @@ returns-in_ok-append_string-in-len1-up-clause-added g c =
 pub returns-in_ok-append_string-in-len1-up-clause-uses : goal.returns-in_ok-append_string-in-len1-up-clause-uses
 returns-in_ok-append_string-in-len1-up-clause-uses g c =
     let state = g.S.Strings.state in
-    let s = c.in_ok-append_string-in-len1-up.ensures.uses.step in
-    let front = settle_front g.S.Strings.number (state c.args.store.now) (state c.append_string.new.store) c.args.parts.now 0 c.first-item.result c.in-len1-up.len_at_least c.first-item.is s.grows c.requires in
-    let t = c.append_rest.ensures.uses.step in
-    let uses_step = step_after s (rw (rest_is c.args.parts.now) at t) (omega arith) (omega (arith, front)) in
-    search rules
+    let first = c.in_ok-append_string-in-len1-up.ensures.uses in
+    let front = settle_front g.S.Strings.number (state c.args.store.now) (state c.append_string.new.store) c.args.parts.now 0 c.first-item.result c.in-len1-up.len_at_least c.first-item.is first.step.grows c.requires in
+    let others = c.append_rest.ensures.uses in
+    let step = others.step in
+    record {
+      step = step_after first.step (rw (rest_is c.args.parts.now) at step) (omega arith) (omega (arith, front));
+      no_slots = others.no_slots;
+      history = others.history ∙ first.history;
+    }

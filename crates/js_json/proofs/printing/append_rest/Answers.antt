@@ -1,4 +1,4 @@
-use Rattle.std.proofs.Common.{arith, ◌++◌, ◌∷◌, ap, sym, ◌∙◌, drop, ◌+◌, rules}
+use Rattle.std.proofs.Common.{arith, ◌++◌, ◌∷◌, ap, sym, ◌∙◌, drop, ◌+◌}
 use Rattle.std.proofs.lemmas.Result.{err_from_is_err_and}
 use Rattle.js_units.specs.Text.{utf8}
 use Rattle.js_store.specs.State.{IsKnown, text}
@@ -51,17 +51,20 @@ returns-in_err-append_string-clause-uses g c =
     let state = g.S.Strings.state in
     let number = g.S.Strings.number in
     let i = c.loop-s.invariant in
-    let e = c.in_err-append_string.ensures.uses.step in
+    let e = c.in_err-append_string.ensures.uses in
     let p = err_from_is_err_and c.from_residual-in_err-append_string.result c.from_residual-in_err-append_string.ensures.1 in
-    let front = settle_front number (state c.loop-s.store) (state c.append_string.new.store) c.args.rest.now c.loop-s.s-index c.s-item.result c.loop-s-test.true c.s-item.is e.grows i.known in
+    let front = settle_front number (state c.loop-s.store) (state c.append_string.new.store) c.args.rest.now c.loop-s.s-index c.s-item.result c.loop-s-test.true c.s-item.is e.step.grows i.known in
     let before = i.words in
     let done = i.ids in
-    let words = e.within_words in
-    let ids = e.within_ids in
-    let uses_step = rw (p.1, p.2) (record {
-      grows = grows_trans i.grows e.grows;
-      honest = e.honest;
-      within_ids = omega (arith, done, ids);
-      within_words = omega (arith, front, before, words);
-    }) in
-    search rules
+    let words = e.step.within_words in
+    let ids = e.step.within_ids in
+    rw (p.1, p.2) (record {
+      step = record {
+        grows = grows_trans i.grows e.step.grows;
+        honest = e.step.honest;
+        within_ids = omega (arith, done, ids);
+        within_words = omega (arith, front, before, words);
+      };
+      no_slots = e.no_slots;
+      history = e.history ∙ i.history;
+    })
