@@ -1,9 +1,9 @@
 -- The code's faults of numbers, for the contracts of private functions. No public contract cites this file.
 use Rattle.js_literal.specs.Number.{NumberKind, Fraction, OtherForm, TooLarge}
-use Rattle.js_literal.specs.declared.number.Refusal.{Refusal}
-use Rattle.js_literal.specs.declared.number.Refusal.TheVariants as refusal
+use Rattle.js_literal.specs.declared.number.DigitsFault.{DigitsFault}
+use Rattle.js_literal.specs.declared.number.DigitsFault.TheVariants as refusal
 
-abbrev pub number_kind : Refusal → NumberKind
+abbrev pub number_kind : DigitsFault → NumberKind
 number_kind refusal.Fraction = Fraction
 number_kind refusal.OtherForm = OtherForm
 number_kind refusal.TooLarge = TooLarge

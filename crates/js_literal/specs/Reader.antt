@@ -3,12 +3,12 @@ use Rattle.std.specs.Prelude.{ℕ, ◌+◌, ◌*◌, List, [], ◌∷◌, Option
 use Rattle.std.specs.Str.{chars}
 use Rattle.js_units.specs.Text.{utf16_of}
 use Rattle.js_literal.specs.Literal.{hex_value, letter_unit, begins_digit, Kind, Unclosed, RawLineEnd, BadEscape, CodePointTooLarge, LegacyOctal}
-use Rattle.js_literal.specs.declared.front.Front.{Front}
-use Rattle.js_literal.specs.declared.front.Front.TheVariants as code
-use Rattle.js_literal.specs.declared.front.Value.{Value}
-use Rattle.js_literal.specs.declared.front.Value.TheVariants as value
-use Rattle.js_literal.specs.declared.front.Refusal.{Refusal}
-use Rattle.js_literal.specs.declared.front.Refusal.TheVariants as refusal
+use Rattle.js_literal.specs.declared.front.LiteralFront.{LiteralFront}
+use Rattle.js_literal.specs.declared.front.LiteralFront.TheVariants as code
+use Rattle.js_literal.specs.declared.front.PieceUnits.{PieceUnits}
+use Rattle.js_literal.specs.declared.front.PieceUnits.TheVariants as value
+use Rattle.js_literal.specs.declared.front.PieceFault.{PieceFault}
+use Rattle.js_literal.specs.declared.front.PieceFault.TheVariants as refusal
 
 -- a piece with its units and the rest, the closing quote with the rest, or what is refused
 pub data Reading : Type 0 where
@@ -104,19 +104,19 @@ after_plain q [] = []
 after_plain q (c ∷ s) = if is_plain q c then after_plain q s else c ∷ s
 
 -- the code's values
-abbrev pub value_units : Value → List ℕ
+abbrev pub value_units : PieceUnits → List ℕ
 value_units value.Nothing = []
 value_units (value.Char c) = utf16_of c
 value_units (value.Unit u) = u ∷ []
 
-abbrev pub kind_of : Refusal → Kind
+abbrev pub kind_of : PieceFault → Kind
 kind_of refusal.Unclosed = Unclosed
 kind_of refusal.RawLineEnd = RawLineEnd
 kind_of refusal.BadEscape = BadEscape
 kind_of refusal.CodePointTooLarge = CodePointTooLarge
 kind_of refusal.LegacyOctal = LegacyOctal
 
-abbrev pub reading_of : Front → Reading
+abbrev pub reading_of : LiteralFront → Reading
 reading_of (code.Piece x rest) = Take (value_units x) (chars rest.now)
 reading_of (code.Close rest) = Shut (chars rest.now)
 reading_of (code.Refused t) = Break (kind_of t)

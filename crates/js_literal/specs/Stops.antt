@@ -2,9 +2,9 @@
 use Rattle.std.specs.Prelude.{◌≡◌, ℕ, List, length, encode_utf8_all}
 use Rattle.js_literal.specs.Literal.{IsBroken}
 use Rattle.js_literal.specs.Reader.{kind_of}
-use Rattle.js_literal.specs.declared.string.Stop.{Stop}
-use Rattle.js_literal.specs.declared.string.Stop.TheVariants as stops
+use Rattle.js_literal.specs.declared.string.StringStop.{StringStop}
+use Rattle.js_literal.specs.declared.string.StringStop.TheVariants as stops
 
-abbrev pub IsStop : ℕ → List ℕ → Stop → Type 0
+abbrev pub IsStop : ℕ → List ℕ → StringStop → Type 0
 IsStop q s (stops.Broken t left) = (rest : List ℕ) × IsBroken q s (kind_of t) rest × (length (encode_utf8_all rest) ≡ left)
 IsStop q s stops.Memory = Unit {0}

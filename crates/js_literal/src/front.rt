@@ -13,7 +13,7 @@ use js_units::split_char;
 
 /// The units of a piece: none for a line continuation, those of a character, or one of an escape.
 #[derive(Clone, Copy)]
-pub enum Value {
+pub enum PieceUnits {
     Nothing,
     Char(char),
     Unit(u16),
@@ -21,7 +21,7 @@ pub enum Value {
 
 /// The kind of a fault, without its place.
 #[derive(Clone, Copy)]
-pub enum Refusal {
+pub enum PieceFault {
     Unclosed,
     RawLineEnd,
     BadEscape,
@@ -31,10 +31,10 @@ pub enum Refusal {
 
 /// A piece or the closing quote, with the text behind it, or the fault.
 #[derive(Clone, Copy)]
-pub enum Front<'a> {
-    Piece(Value, &'a str),
+pub enum LiteralFront<'a> {
+    Piece(PieceUnits, &'a str),
     Close(&'a str),
-    Refused(Refusal),
+    Refused(PieceFault),
 }
 
 /// The unit of `b`, `t`, `n`, `v`, `f` or `r` behind a backslash.
@@ -102,46 +102,46 @@ fn hex_run(value: u32, text: &str) -> (u32, &str)
 }
 
 /// The units of a code point, a surrogate's one unit among them.
-fn code_point_value(value: u32) -> Value
+fn code_point_value(value: u32) -> PieceUnits
     requires { value ≤ 0x10FFFF }
     ensures { value_units result ≡ utf16_of value }
 {
     match char::from_u32(value) {
-        Some(c) => Value::Char(c),
-        None => Value::Unit(value as u16),
+        Some(c) => PieceUnits::Char(c),
+        None => PieceUnits::Unit(value as u16),
     }
 }
 
 /// The unit that digits spell, or `BadEscape` where they are missing.
-fn one_unit(found: Option<(u32, &str)>) -> Front<'_>
+fn one_unit(found: Option<(u32, &str)>) -> LiteralFront<'_>
     requires { IfSome found (λ p. p.0 < 65536) }
     ensures { reading_of result ≡ Reader.one_unit (option_map (λ p. seen p.0 p.1.now) found.entry) }
 {
     match found {
-        Some((value, rest)) => Front::Piece(Value::Unit(value as u16), rest),
-        None => Front::Refused(Refusal::BadEscape),
+        Some((value, rest)) => LiteralFront::Piece(PieceUnits::Unit(value as u16), rest),
+        None => LiteralFront::Refused(PieceFault::BadEscape),
     }
 }
 
 /// The closing brace behind the digits of a value.
-fn close_braces(value: u32, text: &str) -> Front<'_>
+fn close_braces(value: u32, text: &str) -> LiteralFront<'_>
     requires { value ≤ 0x110000 }
     ensures { reading_of result ≡ Reader.close_braces value (chars text.now) }
 {
     match split_char(text) {
         Some(('}', rest)) => {
             if value <= 0x10FFFF {
-                Front::Piece(code_point_value(value), rest)
+                LiteralFront::Piece(code_point_value(value), rest)
             } else {
-                Front::Refused(Refusal::CodePointTooLarge)
+                LiteralFront::Refused(PieceFault::CodePointTooLarge)
             }
         }
-        _ => Front::Refused(Refusal::BadEscape),
+        _ => LiteralFront::Refused(PieceFault::BadEscape),
     }
 }
 
 /// Hexadecimal digits and a closing brace.
-fn braces(text: &str) -> Front<'_>
+fn braces(text: &str) -> LiteralFront<'_>
     ensures { reading_of result ≡ Reader.braces_of (chars text.now) }
 {
     match hex_front(0, text) {
@@ -149,12 +149,12 @@ fn braces(text: &str) -> Front<'_>
             let (value, rest) = hex_run(first, rest);
             close_braces(value, rest)
         }
-        None => Front::Refused(Refusal::BadEscape),
+        None => LiteralFront::Refused(PieceFault::BadEscape),
     }
 }
 
 /// What stands behind `\u`.
-fn unicode(text: &str) -> Front<'_>
+fn unicode(text: &str) -> LiteralFront<'_>
     ensures { reading_of result ≡ Reader.unicode_of (chars text.now) }
 {
     match split_char(text) {
@@ -174,35 +174,35 @@ fn past_line_feed(text: &str) -> &str
 }
 
 /// What stands behind a backslash and a character that is none of the six letters.
-fn other_escape(c: char, text: &str) -> Front<'_>
+fn other_escape(c: char, text: &str) -> LiteralFront<'_>
     ensures { reading_of result ≡ Reader.other_escape c (chars text.now) }
 {
     match c {
         '0' => {
             if begins_digit(text) {
-                Front::Refused(Refusal::LegacyOctal)
+                LiteralFront::Refused(PieceFault::LegacyOctal)
             } else {
-                Front::Piece(Value::Unit(0), text)
+                LiteralFront::Piece(PieceUnits::Unit(0), text)
             }
         }
-        '1'..='9' => Front::Refused(Refusal::LegacyOctal),
+        '1'..='9' => LiteralFront::Refused(PieceFault::LegacyOctal),
         'x' => one_unit(two_front(0, text)),
         'u' => unicode(text),
-        '\r' => Front::Piece(Value::Nothing, past_line_feed(text)),
-        '\n' | '\u{2028}' | '\u{2029}' => Front::Piece(Value::Nothing, text),
-        _ => Front::Piece(Value::Char(c), text),
+        '\r' => LiteralFront::Piece(PieceUnits::Nothing, past_line_feed(text)),
+        '\n' | '\u{2028}' | '\u{2029}' => LiteralFront::Piece(PieceUnits::Nothing, text),
+        _ => LiteralFront::Piece(PieceUnits::Char(c), text),
     }
 }
 
 /// What stands behind a backslash.
 #[tactic(auto, unfolding(crate::specs::Reader::escape_of))]
-fn escape(text: &str) -> Front<'_>
+fn escape(text: &str) -> LiteralFront<'_>
     ensures { reading_of result ≡ escape_of (chars text.now) }
 {
     match split_char(text) {
-        None => Front::Refused(Refusal::Unclosed),
+        None => LiteralFront::Refused(PieceFault::Unclosed),
         Some((c, rest)) => match letter(c) {
-            Some(unit) => Front::Piece(Value::Unit(unit), rest),
+            Some(unit) => LiteralFront::Piece(PieceUnits::Unit(unit), rest),
             None => other_escape(c, rest),
         },
     }
@@ -240,20 +240,20 @@ pub fn split_plain(quote: char, text: &str) -> (&[u8], &str)
 
 /// What stands at the front of a literal's inside.
 #[tactic(auto, unfolding(crate::specs::Reader::reading))]
-pub fn read_front(quote: char, text: &str) -> Front<'_>
+pub fn read_front(quote: char, text: &str) -> LiteralFront<'_>
     ensures { reading_of result ≡ reading quote (chars text.now) }
 {
     match split_char(text) {
-        None => Front::Refused(Refusal::Unclosed),
+        None => LiteralFront::Refused(PieceFault::Unclosed),
         Some((c, rest)) => {
             if c == quote {
-                Front::Close(rest)
+                LiteralFront::Close(rest)
             } else if c == '\\' {
                 escape(rest)
             } else if c == '\n' || c == '\r' {
-                Front::Refused(Refusal::RawLineEnd)
+                LiteralFront::Refused(PieceFault::RawLineEnd)
             } else {
-                Front::Piece(Value::Char(c), rest)
+                LiteralFront::Piece(PieceUnits::Char(c), rest)
             }
         }
     }

@@ -13,7 +13,7 @@ use js_units::split_char;
 
 /// The kind of the rule that refuses a number.
 #[derive(Clone, Copy)]
-enum Refusal {
+enum DigitsFault {
     Fraction,
     OtherForm,
     TooLarge,
@@ -72,25 +72,25 @@ fn digits(text: &str) -> (u64, &str)
 }
 
 /// The number in front and what follows it, or the rule that refuses it.
-fn number(text: &str) -> Result<(u64, &str), Refusal>
+fn number(text: &str) -> Result<(u64, &str), DigitsFault>
     ensures { MatchResult result (λ p. number_at (chars text.now) ≡ Ok (p.0, chars p.1.now))
         (λ e. number_at (chars text.now) ≡ Err (number_kind e)) }
 {
     if begins_point(text) {
-        return Err(Refusal::Fraction);
+        return Err(DigitsFault::Fraction);
     }
     if has_leading_zero(text) {
-        return Err(Refusal::OtherForm);
+        return Err(DigitsFault::OtherForm);
     }
     let (value, rest) = digits(text);
     if begins_point(rest) {
-        return Err(Refusal::Fraction);
+        return Err(DigitsFault::Fraction);
     }
     if begins_tail(rest) {
-        return Err(Refusal::OtherForm);
+        return Err(DigitsFault::OtherForm);
     }
     if value > 9007199254740991 {
-        return Err(Refusal::TooLarge);
+        return Err(DigitsFault::TooLarge);
     }
     Ok((value, rest))
 }
@@ -151,12 +151,12 @@ fn from(text: &str, at: u32) -> &str
 }
 
 /// The fault of a literal that begins at `at`.
-fn placed(refusal: Refusal, at: u32) -> NumberFault
+fn placed(refusal: DigitsFault, at: u32) -> NumberFault
     ensures { result ≡ number_fault (number_kind refusal) at }
 {
     match refusal {
-        Refusal::Fraction => NumberFault::Fraction { at },
-        Refusal::OtherForm => NumberFault::OtherForm { at },
-        Refusal::TooLarge => NumberFault::TooLarge { at },
+        DigitsFault::Fraction => NumberFault::Fraction { at },
+        DigitsFault::OtherForm => NumberFault::OtherForm { at },
+        DigitsFault::TooLarge => NumberFault::TooLarge { at },
     }
 }

@@ -9,30 +9,30 @@ ghost use Rattle.js_literal.specs.Stops.{IsStop};
 ghost use Rattle.js_literal.specs.Place.{StandsAt};
 
 use crate::fault::LiteralFault;
-use crate::front::{Front, Refusal, Value, read_front, split_plain};
+use crate::front::{LiteralFront, PieceFault, PieceUnits, read_front, split_plain};
 use crate::text::byte_len;
 use js_units::{NoMemory, Units};
 use std::alloc::Global;
 
 /// Why the inside of a literal isn't read. Of a fault also how many bytes are left where it shows.
-pub enum Stop {
-    Broken(Refusal, usize),
+pub enum StringStop {
+    Broken(PieceFault, usize),
     Memory,
 }
 
 /// Adds the units of a piece.
-fn push_value(units: &mut Units, value: Value) -> Result<(), NoMemory>
+fn push_value(units: &mut Units, value: PieceUnits) -> Result<(), NoMemory>
     ensures ok { OnOk result (units.new ≡ units.old ++ value_units value) }
 {
     match value {
-        Value::Nothing => Ok(()),
-        Value::Char(c) => units.push_code_point(c),
-        Value::Unit(unit) => units.push(unit),
+        PieceUnits::Nothing => Ok(()),
+        PieceUnits::Char(c) => units.push_code_point(c),
+        PieceUnits::Unit(unit) => units.push(unit),
     }
 }
 
 /// The units up to the closing quote, and the number of bytes behind it.
-fn inside(alloc: Global, quote: char, text: &str) -> Result<(Units, usize), Stop>
+fn inside(alloc: Global, quote: char, text: &str) -> Result<(Units, usize), StringStop>
     requires { is_quote quote ≡ true }
     ensures ok { IfOk result (λ p. (rest : List ℕ) × Closed quote (chars text.now) p.0 rest
         × (length (encode_utf8_all rest) ≡ p.1)) }
@@ -43,31 +43,34 @@ fn inside(alloc: Global, quote: char, text: &str) -> Result<(Units, usize), Stop
     'pieces: loop {
         let (run, behind) = split_plain(quote, rest);
         if units.extend_from_latin1(run).is_err() {
-            return Err(Stop::Memory);
+            return Err(StringStop::Memory);
         }
         match read_front(quote, behind) {
-            Front::Piece(value, after) => {
+            LiteralFront::Piece(value, after) => {
                 if push_value(&mut units, value).is_err() {
-                    return Err(Stop::Memory);
+                    return Err(StringStop::Memory);
                 }
                 rest = after;
             }
-            Front::Close(after) => return Ok((units, byte_len(after))),
-            Front::Refused(refusal) => return Err(Stop::Broken(refusal, byte_len(behind))),
+            LiteralFront::Close(after) => return Ok((units, byte_len(after))),
+            LiteralFront::Refused(refusal) => return Err(StringStop::Broken(
+                refusal,
+                byte_len(behind),
+            )),
         }
     }
 }
 
 /// The fault of a literal that begins at `at`, where it shows at `here`.
-fn placed(refusal: Refusal, at: u32, here: u32) -> LiteralFault
+fn placed(refusal: PieceFault, at: u32, here: u32) -> LiteralFault
     ensures { result ≡ fault_at (kind_of refusal) at here }
 {
     match refusal {
-        Refusal::Unclosed => LiteralFault::Unclosed { at },
-        Refusal::RawLineEnd => LiteralFault::RawLineEnd { at: here },
-        Refusal::BadEscape => LiteralFault::BadEscape { at: here },
-        Refusal::CodePointTooLarge => LiteralFault::CodePointTooLarge { at: here },
-        Refusal::LegacyOctal => LiteralFault::LegacyOctal { at: here },
+        PieceFault::Unclosed => LiteralFault::Unclosed { at },
+        PieceFault::RawLineEnd => LiteralFault::RawLineEnd { at: here },
+        PieceFault::BadEscape => LiteralFault::BadEscape { at: here },
+        PieceFault::CodePointTooLarge => LiteralFault::CodePointTooLarge { at: here },
+        PieceFault::LegacyOctal => LiteralFault::LegacyOctal { at: here },
     }
 }
 
@@ -92,8 +95,12 @@ fn literal(alloc: Global, text: &str, at: u32) -> Result<(Units, u32), LiteralFa
     let (quote, rest) = open(text, at);
     match inside(alloc, quote, rest) {
         Ok((units, left)) => Ok((units, (text.len() - left) as u32)),
-        Err(Stop::Broken(refusal, left)) => Err(placed(refusal, at, (text.len() - left) as u32)),
-        Err(Stop::Memory) => Err(LiteralFault::Memory),
+        Err(StringStop::Broken(refusal, left)) => Err(placed(
+            refusal,
+            at,
+            (text.len() - left) as u32,
+        )),
+        Err(StringStop::Memory) => Err(LiteralFault::Memory),
     }
 }
 

@@ -8,8 +8,8 @@ use Rattle.parse_syntax.proofs.Laws.{Holds}
 use Rattle.parse_syntax.proofs.Wider.{Begins, Starts, one_starts, then_starts, either_starts, head_gives, some_of}
 use Rattle.parse_syntax.proofs.Part.{anything, Branch, Part, both_hold, one_part, then_part, next_part, map_part, branch, sooner, part_of, choose_branch, nothing_branch, heads_test, Rooms, then_strict, map_strict, open_branch, many_part}
 use Rattle.parse_syntax.proofs.Heads.{one_heads, then_heads, mapped_heads, then_some, begins_length, either_lacks, room_of, in_room, deeper, over, one_lacks, then_lacks, lacks, one_over, first_over, lower}
-use Rattle.parse_syntax.specs.declared.token.Token.{Token}
-use Rattle.parse_syntax.specs.declared.token.Token.TheVariants as token
+use Rattle.parse_syntax.specs.declared.token.GrammarToken.{GrammarToken}
+use Rattle.parse_syntax.specs.declared.token.GrammarToken.TheVariants as token
 use Rattle.parse_syntax.specs.declared.token.Word.TheVariants as word
 use Rattle.parse_syntax.specs.declared.token.Property.TheVariants as property
 use Rattle.eval_tree.specs.declared.tree.Op.{Op}
@@ -27,21 +27,21 @@ use Rattle.parse_syntax.proofs.Stops.{object_of as object_word_of, method_of as 
 
 -- a token of a lower level ends what is above it
 
-pub one_stops : {A : Type 0} (v : Token → Option A) (n k : ℕ) → HasLevel v n → nat_lt n k ≡ true → (ts : List Token) (x : A) (rest : List Token) → One v ts x → stops k (ts ++ rest) ≡ true
+pub one_stops : {A : Type 0} (v : GrammarToken → Option A) (n k : ℕ) → HasLevel v n → nat_lt n k ≡ true → (ts : List GrammarToken) (x : A) (rest : List GrammarToken) → One v ts x → stops k (ts ++ rest) ≡ true
 one_stops v n k of h _ _ rest (one t x e) = ap (λ m. nat_lt m k) (of.is t x e) ∙ h
 
-pub then_stops : {A B C : Type 0} (v : Token → Option A) {f : A → B → C} {M : Lang Token B} (n k : ℕ) → HasLevel v n → nat_lt n k ≡ true → (ts : List Token) (x : C) (rest : List Token) → Then f (One v) M ts x → stops k (ts ++ rest) ≡ true
+pub then_stops : {A B C : Type 0} (v : GrammarToken → Option A) {f : A → B → C} {M : Lang GrammarToken B} (n k : ℕ) → HasLevel v n → nat_lt n k ≡ true → (ts : List GrammarToken) (x : C) (rest : List GrammarToken) → Then f (One v) M ts x → stops k (ts ++ rest) ≡ true
 then_stops v n k of h _ _ rest (both a b x y ha hb) = rw (append_assoc a b rest) (one_stops v n k of h a x (b ++ rest) ha)
 
-pub heads_stop : {A : Type 0} (v : Token → Option A) (n k : ℕ) → HasLevel v n → nat_lt n k ≡ true → (s : List Token) → heads v s ≡ true → stops k s ≡ true
+pub heads_stop : {A : Type 0} (v : GrammarToken → Option A) (n k : ℕ) → HasLevel v n → nat_lt n k ≡ true → (s : List GrammarToken) → heads v s ≡ true → stops k s ≡ true
 heads_stop v n k of h [] e = let q : false ≡ true = e in cc
 heads_stop v n k of h (t ∷ s) e = let y = some_of (v t) e in ap (λ m. nat_lt m k) (of.is t y.0 y.1) ∙ h
 
-room_starts : {A : Type 0} (room : Bool) {L : Lang Token A} (test : Token → Bool) → Starts L test → Starts (if_room room L) test
+room_starts : {A : Type 0} (room : Bool) {L : Lang GrammarToken A} (test : GrammarToken → Bool) → Starts L test → Starts (if_room room L) test
 room_starts room {L = L} test st = record { by = λ ts x h. st.by ts x (room_of room L ts x h) }
 
 -- what is known of an expression and an operand where one more is open
-pub record Inner (P : Kind → Type 0) (room : Bool) (E U F G : Lang Token ExprTree) (e u e' u' : Reader Token ExprTree) : Type 0 where
+pub record Inner (P : Kind → Type 0) (room : Bool) (E U F G : Lang GrammarToken ExprTree) (e u e' u' : Reader GrammarToken ExprTree) : Type 0 where
   pub whole : room ≡ true → Part P E F (stops 1) e e'
   pub operand : room ≡ true → Part P U G (stops 7) u u'
   pub first_whole : room ≡ true → Starts E begins_unary
@@ -82,7 +82,7 @@ module _ (P : Kind → Type 0) where
   keys_part : Part P (One keys_word) (One keys_word) anything (one_of keys_word) (one_of keys_word)
   keys_part = one_part P keys_word (token.Name 0 0 property.Keys) _ refl
 
-  module _ {E F : Lang Token ExprTree} {e e' : Reader Token ExprTree} (p : Part P E F (stops 1) e e') where
+  module _ {E F : Lang GrammarToken ExprTree} {e e' : Reader GrammarToken ExprTree} (p : Part P E F (stops 1) e e') where
     pub parens_part : Part P (Grammar.parens E) (Grammar.parens F) anything (read_parens e) (read_parens e')
     parens_part = next_part second_of opening_part (then_part first_of p closing_part (λ b y rest h s. one_stops closing 0 1 closing_level refl b y rest h))
 
@@ -97,15 +97,15 @@ module _ (P : Kind → Type 0) where
       over = heads_stop closing 0 1 closing_level refl;
     })) follows
       where
-        no_comma : (t : Token) (x : Unit {0}) → closing t ≡ Some x → heads comma (t ∷ []) ≡ false
+        no_comma : (t : GrammarToken) (x : Unit {0}) → closing t ≡ Some x → heads comma (t ∷ []) ≡ false
         no_comma (token.Mark a mark.CloseParen l) x h = refl
         no_comma _ x h = cc
 
-        closes_commas : (s : List Token) → heads closing s ≡ true → heads comma s ≡ false
+        closes_commas : (s : List GrammarToken) → heads closing s ≡ true → heads comma s ≡ false
         closes_commas [] h = refl
         closes_commas (t ∷ s) h = let y = some_of (closing t) h in no_comma t y.0 y.1
 
-        follows : (b : List Token) (y : List ExprTree) (rest : List Token) → Many (One comma ▸ E) b y → heads closing rest ≡ true → stops 1 (b ++ rest) ≡ true
+        follows : (b : List GrammarToken) (y : List ExprTree) (rest : List GrammarToken) → Many (One comma ▸ E) b y → heads closing rest ≡ true → stops 1 (b ++ rest) ≡ true
         follows _ _ rest end s = heads_stop closing 0 1 closing_level refl rest s
         follows _ _ rest (more a b x xs ha hb) s = rw (append_assoc a b rest) (then_stops comma 0 1 comma_level refl a x (b ++ rest) ha)
 
@@ -130,7 +130,7 @@ module _ (P : Kind → Type 0) where
         plain : Part P (Mapped plain_string (Grammar.args E)) (Mapped plain_string (Grammar.args F)) anything (map_by plain_string (read_args e)) (map_by plain_string (read_args e'))
         plain = map_part plain_string (args_part st)
 
-        plain_no_point : (ts : List Token) (x : Builtin × List ExprTree) (rest : List Token) → Mapped plain_string (Grammar.args E) ts x → heads point (ts ++ rest) ≡ false
+        plain_no_point : (ts : List GrammarToken) (x : Builtin × List ExprTree) (rest : List GrammarToken) → Mapped plain_string (Grammar.args E) ts x → heads point (ts ++ rest) ≡ false
         plain_no_point _ _ rest (mapped a x h) = then_lacks part point_of paren_of (λ q. omega arith) a x rest h
 
     symbol_part : Starts E begins_unary → Part P (Grammar.symbol_call E) (Grammar.symbol_call F) anything (read_symbol e) (read_symbol e')
@@ -161,15 +161,15 @@ module _ (P : Kind → Type 0) where
         over = heads_stop close_brace 0 1 close_brace_level refl;
       })) follows
         where
-          no_comma : (t : Token) (x : Unit {0}) → close_brace t ≡ Some x → heads comma (t ∷ []) ≡ false
+          no_comma : (t : GrammarToken) (x : Unit {0}) → close_brace t ≡ Some x → heads comma (t ∷ []) ≡ false
           no_comma (token.Mark a mark.CloseBrace l) x h = refl
           no_comma _ x h = cc
 
-          closes_commas : (s : List Token) → heads close_brace s ≡ true → heads comma s ≡ false
+          closes_commas : (s : List GrammarToken) → heads close_brace s ≡ true → heads comma s ≡ false
           closes_commas [] h = refl
           closes_commas (t ∷ s) h = let y = some_of (close_brace t) h in no_comma t y.0 y.1
 
-          follows : (b : List Token) (y : List (List ℕ × ExprTree)) (rest : List Token) → Many (One comma ▸ Grammar.entry tables E) b y → heads close_brace rest ≡ true → stops 1 (b ++ rest) ≡ true
+          follows : (b : List GrammarToken) (y : List (List ℕ × ExprTree)) (rest : List GrammarToken) → Many (One comma ▸ Grammar.entry tables E) b y → heads close_brace rest ≡ true → stops 1 (b ++ rest) ≡ true
           follows _ _ rest end s = heads_stop close_brace 0 1 close_brace_level refl rest s
           follows _ _ rest (more a b x xs ha hb) s = rw (append_assoc a b rest) (then_stops comma 0 1 comma_level refl a x (b ++ rest) ha)
 
@@ -192,60 +192,60 @@ module _ (P : Kind → Type 0) where
     branches_part = next_part second_of (one_part P question (token.Mark 0 mark.Question false) tt refl) (then_part branches_of p (next_part second_of colon_part p) (λ b y rest h s. then_stops colon 0 1 colon_level refl b y rest h))
 
   -- () is a list of arguments at each level
-  pub no_args : (L : Lang Token ExprTree) → Holds (Grammar.args L)
+  pub no_args : (L : Lang GrammarToken ExprTree) → Holds (Grammar.args L)
   no_args L = both_hold second_of opening_part.some (record { tokens = closing_part.some.tokens; value = []; spells = left closing_part.some.tokens [] (mapped closing_part.some.tokens tt closing_part.some.spells) })
 
   -- what a word that opens goes on with
 
-  pub held_parens : {L : Lang Token ExprTree} → Holds L → Holds (Grammar.parens L)
+  pub held_parens : {L : Lang GrammarToken ExprTree} → Holds L → Holds (Grammar.parens L)
   held_parens h = both_hold second_of opening_part.some (both_hold first_of h closing_part.some)
 
-  held_string : (L : Lang Token ExprTree) → Holds (Either (One point ▸ Then pair_of (One from_word) (Grammar.args L)) (Mapped plain_string (Grammar.args L)))
+  held_string : (L : Lang GrammarToken ExprTree) → Holds (Either (One point ▸ Then pair_of (One from_word) (Grammar.args L)) (Mapped plain_string (Grammar.args L)))
   held_string L = let m = no_args L in record { tokens = m.tokens; value = plain_string m.value; spells = right m.tokens (plain_string m.value) (mapped m.tokens m.value m.spells) }
 
-  held_symbol : (L : Lang Token ExprTree) → Holds (One point ▸ Then pair_of (One symbol_function) (Grammar.args L))
+  held_symbol : (L : Lang GrammarToken ExprTree) → Holds (One point ▸ Then pair_of (One symbol_function) (Grammar.args L))
   held_symbol L = both_hold second_of point_part.some (both_hold pair_of function_part.some (no_args L))
 
-  held_json : {L : Lang Token ExprTree} → Holds L → Holds (One point ▸ Then pair_of (One stringify_word) (Mapped single_of (Grammar.parens L)))
+  held_json : {L : Lang GrammarToken ExprTree} → Holds L → Holds (One point ▸ Then pair_of (One stringify_word) (Mapped single_of (Grammar.parens L)))
   held_json h =
       let m = held_parens h in
       both_hold second_of point_part.some (both_hold pair_of stringify_part.some (record { tokens = m.tokens; value = single_of m.value; spells = mapped m.tokens m.value m.spells }))
 
-  held_object_call : (L : Lang Token ExprTree) → Holds (One point ▸ Then pair_of (One keys_word) (Grammar.args L))
+  held_object_call : (L : Lang GrammarToken ExprTree) → Holds (One point ▸ Then pair_of (One keys_word) (Grammar.args L))
   held_object_call L = both_hold second_of point_part.some (both_hold pair_of keys_part.some (no_args L))
 
   -- { } is an object literal at each level
-  held_literal : (tables : Tables) (L : Lang Token ExprTree) → Holds (Either (Mapped none_of (One close_brace)) (Grammar.entries tables L ◂ One close_brace))
+  held_literal : (tables : Tables) (L : Lang GrammarToken ExprTree) → Holds (Either (Mapped none_of (One close_brace)) (Grammar.entries tables L ◂ One close_brace))
   held_literal tables L = record { tokens = close_brace_part.some.tokens; value = []; spells = left close_brace_part.some.tokens [] (mapped close_brace_part.some.tokens tt close_brace_part.some.spells) }
 
   -- ( begins a method's arguments at each level
-  held_args : (L : Lang Token ExprTree) (t : Token) (y : Unit {0}) → opening t ≡ Some y → (tail : List Token) × (x : Option (List ExprTree)) × Mapped Some (Grammar.args L) (t ∷ tail) x
+  held_args : (L : Lang GrammarToken ExprTree) (t : GrammarToken) (y : Unit {0}) → opening t ≡ Some y → (tail : List GrammarToken) × (x : Option (List ExprTree)) × Mapped Some (Grammar.args L) (t ∷ tail) x
   held_args L t y q =
       let d = deeper second_of opening {L = Either (Mapped none_of (One closing)) (Grammar.items L ◂ One closing)} (record { tokens = closing_part.some.tokens; value = []; spells = left closing_part.some.tokens [] (mapped closing_part.some.tokens tt closing_part.some.spells) }) t y q in
       (d.0, Some d.1, mapped (t ∷ d.0) d.1 d.2)
 
-  module _ (tables : Tables) (room room' : Bool) (rs : Rooms P room room') (E U F G : Lang Token ExprTree) (e u e' u' : Reader Token ExprTree) (i : Inner P room E U F G e u e' u') where
+  module _ (tables : Tables) (room room' : Bool) (rs : Rooms P room room') (E U F G : Lang GrammarToken ExprTree) (e u e' u' : Reader GrammarToken ExprTree) (i : Inner P room E U F G e u e' u') where
     -- a primary, from each of its alternatives on
 
-    abbrev From_literal : Lang Token ExprTree
+    abbrev From_literal : Lang GrammarToken ExprTree
     From_literal = if_room room (Grammar.object_literal tables E)
 
-    abbrev From_object : Lang Token ExprTree
+    abbrev From_object : Lang GrammarToken ExprTree
     From_object = Either (if_room room (Grammar.object_call E)) From_literal
 
-    abbrev From_uri : Lang Token ExprTree
+    abbrev From_uri : Lang GrammarToken ExprTree
     From_uri = Either (if_room room (Grammar.uri_call E)) From_object
 
-    abbrev From_json : Lang Token ExprTree
+    abbrev From_json : Lang GrammarToken ExprTree
     From_json = Either (if_room room (Grammar.json_call E)) From_uri
 
-    abbrev From_symbol : Lang Token ExprTree
+    abbrev From_symbol : Lang GrammarToken ExprTree
     From_symbol = Either (if_room room (Grammar.symbol_call E)) From_json
 
-    abbrev From_string : Lang Token ExprTree
+    abbrev From_string : Lang GrammarToken ExprTree
     From_string = Either (if_room room (Grammar.string_call E)) From_symbol
 
-    abbrev From_parens : Lang Token ExprTree
+    abbrev From_parens : Lang GrammarToken ExprTree
     From_parens = Either (if_room room (Grammar.parens E)) From_string
 
     literal_starts : Starts From_literal (over class 7)
@@ -308,10 +308,10 @@ module _ (P : Kind → Type 0) where
 
     -- what stands behind a method's word
 
-    args_heads : (ts : List Token) (x : Option (List ExprTree)) (rest : List Token) → Mapped Some (Grammar.args E) ts x → heads opening (ts ++ rest) ≡ true
+    args_heads : (ts : List GrammarToken) (x : Option (List ExprTree)) (rest : List GrammarToken) → Mapped Some (Grammar.args E) ts x → heads opening (ts ++ rest) ≡ true
     args_heads _ _ rest (mapped a x h) = then_heads opening a x rest h
 
-    no_args_here : (ts : List Token) (x : Option (List ExprTree)) (rest : List Token) → Nothing None ts x → stops 8 rest ≡ true → heads opening (ts ++ rest) ≡ false
+    no_args_here : (ts : List GrammarToken) (x : Option (List ExprTree)) (rest : List GrammarToken) → Nothing None ts x → stops 8 rest ≡ true → heads opening (ts ++ rest) ≡ false
     no_args_here _ _ rest (nothing x h) s = none_of_level opening 8 8 opening_level (omega arith) rest s
 
     some_method_args : Holds (Grammar.method_args room E)
@@ -331,13 +331,13 @@ module _ (P : Kind → Type 0) where
 
     -- what stands behind a point
 
-    abbrev Word : Lang Token StepTree
+    abbrev Word : Lang GrammarToken StepTree
     Word = Either (One member_word) (Either (One (property_word tables)) (Then method_of (One (method tables)) (Grammar.method_args room E)))
 
     some_word : Holds Word
     some_word = record { tokens = token.Name 0 0 property.Length ∷ []; value = tree.of_length; spells = left (token.Name 0 0 property.Length ∷ []) tree.of_length (one (token.Name 0 0 property.Length) tree.of_length refl) }
 
-    no_member : (ts : List Token) (x : StepTree) (rest : List Token) → Either (One (property_word tables)) (Then method_of (One (method tables)) (Grammar.method_args room E)) ts x → heads member_word (ts ++ rest) ≡ false
+    no_member : (ts : List GrammarToken) (x : StepTree) (rest : List GrammarToken) → Either (One (property_word tables)) (Then method_of (One (method tables)) (Grammar.method_args room E)) ts x → heads member_word (ts ++ rest) ≡ false
     no_member = either_lacks member_word
         (one_lacks part member_of (property_of tables) (λ q. omega arith))
         (then_lacks part member_of (method_word_of tables) (λ q. omega arith))
@@ -415,12 +415,12 @@ module _ (P : Kind → Type 0) where
         (room_starts room begins_unary (then_starts unary_of (One sign) U begins_unary (one_starts sign begins_unary sign_begins)))
         (record { by = λ ts x h. raised ts (post_starts.by ts x h) })
       where
-        raised : (ts : List Token) → Begins (over class 0) ts → Begins begins_unary ts
+        raised : (ts : List GrammarToken) → Begins (over class 0) ts → Begins begins_unary ts
         raised [] h = absurd h
         raised (t ∷ ts) h = primary_begins t h
 
   -- a chain of level k over what the level above ends
-  pub chain_part : (o : Token → Option (ℕ × Op)) (k k' : ℕ) → HasLevel o k → nat_lt k k' ≡ true → k ≤ k' → (t : Token) (x : ℕ × Op) → o t ≡ Some x → {L D : Lang Token ExprTree} {r r' : Reader Token ExprTree} → Part P L D (stops k') r r' → Part P (Grammar.chain o L) (Grammar.chain o D) (stops k) (read_chain o r) (read_chain o r')
+  pub chain_part : (o : GrammarToken → Option (ℕ × Op)) (k k' : ℕ) → HasLevel o k → nat_lt k k' ≡ true → k ≤ k' → (t : GrammarToken) (x : ℕ × Op) → o t ≡ Some x → {L D : Lang GrammarToken ExprTree} {r r' : Reader GrammarToken ExprTree} → Part P L D (stops k') r r' → Part P (Grammar.chain o L) (Grammar.chain o D) (stops k) (read_chain o r) (read_chain o r')
   chain_part o k k' of lt le t x some_op {L = L} p = then_part chain_of p (many_part (heads o) (stops k) (next_part link_of (one_part P o t x some_op) p) (record {
     test = heads_test o;
     none = refl;
@@ -431,11 +431,11 @@ module _ (P : Kind → Type 0) where
     over = λ rest s. stops_more k k' rest le s;
   })) follows
     where
-      follows : (b : List Token) (y : List LinkTree) (rest : List Token) → Many (Then link_of (One o) L) b y → stops k rest ≡ true → stops k' (b ++ rest) ≡ true
+      follows : (b : List GrammarToken) (y : List LinkTree) (rest : List GrammarToken) → Many (Then link_of (One o) L) b y → stops k rest ≡ true → stops k' (b ++ rest) ≡ true
       follows _ _ rest end s = stops_more k k' rest le s
       follows _ _ rest (more a b x xs ha hb) s = rw (append_assoc a b rest) (then_stops o k k' of lt a x (b ++ rest) ha)
 
-  module _ (tables : Tables) (room room' : Bool) (rs : Rooms P room room') (E U F G : Lang Token ExprTree) (e u e' u' : Reader Token ExprTree) (i : Inner P room E U F G e u e' u') where
+  module _ (tables : Tables) (room room' : Bool) (rs : Rooms P room room') (E U F G : Lang GrammarToken ExprTree) (e u e' u' : Reader GrammarToken ExprTree) (i : Inner P room E U F G e u e' u') where
     pub sum_part : Part P (Grammar.sum tables room E U) (Grammar.sum tables true F G) (stops 6) (read_sum tables room e u) (read_sum tables room' e' u')
     sum_part = chain_part sum_op 6 7 sum_level refl (omega arith) (token.Mark 0 mark.Plus false) _ refl (unary_part tables room room' rs E U F G e u e' u' i)
 
@@ -466,13 +466,13 @@ module _ (P : Kind → Type 0) where
         none_here : Holds (Either (if_room room (Grammar.branches E)) (Nothing None))
         none_here = record { tokens = []; value = None; spells = right [] None (nothing None refl) }
 
-        ended : (ts : List Token) (x : Option (ExprTree × ExprTree)) (rest : List Token) → Nothing None ts x → stops 1 rest ≡ true → heads question (ts ++ rest) ≡ false
+        ended : (ts : List GrammarToken) (x : Option (ExprTree × ExprTree)) (rest : List GrammarToken) → Nothing None ts x → stops 1 rest ≡ true → heads question (ts ++ rest) ≡ false
         ended _ _ rest (nothing x h) s = none_of_level question 1 1 question_level (omega arith) rest s
 
-        nothing_stops : (b : List Token) (y : Option (ExprTree × ExprTree)) (rest : List Token) → Nothing None b y → stops 1 rest ≡ true → stops 2 (b ++ rest) ≡ true
+        nothing_stops : (b : List GrammarToken) (y : Option (ExprTree × ExprTree)) (rest : List GrammarToken) → Nothing None b y → stops 1 rest ≡ true → stops 2 (b ++ rest) ≡ true
         nothing_stops _ _ rest (nothing x h) s = stops_more 1 2 rest (omega arith) s
 
-        follows : (b : List Token) (y : Option (ExprTree × ExprTree)) (rest : List Token) → Either (if_room room (Grammar.branches E)) (Nothing None) b y → stops 1 rest ≡ true → stops 2 (b ++ rest) ≡ true
+        follows : (b : List GrammarToken) (y : Option (ExprTree × ExprTree)) (rest : List GrammarToken) → Either (if_room room (Grammar.branches E)) (Nothing None) b y → stops 1 rest ≡ true → stops 2 (b ++ rest) ≡ true
         follows _ _ rest (left b y h) s = then_stops question 1 2 question_level refl b y rest (room_of room (Grammar.branches E) b y h)
         follows _ _ rest (right b y h) s = nothing_stops b y rest h s
 

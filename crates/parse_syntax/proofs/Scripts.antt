@@ -9,8 +9,8 @@ use Rattle.parse_syntax.proofs.Part.{Part, above, then_part, many_part, same_roo
 use Rattle.parse_syntax.proofs.Heads.{over, none_over}
 use Rattle.parse_syntax.proofs.Whole as whole
 use Rattle.parse_syntax.proofs.Whole.{Shallow, Family}
-use Rattle.parse_syntax.specs.declared.token.Token.{Token}
-use Rattle.parse_syntax.specs.declared.token.Token.TheVariants as token
+use Rattle.parse_syntax.specs.declared.token.GrammarToken.{GrammarToken}
+use Rattle.parse_syntax.specs.declared.token.GrammarToken.TheVariants as token
 use Rattle.eval_tree.specs.Tree as tree
 use Rattle.eval_tree.specs.Tree.{ExprTree, StmtTree}
 use Rattle.parse_syntax.specs.Tables.{Tables}
@@ -48,7 +48,7 @@ module _ (tables : Tables) where
     pub starts : Starts (Expression tables n) begins_unary
 
   module _ (P : Kind → Type 0) where
-    pub lowest : (e' u' : Reader Token ExprTree) → expressions.Inner P false Never Never (Expression tables 0) (within_room tables 0 Operand) wrong wrong e' u'
+    pub lowest : (e' u' : Reader GrammarToken ExprTree) → expressions.Inner P false Never Never (Expression tables 0) (within_room tables 0 Operand) wrong wrong e' u'
     lowest e' u' = record {
       whole = λ h. let q : false ≡ true = h in cc;
       operand = λ h. let q : false ≡ true = h in cc;
@@ -102,7 +102,7 @@ module _ (tables : Tables) where
       abbrev pub Level : ℕ → ℕ → Type 0
       Level n m = Part P (Statement tables prints n) (Statement tables prints (suc n)) (no_such else_word) (read_at tables prints n) (read_at tables prints m)
 
-      nowhere : (m : ℕ) (i' : Reader Token ExprTree) (s' : Reader Token StmtTree) → Levels P 0 m → statements.Inner P false (Expression tables 0) (Expression tables 1) Never (Expression tables 0) Never (Statement tables prints 0) (read_within tables 0 Whole) (read_within tables m Whole) wrong i' wrong s'
+      nowhere : (m : ℕ) (i' : Reader GrammarToken ExprTree) (s' : Reader GrammarToken StmtTree) → Levels P 0 m → statements.Inner P false (Expression tables 0) (Expression tables 1) Never (Expression tables 0) Never (Statement tables prints 0) (read_within tables 0 Whole) (read_within tables m Whole) wrong i' wrong s'
       nowhere m i' s' l = record {
         here = l.whole;
         test = λ h. let q : false ≡ true = h in cc;
@@ -135,10 +135,10 @@ module _ (tables : Tables) where
       -- scripts
 
       -- what stands behind the directive doesn't begin with one
-      no_directive : (n : ℕ) (b : List Token) (y : List StmtTree) (rest : List Token) → Many (Statement tables prints n) b y → no_more rest ≡ true → no_such directive (b ++ rest) ≡ true
+      no_directive : (n : ℕ) (b : List GrammarToken) (y : List StmtTree) (rest : List GrammarToken) → Many (Statement tables prints n) b y → no_more rest ≡ true → no_such directive (b ++ rest) ≡ true
       no_directive n _ _ rest end s = at_end rest s
         where
-          at_end : (rest : List Token) → no_more rest ≡ true → no_such directive rest ≡ true
+          at_end : (rest : List GrammarToken) → no_more rest ≡ true → no_such directive rest ≡ true
           at_end [] e = refl
           at_end (token.Directive at ∷ s) e = cc
           at_end (_ ∷ s) e = refl
@@ -158,14 +158,14 @@ module _ (tables : Tables) where
 
     -- a text is a script exactly where the reader gives it, and is refused where and as the reader says
 
-    pub reads_all : (n : ℕ) (ts : List Token) (x : List StmtTree) → Statements tables prints n ts x → read_whole (read_statements tables prints n) ts ≡ Got x []
+    pub reads_all : (n : ℕ) (ts : List GrammarToken) (x : List StmtTree) → Statements tables prints n ts x → read_whole (read_statements tables prints n) ts ≡ Got x []
     reads_all = whole.reads_all scripts
 
-    pub all_read : (n : ℕ) (ts : List Token) (x : List StmtTree) (rest : List Token) → read_whole (read_statements tables prints n) ts ≡ Got x rest → Statements tables prints n ts x
+    pub all_read : (n : ℕ) (ts : List GrammarToken) (x : List StmtTree) (rest : List GrammarToken) → read_whole (read_statements tables prints n) ts ≡ Got x rest → Statements tables prints n ts x
     all_read = whole.all_read scripts
 
-    pub one_list : (n m : ℕ) (ts : List Token) (x y : List StmtTree) → Statements tables prints n ts x → Statements tables prints m ts y → x ≡ y
+    pub one_list : (n m : ℕ) (ts : List GrammarToken) (x y : List StmtTree) → Statements tables prints n ts x → Statements tables prints m ts y → x ≡ y
     one_list = whole.one_script scripts
 
-    pub refuses : (n : ℕ) (ts : List Token) (k : Kind) (rest : List Token) → read_whole (read_statements tables prints n) ts ≡ Bad k rest → IsRefused (Statements tables prints) n ts k rest
+    pub refuses : (n : ℕ) (ts : List GrammarToken) (k : Kind) (rest : List GrammarToken) → read_whole (read_statements tables prints n) ts ≡ Bad k rest → IsRefused (Statements tables prints) n ts k rest
     refuses = whole.refuses scripts

@@ -9,8 +9,8 @@ use Rattle.parse_syntax.proofs.Local.{SameHead, IsTest}
 use Rattle.parse_syntax.proofs.Wider.{Starts, then_starts, mapped_starts, either_starts, head_gives}
 use Rattle.parse_syntax.proofs.Part.{anything, Branch, Part, both_hold, one_part, then_part, next_part, map_part, bind_part, branch, sooner, part_of, choose_branch, nothing_branch, never_branch, heads_test, Rooms, then_strict, first_strict, map_strict, open_branch, IsItem, many_part, no_such, series_part}
 use Rattle.parse_syntax.proofs.Heads.{one_heads, then_heads, begins_length, room_of, in_room, deeper, IsOf, over, none_over, then_lacks, lacks, first_over, lower}
-use Rattle.parse_syntax.specs.declared.token.Token.{Token}
-use Rattle.parse_syntax.specs.declared.token.Token.TheVariants as token
+use Rattle.parse_syntax.specs.declared.token.GrammarToken.{GrammarToken}
+use Rattle.parse_syntax.specs.declared.token.GrammarToken.TheVariants as token
 use Rattle.parse_syntax.specs.declared.token.Word.TheVariants as word
 use Rattle.parse_syntax.specs.declared.token.Property.TheVariants as property
 use Rattle.eval_tree.specs.Tree.{ExprTree, StmtTree, BlockTree, block}
@@ -23,7 +23,7 @@ use Rattle.parse_syntax.proofs.Stops.{stops, level_of, HasLevel, begins_unary}
 use Rattle.parse_syntax.proofs.Expressions.{one_stops, heads_stop, parens_part, args_part, no_args, held_parens, opening_part, closing_part}
 
 -- which statement begins with the token
-abbrev pub first : Token → ℕ
+abbrev pub first : GrammarToken → ℕ
 first (token.Mark at mark.OpenBrace l) = 1
 first (token.Word at word.Let number) = 2
 first (token.Word at word.Const number) = 3
@@ -36,70 +36,70 @@ first _ = 0
 open_brace_of : IsOf first open_brace 1
 open_brace_of = record { is = go }
   where
-    go : (t : Token) (x : _) → open_brace t ≡ Some x → first t ≡ 1
+    go : (t : GrammarToken) (x : _) → open_brace t ≡ Some x → first t ≡ 1
     go (token.Mark at mark.OpenBrace l) x e = refl
     go _ x e = cc
 
 let_first : IsOf first let_word 2
 let_first = record { is = go }
   where
-    go : (t : Token) (x : _) → let_word t ≡ Some x → first t ≡ 2
+    go : (t : GrammarToken) (x : _) → let_word t ≡ Some x → first t ≡ 2
     go (token.Word at word.Let number) x e = refl
     go _ x e = cc
 
 const_first : IsOf first const_word 3
 const_first = record { is = go }
   where
-    go : (t : Token) (x : _) → const_word t ≡ Some x → first t ≡ 3
+    go : (t : GrammarToken) (x : _) → const_word t ≡ Some x → first t ≡ 3
     go (token.Word at word.Const number) x e = refl
     go _ x e = cc
 
 name_first : IsOf first name 4
 name_first = record { is = go }
   where
-    go : (t : Token) (x : Ident) → name t ≡ Some x → first t ≡ 4
+    go : (t : GrammarToken) (x : Ident) → name t ≡ Some x → first t ≡ 4
     go (token.Name at n p) x e = refl
     go _ x e = cc
 
 print_first : IsOf first print_word 5
 print_first = record { is = go }
   where
-    go : (t : Token) (x : _) → print_word t ≡ Some x → first t ≡ 5
+    go : (t : GrammarToken) (x : _) → print_word t ≡ Some x → first t ≡ 5
     go (token.Word at word.Print number) x e = refl
     go _ x e = cc
 
 if_first : IsOf first if_word 6
 if_first = record { is = go }
   where
-    go : (t : Token) (x : _) → if_word t ≡ Some x → first t ≡ 6
+    go : (t : GrammarToken) (x : _) → if_word t ≡ Some x → first t ≡ 6
     go (token.Word at word.If number) x e = refl
     go _ x e = cc
 
 for_first : IsOf first for_word 7
 for_first = record { is = go }
   where
-    go : (t : Token) (x : _) → for_word t ≡ Some x → first t ≡ 7
+    go : (t : GrammarToken) (x : _) → for_word t ≡ Some x → first t ≡ 7
     go (token.Word at word.For number) x e = refl
     go _ x e = cc
 
 else_first : IsOf first else_word 0
 else_first = record { is = go }
   where
-    go : (t : Token) (x : _) → else_word t ≡ Some x → first t ≡ 0
+    go : (t : GrammarToken) (x : _) → else_word t ≡ Some x → first t ≡ 0
     go (token.Word at word.Else number) x e = refl
     go _ x e = cc
 
 close_brace_first : IsOf first close_brace 0
 close_brace_first = record { is = go }
   where
-    go : (t : Token) (x : _) → close_brace t ≡ Some x → first t ≡ 0
+    go : (t : GrammarToken) (x : _) → close_brace t ≡ Some x → first t ≡ 0
     go (token.Mark at mark.CloseBrace l) x e = refl
     go _ x e = cc
 
 pub directive_first : IsOf first directive 0
 directive_first = record { is = go }
   where
-    go : (t : Token) (x : _) → directive t ≡ Some x → first t ≡ 0
+    go : (t : GrammarToken) (x : _) → directive t ≡ Some x → first t ≡ 0
     go (token.Directive at) x e = refl
     go _ x e = cc
 
@@ -108,19 +108,19 @@ directive_first = record { is = go }
 goes_test : IsTest goes_on
 goes_test = record { same = go }
   where
-    go : (s u : List Token) → SameHead s u → goes_on s ≡ goes_on u
+    go : (s u : List GrammarToken) → SameHead s u → goes_on s ≡ goes_on u
     go [] [] h = refl
     go [] (u ∷ t) h = absurd h
     go (t ∷ s) [] h = absurd h
     go (t ∷ s) (u ∷ v) h = ap (λ t. cond (is_some (close_brace t)) false true) h
 
-goes_over : (t : Token) (s : List Token) → over first 0 t ≡ true → goes_on (t ∷ s) ≡ true
+goes_over : (t : GrammarToken) (s : List GrammarToken) → over first 0 t ≡ true → goes_on (t ∷ s) ≡ true
 goes_over t s e = ap (λ b. cond b false true) (none_over first close_brace 0 0 close_brace_first (omega arith) t s e)
 
-abbrev pub no_more : List Token → Bool
+abbrev pub no_more : List GrammarToken → Bool
 no_more s = cond (goes_on s) false true
 
-pub list_item : (S : Lang Token StmtTree) → Starts S (over first 0) → IsItem goes_on (no_such else_word) no_more S
+pub list_item : (S : Lang GrammarToken StmtTree) → Starts S (over first 0) → IsItem goes_on (no_such else_word) no_more S
 list_item S st = record {
   test = goes_test;
   none = refl;
@@ -135,14 +135,14 @@ list_item S st = record {
     ended true e = sym e
     ended false e = refl
 
-    at_end : (rest : List Token) → no_more rest ≡ true → no_such else_word rest ≡ true
+    at_end : (rest : List GrammarToken) → no_more rest ≡ true → no_such else_word rest ≡ true
     at_end [] e = refl
     at_end (token.Mark at mark.CloseBrace l ∷ s) e = refl
     at_end (token.Word at word.Else number ∷ s) e = cc
     at_end (_ ∷ s) e = refl
 
 -- what is known of an expression at this level, and of an expression and a statement where one more is open
-pub record Inner (P : Kind → Type 0) (room : Bool) (E H I J : Lang Token ExprTree) (S F : Lang Token StmtTree) (e e' i i' : Reader Token ExprTree) (s s' : Reader Token StmtTree) : Type 0 where
+pub record Inner (P : Kind → Type 0) (room : Bool) (E H I J : Lang GrammarToken ExprTree) (S F : Lang GrammarToken StmtTree) (e e' i i' : Reader GrammarToken ExprTree) (s s' : Reader GrammarToken StmtTree) : Type 0 where
   pub here : Part P E H (stops 1) e e'
   pub test : room ≡ true → Part P I J (stops 1) i i'
   pub first_test : room ≡ true → Starts I begins_unary
@@ -154,34 +154,34 @@ pub record Inner (P : Kind → Type 0) (room : Bool) (E H I J : Lang Token ExprT
 semicolon_level : HasLevel semicolon 0
 semicolon_level = record { is = go }
   where
-    go : (t : Token) (x : _) → semicolon t ≡ Some x → level_of t ≡ 0
+    go : (t : GrammarToken) (x : _) → semicolon t ≡ Some x → level_of t ≡ 0
     go (token.Mark at mark.Semicolon l) x e = refl
     go _ x e = cc
 
-at_semicolon_no_assign : (s : List Token) → heads semicolon s ≡ true → heads assign_mark s ≡ false
+at_semicolon_no_assign : (s : List GrammarToken) → heads semicolon s ≡ true → heads assign_mark s ≡ false
 at_semicolon_no_assign [] h = refl
 at_semicolon_no_assign (token.Mark at mark.Assign l ∷ s) h = cc
 at_semicolon_no_assign (_ ∷ s) h = refl
 
 -- what a statement begins with
 
-module _ (tables : Tables) (prints room : Bool) (E I : Lang Token ExprTree) (S : Lang Token StmtTree) where
+module _ (tables : Tables) (prints room : Bool) (E I : Lang GrammarToken ExprTree) (S : Lang GrammarToken StmtTree) where
   for_starts : (k : ℕ) → nat_lt k 7 ≡ true → Starts (if_room room (Grammar.for_statement tables S)) (over first k)
   for_starts k lt = record { by = λ ts x h. (then_starts (for_of tables) Grammar.for_header (Grammar.block_part S) (over first k) (first_over first for_word 7 k for_first lt)).by ts x (room_of room (Grammar.for_statement tables S) ts x h) }
 
-  abbrev pub From_if : Lang Token StmtTree
+  abbrev pub From_if : Lang GrammarToken StmtTree
   From_if = Either (if_room room (Grammar.if_statement I S)) (if_room room (Grammar.for_statement tables S))
 
-  abbrev pub From_print : Lang Token StmtTree
+  abbrev pub From_print : Lang GrammarToken StmtTree
   From_print = Either (if_room prints (if_room room (Grammar.print_line I))) From_if
 
-  abbrev pub From_assign : Lang Token StmtTree
+  abbrev pub From_assign : Lang GrammarToken StmtTree
   From_assign = Either (Grammar.assign_line tables E) From_print
 
-  abbrev pub From_const : Lang Token StmtTree
+  abbrev pub From_const : Lang GrammarToken StmtTree
   From_const = Either (Grammar.const_line tables E) From_assign
 
-  abbrev pub From_let : Lang Token StmtTree
+  abbrev pub From_let : Lang GrammarToken StmtTree
   From_let = Either (Grammar.let_line tables E) From_const
 
   if_starts : Starts From_if (over first 5)
@@ -211,13 +211,13 @@ module _ (tables : Tables) (prints room : Bool) (E I : Lang Token ExprTree) (S :
       (record { by = λ ts x h. (mapped_starts block (Grammar.block_part S) (over first 0) (first_over first open_brace 1 0 open_brace_of refl)).by ts x (room_of room (Mapped block (Grammar.block_part S)) ts x h) })
       (lower first 1 0 refl let_starts)
 
-  block_heads : (ts : List Token) (x : StmtTree) (rest : List Token) → Mapped block (Grammar.block_part S) ts x → heads open_brace (ts ++ rest) ≡ true
+  block_heads : (ts : List GrammarToken) (x : StmtTree) (rest : List GrammarToken) → Mapped block (Grammar.block_part S) ts x → heads open_brace (ts ++ rest) ≡ true
   block_heads _ _ rest (mapped a x h) = then_heads open_brace a x rest h
 
-  if_heads : (ts : List Token) (x : StmtTree) (rest : List Token) → Grammar.if_statement I S ts x → heads if_word (ts ++ rest) ≡ true
+  if_heads : (ts : List GrammarToken) (x : StmtTree) (rest : List GrammarToken) → Grammar.if_statement I S ts x → heads if_word (ts ++ rest) ≡ true
   if_heads _ _ rest (both a b x y ha hb) = rw (append_assoc a b rest) (then_heads if_word a x (b ++ rest) ha)
 
-  for_heads : (ts : List Token) (x : StmtTree) (rest : List Token) → Grammar.for_statement tables S ts x → heads for_word (ts ++ rest) ≡ true
+  for_heads : (ts : List GrammarToken) (x : StmtTree) (rest : List GrammarToken) → Grammar.for_statement tables S ts x → heads for_word (ts ++ rest) ≡ true
   for_heads _ _ rest (both a b x y ha hb) = rw (append_assoc a b rest) (then_heads for_word a x (b ++ rest) ha)
 
 module _ (P : Kind → Type 0) where
@@ -262,7 +262,7 @@ module _ (P : Kind → Type 0) where
   header_part : Part P Grammar.for_header Grammar.for_header anything read_header read_header
   header_part = next_part second_of (one_part P for_word (token.Word 0 word.For 0) tt refl) from_opening
 
-  module _ (tables : Tables) {E H : Lang Token ExprTree} {e e' : Reader Token ExprTree} (p : Part P E H (stops 1) e e') where
+  module _ (tables : Tables) {E H : Lang GrammarToken ExprTree} {e e' : Reader GrammarToken ExprTree} (p : Part P E H (stops 1) e e') where
     ended_part : Part P (E ◂ One semicolon) (H ◂ One semicolon) anything (and_then first_of e (one_of semicolon)) (and_then first_of e' (one_of semicolon))
     ended_part = then_part first_of p semicolon_part (λ b y rest h s. one_stops semicolon 0 1 semicolon_level refl b y rest h)
 
@@ -274,10 +274,10 @@ module _ (P : Kind → Type 0) where
         assign_heads ended)
         (record { tokens = []; value = None; spells = right [] None (nothing None refl) })
       where
-        assign_heads : (ts : List Token) (x : Option ExprTree) (rest : List Token) → Mapped Some (One assign_mark ▸ E) ts x → heads assign_mark (ts ++ rest) ≡ true
+        assign_heads : (ts : List GrammarToken) (x : Option ExprTree) (rest : List GrammarToken) → Mapped Some (One assign_mark ▸ E) ts x → heads assign_mark (ts ++ rest) ≡ true
         assign_heads _ _ rest (mapped a x h) = then_heads assign_mark a x rest h
 
-        ended : (ts : List Token) (x : Option ExprTree) (rest : List Token) → Nothing None ts x → heads semicolon rest ≡ true → heads assign_mark (ts ++ rest) ≡ false
+        ended : (ts : List GrammarToken) (x : Option ExprTree) (rest : List GrammarToken) → Nothing None ts x → heads semicolon rest ≡ true → heads assign_mark (ts ++ rest) ≡ false
         ended _ _ rest (nothing x h) s = at_semicolon_no_assign rest s
 
     let_line_part : Part P (Grammar.let_line tables E) (Grammar.let_line tables H) anything (read_let tables e) (read_let tables e')
@@ -289,17 +289,17 @@ module _ (P : Kind → Type 0) where
     assign_line_part : Part P (Grammar.assign_line tables E) (Grammar.assign_line tables H) anything (read_assign tables e) (read_assign tables e')
     assign_line_part = next_part (assign_of tables) name_part (next_part pair_of (one_part P assign_op (token.Mark 0 mark.Assign false) None refl) ended_part)
 
-  module _ (tables : Tables) {I J : Lang Token ExprTree} {i i' : Reader Token ExprTree} {S F : Lang Token StmtTree} {s s' : Reader Token StmtTree} (q : Part P I J (stops 1) i i') (p : Part P S F (no_such else_word) s s') (st : Starts S (over first 0)) where
+  module _ (tables : Tables) {I J : Lang GrammarToken ExprTree} {i i' : Reader GrammarToken ExprTree} {S F : Lang GrammarToken StmtTree} {s s' : Reader GrammarToken StmtTree} (q : Part P I J (stops 1) i i') (p : Part P S F (no_such else_word) s s') (st : Starts S (over first 0)) where
     pub block_part : Part P (Grammar.block_part S) (Grammar.block_part F) anything (read_block s) (read_block s')
     block_part = next_part second_of open_brace_part (map_part inside_of (then_part first_of (many_part goes_on no_more p (list_item S st)) close_brace_part closes))
       where
-        closes : (b : List Token) (y : Unit {0}) (rest : List Token) → One close_brace b y → anything rest ≡ true → no_more (b ++ rest) ≡ true
+        closes : (b : List GrammarToken) (y : Unit {0}) (rest : List GrammarToken) → One close_brace b y → anything rest ≡ true → no_more (b ++ rest) ≡ true
         closes _ _ rest (one t y e) h = ap (λ o. cond (cond (is_some o) false true) false true) e
 
     pub arm_part : Part P (Grammar.if_arm I S) (Grammar.if_arm J F) anything (read_arm i s) (read_arm i' s')
     arm_part = next_part second_of if_part (next_part arm_of (parens_part P q) block_part)
 
-    block_no_if : (ts : List Token) (x : BlockTree) (rest : List Token) → Grammar.block_part S ts x → heads if_word (ts ++ rest) ≡ false
+    block_no_if : (ts : List GrammarToken) (x : BlockTree) (rest : List GrammarToken) → Grammar.block_part S ts x → heads if_word (ts ++ rest) ≡ false
     block_no_if ts x rest h = then_lacks first if_first open_brace_of (λ q. omega arith) ts x rest h
 
     if_statement_part : Part P (Grammar.if_statement I S) (Grammar.if_statement J F) (no_such else_word) (read_if i s) (read_if i' s')
@@ -310,23 +310,23 @@ module _ (P : Kind → Type 0) where
 
   -- { } is a block at each level
 
-  no_statements : (L : Lang Token StmtTree) → Holds (Mapped inside_of (Many L ◂ One close_brace))
+  no_statements : (L : Lang GrammarToken StmtTree) → Holds (Mapped inside_of (Many L ◂ One close_brace))
   no_statements L =
       let m = both_hold first_of (record { tokens = []; value = []; spells = end }) close_brace_part.some in
       record { tokens = m.tokens; value = inside_of m.value; spells = mapped m.tokens m.value m.spells }
 
-  body : (L : Lang Token StmtTree) → Holds (Grammar.block_part L)
+  body : (L : Lang GrammarToken StmtTree) → Holds (Grammar.block_part L)
   body L = both_hold second_of open_brace_part.some (no_statements L)
 
-  block_rest : (L : Lang Token StmtTree) (t : Token) (y : Unit {0}) → open_brace t ≡ Some y → (tail : List Token) × (x : StmtTree) × Mapped block (Grammar.block_part L) (t ∷ tail) x
+  block_rest : (L : Lang GrammarToken StmtTree) (t : GrammarToken) (y : Unit {0}) → open_brace t ≡ Some y → (tail : List GrammarToken) × (x : StmtTree) × Mapped block (Grammar.block_part L) (t ∷ tail) x
   block_rest L t y e = let d = deeper second_of open_brace (no_statements L) t y e in (d.0, block d.1, mapped (t ∷ d.0) d.1 d.2)
 
-  if_rest : {J : Lang Token ExprTree} (L : Lang Token StmtTree) → Holds J → (t : Token) (y : Unit {0}) → if_word t ≡ Some y → (tail : List Token) × (x : StmtTree) × Grammar.if_statement J L (t ∷ tail) x
+  if_rest : {J : Lang GrammarToken ExprTree} (L : Lang GrammarToken StmtTree) → Holds J → (t : GrammarToken) (y : Unit {0}) → if_word t ≡ Some y → (tail : List GrammarToken) × (x : StmtTree) × Grammar.if_statement J L (t ∷ tail) x
   if_rest L held t y e =
       let d = deeper second_of if_word (both_hold arm_of (held_parens P held) (body L)) t y e in
       (d.0 ++ [], if_of d.1 ([], no_inside), both (t ∷ d.0) [] d.1 ([], no_inside) d.2 (both [] [] [] no_inside end (right [] no_inside (nothing no_inside refl))))
 
-  for_rest : (tables : Tables) (L : Lang Token StmtTree) (t : Token) (y : Unit {0}) → for_word t ≡ Some y → (tail : List Token) × (x : StmtTree) × Grammar.for_statement tables L (t ∷ tail) x
+  for_rest : (tables : Tables) (L : Lang GrammarToken StmtTree) (t : GrammarToken) (y : Unit {0}) → for_word t ≡ Some y → (tail : List GrammarToken) × (x : StmtTree) × Grammar.for_statement tables L (t ∷ tail) x
   for_rest tables L t y e =
       let d = deeper second_of for_word from_opening.some t y e in
       let b = body L in
@@ -334,7 +334,7 @@ module _ (P : Kind → Type 0) where
 
   -- one level
 
-  module _ (tables : Tables) (prints room room' : Bool) (rs : Rooms P room room') (E H I J : Lang Token ExprTree) (S F : Lang Token StmtTree) (e e' i i' : Reader Token ExprTree) (s s' : Reader Token StmtTree) (k : Inner P room E H I J S F e e' i i' s s') where
+  module _ (tables : Tables) (prints room room' : Bool) (rs : Rooms P room room') (E H I J : Lang GrammarToken ExprTree) (S F : Lang GrammarToken StmtTree) (e e' i i' : Reader GrammarToken ExprTree) (s s' : Reader GrammarToken StmtTree) (k : Inner P room E H I J S F e e' i i' s s') where
     some_statement : Holds (Grammar.statement tables prints room E I S)
     some_statement = let m = (let_line_part tables k.here).some in record { tokens = m.tokens; value = m.value; spells = right m.tokens m.value (left m.tokens m.value m.spells) }
 
@@ -395,5 +395,5 @@ module _ (P : Kind → Type 0) where
       off true e = sym e
       off false e = refl
 
-      none_there : (ts : List Token) (x : Unit {0}) (rest : List Token) → Nothing tt ts x → no_such directive rest ≡ true → heads directive (ts ++ rest) ≡ false
+      none_there : (ts : List GrammarToken) (x : Unit {0}) (rest : List GrammarToken) → Nothing tt ts x → no_such directive rest ≡ true → heads directive (ts ++ rest) ≡ false
       none_there _ _ rest (nothing x h) s = off (heads directive rest) s

@@ -4,8 +4,8 @@ use Rattle.std.proofs.lemmas.Bool.Decides.{nat_tests}
 use Rattle.js_lex.specs.declared.token.Mark.TheVariants as mark
 use Rattle.parse_syntax.specs.Reader.{is_some, heads}
 use Rattle.parse_syntax.proofs.Heads.{IsOf}
-use Rattle.parse_syntax.specs.declared.token.Token.{Token}
-use Rattle.parse_syntax.specs.declared.token.Token.TheVariants as token
+use Rattle.parse_syntax.specs.declared.token.GrammarToken.{GrammarToken}
+use Rattle.parse_syntax.specs.declared.token.GrammarToken.TheVariants as token
 use Rattle.parse_syntax.specs.declared.token.Word.TheVariants as word
 use Rattle.parse_syntax.specs.declared.token.Property.TheVariants as property
 use Rattle.eval_tree.specs.declared.tree.Method.{Method}
@@ -15,7 +15,7 @@ use Rattle.parse_syntax.specs.Terminals.{string_word, symbol_word, json_word, ob
 use Rattle.parse_syntax.specs.Reading.{step_mark}
 
 -- an operator has the level of its chain, what begins a step the one above, and what begins a method's arguments the next
-abbrev pub level_of : Token → ℕ
+abbrev pub level_of : GrammarToken → ℕ
 level_of (token.Mark at mark.Question l) = 1
 level_of (token.Mark at mark.Or l) = 2
 level_of (token.Mark at mark.And l) = 3
@@ -33,11 +33,11 @@ level_of (token.Mark at mark.OpenParen l) = 8
 level_of _ = 0
 
 -- what follows goes on with nothing of this level or a higher one
-abbrev pub stops : ℕ → List Token → Bool
+abbrev pub stops : ℕ → List GrammarToken → Bool
 stops k [] = true
 stops k (t ∷ s) = nat_lt (level_of t) k
 
-pub stops_more : (k m : ℕ) (s : List Token) → k ≤ m → stops k s ≡ true → stops m s ≡ true
+pub stops_more : (k m : ℕ) (s : List GrammarToken) → k ≤ m → stops k s ≡ true → stops m s ≡ true
 stops_more k m [] le e = refl
 stops_more k m (t ∷ s) le e = less (level_of t) e
   where
@@ -45,34 +45,34 @@ stops_more k m (t ∷ s) le e = less (level_of t) e
     less n e = grind (arith, nat_tests)
 
 -- every token with such a value is of this level
-pub record HasLevel {A : Type 0} (v : Token → Option A) (n : ℕ) : Type 0 where
-  pub is : (t : Token) (x : A) → v t ≡ Some x → level_of t ≡ n
+pub record HasLevel {A : Type 0} (v : GrammarToken → Option A) (n : ℕ) : Type 0 where
+  pub is : (t : GrammarToken) (x : A) → v t ≡ Some x → level_of t ≡ n
 
 pub question_level : HasLevel question 1
 question_level = record { is = go }
   where
-    go : (t : Token) (x : _) → question t ≡ Some x → level_of t ≡ 1
+    go : (t : GrammarToken) (x : _) → question t ≡ Some x → level_of t ≡ 1
     go (token.Mark at mark.Question l) x e = refl
     go _ x e = cc
 
 pub or_level : HasLevel or_op 2
 or_level = record { is = go }
   where
-    go : (t : Token) (x : _) → or_op t ≡ Some x → level_of t ≡ 2
+    go : (t : GrammarToken) (x : _) → or_op t ≡ Some x → level_of t ≡ 2
     go (token.Mark at mark.Or l) x e = refl
     go _ x e = cc
 
 pub and_level : HasLevel and_op 3
 and_level = record { is = go }
   where
-    go : (t : Token) (x : _) → and_op t ≡ Some x → level_of t ≡ 3
+    go : (t : GrammarToken) (x : _) → and_op t ≡ Some x → level_of t ≡ 3
     go (token.Mark at mark.And l) x e = refl
     go _ x e = cc
 
 pub equal_level : HasLevel equal_op 4
 equal_level = record { is = go }
   where
-    go : (t : Token) (x : _) → equal_op t ≡ Some x → level_of t ≡ 4
+    go : (t : GrammarToken) (x : _) → equal_op t ≡ Some x → level_of t ≡ 4
     go (token.Mark at mark.StrictEqual l) x e = refl
     go (token.Mark at mark.StrictUnequal l) x e = refl
     go _ x e = cc
@@ -80,7 +80,7 @@ equal_level = record { is = go }
 pub compare_level : HasLevel compare_op 5
 compare_level = record { is = go }
   where
-    go : (t : Token) (x : _) → compare_op t ≡ Some x → level_of t ≡ 5
+    go : (t : GrammarToken) (x : _) → compare_op t ≡ Some x → level_of t ≡ 5
     go (token.Mark at mark.Less l) x e = refl
     go (token.Mark at mark.Greater l) x e = refl
     go (token.Mark at mark.AtMost l) x e = refl
@@ -90,7 +90,7 @@ compare_level = record { is = go }
 pub sum_level : HasLevel sum_op 6
 sum_level = record { is = go }
   where
-    go : (t : Token) (x : _) → sum_op t ≡ Some x → level_of t ≡ 6
+    go : (t : GrammarToken) (x : _) → sum_op t ≡ Some x → level_of t ≡ 6
     go (token.Mark at mark.Plus l) x e = refl
     go (token.Mark at mark.Minus l) x e = refl
     go _ x e = cc
@@ -98,7 +98,7 @@ sum_level = record { is = go }
 pub step_level : HasLevel step_mark 7
 step_level = record { is = go }
   where
-    go : (t : Token) (x : _) → step_mark t ≡ Some x → level_of t ≡ 7
+    go : (t : GrammarToken) (x : _) → step_mark t ≡ Some x → level_of t ≡ 7
     go (token.Mark at mark.Point l) x e = refl
     go (token.Mark at mark.OpenBracket l) x e = refl
     go _ x e = cc
@@ -106,47 +106,47 @@ step_level = record { is = go }
 pub opening_level : HasLevel opening 8
 opening_level = record { is = go }
   where
-    go : (t : Token) (x : _) → opening t ≡ Some x → level_of t ≡ 8
+    go : (t : GrammarToken) (x : _) → opening t ≡ Some x → level_of t ≡ 8
     go (token.Mark at mark.OpenParen l) x e = refl
     go _ x e = cc
 
 pub colon_level : HasLevel colon 0
 colon_level = record { is = go }
   where
-    go : (t : Token) (x : _) → colon t ≡ Some x → level_of t ≡ 0
+    go : (t : GrammarToken) (x : _) → colon t ≡ Some x → level_of t ≡ 0
     go (token.Mark at mark.Colon l) x e = refl
     go _ x e = cc
 
 pub closing_level : HasLevel closing 0
 closing_level = record { is = go }
   where
-    go : (t : Token) (x : _) → closing t ≡ Some x → level_of t ≡ 0
+    go : (t : GrammarToken) (x : _) → closing t ≡ Some x → level_of t ≡ 0
     go (token.Mark at mark.CloseParen l) x e = refl
     go _ x e = cc
 
 pub close_bracket_level : HasLevel close_bracket 0
 close_bracket_level = record { is = go }
   where
-    go : (t : Token) (x : _) → close_bracket t ≡ Some x → level_of t ≡ 0
+    go : (t : GrammarToken) (x : _) → close_bracket t ≡ Some x → level_of t ≡ 0
     go (token.Mark at mark.CloseBracket l) x e = refl
     go _ x e = cc
 
 pub close_brace_level : HasLevel close_brace 0
 close_brace_level = record { is = go }
   where
-    go : (t : Token) (x : _) → close_brace t ≡ Some x → level_of t ≡ 0
+    go : (t : GrammarToken) (x : _) → close_brace t ≡ Some x → level_of t ≡ 0
     go (token.Mark at mark.CloseBrace l) x e = refl
     go _ x e = cc
 
 pub comma_level : HasLevel comma 0
 comma_level = record { is = go }
   where
-    go : (t : Token) (x : _) → comma t ≡ Some x → level_of t ≡ 0
+    go : (t : GrammarToken) (x : _) → comma t ≡ Some x → level_of t ≡ 0
     go (token.Mark at mark.Comma l) x e = refl
     go _ x e = cc
 
 -- what ends a level has no token of that level or above
-pub none_of_level : {A : Type 0} (v : Token → Option A) (n k : ℕ) → HasLevel v n → k ≤ n → (s : List Token) → stops k s ≡ true → heads v s ≡ false
+pub none_of_level : {A : Type 0} (v : GrammarToken → Option A) (n k : ℕ) → HasLevel v n → k ≤ n → (s : List GrammarToken) → stops k s ≡ true → heads v s ≡ false
 none_of_level v n k h le [] e = refl
 none_of_level v n k h le (t ∷ s) e = go (v t) refl
   where
@@ -159,7 +159,7 @@ none_of_level v n k h le (t ∷ s) e = go (v t) refl
 
 -- which tokens begin a primary
 
-abbrev pub class : Token → ℕ
+abbrev pub class : GrammarToken → ℕ
 class (token.Text at n k) = 1
 class (token.Number at n) = 1
 class (token.Name at n p) = 1
@@ -193,7 +193,7 @@ simple_of tables = record { is = go }
     constants at number word.Infinity x e = refl
     constants at number _ x e = cc
 
-    go : (t : Token) (x : ExprTree) → simple tables t ≡ Some x → class t ≡ 1
+    go : (t : GrammarToken) (x : ExprTree) → simple tables t ≡ Some x → class t ≡ 1
     go (token.Text at n k) x e = refl
     go (token.Number at n) x e = refl
     go (token.Name at n p) x e = refl
@@ -204,35 +204,35 @@ simple_of tables = record { is = go }
 pub opening_of : IsOf class opening 2
 opening_of = record { is = go }
   where
-    go : (t : Token) (x : _) → opening t ≡ Some x → class t ≡ 2
+    go : (t : GrammarToken) (x : _) → opening t ≡ Some x → class t ≡ 2
     go (token.Mark at mark.OpenParen l) x e = refl
     go _ x e = cc
 
 pub string_of : IsOf class string_word 3
 string_of = record { is = go }
   where
-    go : (t : Token) (x : _) → string_word t ≡ Some x → class t ≡ 3
+    go : (t : GrammarToken) (x : _) → string_word t ≡ Some x → class t ≡ 3
     go (token.Word at word.String number) x e = refl
     go _ x e = cc
 
 pub symbol_of : IsOf class symbol_word 4
 symbol_of = record { is = go }
   where
-    go : (t : Token) (x : _) → symbol_word t ≡ Some x → class t ≡ 4
+    go : (t : GrammarToken) (x : _) → symbol_word t ≡ Some x → class t ≡ 4
     go (token.Word at word.Symbol number) x e = refl
     go _ x e = cc
 
 pub json_of : IsOf class json_word 5
 json_of = record { is = go }
   where
-    go : (t : Token) (x : _) → json_word t ≡ Some x → class t ≡ 5
+    go : (t : GrammarToken) (x : _) → json_word t ≡ Some x → class t ≡ 5
     go (token.Word at word.Json number) x e = refl
     go _ x e = cc
 
 pub uri_function_of : IsOf class uri_function 6
 uri_function_of = record { is = go }
   where
-    go : (t : Token) (x : _) → uri_function t ≡ Some x → class t ≡ 6
+    go : (t : GrammarToken) (x : _) → uri_function t ≡ Some x → class t ≡ 6
     go (token.Word at word.EncodeUri number) x e = refl
     go (token.Word at word.EncodeUriComponent number) x e = refl
     go (token.Word at word.DecodeUri number) x e = refl
@@ -242,21 +242,21 @@ uri_function_of = record { is = go }
 pub object_of : IsOf class object_word 7
 object_of = record { is = go }
   where
-    go : (t : Token) (x : _) → object_word t ≡ Some x → class t ≡ 7
+    go : (t : GrammarToken) (x : _) → object_word t ≡ Some x → class t ≡ 7
     go (token.Word at word.Object number) x e = refl
     go _ x e = cc
 
 pub literal_of : IsOf class open_literal 8
 literal_of = record { is = go }
   where
-    go : (t : Token) (x : _) → open_literal t ≡ Some x → class t ≡ 8
+    go : (t : GrammarToken) (x : _) → open_literal t ≡ Some x → class t ≡ 8
     go (token.Mark at mark.OpenBrace l) x e = refl
     go _ x e = cc
 
 pub sign_of : IsOf class sign 0
 sign_of = record { is = go }
   where
-    go : (t : Token) (x : _) → sign t ≡ Some x → class t ≡ 0
+    go : (t : GrammarToken) (x : _) → sign t ≡ Some x → class t ≡ 0
     go (token.Mark at mark.Minus l) x e = refl
     go (token.Mark at mark.Not l) x e = refl
     go _ x e = cc
@@ -265,33 +265,33 @@ sign_of = record { is = go }
 pub closing_of : IsOf class closing 0
 closing_of = record { is = go }
   where
-    go : (t : Token) (x : _) → closing t ≡ Some x → class t ≡ 0
+    go : (t : GrammarToken) (x : _) → closing t ≡ Some x → class t ≡ 0
     go (token.Mark at mark.CloseParen l) x e = refl
     go _ x e = cc
 
 -- a sign, or the first token of a primary
-abbrev pub begins_unary : Token → Bool
+abbrev pub begins_unary : GrammarToken → Bool
 begins_unary (token.Mark at mark.Minus l) = true
 begins_unary (token.Mark at mark.Not l) = true
 begins_unary t = nat_lt 0 (class t)
 
-pub sign_begins : (t : Token) (x : ℕ × Bool) → sign t ≡ Some x → begins_unary t ≡ true
+pub sign_begins : (t : GrammarToken) (x : ℕ × Bool) → sign t ≡ Some x → begins_unary t ≡ true
 sign_begins (token.Mark at mark.Minus l) x e = refl
 sign_begins (token.Mark at mark.Not l) x e = refl
 sign_begins _ x e = cc
 
-pub primary_begins : (t : Token) → nat_lt 0 (class t) ≡ true → begins_unary t ≡ true
+pub primary_begins : (t : GrammarToken) → nat_lt 0 (class t) ≡ true → begins_unary t ≡ true
 primary_begins (token.Mark at mark.Minus l) e = refl
 primary_begins (token.Mark at mark.Not l) e = refl
 primary_begins _ e = e
 
-pub no_closing : (t : Token) (s : List Token) → begins_unary t ≡ true → heads closing (t ∷ s) ≡ false
+pub no_closing : (t : GrammarToken) (s : List GrammarToken) → begins_unary t ≡ true → heads closing (t ∷ s) ≡ false
 no_closing (token.Mark at mark.CloseParen l) s e = cc
 no_closing _ s e = refl
 
 -- which tokens stand where a step, and what stands behind a point, may begin
 
-abbrev pub part : Token → ℕ
+abbrev pub part : GrammarToken → ℕ
 part (token.Mark at mark.Point l) = 1
 part (token.Mark at mark.OpenBracket l) = 2
 part (token.Mark at mark.OpenParen l) = 3
@@ -305,28 +305,28 @@ part _ = 0
 pub point_of : IsOf part point 1
 point_of = record { is = go }
   where
-    go : (t : Token) (x : _) → point t ≡ Some x → part t ≡ 1
+    go : (t : GrammarToken) (x : _) → point t ≡ Some x → part t ≡ 1
     go (token.Mark at mark.Point l) x e = refl
     go _ x e = cc
 
 pub bracket_of : IsOf part open_bracket 2
 bracket_of = record { is = go }
   where
-    go : (t : Token) (x : _) → open_bracket t ≡ Some x → part t ≡ 2
+    go : (t : GrammarToken) (x : _) → open_bracket t ≡ Some x → part t ≡ 2
     go (token.Mark at mark.OpenBracket l) x e = refl
     go _ x e = cc
 
 pub paren_of : IsOf part opening 3
 paren_of = record { is = go }
   where
-    go : (t : Token) (x : _) → opening t ≡ Some x → part t ≡ 3
+    go : (t : GrammarToken) (x : _) → opening t ≡ Some x → part t ≡ 3
     go (token.Mark at mark.OpenParen l) x e = refl
     go _ x e = cc
 
 pub member_of : IsOf part member_word 4
 member_of = record { is = go }
   where
-    go : (t : Token) (x : StepTree) → member_word t ≡ Some x → part t ≡ 4
+    go : (t : GrammarToken) (x : StepTree) → member_word t ≡ Some x → part t ≡ 4
     go (token.Name at n property.Length) x e = refl
     go (token.Name at n property.Description) x e = refl
     go _ x e = cc
@@ -334,14 +334,14 @@ member_of = record { is = go }
 pub method_of : (tables : Tables) → IsOf part (method tables) 5
 method_of tables = record { is = go }
   where
-    go : (t : Token) (x : (ℕ × Method) × List ℕ) → method tables t ≡ Some x → part t ≡ 5
+    go : (t : GrammarToken) (x : (ℕ × Method) × List ℕ) → method tables t ≡ Some x → part t ≡ 5
     go (token.Name at n (property.Method m)) x e = refl
     go _ x e = cc
 
 pub property_of : (tables : Tables) → IsOf part (property_word tables) 6
 property_of tables = record { is = go }
   where
-    go : (t : Token) (x : StepTree) → property_word tables t ≡ Some x → part t ≡ 6
+    go : (t : GrammarToken) (x : StepTree) → property_word tables t ≡ Some x → part t ≡ 6
     go (token.Name at n property.Length) x e = cc
     go (token.Name at n property.Description) x e = cc
     go (token.Name at n (property.Method m)) x e = cc
@@ -351,19 +351,19 @@ property_of tables = record { is = go }
 
 -- a step begins with a point or a bracket
 
-abbrev pub is_step : Token → Bool
+abbrev pub is_step : GrammarToken → Bool
 is_step t = is_some (step_mark t)
 
-pub point_step : (t : Token) (x : Unit {0}) → point t ≡ Some x → is_step t ≡ true
+pub point_step : (t : GrammarToken) (x : Unit {0}) → point t ≡ Some x → is_step t ≡ true
 point_step (token.Mark at mark.Point l) x e = refl
 point_step _ x e = cc
 
-pub bracket_step : (t : Token) (x : ℕ) → open_bracket t ≡ Some x → is_step t ≡ true
+pub bracket_step : (t : GrammarToken) (x : ℕ) → open_bracket t ≡ Some x → is_step t ≡ true
 bracket_step (token.Mark at mark.OpenBracket l) x e = refl
 bracket_step _ x e = cc
 
 -- what begins a step goes on with no arguments
-pub step_no_args : (t : Token) → is_step t ≡ true → nat_lt (level_of t) 8 ≡ true
+pub step_no_args : (t : GrammarToken) → is_step t ≡ true → nat_lt (level_of t) 8 ≡ true
 step_no_args (token.Mark at mark.Point l) e = refl
 step_no_args (token.Mark at mark.OpenBracket l) e = refl
 step_no_args (token.Mark at mark.OpenParen l) e = cc
@@ -376,7 +376,7 @@ step_no_args (token.Word at w number) e = cc
 
 -- a key isn't the end of an object literal
 
-abbrev pub entry_class : Token → ℕ
+abbrev pub entry_class : GrammarToken → ℕ
 entry_class (token.Text at n k) = 1
 entry_class (token.Number at n) = 1
 entry_class (token.Name at n p) = 1
@@ -386,7 +386,7 @@ entry_class _ = 0
 pub key_of : (tables : Tables) → IsOf entry_class (key tables) 1
 key_of tables = record { is = go }
   where
-    go : (t : Token) (x : List ℕ) → key tables t ≡ Some x → entry_class t ≡ 1
+    go : (t : GrammarToken) (x : List ℕ) → key tables t ≡ Some x → entry_class t ≡ 1
     go (token.Text at n k) x e = refl
     go (token.Number at n) x e = refl
     go (token.Name at n p) x e = refl
@@ -396,6 +396,6 @@ key_of tables = record { is = go }
 pub close_brace_of : IsOf entry_class close_brace 0
 close_brace_of = record { is = go }
   where
-    go : (t : Token) (x : _) → close_brace t ≡ Some x → entry_class t ≡ 0
+    go : (t : GrammarToken) (x : _) → close_brace t ≡ Some x → entry_class t ≡ 0
     go (token.Mark at mark.CloseBrace l) x e = refl
     go _ x e = cc

@@ -1,7 +1,7 @@
 -- The grammar of scripts, one line a production.
 use Rattle.std.specs.Prelude.{ℕ, zero, suc, Bool, true, false, List, [], ◌∷◌, ◌++◌, Option, Some, None, get_or}
 use Rattle.parse_syntax.specs.Lang.{Lang, One, Then, Bind, Mapped, Nothing, Either, Many, Never, if_room, ◌▸◌, ◌◂◌}
-use Rattle.parse_syntax.specs.declared.token.Token.{Token}
+use Rattle.parse_syntax.specs.declared.token.GrammarToken.{GrammarToken}
 use Rattle.eval_tree.specs.declared.tree.Op.{Op}
 use Rattle.eval_tree.specs.declared.tree.Method.{Method}
 use Rattle.eval_tree.specs.declared.tree.Builtin.{Builtin}
@@ -131,50 +131,50 @@ module _ (tables : Tables) where
 -- expressions, over what an expression E and an operand U are where one more is open
 
 -- ( E )
-abbrev pub parens : Lang Token ExprTree → Lang Token ExprTree
+abbrev pub parens : Lang GrammarToken ExprTree → Lang GrammarToken ExprTree
 parens E = One opening ▸ E ◂ One closing
 
 -- E { , E }
-abbrev pub items : Lang Token ExprTree → Lang Token (List ExprTree)
+abbrev pub items : Lang GrammarToken ExprTree → Lang GrammarToken (List ExprTree)
 items E = Then list_of E (Many (One comma ▸ E))
 
 -- ( [ E { , E } ] )
-abbrev pub args : Lang Token ExprTree → Lang Token (List ExprTree)
+abbrev pub args : Lang GrammarToken ExprTree → Lang GrammarToken (List ExprTree)
 args E = One opening ▸ Either (Mapped none_of (One closing)) (items E ◂ One closing)
 
 -- String Args | String . fromCharCode Args | String . fromCodePoint Args
-abbrev pub string_call : Lang Token ExprTree → Lang Token ExprTree
+abbrev pub string_call : Lang GrammarToken ExprTree → Lang GrammarToken ExprTree
 string_call E = Then builtin_of (One string_word) (Either (One point ▸ Then pair_of (One from_word) (args E)) (Mapped plain_string (args E)))
 
 -- Symbol . for Args | Symbol . keyFor Args
-abbrev pub symbol_call : Lang Token ExprTree → Lang Token ExprTree
+abbrev pub symbol_call : Lang GrammarToken ExprTree → Lang GrammarToken ExprTree
 symbol_call E = Then builtin_of (One symbol_word) (One point ▸ Then pair_of (One symbol_function) (args E))
 
 -- JSON . stringify ( E )
-abbrev pub json_call : Lang Token ExprTree → Lang Token ExprTree
+abbrev pub json_call : Lang GrammarToken ExprTree → Lang GrammarToken ExprTree
 json_call E = Then builtin_of (One json_word) (One point ▸ Then pair_of (One stringify_word) (Mapped single_of (parens E)))
 
 -- encodeURI Args | encodeURIComponent Args | decodeURI Args | decodeURIComponent Args
-abbrev pub uri_call : Lang Token ExprTree → Lang Token ExprTree
+abbrev pub uri_call : Lang GrammarToken ExprTree → Lang GrammarToken ExprTree
 uri_call E = Then uri_of (One uri_function) (args E)
 
 -- Object . keys Args
-abbrev pub object_call : Lang Token ExprTree → Lang Token ExprTree
+abbrev pub object_call : Lang GrammarToken ExprTree → Lang GrammarToken ExprTree
 object_call E = Then builtin_of (One object_word) (One point ▸ Then pair_of (One keys_word) (args E))
 
 -- Key : E
-abbrev pub entry : Tables → Lang Token ExprTree → Lang Token (List ℕ × ExprTree)
+abbrev pub entry : Tables → Lang GrammarToken ExprTree → Lang GrammarToken (List ℕ × ExprTree)
 entry tables E = Then pair_of (One (key tables)) (One colon ▸ E)
 
 -- Key : E { , Key : E }
-abbrev pub entries : Tables → Lang Token ExprTree → Lang Token (List (List ℕ × ExprTree))
+abbrev pub entries : Tables → Lang GrammarToken ExprTree → Lang GrammarToken (List (List ℕ × ExprTree))
 entries tables E = Then list_of (entry tables E) (Many (One comma ▸ entry tables E))
 
 -- { [ Key : E { , Key : E } ] }
-abbrev pub object_literal : Tables → Lang Token ExprTree → Lang Token ExprTree
+abbrev pub object_literal : Tables → Lang GrammarToken ExprTree → Lang GrammarToken ExprTree
 object_literal tables E = Then object_of (One open_literal) (Either (Mapped none_of (One close_brace)) (entries tables E ◂ One close_brace))
 
-abbrev pub primary : Tables → Bool → Lang Token ExprTree → Lang Token ExprTree
+abbrev pub primary : Tables → Bool → Lang GrammarToken ExprTree → Lang GrammarToken ExprTree
 primary tables room E =
     Either (One (simple tables))
     (Either (if_room room (parens E))
@@ -186,110 +186,110 @@ primary tables room E =
     (if_room room (object_literal tables E))))))))
 
 -- [ Args ]
-abbrev pub method_args : Bool → Lang Token ExprTree → Lang Token (Option (List ExprTree))
+abbrev pub method_args : Bool → Lang GrammarToken ExprTree → Lang GrammarToken (Option (List ExprTree))
 method_args room E = Either (if_room room (Mapped Some (args E))) (Nothing None)
 
 -- . Member | . Method Args | . Property, where a method without arguments is a property
-abbrev pub member : Tables → Bool → Lang Token ExprTree → Lang Token StepTree
+abbrev pub member : Tables → Bool → Lang GrammarToken ExprTree → Lang GrammarToken StepTree
 member tables room E = One point ▸ Either (One member_word) (Either (One (property_word tables)) (Then method_of (One (method tables)) (method_args room E)))
 
 -- [ E ]
-abbrev pub index : Lang Token ExprTree → Lang Token StepTree
+abbrev pub index : Lang GrammarToken ExprTree → Lang GrammarToken StepTree
 index E = Then index_of (One open_bracket) (E ◂ One close_bracket)
 
-abbrev pub step : Tables → Bool → Lang Token ExprTree → Lang Token StepTree
+abbrev pub step : Tables → Bool → Lang GrammarToken ExprTree → Lang GrammarToken StepTree
 step tables room E = Either (member tables room E) (if_room room (index E))
 
 -- Primary { Step }
-abbrev pub post : Tables → Bool → Lang Token ExprTree → Lang Token ExprTree
+abbrev pub post : Tables → Bool → Lang GrammarToken ExprTree → Lang GrammarToken ExprTree
 post tables room E = Then post_of (primary tables room E) (Many (step tables room E))
 
 -- ( - | ! ) U | Post
-abbrev pub unary : Tables → Bool → Lang Token ExprTree → Lang Token ExprTree → Lang Token ExprTree
+abbrev pub unary : Tables → Bool → Lang GrammarToken ExprTree → Lang GrammarToken ExprTree → Lang GrammarToken ExprTree
 unary tables room E U = Either (if_room room (Then unary_of (One sign) U)) (post tables room E)
 
 -- L { o L }
-abbrev pub chain : (Token → Option (ℕ × Op)) → Lang Token ExprTree → Lang Token ExprTree
+abbrev pub chain : (GrammarToken → Option (ℕ × Op)) → Lang GrammarToken ExprTree → Lang GrammarToken ExprTree
 chain o L = Then chain_of L (Many (Then link_of (One o) L))
 
-abbrev pub sum : Tables → Bool → Lang Token ExprTree → Lang Token ExprTree → Lang Token ExprTree
+abbrev pub sum : Tables → Bool → Lang GrammarToken ExprTree → Lang GrammarToken ExprTree → Lang GrammarToken ExprTree
 sum tables room E U = chain sum_op (unary tables room E U)
 
-abbrev pub comparison : Tables → Bool → Lang Token ExprTree → Lang Token ExprTree → Lang Token ExprTree
+abbrev pub comparison : Tables → Bool → Lang GrammarToken ExprTree → Lang GrammarToken ExprTree → Lang GrammarToken ExprTree
 comparison tables room E U = chain compare_op (sum tables room E U)
 
-abbrev pub equality : Tables → Bool → Lang Token ExprTree → Lang Token ExprTree → Lang Token ExprTree
+abbrev pub equality : Tables → Bool → Lang GrammarToken ExprTree → Lang GrammarToken ExprTree → Lang GrammarToken ExprTree
 equality tables room E U = chain equal_op (comparison tables room E U)
 
-abbrev pub conjunction : Tables → Bool → Lang Token ExprTree → Lang Token ExprTree → Lang Token ExprTree
+abbrev pub conjunction : Tables → Bool → Lang GrammarToken ExprTree → Lang GrammarToken ExprTree → Lang GrammarToken ExprTree
 conjunction tables room E U = chain and_op (equality tables room E U)
 
-abbrev pub disjunction : Tables → Bool → Lang Token ExprTree → Lang Token ExprTree → Lang Token ExprTree
+abbrev pub disjunction : Tables → Bool → Lang GrammarToken ExprTree → Lang GrammarToken ExprTree → Lang GrammarToken ExprTree
 disjunction tables room E U = chain or_op (conjunction tables room E U)
 
 -- ? E : E
-abbrev pub branches : Lang Token ExprTree → Lang Token (Option (ExprTree × ExprTree))
+abbrev pub branches : Lang GrammarToken ExprTree → Lang GrammarToken (Option (ExprTree × ExprTree))
 branches E = One question ▸ Then branches_of E (One colon ▸ E)
 
 -- Or [ ? E : E ]
-abbrev pub conditional : Tables → Bool → Lang Token ExprTree → Lang Token ExprTree → Lang Token ExprTree
+abbrev pub conditional : Tables → Bool → Lang GrammarToken ExprTree → Lang GrammarToken ExprTree → Lang GrammarToken ExprTree
 conditional tables room E U = Then cond_of (disjunction tables room E U) (Either (if_room room (branches E)) (Nothing None))
 
 -- an expression, and the operand of a sign
 pub data Which : Type 0 where
   Whole Operand : Which
 
-abbrev pub level : Tables → Bool → (Which → Lang Token ExprTree) → Which → Lang Token ExprTree
+abbrev pub level : Tables → Bool → (Which → Lang GrammarToken ExprTree) → Which → Lang GrammarToken ExprTree
 level tables room I Whole = conditional tables room (I Whole) (I Operand)
 level tables room I Operand = unary tables room (I Whole) (I Operand)
 
 -- with room for so many that are open
-abbrev pub within_room : Tables → ℕ → Which → Lang Token ExprTree
+abbrev pub within_room : Tables → ℕ → Which → Lang GrammarToken ExprTree
 within_room tables zero = level tables false (λ w. Never)
 within_room tables (suc n) = level tables true (within_room tables n)
 
-abbrev pub Expression : Tables → ℕ → Lang Token ExprTree
+abbrev pub Expression : Tables → ℕ → Lang GrammarToken ExprTree
 Expression tables n = within_room tables n Whole
 
 -- statements, over an expression E at this level, and what an expression I and a statement S are where one more is open
 
 -- { { Statement } }
-abbrev pub block_part : Lang Token StmtTree → Lang Token BlockTree
+abbrev pub block_part : Lang GrammarToken StmtTree → Lang GrammarToken BlockTree
 block_part S = One open_brace ▸ Mapped inside_of (Many S ◂ One close_brace)
 
-abbrev pub let_line : Tables → Lang Token ExprTree → Lang Token StmtTree
+abbrev pub let_line : Tables → Lang GrammarToken ExprTree → Lang GrammarToken StmtTree
 let_line tables E = One let_word ▸ Then (let_of tables) (One name) (Either (Mapped Some (One assign_mark ▸ E)) (Nothing None)) ◂ One semicolon
 
-abbrev pub const_line : Tables → Lang Token ExprTree → Lang Token StmtTree
+abbrev pub const_line : Tables → Lang GrammarToken ExprTree → Lang GrammarToken StmtTree
 const_line tables E = One const_word ▸ Then (const_of tables) (One name) (One assign_mark ▸ E ◂ One semicolon)
 
-abbrev pub assign_line : Tables → Lang Token ExprTree → Lang Token StmtTree
+abbrev pub assign_line : Tables → Lang GrammarToken ExprTree → Lang GrammarToken StmtTree
 assign_line tables E = Then (assign_of tables) (One name) (Then pair_of (One assign_op) (E ◂ One semicolon))
 
-abbrev pub print_line : Lang Token ExprTree → Lang Token StmtTree
+abbrev pub print_line : Lang GrammarToken ExprTree → Lang GrammarToken StmtTree
 print_line I = One print_word ▸ Mapped print_of (args I ◂ One semicolon)
 
 -- if ( I ) B
-abbrev pub if_arm : Lang Token ExprTree → Lang Token StmtTree → Lang Token ArmTree
+abbrev pub if_arm : Lang GrammarToken ExprTree → Lang GrammarToken StmtTree → Lang GrammarToken ArmTree
 if_arm I S = One if_word ▸ Then arm_of (parens I) (block_part S)
 
 -- if ( I ) B { else if ( I ) B } [ else B ]
-abbrev pub if_statement : Lang Token ExprTree → Lang Token StmtTree → Lang Token StmtTree
+abbrev pub if_statement : Lang GrammarToken ExprTree → Lang GrammarToken StmtTree → Lang GrammarToken StmtTree
 if_statement I S = Then if_of (if_arm I S) (Then more_of (Many (One else_word ▸ if_arm I S)) (Either (One else_word ▸ block_part S) (Nothing no_inside)))
 
 -- = 0 ; x < Bound ; x ++ ), where x is the name before it
-abbrev pub turns : Ident → Lang Token ℕ
+abbrev pub turns : Ident → Lang GrammarToken ℕ
 turns x = One assign_mark ▸ One nought ▸ One semicolon ▸ One (the_name x.number) ▸ One less ▸ One bound_number ◂ One semicolon ▸ One (the_name x.number) ▸ One increment ▸ One closing
 
 -- for ( let x = 0 ; x < Bound ; x ++ )
-abbrev pub for_header : Lang Token (Ident × ℕ)
+abbrev pub for_header : Lang GrammarToken (Ident × ℕ)
 for_header = One for_word ▸ One opening ▸ One let_word ▸ Bind header_of (One name) turns
 
-abbrev pub for_statement : Tables → Lang Token StmtTree → Lang Token StmtTree
+abbrev pub for_statement : Tables → Lang GrammarToken StmtTree → Lang GrammarToken StmtTree
 for_statement tables S = Then (for_of tables) for_header (block_part S)
 
 -- with prints, or without
-abbrev pub statement : Tables → Bool → Bool → Lang Token ExprTree → Lang Token ExprTree → Lang Token StmtTree → Lang Token StmtTree
+abbrev pub statement : Tables → Bool → Bool → Lang GrammarToken ExprTree → Lang GrammarToken ExprTree → Lang GrammarToken StmtTree → Lang GrammarToken StmtTree
 statement tables prints room E I S =
     Either (if_room room (Mapped tree.block (block_part S)))
     (Either (let_line tables E)
@@ -300,16 +300,16 @@ statement tables prints room E I S =
     (if_room room (for_statement tables S)))))))
 
 -- with room for so many that are open
-abbrev pub Statement : Tables → Bool → ℕ → Lang Token StmtTree
+abbrev pub Statement : Tables → Bool → ℕ → Lang GrammarToken StmtTree
 Statement tables prints zero = statement tables prints false (Expression tables 0) Never Never
 Statement tables prints (suc n) = statement tables prints true (Expression tables (suc n)) (Expression tables n) (Statement tables prints n)
 
 -- [ Directive ]
-abbrev pub strict : Lang Token (Unit {0})
+abbrev pub strict : Lang GrammarToken (Unit {0})
 strict = Either (One directive ▸ One semicolon) (Nothing tt)
 
 -- [ Directive ] { Statement }
-abbrev pub Statements : Tables → Bool → ℕ → Lang Token (List StmtTree)
+abbrev pub Statements : Tables → Bool → ℕ → Lang GrammarToken (List StmtTree)
 Statements tables prints n = strict ▸ Many (Statement tables prints n)
 
 -- so many may be open

@@ -2,8 +2,8 @@
 -- a name at one place and a property at another.
 use Rattle.std.specs.Prelude.{ℕ, Bool, true, false, nat_eq, nat_lt, decimal, List, [], Option, Some, None, get_or}
 use Rattle.js_lex.specs.declared.token.Mark.TheVariants as mark
-use Rattle.parse_syntax.specs.declared.token.Token.{Token}
-use Rattle.parse_syntax.specs.declared.token.Token.TheVariants as token
+use Rattle.parse_syntax.specs.declared.token.GrammarToken.{GrammarToken}
+use Rattle.parse_syntax.specs.declared.token.GrammarToken.TheVariants as token
 use Rattle.parse_syntax.specs.declared.token.Word.{Word}
 use Rattle.parse_syntax.specs.declared.token.Word.TheVariants as word
 use Rattle.parse_syntax.specs.declared.token.Property.{Property}
@@ -28,53 +28,53 @@ when false x = None
 
 -- words
 
-abbrev pub directive : Token → Option (Unit {0})
+abbrev pub directive : GrammarToken → Option (Unit {0})
 directive (token.Directive at) = Some tt
 directive _ = None
 
-abbrev pub let_word : Token → Option (Unit {0})
+abbrev pub let_word : GrammarToken → Option (Unit {0})
 let_word (token.Word at word.Let number) = Some tt
 let_word _ = None
 
-abbrev pub const_word : Token → Option (Unit {0})
+abbrev pub const_word : GrammarToken → Option (Unit {0})
 const_word (token.Word at word.Const number) = Some tt
 const_word _ = None
 
-abbrev pub print_word : Token → Option (Unit {0})
+abbrev pub print_word : GrammarToken → Option (Unit {0})
 print_word (token.Word at word.Print number) = Some tt
 print_word _ = None
 
-abbrev pub if_word : Token → Option (Unit {0})
+abbrev pub if_word : GrammarToken → Option (Unit {0})
 if_word (token.Word at word.If number) = Some tt
 if_word _ = None
 
-abbrev pub else_word : Token → Option (Unit {0})
+abbrev pub else_word : GrammarToken → Option (Unit {0})
 else_word (token.Word at word.Else number) = Some tt
 else_word _ = None
 
-abbrev pub for_word : Token → Option (Unit {0})
+abbrev pub for_word : GrammarToken → Option (Unit {0})
 for_word (token.Word at word.For number) = Some tt
 for_word _ = None
 
 -- the word String, Symbol, JSON or Object: its offset
-abbrev pub string_word : Token → Option ℕ
+abbrev pub string_word : GrammarToken → Option ℕ
 string_word (token.Word at word.String number) = Some at
 string_word _ = None
 
-abbrev pub symbol_word : Token → Option ℕ
+abbrev pub symbol_word : GrammarToken → Option ℕ
 symbol_word (token.Word at word.Symbol number) = Some at
 symbol_word _ = None
 
-abbrev pub json_word : Token → Option ℕ
+abbrev pub json_word : GrammarToken → Option ℕ
 json_word (token.Word at word.Json number) = Some at
 json_word _ = None
 
-abbrev pub object_word : Token → Option ℕ
+abbrev pub object_word : GrammarToken → Option ℕ
 object_word (token.Word at word.Object number) = Some at
 object_word _ = None
 
 -- a URI handling function: its offset, and which (ECMA-262, "URI Handling Functions")
-abbrev pub uri_function : Token → Option (ℕ × Builtin)
+abbrev pub uri_function : GrammarToken → Option (ℕ × Builtin)
 uri_function (token.Word at word.EncodeUri number) = Some (at, builtin.EncodeUri)
 uri_function (token.Word at word.EncodeUriComponent number) = Some (at, builtin.EncodeUriComponent)
 uri_function (token.Word at word.DecodeUri number) = Some (at, builtin.DecodeUri)
@@ -83,12 +83,12 @@ uri_function _ = None
 
 -- names
 
-abbrev pub name : Token → Option Ident
+abbrev pub name : GrammarToken → Option Ident
 name (token.Name at n p) = Some (record { at = at; number = n })
 name _ = None
 
 -- a name with these letters
-abbrev pub the_name : ℕ → Token → Option (Unit {0})
+abbrev pub the_name : ℕ → GrammarToken → Option (Unit {0})
 the_name m (token.Name at n p) = when (nat_eq n m) tt
 the_name m _ = None
 
@@ -99,7 +99,7 @@ member_of property.Length = Some tree.of_length
 member_of property.Description = Some tree.of_description
 member_of _ = None
 
-abbrev pub member_word : Token → Option StepTree
+abbrev pub member_word : GrammarToken → Option StepTree
 member_word (token.Name at n p) = member_of p
 member_word _ = None
 
@@ -108,7 +108,7 @@ abbrev pub method_at : ℕ → List ℕ → Property → Option ((ℕ × Method)
 method_at at letters (property.Method m) = Some ((at, m), letters)
 method_at at letters _ = None
 
-abbrev pub method : Tables → Token → Option ((ℕ × Method) × List ℕ)
+abbrev pub method : Tables → GrammarToken → Option ((ℕ × Method) × List ℕ)
 method tables (token.Name at n p) = method_at at (get_or tables.names n []) p
 method tables _ = None
 
@@ -119,7 +119,7 @@ property_at at letters property.Description = None
 property_at at letters (property.Method m) = None
 property_at at letters _ = Some (tree.of_property at letters)
 
-abbrev pub property_word : Tables → Token → Option StepTree
+abbrev pub property_word : Tables → GrammarToken → Option StepTree
 property_word tables (token.Name at n p) = property_at at (get_or tables.names n []) p
 property_word tables (token.Word at w number) = Some (tree.of_property at (get_or tables.names number []))
 property_word tables _ = None
@@ -129,7 +129,7 @@ from_of property.FromCharCode = Some builtin.FromCharCode
 from_of property.FromCodePoint = Some builtin.FromCodePoint
 from_of _ = None
 
-abbrev pub from_word : Token → Option Builtin
+abbrev pub from_word : GrammarToken → Option Builtin
 from_word (token.Name at n p) = from_of p
 from_word _ = None
 
@@ -137,7 +137,7 @@ abbrev pub key_of : Property → Option Builtin
 key_of property.KeyFor = Some builtin.KeyFor
 key_of _ = None
 
-abbrev pub symbol_function : Token → Option Builtin
+abbrev pub symbol_function : GrammarToken → Option Builtin
 symbol_function (token.Word at word.For number) = Some builtin.SymbolFor
 symbol_function (token.Name at n p) = key_of p
 symbol_function _ = None
@@ -146,7 +146,7 @@ abbrev pub stringify_of : Property → Option Builtin
 stringify_of property.Stringify = Some builtin.Stringify
 stringify_of _ = None
 
-abbrev pub stringify_word : Token → Option Builtin
+abbrev pub stringify_word : GrammarToken → Option Builtin
 stringify_word (token.Name at n p) = stringify_of p
 stringify_word _ = None
 
@@ -154,13 +154,13 @@ abbrev pub keys_of : Property → Option Builtin
 keys_of property.Keys = Some builtin.Keys
 keys_of _ = None
 
-abbrev pub keys_word : Token → Option Builtin
+abbrev pub keys_word : GrammarToken → Option Builtin
 keys_word (token.Name at n p) = keys_of p
 keys_word _ = None
 
 -- the key of a member of an object literal (ECMA-262, "LiteralPropertyName"): the letters of any word, the units of a
 -- string, or the decimal text of a number
-abbrev pub key : Tables → Token → Option (List ℕ)
+abbrev pub key : Tables → GrammarToken → Option (List ℕ)
 key tables (token.Text at n k) = Some (get_or tables.keys n [])
 key tables (token.Number at n) = Some (decimal n)
 key tables (token.Name at n p) = Some (get_or tables.names n [])
@@ -169,105 +169,105 @@ key tables _ = None
 
 -- marks
 
-abbrev pub opening : Token → Option (Unit {0})
+abbrev pub opening : GrammarToken → Option (Unit {0})
 opening (token.Mark at mark.OpenParen l) = Some tt
 opening _ = None
 
-abbrev pub closing : Token → Option (Unit {0})
+abbrev pub closing : GrammarToken → Option (Unit {0})
 closing (token.Mark at mark.CloseParen l) = Some tt
 closing _ = None
 
 -- the mark [ : its offset
-abbrev pub open_bracket : Token → Option ℕ
+abbrev pub open_bracket : GrammarToken → Option ℕ
 open_bracket (token.Mark at mark.OpenBracket l) = Some at
 open_bracket _ = None
 
-abbrev pub close_bracket : Token → Option (Unit {0})
+abbrev pub close_bracket : GrammarToken → Option (Unit {0})
 close_bracket (token.Mark at mark.CloseBracket l) = Some tt
 close_bracket _ = None
 
-abbrev pub open_brace : Token → Option (Unit {0})
+abbrev pub open_brace : GrammarToken → Option (Unit {0})
 open_brace (token.Mark at mark.OpenBrace l) = Some tt
 open_brace _ = None
 
 -- the { of an object literal: its offset
-abbrev pub open_literal : Token → Option ℕ
+abbrev pub open_literal : GrammarToken → Option ℕ
 open_literal (token.Mark at mark.OpenBrace l) = Some at
 open_literal _ = None
 
-abbrev pub close_brace : Token → Option (Unit {0})
+abbrev pub close_brace : GrammarToken → Option (Unit {0})
 close_brace (token.Mark at mark.CloseBrace l) = Some tt
 close_brace _ = None
 
-abbrev pub comma : Token → Option (Unit {0})
+abbrev pub comma : GrammarToken → Option (Unit {0})
 comma (token.Mark at mark.Comma l) = Some tt
 comma _ = None
 
-abbrev pub point : Token → Option (Unit {0})
+abbrev pub point : GrammarToken → Option (Unit {0})
 point (token.Mark at mark.Point l) = Some tt
 point _ = None
 
-abbrev pub semicolon : Token → Option (Unit {0})
+abbrev pub semicolon : GrammarToken → Option (Unit {0})
 semicolon (token.Mark at mark.Semicolon l) = Some tt
 semicolon _ = None
 
-abbrev pub question : Token → Option (Unit {0})
+abbrev pub question : GrammarToken → Option (Unit {0})
 question (token.Mark at mark.Question l) = Some tt
 question _ = None
 
-abbrev pub colon : Token → Option (Unit {0})
+abbrev pub colon : GrammarToken → Option (Unit {0})
 colon (token.Mark at mark.Colon l) = Some tt
 colon _ = None
 
-abbrev pub less : Token → Option (Unit {0})
+abbrev pub less : GrammarToken → Option (Unit {0})
 less (token.Mark at mark.Less l) = Some tt
 less _ = None
 
-abbrev pub assign_mark : Token → Option (Unit {0})
+abbrev pub assign_mark : GrammarToken → Option (Unit {0})
 assign_mark (token.Mark at mark.Assign l) = Some tt
 assign_mark _ = None
 
 -- = or += : the offset of +=
-abbrev pub assign_op : Token → Option (Option ℕ)
+abbrev pub assign_op : GrammarToken → Option (Option ℕ)
 assign_op (token.Mark at mark.Assign l) = Some None
 assign_op (token.Mark at mark.AddAssign l) = Some (Some at)
 assign_op _ = None
 
 -- ++ with no line end before it
-abbrev pub increment : Token → Option (Unit {0})
+abbrev pub increment : GrammarToken → Option (Unit {0})
 increment (token.Mark at mark.Increment true) = None
 increment (token.Mark at mark.Increment false) = Some tt
 increment _ = None
 
 -- a sign: its offset, and whether it is a minus
-abbrev pub sign : Token → Option (ℕ × Bool)
+abbrev pub sign : GrammarToken → Option (ℕ × Bool)
 sign (token.Mark at mark.Minus l) = Some (at, true)
 sign (token.Mark at mark.Not l) = Some (at, false)
 sign _ = None
 
 -- the operators of each level, with their offset
 
-abbrev pub or_op : Token → Option (ℕ × Op)
+abbrev pub or_op : GrammarToken → Option (ℕ × Op)
 or_op (token.Mark at mark.Or l) = Some (at, op.Or)
 or_op _ = None
 
-abbrev pub and_op : Token → Option (ℕ × Op)
+abbrev pub and_op : GrammarToken → Option (ℕ × Op)
 and_op (token.Mark at mark.And l) = Some (at, op.And)
 and_op _ = None
 
-abbrev pub equal_op : Token → Option (ℕ × Op)
+abbrev pub equal_op : GrammarToken → Option (ℕ × Op)
 equal_op (token.Mark at mark.StrictEqual l) = Some (at, op.Same)
 equal_op (token.Mark at mark.StrictUnequal l) = Some (at, op.NotSame)
 equal_op _ = None
 
-abbrev pub compare_op : Token → Option (ℕ × Op)
+abbrev pub compare_op : GrammarToken → Option (ℕ × Op)
 compare_op (token.Mark at mark.Less l) = Some (at, op.Less)
 compare_op (token.Mark at mark.Greater l) = Some (at, op.Greater)
 compare_op (token.Mark at mark.AtMost l) = Some (at, op.LessEq)
 compare_op (token.Mark at mark.AtLeast l) = Some (at, op.GreaterEq)
 compare_op _ = None
 
-abbrev pub sum_op : Token → Option (ℕ × Op)
+abbrev pub sum_op : GrammarToken → Option (ℕ × Op)
 sum_op (token.Mark at mark.Plus l) = Some (at, op.Plus)
 sum_op (token.Mark at mark.Minus l) = Some (at, op.Minus)
 sum_op _ = None
@@ -275,12 +275,12 @@ sum_op _ = None
 -- numbers
 
 -- the number 0
-abbrev pub nought : Token → Option (Unit {0})
+abbrev pub nought : GrammarToken → Option (Unit {0})
 nought (token.Number at n) = when (nat_eq n 0) tt
 nought _ = None
 
 -- a number of at most 1,000,000
-abbrev pub bound_number : Token → Option ℕ
+abbrev pub bound_number : GrammarToken → Option ℕ
 bound_number (token.Number at n) = when (nat_lt n 1000001) n
 bound_number _ = None
 
@@ -296,7 +296,7 @@ constant _ = None
 
 -- a token that is an expression alone. So is each string: whether it is a key shows only at the token behind it, and in
 -- a whole script a key stands before the colon of a member alone
-abbrev pub simple : Tables → Token → Option ExprTree
+abbrev pub simple : Tables → GrammarToken → Option ExprTree
 simple tables (token.Text at n k) = Some (tree.literal n)
 simple tables (token.Number at n) = Some (tree.number n)
 simple tables (token.Name at n p) = Some (tree.variable (get_or tables.names n []))
@@ -304,13 +304,13 @@ simple tables (token.Word at w number) = constant w
 simple tables _ = None
 
 -- whether a token that can't stand where it stands is a word
-abbrev pub is_word : Token → Bool
+abbrev pub is_word : GrammarToken → Bool
 is_word (token.Name at n p) = true
 is_word (token.Word at w number) = true
 is_word _ = false
 
 -- where a token stands
-abbrev pub place : Token → ℕ
+abbrev pub place : GrammarToken → ℕ
 place (token.Directive at) = at
 place (token.Text at n k) = at
 place (token.Number at n) = at

@@ -7,4 +7,4 @@
 
 mod token;
 
-pub use token::{Property, Tables, Token, Word};
+pub use token::{GrammarToken, Property, Tables, Word};

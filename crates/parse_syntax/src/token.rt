@@ -56,7 +56,7 @@ pub enum Property {
 /// Two words have the same `number` exactly where their letters are the same. `after_line` tells whether a
 /// line end stands between the token and the one before it.
 #[derive(Clone, Copy, Debug, PartialEq, Eq)]
-pub enum Token {
+pub enum GrammarToken {
     /// The first token of the text where it is a string that is spelled as the directive.
     Directive {
         at: u32,

@@ -8,18 +8,18 @@ use Rattle.js_lex.specs.declared.token.TokenKind.{TokenKind}
 use Rattle.js_lex.specs.declared.token.TokenKind.TheVariants as kinds
 use Rattle.js_lex.specs.declared.token.LexFault.{LexFault}
 use Rattle.js_lex.specs.declared.token.LexFault.TheVariants as faults
-use Rattle.parse_syntax.specs.declared.token.Token.{Token}
+use Rattle.parse_syntax.specs.declared.token.GrammarToken.{GrammarToken}
 use Rattle.parse_tokens.specs.Tokens.{Before, opens_member, token_at, after, tokens_from, after_all, literals_after, keys_after, table_after, texts_after, texts_with, keys_with, with_name, place_in, is_use_strict}
 use Rattle.parse_tokens.specs.Steps.{Goes, Whole, TellsKey, before_at, is_empty}
 
-pub goes_start : (text : List ℕ) (tokens : List Token) (texts names keys : List (List ℕ)) → tokens ≡ [] → texts ≡ [] → names ≡ [] → keys ≡ [] → Goes text 0 tokens false (before_at tokens texts names keys 0)
+pub goes_start : (text : List ℕ) (tokens : List GrammarToken) (texts names keys : List (List ℕ)) → tokens ≡ [] → texts ≡ [] → names ≡ [] → keys ≡ [] → Goes text 0 tokens false (before_at tokens texts names keys 0)
 goes_start text tokens texts names keys e f g k = rw (e, f, g, k) (λ ts h. record { lexed = ts; lexes = h; tokens_are = refl; last_is = refl })
 
-started : (tokens : List Token) (x : Token) → is_empty (tokens ++ x ∷ []) ≡ false
+started : (tokens : List GrammarToken) (x : GrammarToken) → is_empty (tokens ++ x ∷ []) ≡ false
 started [] x = refl
 started (y ∷ tokens) x = refl
 
-one_more : (text : List ℕ) (at : ℕ) (t : Lexed) (opened key : Bool) (tokens : List Token) (texts names keys : List (List ℕ)) → GoesOn text at t → TellsKey text opened t key → Goes text at tokens opened (before_at tokens texts names keys at)
+one_more : (text : List ℕ) (at : ℕ) (t : Lexed) (opened key : Bool) (tokens : List GrammarToken) (texts names keys : List (List ℕ)) → GoesOn text at t → TellsKey text opened t key → Goes text at tokens opened (before_at tokens texts names keys at)
     → let before = before_at tokens texts names keys at in let next = after text before key t in Goes text t.to (tokens ++ token_at text before key t ∷ []) (opens_member t.kind) (before_at (tokens ++ token_at text before key t ∷ []) next.texts next.names next.keys t.to)
 one_more text at t opened key tokens texts names keys on tells goes = λ ts h.
     let before = before_at tokens texts names keys at in
@@ -30,7 +30,7 @@ one_more text at t opened key tokens texts names keys on tells goes = λ ts h.
     let all : Q key = subst Q (sym (tells ts h)) (goes (t ∷ ts) (on.lexes ts h)) in
     subst P (sym (started tokens x)) (rw append_assoc all)
 
-pub goes_on : (text : List ℕ) (at : ℕ) (t : Lexed) (opened key opens : Bool) (tokens tokens' : List Token) (texts texts' names names' keys keys' : List (List ℕ)) → GoesOn text at t → TellsKey text opened t key → opens ≡ opens_member t.kind → Goes text at tokens opened (before_at tokens texts names keys at)
+pub goes_on : (text : List ℕ) (at : ℕ) (t : Lexed) (opened key opens : Bool) (tokens tokens' : List GrammarToken) (texts texts' names names' keys keys' : List (List ℕ)) → GoesOn text at t → TellsKey text opened t key → opens ≡ opens_member t.kind → Goes text at tokens opened (before_at tokens texts names keys at)
     → (let before = before_at tokens texts names keys at in (tokens' ≡ tokens ++ token_at text before key t ∷ []) × (texts' ≡ (after text before key t).texts) × (names' ≡ (after text before key t).names) × (keys' ≡ (after text before key t).keys))
     → Goes text t.to tokens' opens (before_at tokens' texts' names' keys' t.to)
 goes_on text at t opened key opens tokens tokens' texts texts' names names' keys keys' on tells o goes e = rw (e.0, e.1, e.2, e.3, o) (one_more text at t opened key tokens texts names keys on tells goes)

@@ -7,8 +7,8 @@ use Rattle.std.specs.Cmp.Lexicographic.{slice_cmp}
 use Rattle.std.specs.FinMap.{FinMap, get}
 use Rattle.js_lex.specs.declared.token.Token.{Token as Lexed}
 use Rattle.js_lex.specs.Tokens.{Lexes}
-use Rattle.parse_syntax.specs.declared.token.Token.{Token}
-use Rattle.parse_tokens.specs.declared.read.Source.{Source}
+use Rattle.parse_syntax.specs.declared.token.GrammarToken.{GrammarToken}
+use Rattle.parse_tokens.specs.declared.read.ScriptTokens.{ScriptTokens}
 use Rattle.parse_tokens.specs.Tokens.{Before, nothing, is_key, tokens_from, after_all}
 
 -- the numbers are the places in the table
@@ -20,26 +20,26 @@ is_empty [] = true
 is_empty (x ∷ xs) = false
 
 -- what stands before a place, behind these tokens
-abbrev pub before_at : List Token → List (List ℕ) → List (List ℕ) → List (List ℕ) → ℕ → Before
+abbrev pub before_at : List GrammarToken → List (List ℕ) → List (List ℕ) → List (List ℕ) → ℕ → Before
 before_at tokens texts names keys end = record { first = is_empty tokens; end = end; names = names; texts = texts; keys = keys }
 
 -- the same behind what was read so far
-abbrev pub before_of : Source → ℕ → Before
-before_of source end = before_at source.tokens.items source.literals.items source.names.items source.keys.items end
+abbrev pub before_of : ScriptTokens → ℕ → Before
+before_of script end = before_at script.tokens.items script.literals.items script.names.items script.keys.items end
 
 -- the text has these tokens, and this is what stands before its end
-pub record Whole (text : List ℕ) (tokens : List Token) (last : Before) : Type 0 where
+pub record Whole (text : List ℕ) (tokens : List GrammarToken) (last : Before) : Type 0 where
   pub lexed : List Lexed
   pub lexes : Lexes text 0 lexed
   pub tokens_are : tokens ≡ tokens_from text false nothing lexed
   pub last_is : last ≡ after_all text false nothing lexed
 
 -- what completes the rest completes the whole, where { or a comma stands before the rest or not
-abbrev pub Goes : List ℕ → ℕ → List Token → Bool → Before → Type 0
+abbrev pub Goes : List ℕ → ℕ → List GrammarToken → Bool → Before → Type 0
 Goes text at done opened before = (ts : List Lexed) → Lexes text at ts → Whole text (done ++ tokens_from text opened before ts) (after_all text opened before ts)
 
 -- the text's tokens, literals, names and keys
-pub record Scanned (text : List ℕ) (tokens : List Token) (texts names keys : List (List ℕ)) : Type 0 where
+pub record Scanned (text : List ℕ) (tokens : List GrammarToken) (texts names keys : List (List ℕ)) : Type 0 where
   pub lexed : List Lexed
   pub lexes : Lexes text 0 lexed
   pub tokens_are : tokens ≡ tokens_from text false nothing lexed
@@ -48,12 +48,12 @@ pub record Scanned (text : List ℕ) (tokens : List Token) (texts names keys : L
   pub keys_are : keys ≡ (after_all text false nothing lexed).keys
 
 -- the text's tokens, literals, names and keys are these
-abbrev pub ScannedTo : List ℕ → Source → Type 0
-ScannedTo text source = Scanned text source.tokens.items source.literals.items source.names.items source.keys.items
+abbrev pub ScannedTo : List ℕ → ScriptTokens → Type 0
+ScannedTo text script = Scanned text script.tokens.items script.literals.items script.names.items script.keys.items
 
 -- these tokens, texts, names and keys
-abbrev pub IsSource : Source → List Token → List (List ℕ) → List (List ℕ) → List (List ℕ) → Type 0
-IsSource source tokens texts names keys = (source.tokens.items ≡ tokens) × (source.literals.items ≡ texts) × (source.names.items ≡ names) × (source.keys.items ≡ keys)
+abbrev pub IsScriptTokens : ScriptTokens → List GrammarToken → List (List ℕ) → List (List ℕ) → List (List ℕ) → Type 0
+IsScriptTokens script tokens texts names keys = (script.tokens.items ≡ tokens) × (script.literals.items ≡ texts) × (script.names.items ≡ names) × (script.keys.items ≡ keys)
 
 -- whether the token is a key, whatever tokens the text has behind it
 abbrev pub TellsKey : List ℕ → Bool → Lexed → Bool → Type 0

@@ -9,8 +9,8 @@ use Rattle.js_lex.specs.declared.token.Mark.TheVariants as mark
 use Rattle.js_lex.specs.Elements.{is_line_end}
 use Rattle.js_lex.specs.Spans.{slice}
 use Rattle.js_lex.specs.Tokens.{TokensOf}
-use Rattle.parse_syntax.specs.declared.token.Token.{Token}
-use Rattle.parse_syntax.specs.declared.token.Token.TheVariants as token
+use Rattle.parse_syntax.specs.declared.token.GrammarToken.{GrammarToken}
+use Rattle.parse_syntax.specs.declared.token.GrammarToken.TheVariants as token
 use Rattle.parse_syntax.specs.declared.token.Word.{Word}
 use Rattle.parse_tokens.specs.Words.{word_of, property_of, is_in}
 
@@ -68,14 +68,14 @@ is_key opened (kinds.Text units) ts = if opened then begins_colon ts else false
 is_key opened _ ts = false
 
 -- a string that is no key, after so many texts
-abbrev pub text_token : Bool → List (List ℕ) → List ℕ → ℕ → Token
+abbrev pub text_token : Bool → List (List ℕ) → List ℕ → ℕ → GrammarToken
 text_token first texts source at = if first then (if is_use_strict source then token.Directive at else token.Text at (length texts) false) else token.Text at (length texts) false
 
 abbrev pub texts_after : Bool → List (List ℕ) → List ℕ → List ℕ → List (List ℕ)
 texts_after first texts source units = if first then (if is_use_strict source then texts else texts ++ units ∷ []) else texts ++ units ∷ []
 
 -- a string, which is a key or not, after so many texts and keys
-abbrev pub string_token : Bool → Bool → List (List ℕ) → List (List ℕ) → List ℕ → ℕ → Token
+abbrev pub string_token : Bool → Bool → List (List ℕ) → List (List ℕ) → List ℕ → ℕ → GrammarToken
 string_token key first texts keys source at = if key then token.Text at (length keys) true else text_token first texts source at
 
 abbrev pub texts_with : Bool → Bool → List (List ℕ) → List ℕ → List ℕ → List (List ℕ)
@@ -84,12 +84,12 @@ texts_with key first texts source units = if key then texts else texts_after fir
 abbrev pub keys_with : Bool → List (List ℕ) → List ℕ → List (List ℕ)
 keys_with key keys units = if key then keys ++ units ∷ [] else keys
 
-abbrev pub word_token : Option Word → List (List ℕ) → List ℕ → ℕ → Token
+abbrev pub word_token : Option Word → List (List ℕ) → List ℕ → ℕ → GrammarToken
 word_token (Some w) names letters at = token.Word at w (place_in names letters)
 word_token None names letters at = token.Name at (place_in names letters) (property_of letters)
 
 -- a token of this source text and kind, at an offset, which is a key or not
-abbrev pub token_of : Before → List ℕ → ℕ → Bool → Bool → TokenKind → Token
+abbrev pub token_of : Before → List ℕ → ℕ → Bool → Bool → TokenKind → GrammarToken
 token_of before source at after_line key kinds.Word = word_token (word_of source) before.names source at
 token_of before source at after_line key (kinds.Text units) = string_token key before.first before.texts before.keys source at
 token_of before source at after_line key (kinds.Number value) = token.Number at value
@@ -113,7 +113,7 @@ keys_after key before (kinds.Text units) = keys_with key before.keys units
 keys_after key before (kinds.Number value) = before.keys
 keys_after key before (kinds.Mark mark) = before.keys
 
-abbrev pub token_at : List ℕ → Before → Bool → Lexed → Token
+abbrev pub token_at : List ℕ → Before → Bool → Lexed → GrammarToken
 token_at bytes before key t = token_of before (slice bytes t.from t.to) t.from (has_line_end (slice bytes before.end t.from)) key t.kind
 
 abbrev pub after : List ℕ → Before → Bool → Lexed → Before
@@ -126,7 +126,7 @@ after bytes before key t = record {
 }
 
 -- the tokens, where { or a comma stands before them or not
-abbrev pub tokens_from : List ℕ → Bool → Before → List Lexed → List Token
+abbrev pub tokens_from : List ℕ → Bool → Before → List Lexed → List GrammarToken
 tokens_from bytes opened before [] = []
 tokens_from bytes opened before (t ∷ ts) = token_at bytes before (is_key opened t.kind ts) t ∷ tokens_from bytes (opens_member t.kind) (after bytes before (is_key opened t.kind ts) t) ts
 
@@ -135,7 +135,7 @@ after_all bytes opened before [] = before
 after_all bytes opened before (t ∷ ts) = after_all bytes (opens_member t.kind) (after bytes before (is_key opened t.kind ts) t) ts
 
 -- the bytes have these tokens, literals, names and keys
-pub record Reads (bytes : List ℕ) (tokens : List Token) (literals names keys : List (List ℕ)) : Type 0 where
+pub record Reads (bytes : List ℕ) (tokens : List GrammarToken) (literals names keys : List (List ℕ)) : Type 0 where
   pub lexed : List Lexed
   pub lexes : TokensOf bytes lexed
   pub tokens_are : tokens ≡ tokens_from bytes false nothing lexed

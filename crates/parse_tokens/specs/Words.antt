@@ -2,7 +2,7 @@
 use Rattle.std.specs.Prelude.{ℕ, List, [], ◌∷◌, codes, Bool, true, false, Option, Some, None, if◌then◌else◌}
 use Rattle.std.specs.Str.{bytes_eq}
 use Rattle.eval_tree.specs.declared.tree.Method.{Method}
-use Rattle.eval_tree.specs.declared.tree.Method.TheVariants as method
+use Rattle.eval_tree.specs.Methods.{first_there, method_of}
 use Rattle.parse_syntax.specs.declared.token.Word.{Word}
 use Rattle.parse_syntax.specs.declared.token.Word.TheVariants as word
 use Rattle.parse_syntax.specs.declared.token.Property.{Property}
@@ -48,11 +48,6 @@ is_in letters (w ∷ ws) = if bytes_eq letters w then true else is_in letters ws
 abbrev pub is_reserved : List ℕ → Bool
 is_reserved letters = if is_in letters reserved_words then true else is_in letters kept_words
 
--- the first of two that is there
-abbrev pub first_there : {A : Type 0} → Option A → Option A → Option A
-first_there (Some x) other = Some x
-first_there None other = other
-
 -- a word by which a statement begins or goes on
 abbrev pub statement_word : List ℕ → Option Word
 statement_word letters =
@@ -96,7 +91,7 @@ word_or None false = None
 abbrev pub word_of : List ℕ → Option Word
 word_of letters = word_or (keyword_of letters) (is_reserved letters)
 
--- a name behind a point that is no method of strings or arrays
+-- a name behind a point that is no method
 abbrev pub other_property : List ℕ → Option Property
 other_property letters =
     if bytes_eq letters (codes "length") then Some property.Length
@@ -107,54 +102,6 @@ other_property letters =
     else if bytes_eq letters (codes "stringify") then Some property.Stringify
     else if bytes_eq letters (codes "keys") then Some property.Keys
     else None
-
--- a method that gives or looks at single units
-abbrev pub unit_method : List ℕ → Option Method
-unit_method letters =
-    if bytes_eq letters (codes "at") then Some method.At
-    else if bytes_eq letters (codes "charAt") then Some method.CharAt
-    else if bytes_eq letters (codes "charCodeAt") then Some method.CharCodeAt
-    else if bytes_eq letters (codes "codePointAt") then Some method.CodePointAt
-    else if bytes_eq letters (codes "isWellFormed") then Some method.IsWellFormed
-    else if bytes_eq letters (codes "toWellFormed") then Some method.ToWellFormed
-    else None
-
--- a method that searches
-abbrev pub search_method : List ℕ → Option Method
-search_method letters =
-    if bytes_eq letters (codes "endsWith") then Some method.EndsWith
-    else if bytes_eq letters (codes "includes") then Some method.Includes
-    else if bytes_eq letters (codes "indexOf") then Some method.IndexOf
-    else if bytes_eq letters (codes "lastIndexOf") then Some method.LastIndexOf
-    else if bytes_eq letters (codes "startsWith") then Some method.StartsWith
-    else None
-
--- a method that cuts
-abbrev pub part_method : List ℕ → Option Method
-part_method letters =
-    if bytes_eq letters (codes "slice") then Some method.Slice
-    else if bytes_eq letters (codes "split") then Some method.Split
-    else if bytes_eq letters (codes "substr") then Some method.Substr
-    else if bytes_eq letters (codes "substring") then Some method.Substring
-    else if bytes_eq letters (codes "trim") then Some method.Trim
-    else if bytes_eq letters (codes "trimEnd") then Some method.TrimEnd
-    else if bytes_eq letters (codes "trimStart") then Some method.TrimStart
-    else None
-
--- a method that builds another string
-abbrev pub building_method : List ℕ → Option Method
-building_method letters =
-    if bytes_eq letters (codes "concat") then Some method.Concat
-    else if bytes_eq letters (codes "join") then Some method.Join
-    else if bytes_eq letters (codes "padEnd") then Some method.PadEnd
-    else if bytes_eq letters (codes "padStart") then Some method.PadStart
-    else if bytes_eq letters (codes "repeat") then Some method.Repeat
-    else if bytes_eq letters (codes "replace") then Some method.Replace
-    else if bytes_eq letters (codes "replaceAll") then Some method.ReplaceAll
-    else None
-
-abbrev pub method_of : List ℕ → Option Method
-method_of letters = first_there (unit_method letters) (first_there (search_method letters) (first_there (part_method letters) (building_method letters)))
 
 abbrev property_or : Option Property → Option Method → Property
 property_or (Some p) m = p

@@ -10,4 +10,4 @@ mod read;
 mod reserved;
 mod word;
 
-pub use read::{Source, tokens};
+pub use read::{ScriptTokens, tokens};

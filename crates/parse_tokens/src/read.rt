@@ -11,22 +11,22 @@ ghost use Rattle.js_lex.specs.declared.token.LexFault.TheVariants.{Memory};
 ghost use Rattle.parse_tokens.specs.Tokens as definition;
 ghost use Rattle.parse_tokens.specs.Tokens.{Reads, place_in, with_name, has_line_end, begins_colon, token_at, after};
 ghost use Rattle.parse_tokens.specs.Words as words;
-ghost use Rattle.parse_syntax.specs.declared.token.Token.{Token};
-ghost use Rattle.parse_tokens.specs.Steps.{Agrees, IsSource, ScannedTo, TellsKey, before_of};
+ghost use Rattle.parse_syntax.specs.declared.token.GrammarToken.{GrammarToken};
+ghost use Rattle.parse_tokens.specs.Steps.{Agrees, IsScriptTokens, ScannedTo, TellsKey, before_of};
 
 use crate::numbers::Numbers;
 use crate::word::{property_named, word_named};
 use eval_tree::Name;
 use js_lex::{LexFault, Mark, TokenKind};
 use js_units::{NoMemory, Units, split_char};
-use parse_syntax::Token;
+use parse_syntax::GrammarToken;
 use std::alloc::Global;
 
 /// The tokens of a script's bytes; the units of its texts that are no keys of members, in order, without the
 /// directive; its words, each once, in order; and the units of its texts that are keys, in order.
 #[derive(Drop)]
-pub struct Source {
-    pub tokens: Vec<Token>,
+pub struct ScriptTokens {
+    pub tokens: Vec<GrammarToken>,
     pub literals: Vec<Units>,
     pub names: Vec<Name>,
     pub keys: Vec<Units>,
@@ -84,7 +84,7 @@ fn word_token(
     names: &mut Vec<Name>,
     letters: &[u8],
     at: u32,
-) -> Result<Token, NoMemory>
+) -> Result<GrammarToken, NoMemory>
     requires few { length names.old.items ≤ 1_048_576 }
     requires agrees { Agrees numbers.old names.old.items }
     ensures token { IfOk result (λ token. token
@@ -95,10 +95,10 @@ fn word_token(
 {
     let number = number_of(alloc, numbers, names, letters)?;
     match word_named(letters) {
-        Some(word) => Ok(Token::Word { at, word, number }),
+        Some(word) => Ok(GrammarToken::Word { at, word, number }),
         None => {
             let property = property_named(letters);
-            Ok(Token::Name {
+            Ok(GrammarToken::Name {
                 at,
                 number,
                 property,
@@ -127,7 +127,7 @@ fn text_token(
     source: &[u8],
     at: u32,
     units: Units,
-) -> Result<Token, NoMemory>
+) -> Result<GrammarToken, NoMemory>
     requires few { length literals.old.items ≤ 1_048_576 }
     ensures token { IfOk result (λ token. token
         ≡ definition.text_token first literals.old.items source.now at) }
@@ -136,12 +136,12 @@ fn text_token(
 {
     if first {
         if is_use_strict(source) {
-            return Ok(Token::Directive { at });
+            return Ok(GrammarToken::Directive { at });
         }
     }
     let number = literals.len() as u32;
     literals.push(units)?;
-    Ok(Token::Text {
+    Ok(GrammarToken::Text {
         at,
         number,
         is_key: false,
@@ -157,7 +157,7 @@ fn string_token(
     source: &[u8],
     at: u32,
     units: Units,
-) -> Result<Token, NoMemory>
+) -> Result<GrammarToken, NoMemory>
     requires few { length literals.old.items ≤ 1_048_576 }
     requires few_keys { length keys.old.items ≤ 1_048_576 }
     ensures token { IfOk result (λ token. token
@@ -169,7 +169,7 @@ fn string_token(
     if key {
         let number = keys.len() as u32;
         keys.push(units)?;
-        return Ok(Token::Text {
+        return Ok(GrammarToken::Text {
             at,
             number,
             is_key: true,
@@ -181,50 +181,50 @@ fn string_token(
 // The token of the grammar behind those that were read, whose text ended at a place.
 fn next(
     alloc: Global,
-    source: &mut Source,
+    script: &mut ScriptTokens,
     numbers: &mut Numbers,
     text: &str,
     end: u32,
     token: js_lex::Token,
     key: bool,
-) -> Result<Token, NoMemory>
-    requires texts { length source.old.literals.items ≤ 1_048_576 }
-    requires names { length source.old.names.items ≤ 1_048_576 }
-    requires keys { length source.old.keys.items ≤ 1_048_576 }
-    requires agrees { Agrees numbers.old source.old.names.items }
+) -> Result<GrammarToken, NoMemory>
+    requires texts { length script.old.literals.items ≤ 1_048_576 }
+    requires names { length script.old.names.items ≤ 1_048_576 }
+    requires keys { length script.old.keys.items ≤ 1_048_576 }
+    requires agrees { Agrees numbers.old script.old.names.items }
     requires behind { end ≤ token.from }
     requires forward { token.from < token.to }
     requires within { token.to ≤ length text.now }
     requires last { IsCharBoundary text.now end }
     requires start { IsCharBoundary text.now token.from }
-    ensures tokens { OnOk result (source.new.tokens ≡ source.old.tokens) }
-    ensures token { IfOk result (λ found. found ≡ token_at text.now (before_of source.old end) key token) }
-    ensures literals { OnOk result (source.new.literals.items
-        ≡ definition.literals_after key (before_of source.old end)
+    ensures tokens { OnOk result (script.new.tokens ≡ script.old.tokens) }
+    ensures token { IfOk result (λ found. found ≡ token_at text.now (before_of script.old end) key token) }
+    ensures literals { OnOk result (script.new.literals.items
+        ≡ definition.literals_after key (before_of script.old end)
         (slice text.now token.from token.to) token.kind) }
-    ensures keys { OnOk result (source.new.keys.items
-        ≡ definition.keys_after key (before_of source.old end) token.kind) }
-    ensures names { OnOk result (source.new.names.items
-        ≡ definition.table_after (before_of source.old end) (slice text.now token.from token.to) token.kind) }
-    ensures agrees { OnOk result (Agrees numbers.new source.new.names.items) }
+    ensures keys { OnOk result (script.new.keys.items
+        ≡ definition.keys_after key (before_of script.old end) token.kind) }
+    ensures names { OnOk result (script.new.names.items
+        ≡ definition.table_after (before_of script.old end) (slice text.now token.from token.to) token.kind) }
+    ensures agrees { OnOk result (Agrees numbers.new script.new.names.items) }
 {
     let js_lex::Token { kind, from, to } = token;
     let letters = &text.as_bytes()[from as usize..to as usize];
     match kind {
-        TokenKind::Word => word_token(alloc, numbers, &mut source.names, letters, from),
+        TokenKind::Word => word_token(alloc, numbers, &mut script.names, letters, from),
         TokenKind::Text(units) => string_token(
             key,
-            source.tokens.is_empty(),
-            &mut source.literals,
-            &mut source.keys,
+            script.tokens.is_empty(),
+            &mut script.literals,
+            &mut script.keys,
             letters,
             from,
             units,
         ),
-        TokenKind::Number(value) => Ok(Token::Number { at: from, value }),
+        TokenKind::Number(value) => Ok(GrammarToken::Number { at: from, value }),
         TokenKind::Mark(mark) => {
             let after_line = any_line_end(&text[end as usize..from as usize]);
-            Ok(Token::Mark {
+            Ok(GrammarToken::Mark {
                 at: from,
                 mark,
                 after_line,
@@ -236,46 +236,46 @@ fn next(
 // Puts the token of the grammar behind those that were read, whose text ended at a place.
 fn add(
     alloc: Global,
-    source: &mut Source,
+    script: &mut ScriptTokens,
     numbers: &mut Numbers,
     text: &str,
     end: u32,
     token: js_lex::Token,
     key: bool,
 ) -> Result<(), NoMemory>
-    requires literals { length source.old.literals.items ≤ 1_048_576 }
-    requires names { length source.old.names.items ≤ 1_048_576 }
-    requires keys { length source.old.keys.items ≤ 1_048_576 }
-    requires agrees { Agrees numbers.old source.old.names.items }
+    requires literals { length script.old.literals.items ≤ 1_048_576 }
+    requires names { length script.old.names.items ≤ 1_048_576 }
+    requires keys { length script.old.keys.items ≤ 1_048_576 }
+    requires agrees { Agrees numbers.old script.old.names.items }
     requires behind { end ≤ token.from }
     requires forward { token.from < token.to }
     requires within { token.to ≤ length text.now }
     requires last { IsCharBoundary text.now end }
     requires start { IsCharBoundary text.now token.from }
-    ensures tokens { OnOk result (source.new.tokens.items
-        ≡ source.old.tokens.items ++ token_at text.now (before_of source.old end) key token ∷ []) }
-    ensures literals { OnOk result (source.new.literals.items
-        ≡ (after text.now (before_of source.old end) key token).texts) }
-    ensures names { OnOk result (source.new.names.items
-        ≡ (after text.now (before_of source.old end) key token).names) }
-    ensures keys { OnOk result (source.new.keys.items
-        ≡ (after text.now (before_of source.old end) key token).keys) }
-    ensures agrees { OnOk result (Agrees numbers.new source.new.names.items) }
+    ensures tokens { OnOk result (script.new.tokens.items
+        ≡ script.old.tokens.items ++ token_at text.now (before_of script.old end) key token ∷ []) }
+    ensures literals { OnOk result (script.new.literals.items
+        ≡ (after text.now (before_of script.old end) key token).texts) }
+    ensures names { OnOk result (script.new.names.items
+        ≡ (after text.now (before_of script.old end) key token).names) }
+    ensures keys { OnOk result (script.new.keys.items
+        ≡ (after text.now (before_of script.old end) key token).keys) }
+    ensures agrees { OnOk result (Agrees numbers.new script.new.names.items) }
 {
-    let token = next(alloc, source, numbers, text, end, token, key)?;
-    source.tokens.push(token)?;
+    let token = next(alloc, script, numbers, text, end, token, key)?;
+    script.tokens.push(token)?;
     Ok(())
 }
 
 // No token, with room for those of an ordinary script of so many bytes.
-fn no_source(alloc: Global, bytes: usize) -> Result<Source, NoMemory>
+fn no_tokens(alloc: Global, bytes: usize) -> Result<ScriptTokens, NoMemory>
     requires { bytes ≤ 1_048_576 }
-    ensures tokens { IfOk result (λ source. source.tokens.items ≡ []) }
-    ensures literals { IfOk result (λ source. source.literals.items ≡ []) }
-    ensures names { IfOk result (λ source. source.names.items ≡ []) }
-    ensures keys { IfOk result (λ source. source.keys.items ≡ []) }
+    ensures tokens { IfOk result (λ script. script.tokens.items ≡ []) }
+    ensures literals { IfOk result (λ script. script.literals.items ≡ []) }
+    ensures names { IfOk result (λ script. script.names.items ≡ []) }
+    ensures keys { IfOk result (λ script. script.keys.items ≡ []) }
 {
-    Ok(Source {
+    Ok(ScriptTokens {
         tokens: Vec::with_capacity(alloc, bytes / 8 + 8)?,
         literals: Vec::new(alloc),
         names: Vec::new(alloc),
@@ -335,13 +335,13 @@ fn is_key(alloc: Global, text: &str, opened: bool, token: &js_lex::Token) -> Res
 }
 
 // The tokens of a text.
-fn scan(alloc: Global, text: &str) -> Result<Source, LexFault>
+fn scan(alloc: Global, text: &str) -> Result<ScriptTokens, LexFault>
     requires { length text.now ≤ 1_048_576 }
     ensures read { IfOk result (ScannedTo text.now) }
     ensures refused { IfErr result (λ fault. (fault ≡ Memory) ⊎ Fails text.now 0 fault) }
 {
-    let mut source = match no_source(alloc, text.len()) {
-        Ok(source) => source,
+    let mut script = match no_tokens(alloc, text.len()) {
+        Ok(script) => script,
         Err(NoMemory) => return Err(LexFault::Memory),
     };
     let mut numbers = Numbers::new(alloc);
@@ -356,24 +356,24 @@ fn scan(alloc: Global, text: &str) -> Result<Source, LexFault>
                     Ok(key) => key,
                     Err(fault) => return Err(fault),
                 };
-                if add(alloc, &mut source, &mut numbers, text, at, token, key).is_err() {
+                if add(alloc, &mut script, &mut numbers, text, at, token, key).is_err() {
                     return Err(LexFault::Memory);
                 }
                 opened = opens;
                 at = end;
             }
-            Ok(None) => return Ok(source),
+            Ok(None) => return Ok(script),
             Err(fault) => return Err(fault),
         }
     }
 }
 
 /// What `tokens` answers, against the relations alone.
-fn read(alloc: Global, bytes: &[u8]) -> Result<Source, LexFault>
+fn read(alloc: Global, bytes: &[u8]) -> Result<ScriptTokens, LexFault>
     requires { length bytes.now ≤ 1_048_576 }
     ensures read { IfOk result
-        (λ source. Reads bytes.now source.tokens.items source.literals.items source.names.items
-        source.keys.items) }
+        (λ script. Reads bytes.now script.tokens.items script.literals.items script.names.items
+        script.keys.items) }
     ensures refused { IfErr result (λ fault. (fault ≡ Memory) ⊎ LexFaultOf bytes.now fault) }
 {
     match js_lex::source_text(bytes) {
@@ -383,16 +383,18 @@ fn read(alloc: Global, bytes: &[u8]) -> Result<Source, LexFault>
 }
 
 /// The tokens of the grammar of a script's bytes, or the first lexical fault.
-pub fn tokens(alloc: Global, bytes: &[u8]) -> Result<Source, LexFault>
+pub fn tokens(alloc: Global, bytes: &[u8]) -> Result<ScriptTokens, LexFault>
     requires { length bytes.now ≤ 1_048_576 }
     ensures read { IfOk result
-        (λ source. Reads bytes.now source.tokens.items source.literals.items source.names.items
-        source.keys.items) }
+        (λ script. Reads bytes.now script.tokens.items script.literals.items script.names.items
+        script.keys.items) }
     ensures refused { IfErr result (λ fault. (fault ≡ Memory) ⊎ LexFaultOf bytes.now fault) }
-    ensures found { (ts : List Token) (texts names keys : List (List ℕ)) → Reads bytes.now ts texts names keys
-        → IfOk result (λ source. IsSource source ts texts names keys) × IfErr result (λ fault. fault ≡ Memory) }
+    ensures found { (ts : List GrammarToken) (texts names keys : List (List ℕ))
+        → Reads bytes.now ts texts names keys
+        → IfOk result (λ script. IsScriptTokens script ts texts names keys)
+        × IfErr result (λ fault. fault ≡ Memory) }
     ensures faults { (f : LexFault) → LexFaultOf bytes.now f
-        → IfOk result (λ source. ⊥) × IfErr result (λ fault. (fault ≡ f) ⊎ (fault ≡ Memory)) }
+        → IfOk result (λ script. ⊥) × IfErr result (λ fault. (fault ≡ f) ⊎ (fault ≡ Memory)) }
 {
     read(alloc, bytes)
 }

@@ -89,7 +89,7 @@ pub(crate) fn word_named(letters: &[u8]) -> Option<Word>
     }
 }
 
-// A name behind a point that is no method of strings or arrays.
+// A name behind a point that is no method.
 fn other_property(letters: &[u8]) -> Option<Property>
     ensures { result ≡ words.other_property letters.now }
 {
@@ -112,107 +112,6 @@ fn other_property(letters: &[u8]) -> Option<Property>
     }
 }
 
-// A method that gives or looks at single units.
-fn unit_method(letters: &[u8]) -> Option<Method>
-    ensures { result ≡ words.unit_method letters.now }
-{
-    if letters == b"at".as_slice() {
-        Some(Method::At)
-    } else if letters == b"charAt".as_slice() {
-        Some(Method::CharAt)
-    } else if letters == b"charCodeAt".as_slice() {
-        Some(Method::CharCodeAt)
-    } else if letters == b"codePointAt".as_slice() {
-        Some(Method::CodePointAt)
-    } else if letters == b"isWellFormed".as_slice() {
-        Some(Method::IsWellFormed)
-    } else if letters == b"toWellFormed".as_slice() {
-        Some(Method::ToWellFormed)
-    } else {
-        None
-    }
-}
-
-// A method that searches.
-fn search_method(letters: &[u8]) -> Option<Method>
-    ensures { result ≡ words.search_method letters.now }
-{
-    if letters == b"endsWith".as_slice() {
-        Some(Method::EndsWith)
-    } else if letters == b"includes".as_slice() {
-        Some(Method::Includes)
-    } else if letters == b"indexOf".as_slice() {
-        Some(Method::IndexOf)
-    } else if letters == b"lastIndexOf".as_slice() {
-        Some(Method::LastIndexOf)
-    } else if letters == b"startsWith".as_slice() {
-        Some(Method::StartsWith)
-    } else {
-        None
-    }
-}
-
-// A method that cuts.
-fn part_method(letters: &[u8]) -> Option<Method>
-    ensures { result ≡ words.part_method letters.now }
-{
-    if letters == b"slice".as_slice() {
-        Some(Method::Slice)
-    } else if letters == b"split".as_slice() {
-        Some(Method::Split)
-    } else if letters == b"substr".as_slice() {
-        Some(Method::Substr)
-    } else if letters == b"substring".as_slice() {
-        Some(Method::Substring)
-    } else if letters == b"trim".as_slice() {
-        Some(Method::Trim)
-    } else if letters == b"trimEnd".as_slice() {
-        Some(Method::TrimEnd)
-    } else if letters == b"trimStart".as_slice() {
-        Some(Method::TrimStart)
-    } else {
-        None
-    }
-}
-
-// A method that builds another string.
-fn building_method(letters: &[u8]) -> Option<Method>
-    ensures { result ≡ words.building_method letters.now }
-{
-    if letters == b"concat".as_slice() {
-        Some(Method::Concat)
-    } else if letters == b"join".as_slice() {
-        Some(Method::Join)
-    } else if letters == b"padEnd".as_slice() {
-        Some(Method::PadEnd)
-    } else if letters == b"padStart".as_slice() {
-        Some(Method::PadStart)
-    } else if letters == b"repeat".as_slice() {
-        Some(Method::Repeat)
-    } else if letters == b"replace".as_slice() {
-        Some(Method::Replace)
-    } else if letters == b"replaceAll".as_slice() {
-        Some(Method::ReplaceAll)
-    } else {
-        None
-    }
-}
-
-fn method_named(letters: &[u8]) -> Option<Method>
-    ensures { result ≡ words.method_of letters.now }
-{
-    if let Some(method) = unit_method(letters) {
-        return Some(method);
-    }
-    if let Some(method) = search_method(letters) {
-        return Some(method);
-    }
-    if let Some(method) = part_method(letters) {
-        return Some(method);
-    }
-    building_method(letters)
-}
-
 /// What a name means behind a point.
 pub(crate) fn property_named(letters: &[u8]) -> Property
     ensures { result ≡ words.property_of letters.now }
@@ -220,7 +119,7 @@ pub(crate) fn property_named(letters: &[u8]) -> Property
     if let Some(property) = other_property(letters) {
         return property;
     }
-    match method_named(letters) {
+    match Method::of_word(letters) {
         Some(method) => Property::Method(method),
         None => Property::Nothing,
     }

@@ -24,7 +24,7 @@ pub tokens-preserved : goal.tokens-preserved
 tokens-preserved c =
     let text = c.args.text.now in
     let t = c.in-Ok-Some.token in
-    let s = c.tokens.source in
+    let s = c.tokens.script in
     let before = before_at s.tokens.items s.literals.items s.names.items s.keys.items c.tokens.at in
     let on : GoesOn text c.tokens.at t = rw c.in-Ok-Some.field-0-is at c.in-Ok-Some.ensures.goes_on in
     let ok : is_err c.add.result ≡ false = sym c.is_err.ensures.value ∙ c.if-is_err.false in
@@ -32,9 +32,9 @@ tokens-preserved c =
     let literals = on_ok _ c.add.result ok c.add.ensures.literals in
     let names = on_ok _ c.add.result ok c.add.ensures.names in
     let keys = on_ok _ c.add.result ok c.add.ensures.keys in
-    let one : length c.add.new.source.literals.items ≤ length s.literals.items + 1 = rw literals (few_texts c.in-Ok-is_key.key before (slice text t.from t.to) t.kind) in
-    let other : length c.add.new.source.names.items ≤ length s.names.items + 1 = rw names (few_names before (slice text t.from t.to) t.kind) in
-    let third : length c.add.new.source.keys.items ≤ length s.keys.items + 1 = rw keys (few_keys c.in-Ok-is_key.key before t.kind) in
+    let one : length c.add.new.script.literals.items ≤ length s.literals.items + 1 = rw literals (few_texts c.in-Ok-is_key.key before (slice text t.from t.to) t.kind) in
+    let other : length c.add.new.script.names.items ≤ length s.names.items + 1 = rw names (few_names before (slice text t.from t.to) t.kind) in
+    let third : length c.add.new.script.keys.items ≤ length s.keys.items + 1 = rw keys (few_keys c.in-Ok-is_key.key before t.kind) in
     record {
       cut = on.cut;
       within = on.within;
@@ -42,6 +42,6 @@ tokens-preserved c =
       names = omega arith;
       keys = omega arith;
       agrees = on_ok _ c.add.result ok c.add.ensures.agrees;
-      goes = goes_on text c.tokens.at t c.tokens.opened c.in-Ok-is_key.key c.opens_member-opens.result s.tokens.items c.add.new.source.tokens.items s.literals.items c.add.new.source.literals.items s.names.items c.add.new.source.names.items s.keys.items c.add.new.source.keys.items on c.in-Ok-is_key.ensures.key c.opens_member-opens.ensures c.tokens.invariant.goes (tokens, literals, names, keys);
+      goes = goes_on text c.tokens.at t c.tokens.opened c.in-Ok-is_key.key c.opens_member-opens.result s.tokens.items c.add.new.script.tokens.items s.literals.items c.add.new.script.literals.items s.names.items c.add.new.script.names.items s.keys.items c.add.new.script.keys.items on c.in-Ok-is_key.ensures.key c.opens_member-opens.ensures c.tokens.invariant.goes (tokens, literals, names, keys);
       fails = λ fault h. c.tokens.invariant.fails fault (on.fails fault h);
     }

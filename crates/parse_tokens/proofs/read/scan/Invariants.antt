@@ -9,11 +9,11 @@ abbrev pub invariant-tokens : goal.invariant-tokens
 invariant-tokens l = record {
   cut : IsCharBoundary l.fn.text l.at;
   within : l.at ≤ length l.fn.text;
-  literals : length l.source.literals.items ≤ l.at;
-  names : length l.source.names.items ≤ l.at;
-  keys : length l.source.keys.items ≤ l.at;
-  agrees : Agrees l.numbers l.source.names.items;
-  goes : Goes l.fn.text l.at l.source.tokens.items l.opened (before_at l.source.tokens.items l.source.literals.items l.source.names.items l.source.keys.items l.at);
+  literals : length l.script.literals.items ≤ l.at;
+  names : length l.script.names.items ≤ l.at;
+  keys : length l.script.keys.items ≤ l.at;
+  agrees : Agrees l.numbers l.script.names.items;
+  goes : Goes l.fn.text l.at l.script.tokens.items l.opened (before_at l.script.tokens.items l.script.literals.items l.script.names.items l.script.keys.items l.at);
   fails : (fault : LexFault) → Fails l.fn.text l.at fault → Fails l.fn.text 0 fault;
 }
 
