@@ -5,9 +5,10 @@ use Rattle.std.specs.List.{repeat}
 use Rattle.std.proofs.lemmas.List.{append_assoc}
 use Rattle.std.proofs.Math.Nat.{suc-mul, two-pow-succ}
 use Rattle.js_store.specs.State.{State, Has, IsKnown, text, Grows}
-use Rattle.js_store.specs.Faults.{Step}
+use Rattle.js_store.specs.Faults.{Uses}
 use Rattle.js_store.specs.declared.faults.StoreFault.{StoreFault}
-use Rattle.js_store.proofs.Laws.{step_within, step_after, has_text, text_still}
+use Rattle.js_store.proofs.Laws.{has_text, text_still}
+use Rattle.js_methods.proofs.Uses.{uses_within, uses_after}
 
 pub repeat-add : (m n : ℕ) (u : List ℕ) → repeat m u ++ repeat n u ≡ repeat (m + n) u
 repeat-add zero n u = ap (λ k. repeat k u) (let e : n ≡ 0 + n = omega arith in e)
@@ -62,9 +63,9 @@ module _ {F : Type 0} (a : State F) (s h n : ℕ) (half : Has a h (repeat (n / 2
   pub even_value : (b : State F) (r : ℕ) → n % 2 ≡ 0 → Has b r (text a h ++ text a h) → Has b r (repeat n (text a s))
   even_value b r p k = k ∙ ap Some (ap (λ (v : List ℕ). v ++ v) half_text ∙ even_copies n (text a s) p)
 
-  module _ (b : State F) (e : ℕ) (known : IsKnown a s) (odd : n % 2 ≡ 1) (double : Has b e (text a h ++ text a h)) (first : Step a b None 1 3) where
+  module _ (b : State F) (e : ℕ) (known : IsKnown a s) (odd : n % 2 ≡ 1) (double : Has b e (text a h ++ text a h)) (first : Uses a b None 1 3) where
     kept : text b s ≡ text a s
-    kept = text_still first.grows s known
+    kept = text_still first.step.grows s known
 
     both : text b e ++ text b s ≡ repeat n (text a s)
     both =
@@ -77,7 +78,7 @@ module _ {F : Type 0} (a : State F) (s h n : ℕ) (half : Has a h (repeat (n / 2
     lengths = omega (arith, length-append (text b e) (text b s), ap (λ (v : List ℕ). length v) both)
 
     pub odd_room : length (repeat n (text a s)) ≤ a.limit → length (text b e) + length (text b s) ≤ b.limit
-    odd_room k = omega (arith, lengths, first.grows.limit)
+    odd_room k = omega (arith, lengths, first.step.grows.limit)
 
     pub odd_value : (c : State F) (r : ℕ) → Has c r (text b e ++ text b s) → Has c r (repeat n (text a s))
     odd_value c r k = k ∙ ap Some both
@@ -93,11 +94,11 @@ halves n (suc j) h l =
     (j, refl, omega (arith, e))
 
 -- what doubling uses where the half was refused, and where it was made
-pub half_use : {F : Type 0} {a b : State F} {f : Option StoreFault} (n : ℕ) → 2 ≤ n → ((k : ℕ) → n / 2 < 2 ^ (k + 1) → Step a b f (2 * k) (6 * k)) → (k : ℕ) → n < 2 ^ (k + 1) → Step a b f (2 * k) (6 * k)
-half_use n h s k l = let j = halves n k h l in step_within (s j.0 j.2) (omega (arith, j.1)) (omega (arith, j.1))
+pub half_use : {F : Type 0} {a b : State F} {f : Option StoreFault} (n : ℕ) → 2 ≤ n → ((k : ℕ) → n / 2 < 2 ^ (k + 1) → Uses a b f (2 * k) (6 * k)) → (k : ℕ) → n < 2 ^ (k + 1) → Uses a b f (2 * k) (6 * k)
+half_use n h s k l = let j = halves n k h l in uses_within (s j.0 j.2) (omega (arith, j.1)) (omega (arith, j.1))
 
-pub whole_use : {F : Type 0} {a b c : State F} {f : Option StoreFault} (n : ℕ) → 2 ≤ n → ((k : ℕ) → n / 2 < 2 ^ (k + 1) → Step a b None (2 * k) (6 * k)) → Step b c f 2 6 → (k : ℕ) → n < 2 ^ (k + 1) → Step a c f (2 * k) (6 * k)
-whole_use n h s t k l = let j = halves n k h l in step_after (s j.0 j.2) t (omega (arith, j.1)) (omega (arith, j.1))
+pub whole_use : {F : Type 0} {a b c : State F} {f : Option StoreFault} (n : ℕ) → 2 ≤ n → ((k : ℕ) → n / 2 < 2 ^ (k + 1) → Uses a b None (2 * k) (6 * k)) → Uses b c f 2 6 → (k : ℕ) → n < 2 ^ (k + 1) → Uses a c f (2 * k) (6 * k)
+whole_use n h s t k l = let j = halves n k h l in uses_after (s j.0 j.2) t (omega (arith, j.1)) (omega (arith, j.1))
 
 -- the string is the same behind the half
 module _ {F : Type 0} (a b : State F) (s n : ℕ) (known : IsKnown a s) (grows : Grows a b) where

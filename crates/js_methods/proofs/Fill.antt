@@ -6,12 +6,13 @@ use Rattle.std.proofs.lemmas.List.{take-append-le, length-take-le}
 use Rattle.std.proofs.Math.Seq.{take-append-add}
 use Rattle.std.proofs.Math.Nat.{div-add-mod, div-le_self, mul-le-mul_left, mod-lt}
 use Rattle.js_store.specs.State.{State, Has, IsKnown, text}
-use Rattle.js_store.specs.Faults.{Step}
+use Rattle.js_store.specs.Faults.{Uses}
 use Rattle.js_store.specs.Rows.{wide_words}
 use Rattle.js_store.specs.declared.faults.StoreFault.{StoreFault}
-use Rattle.js_store.proofs.Laws.{step_within, step_after, has_text, has_still, text_still, known_still}
+use Rattle.js_store.proofs.Laws.{has_text, has_still, text_still, known_still}
 use Rattle.js_methods.specs.Padding.{filling}
 use Rattle.js_methods.proofs.Copies.{repeat-add, length-copies}
+use Rattle.js_methods.proofs.Uses.{uses_within, uses_after}
 
 take_front : (m r : ℕ) (f : List ℕ) → r ≤ length f → (m ≡ 0 → r ≡ 0) → take r (repeat m f) ≡ take r f
 take_front zero r f h z = ap (λ k. take k (repeat 0 f)) (z refl) ∙ sym (ap (λ k. take k f) (z refl))
@@ -30,7 +31,7 @@ fill_by n q r f e h m =
     ap (λ k. take n (repeat k f)) (sym rest) ∙ ap (take n) (sym (repeat-add q (n - q) f)) ∙ ap (λ k. take k (repeat q f ++ repeat (n - q) f)) place ∙
     take-append-add (repeat q f) (repeat (n - q) f) r ∙ ap (λ v. repeat q f ++ v) (take_front (n - q) r f h (λ z. omega (arith, e, m, z)))
 
-module _ {F : Type 0} (a b : State F) (s n size : ℕ) (known : IsKnown a s) (is : size ≡ length (text a s)) (some : 1 ≤ length (text a s)) (first : Step a b None 0 0) where
+module _ {F : Type 0} (a b : State F) (s n size : ℕ) (known : IsKnown a s) (is : size ≡ length (text a s)) (some : 1 ≤ length (text a s)) (first : Uses a b None 0 0) where
   remainder : n % size < size
   remainder = mod-lt n (omega (arith, is, some))
 
@@ -38,7 +39,7 @@ module _ {F : Type 0} (a b : State F) (s n size : ℕ) (known : IsKnown a s) (is
   fill = fill_by n (n / size) (n % size) (text a s) (omega (arith, is, div-add-mod n size, ap (λ k. n / size * k) is)) (omega (arith, is, remainder)) (mul-le-mul_left (n / size) some)
 
   kept : text b s ≡ text a s
-  kept = text_still first.grows s known
+  kept = text_still first.step.grows s known
 
   lengths : length (repeat (n / size) (text a s)) + length (take (n % size) (text a s)) ≡ n
   lengths = omega (arith, length-append (repeat (n / size) (text a s)) (take (n % size) (text a s)), ap (λ (v : List ℕ). length v) fill, length-filling n (text a s) some)
@@ -50,40 +51,40 @@ module _ {F : Type 0} (a b : State F) (s n size : ℕ) (known : IsKnown a s) (is
   front_value c r z k = k ∙ ap Some (ap (λ (v : List ℕ). take (n % size) v) kept ∙ sym (fill ∙ ap (λ q. repeat q (text a s) ++ take (n % size) (text a s)) z))
 
   pub repeats_room : n ≤ a.limit → length (repeat (n / size) (text b s)) ≤ b.limit
-  repeats_room h = omega (arith, repeats_length, first.grows.limit)
+  repeats_room h = omega (arith, repeats_length, first.step.grows.limit)
 
   pub repeats_value : (c : State F) (r : ℕ) → n % size ≡ 0 → Has c r (repeat (n / size) (text b s)) → Has c r (filling (text a s) n)
   repeats_value c r z k =
       let none : repeat (n / size) (text a s) ++ take (n % size) (text a s) ≡ repeat (n / size) (text a s) = ap (λ i. repeat (n / size) (text a s) ++ take i (text a s)) z ∙ append-nil (repeat (n / size) (text a s)) in
       k ∙ ap Some (ap (λ (v : List ℕ). repeat (n / size) v) kept ∙ sym (fill ∙ none))
 
-  pub repeats_use : (c : State F) (t : Option StoreFault) → n < 4294967296 → ((k : ℕ) → n / size < 2 ^ (k + 1) → Step b c t (2 * k) (6 * k)) → Step a c t 62 186
-  repeats_use c t h step = step_after first (step 31 (omega (arith, h, div-le_self n size))) (omega arith) (omega arith)
+  pub repeats_use : (c : State F) (t : Option StoreFault) → n < 4294967296 → ((k : ℕ) → n / size < 2 ^ (k + 1) → Uses b c t (2 * k) (6 * k)) → Uses a c t 62 186
+  repeats_use c t h used = uses_after first (used 31 (omega (arith, h, div-le_self n size))) (omega arith) (omega arith)
 
-  pub repeats_within : (c : State F) (t : Option StoreFault) → Step a c t 62 186 → Step a c t 64 (2 * wide_words (length (text a s)) + 256)
-  repeats_within c t step = step_within step (omega arith) (omega arith)
+  pub repeats_within : (c : State F) (t : Option StoreFault) → Uses a c t 62 186 → Uses a c t 64 (2 * wide_words (length (text a s)) + 256)
+  repeats_within c t used = uses_within used (omega arith) (omega arith)
 
   -- the front of the filler behind the copies
-  module _ (c : State F) (r : ℕ) (copies : Has c r (repeat (n / size) (text b s))) (second : Step a c None 62 186) where
+  module _ (c : State F) (r : ℕ) (copies : Has c r (repeat (n / size) (text b s))) (second : Uses a c None 62 186) where
     pub front_known : IsKnown c s
-    front_known = known_still second.grows s known
+    front_known = known_still second.step.grows s known
 
     again : text c s ≡ text a s
-    again = text_still second.grows s known
+    again = text_still second.step.grows s known
 
     pub front_within : n % size ≤ length (text c s)
     front_within = omega (arith, remainder, is, ap (λ (v : List ℕ). length v) again)
 
-    pub front_use : (d : State F) (t : Option StoreFault) → Step c d t 1 (2 * wide_words (length (text c s)) + 3) → Step a d t 63 (2 * wide_words (length (text a s)) + 189)
-    front_use d t step = step_after second step (omega arith) (omega (arith, ap (λ (v : List ℕ). length v) again))
+    pub front_use : (d : State F) (t : Option StoreFault) → Uses c d t 1 (2 * wide_words (length (text c s)) + 3) → Uses a d t 63 (2 * wide_words (length (text a s)) + 189)
+    front_use d t used = uses_after second used (omega arith) (omega (arith, ap (λ (v : List ℕ). length v) again))
 
-    pub front_within_use : (d : State F) (t : Option StoreFault) → Step a d t 63 (2 * wide_words (length (text a s)) + 189) → Step a d t 64 (2 * wide_words (length (text a s)) + 256)
-    front_within_use d t step = step_within step (omega arith) (omega arith)
+    pub front_within_use : (d : State F) (t : Option StoreFault) → Uses a d t 63 (2 * wide_words (length (text a s)) + 189) → Uses a d t 64 (2 * wide_words (length (text a s)) + 256)
+    front_within_use d t used = uses_within used (omega arith) (omega arith)
 
-    module _ (d : State F) (p : ℕ) (front : Has d p (take (n % size) (text c s))) (third : Step c d None 1 (2 * wide_words (length (text c s)) + 3)) where
+    module _ (d : State F) (p : ℕ) (front : Has d p (take (n % size) (text c s))) (third : Uses c d None 1 (2 * wide_words (length (text c s)) + 3)) where
       both : text d r ++ text d p ≡ filling (text a s) n
       both =
-          ap (λ (v : List ℕ). v ++ text d p) (has_text d r (repeat (n / size) (text b s)) (has_still third.grows r (repeat (n / size) (text b s)) copies)) ∙
+          ap (λ (v : List ℕ). v ++ text d p) (has_text d r (repeat (n / size) (text b s)) (has_still third.step.grows r (repeat (n / size) (text b s)) copies)) ∙
           ap (λ (v : List ℕ). repeat (n / size) (text b s) ++ v) (has_text d p (take (n % size) (text c s)) front) ∙
           ap (λ (v : List ℕ). repeat (n / size) v ++ take (n % size) (text c s)) kept ∙
           ap (λ (v : List ℕ). repeat (n / size) (text a s) ++ take (n % size) v) again ∙ sym fill
@@ -92,10 +93,10 @@ module _ {F : Type 0} (a b : State F) (s n size : ℕ) (known : IsKnown a s) (is
       whole = omega (arith, length-append (text d r) (text d p), ap (λ (v : List ℕ). length v) both, length-filling n (text a s) some)
 
       pub last_room : n ≤ a.limit → length (text d r) + length (text d p) ≤ d.limit
-      last_room h = omega (arith, whole, second.grows.limit, third.grows.limit)
+      last_room h = omega (arith, whole, second.step.grows.limit, third.step.grows.limit)
 
       pub last_value : (e : State F) (x : ℕ) → Has e x (text d r ++ text d p) → Has e x (filling (text a s) n)
       last_value e x k = k ∙ ap Some both
 
-      pub last_use : (e : State F) (t : Option StoreFault) → Step d e t 1 3 → Step a e t 64 (2 * wide_words (length (text a s)) + 256)
-      last_use e t step = step_after (front_use d None third) step (omega arith) (omega arith)
+      pub last_use : (e : State F) (t : Option StoreFault) → Uses d e t 1 3 → Uses a e t 64 (2 * wide_words (length (text a s)) + 256)
+      last_use e t used = uses_after (front_use d None third) used (omega arith) (omega arith)

@@ -6,3 +6,4 @@ pub mod Padded
 pub mod Pairs
 pub mod Points
 pub mod WellFormed
+pub mod Uses

@@ -4,13 +4,14 @@ use Rattle.std.specs.Prelude.{Option, Some, None}
 use Rattle.std.specs.List.{repeat}
 use Rattle.std.proofs.lemmas.List.{length-take}
 use Rattle.js_store.specs.State.{State, Has, IsKnown, text}
-use Rattle.js_store.specs.Faults.{Step}
+use Rattle.js_store.specs.Faults.{Uses}
 use Rattle.js_store.specs.Rows.{wide_words}
 use Rattle.js_store.specs.declared.faults.StoreFault.{StoreFault}
-use Rattle.js_store.proofs.Laws.{step_after, has_text, text_still, known_still}
+use Rattle.js_store.proofs.Laws.{has_text, text_still, known_still}
 use Rattle.js_methods.specs.Padding.{filling, pad_start_of, pad_end_of, pad_ids, pad_words}
 use Rattle.js_methods.proofs.Copies.{length-copies}
 use Rattle.js_methods.proofs.Fill.{length-filling}
+use Rattle.js_methods.proofs.Uses.{uses_after}
 
 -- an empty filler fills nothing
 none_filled : (n : ℕ) (f : List ℕ) → length f ≡ 0 → length (filling f n) ≡ 0
@@ -26,9 +27,9 @@ filled_by : (n : ℕ) (f : List ℕ) → 1 ≤ length (filling f n) → 1 ≤ le
 filled_by n [] h = absurd (omega (arith, none_filled n [] refl))
 filled_by n (x ∷ xs) h = omega arith
 
-module _ {F : Type 0} (a b : State F) (s t most room : ℕ) (known : IsKnown a s) (filler_known : IsKnown a t) (first : Step a b None 0 0) (is : room ≡ length (filling (text a t) (most - length (text a s)))) (some : 1 ≤ room) where
+module _ {F : Type 0} (a b : State F) (s t most room : ℕ) (known : IsKnown a s) (filler_known : IsKnown a t) (first : Uses a b None 0 0) (is : room ≡ length (filling (text a t) (most - length (text a s)))) (some : 1 ≤ room) where
   kept : text b t ≡ text a t
-  kept = text_still first.grows t filler_known
+  kept = text_still first.step.grows t filler_known
 
   has_units : 1 ≤ length (text a t)
   has_units = filled_by (most - length (text a s)) (text a t) (omega (arith, is, some))
@@ -39,12 +40,12 @@ module _ {F : Type 0} (a b : State F) (s t most room : ℕ) (known : IsKnown a s
   same_filling : filling (text b t) room ≡ filling (text a t) (most - length (text a s))
   same_filling = ap (λ (v : List ℕ). filling v room) kept ∙ ap (filling (text a t)) (is ∙ length-filling (most - length (text a s)) (text a t) has_units)
 
-  module _ (d : State F) (x : ℕ) (fill : Has d x (filling (text b t) room)) (second : Step b d None 64 (2 * wide_words (length (text b t)) + 256)) where
+  module _ (d : State F) (x : ℕ) (fill : Has d x (filling (text b t) room)) (second : Uses b d None 64 (2 * wide_words (length (text b t)) + 256)) where
     filled : text d x ≡ filling (text a t) (most - length (text a s))
     filled = has_text d x (filling (text b t) room) fill ∙ same_filling
 
     same : text d s ≡ text a s
-    same = text_still second.grows s (known_still first.grows s known) ∙ text_still first.grows s known
+    same = text_still second.step.grows s (known_still first.step.grows s known) ∙ text_still first.step.grows s known
 
     pub start_value : (e : State F) (r : ℕ) → Has e r (text d x ++ text d s) → Has e r (pad_start_of (text a s) most (text a t))
     start_value e r k = k ∙ ap Some (ap (λ (v : List ℕ). v ++ text d s) filled ∙ ap (λ (v : List ℕ). filling (text a t) (most - length (text a s)) ++ v) same)
@@ -52,7 +53,7 @@ module _ {F : Type 0} (a b : State F) (s t most room : ℕ) (known : IsKnown a s
     pub end_value : (e : State F) (r : ℕ) → Has e r (text d s ++ text d x) → Has e r (pad_end_of (text a s) most (text a t))
     end_value e r k = k ∙ ap Some (ap (λ (v : List ℕ). text d s ++ v) filled ∙ ap (λ (v : List ℕ). v ++ filling (text a t) (most - length (text a s))) same)
 
-    pub pad_use : (e : State F) (f : Option StoreFault) → Step d e f 1 3 → Step a e f pad_ids (pad_words (length (text a t)))
-    pad_use e f step =
-        let front : Step a d None 64 (2 * wide_words (length (text a t)) + 256) = step_after first second (omega arith) (omega (arith, ap (λ (v : List ℕ). length v) kept)) in
-        step_after front step (omega arith) (omega arith)
+    pub pad_use : (e : State F) (f : Option StoreFault) → Uses d e f 1 3 → Uses a e f pad_ids (pad_words (length (text a t)))
+    pad_use e f used =
+        let front : Uses a d None 64 (2 * wide_words (length (text a t)) + 256) = uses_after first second (omega arith) (omega (arith, ap (λ (v : List ℕ). length v) kept)) in
+        uses_after front used (omega arith) (omega arith)

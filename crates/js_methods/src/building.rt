@@ -111,7 +111,8 @@ pub fn to_well_formed<S: Strings>(
     ensures throws { ThrowsLong result (S.state store.old).limit
         (length (well (text (S.state store.old) (S.number s)))) }
     ensures uses { Uses (S.state store.old) (S.state store.new) (full_of result)
-        1 (wide_words (length (text (S.state store.old) (S.number s))) + flat_words (well (text (S.state store.old) (S.number s)))) }
+        1 (wide_words (length (text (S.state store.old) (S.number s)))
+        + flat_words (well (text (S.state store.old) (S.number s)))) }
 {
     let len = store.len(s);
     if len > store.limit() {

@@ -121,8 +121,10 @@ pub fn concat<S: Strings>(store: &mut S, s: S::Ref, t: S::Ref) -> Result<S::Ref,
     ensures throws { ThrowsLong result (S.state store.old).limit
         (length (text (S.state store.old) (S.number s)) + length (text (S.state store.old) (S.number t))) }
     ensures uses { Uses (S.state store.old) (S.state store.new) (method_fault_of result)
-        (join_ids (length (text (S.state store.old) (S.number s))) (length (text (S.state store.old) (S.number t))))
-        (join_words (length (text (S.state store.old) (S.number s))) (length (text (S.state store.old) (S.number t)))) }
+        (join_ids (length (text (S.state store.old) (S.number s)))
+        (length (text (S.state store.old) (S.number t))))
+        (join_words (length (text (S.state store.old) (S.number s)))
+        (length (text (S.state store.old) (S.number t)))) }
 {
     Ok(store.concat(s, t)?)
 }

@@ -64,8 +64,8 @@ pub(crate) fn doubled<S: Strings>(
         ≤ (S.state store.old).limit }
     ensures value { IfOk result
         (λ r. Has (S.state store.new) (S.number r) (repeated count (text (S.state store.old) (S.number s)))) }
-    ensures uses { (k : ℕ) → count < 2 ^ (k + 1) → Uses (S.state store.old) (S.state store.new) (fault_of result)
-        (2 * k) (6 * k) }
+    ensures uses { (k : ℕ) → count < 2 ^ (k + 1)
+        → Uses (S.state store.old) (S.state store.new) (fault_of result) (2 * k) (6 * k) }
 {
     if count == 1 {
         return Ok(s);

@@ -29,7 +29,8 @@ pub fn ends_with<S: Strings>(
     ensures settled { OnOk result (IsSettled (S.state store.new) (S.number s)) }
     ensures needle_settled { OnOk result (IsSettled (S.state store.new) (S.number w)) }
     ensures uses { Uses (S.state store.old) (S.state store.new) (method_fault_of result)
-        0 (wide_words (length (text (S.state store.old) (S.number s))) + wide_words (length (text (S.state store.old) (S.number w)))) }
+        0 (wide_words (length (text (S.state store.old) (S.number s)))
+        + wide_words (length (text (S.state store.old) (S.number w)))) }
 {
     let len = store.len(s);
     let end = end.map_or(len, |end| end.clamp_to(len));
@@ -55,7 +56,8 @@ pub fn includes<S: Strings>(
     ensures settled { OnOk result (IsSettled (S.state store.new) (S.number s)) }
     ensures needle_settled { OnOk result (IsSettled (S.state store.new) (S.number w)) }
     ensures uses { Uses (S.state store.old) (S.state store.new) (method_fault_of result)
-        0 (wide_words (length (text (S.state store.old) (S.number s))) + wide_words (length (text (S.state store.old) (S.number w)))) }
+        0 (wide_words (length (text (S.state store.old) (S.number s)))
+        + wide_words (length (text (S.state store.old) (S.number w)))) }
 {
     Ok(index_of(store, s, w, from)?.is_some())
 }
@@ -77,7 +79,8 @@ pub fn index_of<S: Strings>(
     ensures settled { OnOk result (IsSettled (S.state store.new) (S.number s)) }
     ensures needle_settled { OnOk result (IsSettled (S.state store.new) (S.number w)) }
     ensures uses { Uses (S.state store.old) (S.state store.new) (method_fault_of result)
-        0 (wide_words (length (text (S.state store.old) (S.number s))) + wide_words (length (text (S.state store.old) (S.number w)))) }
+        0 (wide_words (length (text (S.state store.old) (S.number s)))
+        + wide_words (length (text (S.state store.old) (S.number w)))) }
 {
     let len = store.len(s);
     settle_both(store, s, w)?;
@@ -102,7 +105,8 @@ pub fn last_index_of<S: Strings>(
     ensures settled { OnOk result (IsSettled (S.state store.new) (S.number s)) }
     ensures needle_settled { OnOk result (IsSettled (S.state store.new) (S.number w)) }
     ensures uses { Uses (S.state store.old) (S.state store.new) (method_fault_of result)
-        0 (wide_words (length (text (S.state store.old) (S.number s))) + wide_words (length (text (S.state store.old) (S.number w)))) }
+        0 (wide_words (length (text (S.state store.old) (S.number s)))
+        + wide_words (length (text (S.state store.old) (S.number w)))) }
 {
     let len = store.len(s);
     let most = match limit {
@@ -130,7 +134,8 @@ pub fn starts_with<S: Strings>(
     ensures settled { OnOk result (IsSettled (S.state store.new) (S.number s)) }
     ensures needle_settled { OnOk result (IsSettled (S.state store.new) (S.number w)) }
     ensures uses { Uses (S.state store.old) (S.state store.new) (method_fault_of result)
-        0 (wide_words (length (text (S.state store.old) (S.number s))) + wide_words (length (text (S.state store.old) (S.number w)))) }
+        0 (wide_words (length (text (S.state store.old) (S.number s)))
+        + wide_words (length (text (S.state store.old) (S.number w)))) }
 {
     let len = store.len(s);
     settle_both(store, s, w)?;
@@ -144,7 +149,8 @@ fn settle_both<S: Strings>(store: &mut S, s: S::Ref, w: S::Ref) -> Result<(), St
     ensures settled { OnOk result (IsSettled (S.state store.new) (S.number s)) }
     ensures needle_settled { OnOk result (IsSettled (S.state store.new) (S.number w)) }
     ensures uses { Uses (S.state store.old) (S.state store.new) (fault_of result)
-        0 (wide_words (length (text (S.state store.old) (S.number s))) + wide_words (length (text (S.state store.old) (S.number w)))) }
+        0 (wide_words (length (text (S.state store.old) (S.number s)))
+        + wide_words (length (text (S.state store.old) (S.number w)))) }
 {
     store.settle(s)?;
     store.settle(w)

@@ -22,7 +22,8 @@ pub fn is_well_formed<S: Strings>(store: &mut S, s: S::Ref) -> Result<bool, Meth
     ensures throws { NeverThrows result }
     ensures settled { OnOk result (IsSettled (S.state store.new) (S.number s)) }
     ensures uses { Uses (S.state store.old) (S.state store.new) (method_fault_of result)
-        0 (settle_words ((S.state store.old).settled (S.number s)) (length (text (S.state store.old) (S.number s)))) }
+        0 (settle_words ((S.state store.old).settled (S.number s))
+        (length (text (S.state store.old) (S.number s)))) }
 {
     store.settle(s)?;
     Ok(has_pairs_alone(store, s))
