@@ -110,7 +110,8 @@ fn shown<S: Strings>(alloc: Global, store: &mut S, key: S::Ref) -> Result<S::Ref
         (λ r. Has (S.state store.new) (S.number r) (shown_symbol (text (S.state store.old) (S.number key)))) }
     ensures throws { NeverThrows result }
     ensures uses { Uses (S.state store.old) (S.state store.new) (full_of result)
-        1 (wide_words (length (text (S.state store.old) (S.number key))) + flat_words (shown_symbol (text (S.state store.old) (S.number key)))) }
+        1 (wide_words (length (text (S.state store.old) (S.number key)))
+        + flat_words (shown_symbol (text (S.state store.old) (S.number key)))) }
 {
     let units = read(alloc, store, key)?;
     let mut text = Units::new(alloc);

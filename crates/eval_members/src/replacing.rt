@@ -142,7 +142,10 @@ fn replaced<S: Strings>(
         (length (replaced_of replace (text (S.state store.old) (S.number s))
         (text (S.state store.old) (S.number w)) (text (S.state store.old) (S.number template)))) }
     ensures uses { Uses (S.state store.old) (S.state store.new) (full_of result)
-        1 (settling (S.state store.old) (S.number s) + settling (S.state store.old) (S.number w) + settling (S.state store.old) (S.number template) + made_words (S.state store.old).limit (replaced_of replace (text (S.state store.old) (S.number s)) (text (S.state store.old) (S.number w)) (text (S.state store.old) (S.number template)))) }
+        1 (settling (S.state store.old) (S.number s) + settling (S.state store.old) (S.number w)
+        + settling (S.state store.old) (S.number template) + made_words (S.state store.old).limit
+        (replaced_of replace (text (S.state store.old) (S.number s))
+        (text (S.state store.old) (S.number w)) (text (S.state store.old) (S.number template)))) }
 {
     match replace {
         Replace::First => js_replace::replace(alloc, store, s, w, template),

@@ -18,7 +18,7 @@ ghost use Rattle.js_item.specs.Fine.{IsFine};
 ghost use Rattle.eval_values.specs.Seen.{all_seen, AllFine, LawfulEnd};
 ghost use Rattle.eval_values.specs.Does.{Does};
 
-use eval_values::{Refusal, Stop, Value, first_text, second_number, second_or_none};
+use eval_values::{Abrupt, Stop, Value, first_text, second_number, second_or_none};
 use js_number::Num;
 use js_store::Strings;
 use js_texts::MethodFault;
@@ -67,7 +67,7 @@ fn find<S: Strings>(
     search: Search,
     s: S::Ref,
     w: S::Ref,
-    place: Result<Num, Refusal>,
+    place: Result<Num, Abrupt>,
 ) -> Result<Value<S::Ref>, Stop>
     requires known { IsKnown (S.state store.old) (S.number s) }
     requires needle_known { IsKnown (S.state store.old) (S.number w) }
@@ -100,7 +100,8 @@ fn searched<S: Strings>(
     ensures fine { IfOk result (λ v. IsFine (S.state store.new) S.number v) }
     ensures throws { NeverThrows result }
     ensures uses { Uses (S.state store.old) (S.state store.new) (method_fault_of result)
-        0 (wide_words (length (text (S.state store.old) (S.number s))) + wide_words (length (text (S.state store.old) (S.number w)))) }
+        0 (wide_words (length (text (S.state store.old) (S.number s)))
+        + wide_words (length (text (S.state store.old) (S.number w)))) }
 {
     match search {
         Search::Includes => Ok(Value::Bool(js_methods::includes(store, s, w, n)?)),
@@ -152,7 +153,7 @@ fn find_end<S: Strings>(
     store: &mut S,
     s: S::Ref,
     w: S::Ref,
-    end: Result<Option<Num>, Refusal>,
+    end: Result<Option<Num>, Abrupt>,
 ) -> Result<Value<S::Ref>, Stop>
     requires known { IsKnown (S.state store.old) (S.number s) }
     requires needle_known { IsKnown (S.state store.old) (S.number w) }

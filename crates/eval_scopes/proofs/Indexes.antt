@@ -8,7 +8,7 @@ use Rattle.std.proofs.lemmas.Bool.Decides.{leb_tells}
 use Rattle.std.proofs.lemmas.List.{map-append, length-map}
 use Rattle.std.proofs.lemmas.Slice.Eq.{bytes_eq-Decides}
 use Rattle.eval_tree.specs.Keys.{key_of}
-use Rattle.eval_scopes.specs.declared.env.Binding.{Binding}
+use Rattle.eval_scopes.specs.declared.binding_list.Binding.{Binding}
 use Rattle.eval_scopes.specs.Bindings.{Bound, bound_in, is_among}
 use Rattle.eval_scopes.specs.Seen.{bounds_of, put, IsAt}
 use Rattle.eval_scopes.specs.Index.{few, names_in, NoneBefore, StandFrom, IsIndexTo, IsIndex, NoneAmong, NoneNamed}

@@ -2,4 +2,4 @@ mod Hollows
 mod Places
 mod Indexes
 mod Stacked
-mod Envs
+mod BindingLists

@@ -4,7 +4,7 @@ use Rattle.std.proofs.Math.ListN.{drop_of_length-le}
 use Rattle.std.proofs.Math.Seq.{take-length}
 use Rattle.std.proofs.lemmas.Bool.Decides.{leb_tells}
 use Rattle.std.proofs.lemmas.List.{map-append, reverse-append, append-nil, length-map}
-use Rattle.eval_scopes.specs.declared.env.Binding.{Binding}
+use Rattle.eval_scopes.specs.declared.binding_list.Binding.{Binding}
 use Rattle.std.specs.Prelude.{OnOk, OnErr, Result, Ok, Err}
 use Rattle.eval_scopes.specs.declared.frames.Frame.{Frame as CodeFrame}
 use Rattle.eval_scopes.specs.declared.scope.Scope.{Scope}
@@ -183,16 +183,16 @@ module _ {T : Type 0} (fs : List (CodeFrame T)) (top : List (Bound T)) (x : List
             ∙ ap (λ q. record { blocks = q; top = top }) (sym three))),
       )
 
-pub block_place : {T : Type 0} (s : Scope T) (x : List ℕ) (n k i : ℕ) (f : CodeFrame T) → n ≡ suc k → k < length s.blocks.frames → f ≡ get_or s.blocks.frames k f → Sought s.blocks.frames (bounds_of s.env) x n → IsAt (bounds_of f.bound) x i → IsPlace s x (Block k i)
+pub block_place : {T : Type 0} (s : Scope T) (x : List ℕ) (n k i : ℕ) (f : CodeFrame T) → n ≡ suc k → k < length s.blocks.frames → f ≡ get_or s.blocks.frames k f → Sought s.blocks.frames (bounds_of s.top) x n → IsAt (bounds_of f.bound) x i → IsPlace s x (Block k i)
 block_place s x n k i f e l p h a =
     let b = s.blocks in
-    let h' : Sought b.frames (bounds_of s.env) x (suc k) = subst (λ q. Sought b.frames (bounds_of s.env) x q) e h in
-    let t = sought_block b.frames (bounds_of s.env) x k f l p i h' a in
+    let h' : Sought b.frames (bounds_of s.top) x (suc k) = subst (λ q. Sought b.frames (bounds_of s.top) x q) e h in
+    let t = sought_block b.frames (bounds_of s.top) x k f l p i h' a in
     let w : i < length f.bound = subst (λ q. i < q) (length-map f.bound bound_of) a.within in
     record {
       within = block_has b.frames k i f l p w;
-      reads = look_blocks b (bounds_of s.env) x ∙ t.0;
-      writes = λ v. write_blocks b (bounds_of s.env) x v ∙ ap (λ q. hollowed b.hollow (spread (outsides_of b.frames) q)) (t.1 v);
+      reads = look_blocks b (bounds_of s.top) x ∙ t.0;
+      writes = λ v. write_blocks b (bounds_of s.top) x v ∙ ap (λ q. hollowed b.hollow (spread (outsides_of b.frames) q)) (t.1 v);
     }
 
 sought_top : {T : Type 0} (fs : List (CodeFrame T)) (top : List (Bound T)) (x : List ℕ) (n : ℕ) → n ≡ 0 → Sought fs top x n → (look (frames_of fs) top x ≡ bound_in top x) × ((v : T) → write (frames_of fs) top x v ≡ record { blocks = frames_of fs; top = changed top x v })
@@ -217,19 +217,19 @@ one_more P xs i x l p e h = λ j y k g. elim (leb_tells i j) [
       subst P one e)
 ]
 
-pub top_place : {T : Type 0} (s : Scope T) (x : List ℕ) (n i : ℕ) → n ≡ 0 → Sought s.blocks.frames (bounds_of s.env) x n → IsAt (bounds_of s.env) x i → IsPlace s x (Top i)
+pub top_place : {T : Type 0} (s : Scope T) (x : List ℕ) (n i : ℕ) → n ≡ 0 → Sought s.blocks.frames (bounds_of s.top) x n → IsAt (bounds_of s.top) x i → IsPlace s x (Top i)
 top_place s x n i e h a =
     let b = s.blocks in
-    let t = sought_top b.frames (bounds_of s.env) x n e h in
-    let w : i < length s.env = subst (λ q. i < q) (length-map s.env bound_of) a.within in
+    let t = sought_top b.frames (bounds_of s.top) x n e h in
+    let w : i < length s.top = subst (λ q. i < q) (length-map s.top bound_of) a.within in
     record {
       within = w;
-      reads = look_blocks b (bounds_of s.env) x ∙ (t.0 ∙ a.reads);
-      writes = λ v. write_blocks b (bounds_of s.env) x v ∙ ap (λ q. hollowed b.hollow (spread (outsides_of b.frames) q)) (t.1 v ∙ ap (λ q. record { blocks = frames_of b.frames; top = q }) (a.writes v));
+      reads = look_blocks b (bounds_of s.top) x ∙ (t.0 ∙ a.reads);
+      writes = λ v. write_blocks b (bounds_of s.top) x v ∙ ap (λ q. hollowed b.hollow (spread (outsides_of b.frames) q)) (t.1 v ∙ ap (λ q. record { blocks = frames_of b.frames; top = q }) (a.writes v));
     }
 
-pub no_place : {T : Type 0} (s : Scope T) (x : List ℕ) (n : ℕ) → n ≡ 0 → Sought s.blocks.frames (bounds_of s.env) x n → bound_in (bounds_of s.env) x ≡ None → look (blocks_of s.blocks) (bounds_of s.env) x ≡ None
-no_place s x n e h a = look_blocks s.blocks (bounds_of s.env) x ∙ ((sought_top s.blocks.frames (bounds_of s.env) x n e h).0 ∙ a)
+pub no_place : {T : Type 0} (s : Scope T) (x : List ℕ) (n : ℕ) → n ≡ 0 → Sought s.blocks.frames (bounds_of s.top) x n → bound_in (bounds_of s.top) x ≡ None → look (blocks_of s.blocks) (bounds_of s.top) x ≡ None
+no_place s x n e h a = look_blocks s.blocks (bounds_of s.top) x ∙ ((sought_top s.blocks.frames (bounds_of s.top) x n e h).0 ∙ a)
 
 -- a list with the same block in one place
 frame_kept : {T : Type 0} (fs : List (CodeFrame T)) (k : ℕ) (f g : CodeFrame T) → k < length fs → f ≡ get_or fs k f → frame_of g ≡ frame_of f → map frame_of (set fs k g) ≡ map frame_of fs

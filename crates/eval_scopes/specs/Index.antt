@@ -4,7 +4,7 @@ use Rattle.std.specs.Ordering.{nat_cmp}
 use Rattle.std.specs.Map.{lookup}
 use Rattle.std.specs.BTreeMap.{is_at}
 use Rattle.eval_tree.specs.Keys.{key_of}
-use Rattle.eval_scopes.specs.declared.env.Binding.{Binding}
+use Rattle.eval_scopes.specs.declared.binding_list.Binding.{Binding}
 
 abbrev pub names_in : {T : Type 0} → List (Binding T) → List (List ℕ)
 names_in bs = map (λ b. b.name) bs

@@ -2,4 +2,4 @@ pub mod Bindings
 pub mod Seen
 pub mod Index
 pub mod Mask
-pub mod Env
+pub mod BindingList

@@ -1,6 +1,6 @@
 -- What the scope of the code stands for.
 use Rattle.std.specs.Prelude.{◌≡◌, ℕ, zero, suc, ◌<◌, length, List, [], ◌∷◌, false, map, reverse, Option, slice_get, option_and_then, unwrap_or}
-use Rattle.eval_scopes.specs.declared.env.Binding.{Binding}
+use Rattle.eval_scopes.specs.declared.binding_list.Binding.{Binding}
 use Rattle.eval_scopes.specs.declared.frames.Frame.{Frame as CodeFrame}
 use Rattle.eval_scopes.specs.declared.blocks.Blocks.{Blocks}
 use Rattle.eval_scopes.specs.declared.scope.Scope.{Scope}
@@ -46,7 +46,7 @@ abbrev pub blocks_of : {T : Type 0} → Blocks T → List (Frame T)
 blocks_of b = hollows b.hollow (stacked b.frames)
 
 abbrev pub bindings_of : {T : Type 0} → Scope T → Bindings T
-bindings_of s = record { blocks = blocks_of s.blocks; top = bounds_of s.env }
+bindings_of s = record { blocks = blocks_of s.blocks; top = bounds_of s.top }
 
 -- the binding at a place of a list, and the list with another value there
 abbrev pub put : {T : Type 0} → List (Bound T) → ℕ → T → List (Bound T)
@@ -84,12 +84,12 @@ abbrev pub got : {T : Type 0} → Option (Frame T) → ℕ → Option (Bound T)
 got f i = option_and_then (λ g. slice_get g.bound i) f
 
 abbrev pub bound_at : {T : Type 0} → Scope T → Place → Option (Bound T)
-bound_at s (Top i) = slice_get (bounds_of s.env) i
+bound_at s (Top i) = slice_get (bounds_of s.top) i
 bound_at s (Block k i) = got (slice_get (map frame_of s.blocks.frames) k) i
 
 abbrev pub put_at : {T : Type 0} → Scope T → Place → T → Bindings T
-put_at s (Top i) v = record { blocks = blocks_of s.blocks; top = put (bounds_of s.env) i v }
-put_at s (Block k i) v = record { blocks = put_in_frame s.blocks k i v; top = bounds_of s.env }
+put_at s (Top i) v = record { blocks = blocks_of s.blocks; top = put (bounds_of s.top) i v }
+put_at s (Block k i) v = record { blocks = put_in_frame s.blocks k i v; top = bounds_of s.top }
 
 abbrev pub InBlock : {T : Type 0} → List (CodeFrame T) → ℕ → ℕ → Type 0
 InBlock [] k i = ⊥
@@ -97,7 +97,7 @@ InBlock (f ∷ fs) zero i = i < length f.bound
 InBlock (f ∷ fs) (suc k) i = InBlock fs k i
 
 abbrev pub Within : {T : Type 0} → Scope T → Place → Type 0
-Within s (Top i) = i < length s.env
+Within s (Top i) = i < length s.top
 Within s (Block k i) = InBlock s.blocks.frames k i
 
 pub record IsPlace {T : Type 0} (s : Scope T) (x : List ℕ) (p : Place) : Type 0 where

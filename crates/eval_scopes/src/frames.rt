@@ -4,7 +4,7 @@ ghost use Rattle.std.specs.Prelude.{◌≡◌, ◌<◌, ◌≤◌, ◌+◌, ◌�
 ghost use Rattle.eval_scopes.specs.Bindings.{Bound, declare, all_but_first};
 ghost use Rattle.eval_scopes.specs.Seen.{bounds_of, names_of, frame_of, outsides_of, hollows, with_hollows, stacked, put_in, InBlock, IsOnly};
 
-use crate::env::Env;
+use crate::binding_list::BindingList;
 use crate::index::Declared;
 use eval_tree::Name;
 use js_units::NoMemory;
@@ -16,7 +16,7 @@ use std::marker::Model;
 #[derive(Drop)]
 pub struct Frame<'a, T> {
     pub names: Option<Declared<'a>>,
-    pub bound: Env<T>,
+    pub bound: BindingList<T>,
     pub outside: usize,
 }
 
@@ -224,7 +224,7 @@ fn make_room<'a, T: Drop>(
     }
     match all.push(Frame {
         names: None,
-        bound: Env::new(alloc),
+        bound: BindingList::new(alloc),
         outside: 0,
     }) {
         Ok(()) => Ok(()),

@@ -97,7 +97,7 @@ fn index_key(map: &mut BTreeMap<u64, usize>, key: u64, place: usize) -> Result<(
     }
 }
 
-/// The names that a block declares. Contracts see them as a list. As in `Env`, those behind the first
+/// The names that a block declares. Contracts see them as a list. As in `BindingList`, those behind the first
 /// few are sought by their keys, and a mask tells of most names that they aren't there.
 #[derive(Drop)]
 pub struct Declared<'a> {

@@ -4,15 +4,15 @@
 //! What names mean stands in `specs/Bindings.antt`.
 #![tactic(auto)]
 
+mod binding_list;
 mod blocks;
-mod env;
 mod frames;
 mod index;
 mod mask;
 mod scope;
 
+pub use binding_list::{Binding, BindingList};
 pub use blocks::Blocks;
-pub use env::{Binding, Env};
 pub use frames::Frame;
 pub use index::Declared;
 pub use scope::{Place, Scope};

@@ -3,8 +3,8 @@ ghost use Rattle.std.specs.Prelude.{◌≡◌, Some, None, MatchOption, OnOk, On
 ghost use Rattle.eval_scopes.specs.Bindings.{is_among, meant, declared, entered, turned, outer};
 ghost use Rattle.eval_scopes.specs.Seen.{bound_of, names_of, bindings_of, bound_at, put_at, Within, IsPlace};
 
+use crate::binding_list::{Binding, BindingList};
 use crate::blocks::Blocks;
-use crate::env::{Binding, Env};
 use crate::frames::Frame;
 use eval_tree::{Name, Names};
 use js_units::NoMemory;
@@ -14,7 +14,7 @@ use std::alloc::Global;
 #[derive(Drop)]
 pub struct Scope<'a, T> {
     pub blocks: Blocks<'a, T>,
-    pub env: Env<T>,
+    pub top: BindingList<T>,
 }
 
 /// Where a binding stands.
@@ -41,7 +41,7 @@ impl<'a, T: Drop> Scope<'a, T> {
                 return None;
             }
         }
-        match self.env.position(name) {
+        match self.top.position(name) {
             Some(index) => Some(Place::Top { index }),
             None => None,
         }
@@ -53,7 +53,7 @@ impl<'a, T: Drop> Scope<'a, T> {
         ensures { Some (bound_of result.now) ≡ bound_at self.now place }
     {
         match place {
-            Place::Top { index } => &self.env.list()[index],
+            Place::Top { index } => &self.top.list()[index],
             Place::Block { block, index } => &self.blocks.frames()[block].bound.list()[index],
         }
     }
@@ -64,7 +64,7 @@ impl<'a, T: Drop> Scope<'a, T> {
         ensures { bindings_of self.new ≡ put_at self.old place value }
     {
         match place {
-            Place::Top { index } => self.env.set(index, value),
+            Place::Top { index } => self.top.set(index, value),
             Place::Block { block, index } => self.blocks.set(block, index, value),
         }
     }
@@ -78,7 +78,7 @@ impl<'a, T: Drop> Scope<'a, T> {
         self.blocks.fill()?;
         let frames = self.blocks.frames().len();
         if frames == 0 {
-            self.env.bind(name, constant, value)
+            self.top.bind(name, constant, value)
         } else {
             self.blocks.declare(frames - 1, name, constant, value)
         }

@@ -12,8 +12,8 @@ ghost use Rattle.js_item.specs.Fine.{IsFine};
 ghost use Rattle.eval_values.specs.Seen.{all_seen, AllFine, LawfulEnd};
 ghost use Rattle.eval_values.specs.Does.{GivesText};
 
-use crate::conversions::{number_of, object_refusal, to_text};
-use crate::value::{Kind, Refusal, Stop, Value};
+use crate::conversions::{abrupt_of_object, number_of, to_text};
+use crate::value::{Abrupt, Kind, Stop, Value};
 use js_number::Num;
 use js_store::Strings;
 use std::alloc::Global;
@@ -100,7 +100,7 @@ pub fn first_number<S: Strings>(
     store: &mut S,
     at: u32,
     args: &[Value<S::Ref>],
-) -> Result<Num, Refusal>
+) -> Result<Num, Abrupt>
     requires { AllFine (S.state store.old) S.number args.now }
     ensures value { converted_of result ≡ to_number at
         (first_of (all_seen (S.state store.old) S.number args.now)) }
@@ -119,7 +119,7 @@ pub fn second_number<S: Strings>(
     store: &mut S,
     at: u32,
     args: &[Value<S::Ref>],
-) -> Result<Num, Refusal>
+) -> Result<Num, Abrupt>
     requires { AllFine (S.state store.old) S.number args.now }
     ensures value { converted_of result ≡ to_number at
         (second_of (all_seen (S.state store.old) S.number args.now)) }
@@ -138,7 +138,7 @@ pub fn second_or_none<S: Strings>(
     store: &mut S,
     at: u32,
     args: &[Value<S::Ref>],
-) -> Result<Option<Num>, Refusal>
+) -> Result<Option<Num>, Abrupt>
     requires { AllFine (S.state store.old) S.number args.now }
     ensures value { converted_of result ≡ end_in at
         (second_of (all_seen (S.state store.old) S.number args.now)) }
@@ -156,7 +156,7 @@ fn number_or_none<S: Strings>(
     store: &mut S,
     at: u32,
     value: &Value<S::Ref>,
-) -> Result<Option<Num>, Refusal>
+) -> Result<Option<Num>, Abrupt>
     requires { IsFine (S.state store.old) S.number value.now }
     ensures value { converted_of result ≡ end_in at (seen (S.state store.old) S.number value.now) }
     ensures lawful { IfOk result LawfulEnd }
@@ -169,8 +169,8 @@ fn number_or_none<S: Strings>(
         Value::Bool(true) => Ok(Some(Num::Int(1))),
         Value::Bool(false) => Ok(Some(Num::Int(0))),
         Value::Number(n) => Ok(Some(*n)),
-        Value::Text(_) | Value::List(_) => Err(Refusal::Unsupported { at }),
-        Value::Symbol(_) => Err(Refusal::Threw(Kind::TypeError)),
-        Value::Object(object) => Err(object_refusal(store, at, object)),
+        Value::Text(_) | Value::List(_) => Err(Abrupt::Unsupported { at }),
+        Value::Symbol(_) => Err(Abrupt::Threw(Kind::TypeError)),
+        Value::Object(object) => Err(abrupt_of_object(store, at, object)),
     }
 }

@@ -230,7 +230,8 @@ fn settle_both<S: Strings>(store: &mut S, a: S::Ref, b: S::Ref) -> Result<(), St
     ensures left_settled { OnOk result (IsSettled (S.state store.new) (S.number a)) }
     ensures right_settled { OnOk result (IsSettled (S.state store.new) (S.number b)) }
     ensures uses { Uses (S.state store.old) (S.state store.new) (fault_of result)
-        0 (wide_words (length (text (S.state store.old) (S.number a))) + wide_words (length (text (S.state store.old) (S.number b)))) }
+        0 (wide_words (length (text (S.state store.old) (S.number a)))
+        + wide_words (length (text (S.state store.old) (S.number b)))) }
 {
     store.settle(a)?;
     store.settle(b)

@@ -18,7 +18,7 @@ ghost use Rattle.eval_values.specs.Seen.{all_seen, AllFine};
 ghost use Rattle.eval_values.specs.Does.{GivesText, GivesTexts, string_words};
 
 use crate::lists::push;
-use crate::value::{Kind, Refusal, Stop, Value};
+use crate::value::{Abrupt, Kind, Stop, Value};
 use js_item::Object;
 use js_number::{Num, append_text};
 use js_store::{StoreFault, Strings};
@@ -119,7 +119,8 @@ pub fn joined_by_commas<S: Strings>(
     ensures throws { ThrowsLong result (S.state store.old).limit
         (length (comma_joined (texts_seen (S.state store.old) S.number list.now))) }
     ensures uses { Uses (S.state store.old) (S.state store.new) (full_of result)
-        2 (settle_most (S.state store.old) S.number list.now + made_words (S.state store.old).limit (comma_joined (texts_seen (S.state store.old) S.number list.now)) + 1) }
+        2 (settle_most (S.state store.old) S.number list.now + made_words (S.state store.old).limit
+        (comma_joined (texts_seen (S.state store.old) S.number list.now)) + 1) }
 {
     let comma = store.from_units(&[0x2C])?;
     js_texts::join(alloc, store, list, comma)
@@ -178,7 +179,7 @@ pub fn is_string<S: Strings>(_store: &S, value: &Value<S::Ref>) -> bool
 }
 
 /// ToNumber of a value, in an operation at the byte offset `at`. Of an object it reads the keys.
-pub fn number_of<S: Strings>(store: &mut S, at: u32, value: &Value<S::Ref>) -> Result<Num, Refusal>
+pub fn number_of<S: Strings>(store: &mut S, at: u32, value: &Value<S::Ref>) -> Result<Num, Abrupt>
     requires { IsFine (S.state store.old) S.number value.now }
     ensures value { converted_of result ≡ to_number at (seen (S.state store.old) S.number value.now) }
     ensures lawful { IfOk result IsLawful }
@@ -191,23 +192,27 @@ pub fn number_of<S: Strings>(store: &mut S, at: u32, value: &Value<S::Ref>) -> R
         Value::Bool(true) => Ok(Num::Int(1)),
         Value::Bool(false) => Ok(Num::Int(0)),
         Value::Number(n) => Ok(*n),
-        Value::Text(_) | Value::List(_) => Err(Refusal::Unsupported { at }),
-        Value::Symbol(_) => Err(Refusal::Threw(Kind::TypeError)),
-        Value::Object(object) => Err(object_refusal(store, at, object)),
+        Value::Text(_) | Value::List(_) => Err(Abrupt::Unsupported { at }),
+        Value::Symbol(_) => Err(Abrupt::Threw(Kind::TypeError)),
+        Value::Object(object) => Err(abrupt_of_object(store, at, object)),
     }
 }
 
 // Why an object becomes no number.
-pub(crate) fn object_refusal<S: Strings>(store: &mut S, at: u32, object: &Object<S::Ref>) -> Refusal
+pub(crate) fn abrupt_of_object<S: Strings>(
+    store: &mut S,
+    at: u32,
+    object: &Object<S::Ref>,
+) -> Abrupt
     requires { FineFields (strings_of (S.state store.old)) S.number object.now }
     ensures value { fails (ending_of result) ≡ to_number at
         (Contents.object (fields_mapped (says (S.state store.old) S.number) object.now)) }
     ensures uses { Uses (S.state store.old) (S.state store.new) None 0 0 }
 {
     if has_to_string(store, object) {
-        Refusal::Threw(Kind::TypeError)
+        Abrupt::Threw(Kind::TypeError)
     } else {
-        Refusal::Unsupported { at }
+        Abrupt::Unsupported { at }
     }
 }
 

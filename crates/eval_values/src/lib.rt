@@ -22,4 +22,4 @@ pub use comparing::{compare, is_same};
 pub use conversions::{joined_by_commas, number_of, texts, to_text, truth};
 pub use lists::push;
 pub use operators::{apply_unary, plus, subtract, to_primitive};
-pub use value::{Kind, Refusal, Stop, Value, number_value};
+pub use value::{Abrupt, Kind, Stop, Value, number_value};

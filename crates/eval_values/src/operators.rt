@@ -13,7 +13,7 @@ ghost use Rattle.js_item.specs.Fine.{IsFine};
 ghost use Rattle.eval_values.specs.Does.{Does};
 
 use crate::conversions::{is_string, number_of, to_text, truth};
-use crate::value::{Kind, Refusal, Stop, Value};
+use crate::value::{Abrupt, Kind, Stop, Value};
 use js_number::Num;
 use js_store::{ConcatFault, Strings};
 use std::alloc::Global;
@@ -195,7 +195,7 @@ pub fn two_numbers<S: Strings>(
     at: u32,
     left: &Value<S::Ref>,
     right: &Value<S::Ref>,
-) -> Result<(Num, Num), Refusal>
+) -> Result<(Num, Num), Abrupt>
     requires left { IsFine (S.state store.old) S.number left.now }
     requires right { IsFine (S.state store.old) S.number right.now }
     ensures value { converted_of result ≡ paired (to_number at (seen (S.state store.old) S.number left.now))
@@ -207,12 +207,12 @@ pub fn two_numbers<S: Strings>(
     match number_of(store, at, left) {
         Ok(m) => match number_of(store, at, right) {
             Ok(n) => Ok((m, n)),
-            Err(refusal) => Err(refusal),
+            Err(abrupt) => Err(abrupt),
         },
-        Err(Refusal::Threw(kind)) => Err(Refusal::Threw(kind)),
-        Err(Refusal::Unsupported { at: place }) => match number_of(store, at, right) {
-            Ok(_) => Err(Refusal::Unsupported { at: place }),
-            Err(refusal) => Err(refusal),
+        Err(Abrupt::Threw(kind)) => Err(Abrupt::Threw(kind)),
+        Err(Abrupt::Unsupported { at: place }) => match number_of(store, at, right) {
+            Ok(_) => Err(Abrupt::Unsupported { at: place }),
+            Err(abrupt) => Err(abrupt),
         },
     }
 }

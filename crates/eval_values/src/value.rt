@@ -34,7 +34,7 @@ pub fn number_value<R>(value: u64) -> Value<R>
 
 /// Why a conversion that makes nothing gives no value.
 #[derive(Clone, Copy, Debug)]
-pub enum Refusal {
+pub enum Abrupt {
     Threw(Kind),
     Unsupported { at: u32 },
 }
@@ -70,16 +70,16 @@ impl From<NoMemory> for Stop {
     }
 }
 
-impl From<Refusal> for Stop {
+impl From<Abrupt> for Stop {
     ghost use Rattle.std.specs.Prelude.{◌≡◌};
-    ghost use Rattle.eval_values.specs.Stops.{refusal_stop};
+    ghost use Rattle.eval_values.specs.Stops.{abrupt_stop};
 
-    ghost from_gives = { λ r e. e ≡ refusal_stop r };
+    ghost from_gives = { λ r e. e ≡ abrupt_stop r };
 
-    fn from(refusal: Refusal) -> Stop {
-        match refusal {
-            Refusal::Threw(kind) => Stop::Threw(kind),
-            Refusal::Unsupported { at } => Stop::Unsupported { at },
+    fn from(abrupt: Abrupt) -> Stop {
+        match abrupt {
+            Abrupt::Threw(kind) => Stop::Threw(kind),
+            Abrupt::Unsupported { at } => Stop::Unsupported { at },
         }
     }
 }

@@ -66,7 +66,7 @@ module _ {F R : Type 0} (s : State F) (name : R → ℕ) where
   got_fine (f ∷ fs) (suc k) i b h e = got_fine fs k i b h.1 e
 
   pub place_fine : (scope : Scope (Item R)) (p : Place) (b : Bound (Item R)) → BindingsFine s name (bindings_of scope) → Some b ≡ bound_at scope p → IsFine s name b.value
-  place_fine scope (Top i) b h e = every_get (λ c. IsFine s name c.value) (bounds_of scope.env) i b h.top (sym e)
+  place_fine scope (Top i) b h e = every_get (λ c. IsFine s name c.value) (bounds_of scope.top) i b h.top (sym e)
   place_fine scope (Block k i) b h e = got_fine (map frame_of scope.blocks.frames) k i b (framed scope h) e
 
   put_fine : (bs : List (Bound (Item R))) (i : ℕ) (v : Item R) → IsFine s name v → BoundsFine s name bs → BoundsFine s name (put bs i v)
@@ -81,7 +81,7 @@ module _ {F R : Type 0} (s : State F) (name : R → ℕ) where
 
   -- another value at a place
   pub put_at_fine : (scope : Scope (Item R)) (p : Place) (v : Item R) → IsFine s name v → BindingsFine s name (bindings_of scope) → BindingsFine s name (put_at scope p v)
-  put_at_fine scope (Top i) v f h = record { blocks = h.blocks; top = put_fine (bounds_of scope.env) i v f h.top }
+  put_at_fine scope (Top i) v f h = record { blocks = h.blocks; top = put_fine (bounds_of scope.top) i v f h.top }
   put_at_fine scope (Block k i) v f h =
       let P : Frame (Item R) → Type 0 = λ g. BoundsFine s name g.bound in
       let b = scope.blocks in

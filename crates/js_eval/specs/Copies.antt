@@ -1,6 +1,6 @@
 -- What a binding holds, whatever vector has the elements of an array.
 use Rattle.std.specs.Prelude.{ℕ, List, Bool}
-use Rattle.eval_scopes.specs.declared.env.Binding.{Binding}
+use Rattle.eval_scopes.specs.declared.binding_list.Binding.{Binding}
 use Rattle.js_item.specs.declared.item.Item.{Item}
 use Rattle.js_item.specs.Contents.{Content}
 use Rattle.js_item.specs.Views.{content}

@@ -2,7 +2,7 @@
 ghost use Rattle.std.specs.Prelude.{◌≡◌, [], map, IfOk};
 ghost use Rattle.js_eval.specs.Copies.{bound_content};
 
-use eval_scopes::Binding;
+use eval_scopes::{Binding, BindingList};
 use eval_values::Value;
 use js_units::NoMemory;
 use std::alloc::Global;
@@ -13,13 +13,13 @@ use std::marker::Model;
 #[derive(Drop)]
 pub struct Env<R> {
     alloc: Global,
-    pub(crate) top: eval_scopes::Env<Value<R>>,
+    pub(crate) top: BindingList<Value<R>>,
 }
 
 impl<R> Model for Env<R> {
     ghost use Rattle.std.specs.Coded.{codes};
     ghost use Rattle.std.specs.Prelude.{List};
-    ghost use Rattle.eval_scopes.specs.declared.env.Binding.{Binding};
+    ghost use Rattle.eval_scopes.specs.declared.binding_list.Binding.{Binding};
     ghost use Rattle.js_item.specs.Codes.{fields_code};
     ghost use Rattle.js_item.specs.declared.item.Item.{Item};
 
@@ -37,7 +37,7 @@ impl<R: Drop> Env<R> {
     {
         Env {
             alloc,
-            top: eval_scopes::Env::new(alloc),
+            top: BindingList::new(alloc),
         }
     }
 
@@ -47,7 +47,7 @@ impl<R: Drop> Env<R> {
         R: Copy,
         ensures { IfOk result (λ env. map bound_content env ≡ map bound_content self.now) }
     {
-        let mut top = eval_scopes::Env::new(self.alloc);
+        let mut top = BindingList::new(self.alloc);
         for binding in self.top.list() {
             top.push(Binding {
                 name: binding.name.copy()?,

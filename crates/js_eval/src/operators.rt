@@ -142,8 +142,8 @@ fn of_numbers<S: Strings>(
     requires left { IsFine (S.state store.now) S.number left.now }
     requires right { IsFine (S.state store.now) S.number right.now }
     ensures fine { IfSome result (λ v. IsFine (S.state store.now) S.number v) }
-    ensures did { (at limit : ℕ) → IfSome result (λ v. Does S.number (S.state store.now) (S.state store.now) (Ok v)
-        (operated op at limit (seen (S.state store.now) S.number left.now)
+    ensures did { (at limit : ℕ) → IfSome result (λ v. Does S.number (S.state store.now) (S.state store.now)
+        (Ok v) (operated op at limit (seen (S.state store.now) S.number left.now)
         (seen (S.state store.now) S.number right.now))) }
 {
     match left {
@@ -171,8 +171,8 @@ pub fn of_both<S: Strings>(_store: &S, op: Op, m: Num, n: Num) -> Option<Value<S
     requires left { IsLawful m }
     requires right { IsLawful n }
     ensures fine { IfSome result (λ v. IsFine (S.state _store.now) S.number v) }
-    ensures did { (at limit : ℕ) → IfSome result (λ v. Does S.number (S.state _store.now) (S.state _store.now) (Ok v)
-        (operated op at limit (number m) (number n))) }
+    ensures did { (at limit : ℕ) → IfSome result (λ v. Does S.number (S.state _store.now) (S.state _store.now)
+        (Ok v) (operated op at limit (number m) (number n))) }
 {
     match op {
         Op::Plus => match m.add(n) {

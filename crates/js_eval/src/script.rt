@@ -26,11 +26,11 @@ use crate::expr::{expr, exprs};
 use crate::literals::intern_literals;
 use crate::operators::apply;
 use crate::short::test_at_hand;
-use eval_scopes::{Blocks, Place, Scope};
+use eval_scopes::{BindingList, Blocks, Place, Scope};
 use eval_tree::{Arm, Block, Expr, Name, Op, Script, Stmt};
 use eval_values::{Kind, Stop, Value, texts, truth};
-use js_number::Num;
 use js_json::Lines;
+use js_number::Num;
 use js_store::{StoreFault, Strings};
 use std::alloc::Global;
 use std::mem;
@@ -83,12 +83,12 @@ fn run<S: Strings>(
         literals,
         scope: Scope {
             blocks: Blocks::new(alloc),
-            env: mem::replace(&mut env.top, eval_scopes::Env::new(alloc)),
+            top: mem::replace(&mut env.top, BindingList::new(alloc)),
         },
     };
     let result = statements(alloc, store, &mut context, lines, &script.body);
     let scope = context.scope;
-    env.top = scope.env;
+    env.top = scope.top;
     result
 }
 

@@ -159,7 +159,8 @@ fn run_files<R: Threads + Sync, F: Files, O: Sink, E: Sink, G: Gate + Sync>(
     requires few { length scripts.now ≤ 4096 }
     ensures keeps { KeepsFiles (F.state files.old) (F.state files.new) }
     ensures becomes { (request : Request)
-        → request.asked ≡ named_files (names_for prelude.entry scripts.now).prelude (names_for prelude.entry scripts.now).scripts
+        → request.asked ≡ named_files (names_for prelude.entry scripts.now).prelude
+        (names_for prelude.entry scripts.now).scripts
         → setup ≡ setup_of request
         → Becomes (HasCauseIn (F.state files.old) (F.state files.new) request) (ended result)
         (sinks (O.state out.old) (E.state err.old)) (sinks (O.state out.new) (E.state err.new)) }
@@ -182,8 +183,8 @@ pub(crate) fn run_plan<R: Threads + Sync, F: Files, O: Sink, E: Sink, G: Gate + 
 ) -> Status
     requires { IsInRange (request_for plan.now) }
     ensures keeps { KeepsFiles (F.state files.old) (F.state files.new) }
-    ensures becomes { Becomes (HasCauseIn (F.state files.old) (F.state files.new) (request_for plan.now)) (ended result)
-        (sinks (O.state out.old) (E.state err.old)) (sinks (O.state out.new) (E.state err.new)) }
+    ensures becomes { Becomes (HasCauseIn (F.state files.old) (F.state files.new) (request_for plan.now))
+        (ended result) (sinks (O.state out.old) (E.state err.old)) (sinks (O.state out.new) (E.state err.new)) }
 {
     let setup = setup(plan);
     match &plan.source {

@@ -14,8 +14,7 @@ use js_eval::{End, Kind};
 use js_io::{Failed, Sink, write_all};
 use js_parse::ParseFault;
 use js_store::FullReport;
-use run_program::Outcome;
-use run_program::Ran;
+use run_program::{Outcome, Ran};
 use run_sources::{Source, Sources, Stop};
 
 fn write_both<O: Sink>(sink: &mut O, first: &[u8], second: &[u8]) -> Result<(), Failed>

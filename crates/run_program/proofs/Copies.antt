@@ -2,7 +2,7 @@
 use Rattle.std.proofs.Common.{◌≡◌, ℕ, List, [], ◌∷◌, map, refl, sym, ap, subst, ◌∙◌}
 use Rattle.js_store.specs.State.{State, Grows}
 use Rattle.js_texts.proofs.Lists.{every_map, map_same}
-use Rattle.eval_scopes.specs.declared.env.Binding.{Binding}
+use Rattle.eval_scopes.specs.declared.binding_list.Binding.{Binding}
 use Rattle.eval_scopes.specs.Bindings.{Bound}
 use Rattle.eval_scopes.specs.Seen.{bound_of, bounds_of}
 use Rattle.js_item.specs.declared.item.Item.{Item}

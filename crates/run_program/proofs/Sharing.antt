@@ -5,7 +5,7 @@ use Rattle.std.proofs.lemmas.List.Elements.{All-take, All-drop, Contains-append_
 use Rattle.js_store.specs.State.{State, Grows}
 use Rattle.js_store.proofs.Laws.{known_still}
 use Rattle.eval_tree.specs.Tree.{tree_of}
-use Rattle.eval_scopes.specs.declared.env.Binding.{Binding}
+use Rattle.eval_scopes.specs.declared.binding_list.Binding.{Binding}
 use Rattle.eval_scopes.specs.Bindings.{Bound}
 use Rattle.eval_scopes.specs.Seen.{bounds_of}
 use Rattle.js_item.specs.declared.item.Item.{Item}

@@ -7,7 +7,7 @@ use Rattle.js_store.specs.declared.faults.FullReport.TheVariants.{Ids, Words, Sl
 use Rattle.js_store.specs.declared.faults.StoreFault.{StoreFault}
 use Rattle.js_store.specs.declared.faults.StoreFault.TheVariants as store
 use Rattle.eval_tree.specs.Tree.{tree_of}
-use Rattle.eval_scopes.specs.declared.env.Binding.{Binding}
+use Rattle.eval_scopes.specs.declared.binding_list.Binding.{Binding}
 use Rattle.eval_scopes.specs.Seen.{bounds_of}
 use Rattle.js_item.specs.declared.item.Item.{Item}
 use Rattle.eval_values.specs.Ran.{NextShut}

@@ -46,5 +46,6 @@ pub trait Shared {
         ensures grows { Grows (state self.old) (state self.new) }
         ensures meaning { Evaluates (state self.old) (state self.new) lines.old lines.new
             (bounds_seen (state self.new) number (bounds_of env.new)) result
-            (meaning (tree_of script.now) (bounds_seen (state self.old) number (bounds_of env.old)) (state self.old).limit) };
+            (meaning (tree_of script.now) (bounds_seen (state self.old) number (bounds_of env.old))
+            (state self.old).limit) };
 }

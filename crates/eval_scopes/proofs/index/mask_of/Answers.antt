@@ -1,6 +1,6 @@
 use Rattle.std.proofs.Common.{arith, ℕ, subst}
 use Rattle.eval_scopes.specs.Mask.{Marks}
-use Rattle.eval_scopes.proofs.Envs.{marks_next}
+use Rattle.eval_scopes.proofs.BindingLists.{marks_next}
 use Rattle.eval_scopes.proofs.index.mask_of.Goals as goal
 
 pub loop-name-preserved : goal.loop-name-preserved

@@ -15,6 +15,6 @@ returns-in-Err-number_of-clause-value g c =
     let a = g.S.Strings.state c.args.store.now in
     let b = g.S.Strings.state c.number_of.new.store in
     let e = c.in-Err-Unsupported.ensures.value in
-    both_refused c.in-Err-Unsupported.place c.in-Err-number_of.refusal (to_number c.args.at (seen a number c.args.left.now)) (to_number c.args.at (seen a number c.args.right.now))
+    both_refused c.in-Err-Unsupported.place c.in-Err-number_of.abrupt (to_number c.args.at (seen a number c.args.left.now)) (to_number c.args.at (seen a number c.args.right.now))
     (rw c.in-Err-Unsupported.field-0-is at e)
     (c.in-Err-number_of.ensures.value ∙ ap (to_number c.args.at) (seen_still a b number c.in-Err-Unsupported.ensures.uses.step.grows c.args.right.now c.requires.right))

@@ -8,8 +8,8 @@ returns-in_err-made-clause-context g c =
 
 pub returns-in_err-intern-clause-context : goal.returns-in_err-intern-clause-context
 returns-in_err-intern-clause-context g c =
-    context_fine_still (g.S.Strings.state c.args.store.now) (g.S.Strings.state c.intern.new.self) g.S.Strings.number (grows_trans c.in_ok-made.ensures.uses.step.grows c.in_err-intern.ensures.uses.step.grows) c.args._context.now c.requires
+    context_fine_still (g.S.Strings.state c.args.store.now) (g.S.Strings.state c.intern.new.self) g.S.Strings.number (grows_trans c.in_ok-made.ensures.uses.step.grows c.in_err-intern.ensures.step.grows) c.args._context.now c.requires
 
 pub returns-clause-context : goal.returns-clause-context
 returns-clause-context g c =
-    context_fine_still (g.S.Strings.state c.args.store.now) (g.S.Strings.state c.intern.new.self) g.S.Strings.number (grows_trans c.in_ok-made.ensures.uses.step.grows c.in_ok-intern.ensures.uses.step.grows) c.args._context.now c.requires
+    context_fine_still (g.S.Strings.state c.args.store.now) (g.S.Strings.state c.intern.new.self) g.S.Strings.number (grows_trans c.in_ok-made.ensures.uses.step.grows c.in_ok-intern.ensures.step.grows) c.args._context.now c.requires

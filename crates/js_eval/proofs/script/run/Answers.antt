@@ -35,4 +35,4 @@ returns-clause-went g c =
     let w = r.ensures.went in
     let none : blocks_of c.new.result ≡ [] = c.new.ensures in
     let begun : record { blocks = blocks_of c.new.result; top = bounds_of c.replace.result } ≡ record { blocks = []; top = bounds_of c.args.env.now } = cc (none, ap bounds_of (c.replace.ensures.value ∙ c.env.view_is)) in
-    script_went number (state c.args.store.now) (state c.intern_literals.new.store) c.args.lines.now (bounds_of c.args.env.now) (tree_of c.args.script.now) c.in_ok-literals.ensures.grows c.requires (state r.new.store) r.new.lines (record { literals = c.in_ok-literals.literals; scope = record { blocks = c.new.result; env = c.replace.result } }) r.result (context_bindings (state r.new.store) number r.new.context) begun (rw e at d) (rw q at w)
+    script_went number (state c.args.store.now) (state c.intern_literals.new.store) c.args.lines.now (bounds_of c.args.env.now) (tree_of c.args.script.now) c.in_ok-literals.ensures.grows c.requires (state r.new.store) r.new.lines (record { literals = c.in_ok-literals.literals; scope = record { blocks = c.new.result; top = c.replace.result } }) r.result (context_bindings (state r.new.store) number r.new.context) begun (rw e at d) (rw q at w)

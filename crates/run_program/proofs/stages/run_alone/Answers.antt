@@ -1,5 +1,5 @@
 use Rattle.std.proofs.Common.{subst, List}
-use Rattle.eval_scopes.specs.declared.env.Binding.{Binding}
+use Rattle.eval_scopes.specs.declared.binding_list.Binding.{Binding}
 use Rattle.js_item.specs.declared.item.Item.{Item}
 use Rattle.heap_read.specs.declared.string.JsStr.{JsStr}
 use Rattle.heap_intern.specs.Sessions.{state_in}

@@ -1,6 +1,6 @@
 use Rattle.std.proofs.Common.{◌≡◌, List, ℕ, false, subst, sym}
 use Rattle.eval_scopes.specs.Bindings.{is_among}
-use Rattle.eval_scopes.proofs.Envs.{unmarked_names}
+use Rattle.eval_scopes.proofs.BindingLists.{unmarked_names}
 use Rattle.eval_scopes.proofs.index.Declared.has.Goals as goal
 
 pub returns-then-not-may_have : goal.returns-then-not-may_have

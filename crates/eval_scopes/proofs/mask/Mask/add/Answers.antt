@@ -1,7 +1,7 @@
 use Rattle.std.proofs.Common.{arith, ℕ, ◌%◌, subst, sym, w64}
 use Rattle.std.proofs.lemmas.Nat.Bits.{bit_at_set_same}
 use Rattle.eval_scopes.specs.Mask.{Marks}
-use Rattle.eval_scopes.proofs.Envs.{bit_kept}
+use Rattle.eval_scopes.proofs.BindingLists.{bit_kept}
 use Rattle.eval_scopes.proofs.mask.Mask.add.Goals as goal
 
 pub returns-clause-added : goal.returns-clause-added

@@ -32,7 +32,7 @@ offset_bounds-list-index-in-Block g c =
 pub returns-in-Top : goal.returns-in-Top
 returns-in-Top g c =
     let h = rw c.in-Top.is at c.requires in
-    rw (c.in-Top.is) (sym (bound_get c.args.self.now.env c.in-Top.index c.index-list-index.result h (rw c.list.ensures at c.index-list-index.is)))
+    rw (c.in-Top.is) (sym (bound_get c.args.self.now.top c.in-Top.index c.index-list-index.result h (rw c.list.ensures at c.index-list-index.is)))
 
 pub returns-in-Block : goal.returns-in-Block
 returns-in-Block g c =

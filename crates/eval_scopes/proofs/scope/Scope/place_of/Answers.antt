@@ -5,7 +5,7 @@ use Rattle.eval_scopes.proofs.Places.{Sought, sought_all, sought_on, sought_unse
 use Rattle.eval_scopes.proofs.scope.Scope.place_of.Goals as goal
 
 pub loop-block-init : goal.loop-block-init
-loop-block-init g c = sought_all c.args.self.now.blocks.frames (bounds_of c.args.self.now.env) c.args.name.now (length c.frames-frames.result.now) (ap length c.frames-frames.ensures)
+loop-block-init g c = sought_all c.args.self.now.blocks.frames (bounds_of c.args.self.now.top) c.args.name.now (length c.frames-frames.result.now) (ap length c.frames-frames.ensures)
 
 pub returns-in-Some : goal.returns-in-Some
 returns-in-Some g c =
@@ -16,7 +16,7 @@ pub returns-then-declares : goal.returns-then-declares
 returns-then-declares g c =
     let k = c.loop-block.block - 1 in
     let fs = c.args.self.now.blocks.frames in
-    let top = bounds_of c.args.self.now.env in
+    let top = bounds_of c.args.self.now.top in
     let e : c.loop-block.block ≡ suc k = omega arith in
     let l : k < length fs = omega (arith, ap length c.frames-frames.ensures) in
     look_blocks c.args.self.now.blocks top c.args.name.now ∙ sought_unset fs top c.args.name.now k c.index-frames-block.result l (rw c.frames-frames.ensures at c.index-frames-block.is) (subst (λ q. Sought fs top c.args.name.now q) e c.loop-block.invariant) c.in_default.ensures (sym c.declares.ensures ∙ c.if-declares.true)
@@ -25,7 +25,7 @@ pub loop-block-preserved : goal.loop-block-preserved
 loop-block-preserved g c =
     let k = c.loop-block.block - 1 in
     let fs = c.args.self.now.blocks.frames in
-    let top = bounds_of c.args.self.now.env in
+    let top = bounds_of c.args.self.now.top in
     let e : c.loop-block.block ≡ suc k = omega arith in
     let l : k < length fs = omega (arith, ap length c.frames-frames.ensures) in
     sought_on fs top c.args.name.now k c.index-frames-block.result l (rw c.frames-frames.ensures at c.index-frames-block.is) (subst (λ q. Sought fs top c.args.name.now q) e c.loop-block.invariant) c.in_default.ensures (sym c.declares.ensures ∙ c.if-declares.false)

@@ -1,10 +1,10 @@
 use Rattle.std.proofs.Common.{◌≡◌, List, None, MatchOption, ap, length, min, subst, sym, take, ◌∙◌}
-use Rattle.eval_scopes.specs.declared.env.Binding.{Binding}
+use Rattle.eval_scopes.specs.declared.binding_list.Binding.{Binding}
 use Rattle.eval_scopes.specs.Bindings.{bound_in}
 use Rattle.eval_scopes.specs.Index.{few, NoneNamed}
 use Rattle.eval_scopes.specs.Seen.{bounds_of, IsAt}
 use Rattle.eval_scopes.proofs.Indexes.{binding_start, found_or_none, no_binding_start}
-use Rattle.eval_scopes.proofs.env.Env.position_by_key.Goals as goal
+use Rattle.eval_scopes.proofs.binding_list.BindingList.position_by_key.Goals as goal
 
 pub position_in-requires-clause-before : goal.position_in-requires-clause-before
 position_in-requires-clause-before g c =

@@ -10,9 +10,9 @@ use Rattle.std.proofs.lemmas.List.{map-append, length-map}
 use Rattle.std.proofs.lemmas.Nat.Bits.{bit_at_or, bit_at-lt}
 use Rattle.std.proofs.lemmas.Slice.Eq.{bytes_eq-Decides}
 use Rattle.eval_tree.specs.Keys.{key_of}
-use Rattle.eval_scopes.specs.declared.env.Binding.{Binding}
+use Rattle.eval_scopes.specs.declared.binding_list.Binding.{Binding}
 use Rattle.eval_scopes.specs.Bindings.{Bound, bound_in, is_among}
-use Rattle.eval_scopes.specs.Env.{IsEnv}
+use Rattle.eval_scopes.specs.BindingList.{IsBindingList}
 use Rattle.eval_scopes.specs.Index.{few, names_in, IsIndexTo, IsIndex}
 use Rattle.eval_scopes.specs.Mask.{Marks, MarksTo}
 use Rattle.eval_scopes.specs.Seen.{bound_of, bounds_of, put, IsLeft}
@@ -53,7 +53,7 @@ pub unmarked_names : (ns : List (List ℕ)) (x : List ℕ) (bits key : ℕ) (r :
 unmarked_names ns x bits key r e t f h = none_among ns x (λ j n l g. differs n x bits key r e t f (h j n l g))
 
 module _ {T : Type 0} where
-  pub unmarked : (all bs : List (Binding T)) (n : ℕ) (first : List (ℕ × ℕ)) (x : List ℕ) (bits key : ℕ) (r : Bool) → take n all ≡ bs → IsEnv all n first bits → key ≡ key_of x → (Marks bits key → r ≡ true) → r ≡ false → bound_in (bounds_of bs) x ≡ None
+  pub unmarked : (all bs : List (Binding T)) (n : ℕ) (first : List (ℕ × ℕ)) (x : List ℕ) (bits key : ℕ) (r : Bool) → take n all ≡ bs → IsBindingList all n first bits → key ≡ key_of x → (Marks bits key → r ≡ true) → r ≡ false → bound_in (bounds_of bs) x ≡ None
   unmarked all bs n first x bits key r v h e t f =
       subst (λ (q : List (Binding T)). bound_in (bounds_of q) x ≡ None) v
       (none_at (take n all) x (λ j b l g. differs b.name x bits key r e t f (h.marks j b.name (omega (arith, l, length_taken n all h.within)) (names_get (take n all) j b g))))
@@ -76,8 +76,8 @@ module _ {T : Type 0} where
   set_length : (bs cs : List (Binding T)) (i : ℕ) (v : T) → bounds_of cs ≡ put (bounds_of bs) i v → length cs ≡ length bs
   set_length bs cs i v e = sym (length-map cs bound_of) ∙ (ap length e ∙ (put_length (bounds_of bs) i v ∙ length-map bs bound_of))
 
-  pub set_env : (n : ℕ) (bs cs : List (Binding T)) (i : ℕ) (v : T) (first : List (ℕ × ℕ)) (mask : ℕ) → bounds_of cs ≡ put (bounds_of bs) i v → IsEnv bs n first mask → IsEnv cs n first mask
-  set_env n bs cs i v first mask e h =
+  pub set_list : (n : ℕ) (bs cs : List (Binding T)) (i : ℕ) (v : T) (first : List (ℕ × ℕ)) (mask : ℕ) → bounds_of cs ≡ put (bounds_of bs) i v → IsBindingList bs n first mask → IsBindingList cs n first mask
+  set_list n bs cs i v first mask e h =
       let names : names_in (take n cs) ≡ names_in (take n bs) = names_put (take n bs) (take n cs) i v (set_used n bs cs i v e) in
       record {
         within = omega (arith, h.within, set_length bs cs i v e);
@@ -89,8 +89,8 @@ module _ {T : Type 0} where
   used_within n i all bs v w l = omega (arith, l, ap length v, w, length_taken n all w)
 
   -- one more binding in use
-  pub grown_env : (n : ℕ) (bs cs : List (Binding T)) (x : List ℕ) (first next : List (ℕ × ℕ)) (mask more key : ℕ) → key ≡ key_of x → names_in (take (n + 1) cs) ≡ names_in (take n bs) ++ x ∷ [] → n + 1 ≤ length cs → IsEnv bs n first mask → ((ns : List (List ℕ)) → n ≤ length ns → IsIndexTo first ns n → IsIndexTo next ns n) → IsSome (lookup (is_at (nat_cmp key)) next) ⊎ (n < few) → Marks more key → ((k : ℕ) → Marks mask k → Marks more k) → IsEnv cs (n + 1) next more
-  grown_env n bs cs x first next mask more key e names w h indexed found here kept =
+  pub grown_list : (n : ℕ) (bs cs : List (Binding T)) (x : List ℕ) (first next : List (ℕ × ℕ)) (mask more key : ℕ) → key ≡ key_of x → names_in (take (n + 1) cs) ≡ names_in (take n bs) ++ x ∷ [] → n + 1 ≤ length cs → IsBindingList bs n first mask → ((ns : List (List ℕ)) → n ≤ length ns → IsIndexTo first ns n → IsIndexTo next ns n) → IsSome (lookup (is_at (nat_cmp key)) next) ⊎ (n < few) → Marks more key → ((k : ℕ) → Marks mask k → Marks more k) → IsBindingList cs (n + 1) next more
+  grown_list n bs cs x first next mask more key e names w h indexed found here kept =
       let ns : List (List ℕ) = names_in (take n bs) in
       let many : n ≡ length ns = sym (length-map (take n bs) (λ b. b.name) ∙ length_taken n bs h.within) in
       let old : IsIndexTo first ns n = subst (λ (q : ℕ). IsIndexTo first ns q) (sym many) h.index in

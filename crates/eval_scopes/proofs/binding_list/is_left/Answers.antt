@@ -1,7 +1,7 @@
 use Rattle.std.proofs.Common.{arith, ap, sym, ◌∙◌, bytes_eq}
-use Rattle.eval_scopes.specs.declared.env.Binding.{Binding}
-use Rattle.eval_scopes.proofs.Envs.{left_at}
-use Rattle.eval_scopes.proofs.env.is_left.Goals as goal
+use Rattle.eval_scopes.specs.declared.binding_list.Binding.{Binding}
+use Rattle.eval_scopes.proofs.BindingLists.{left_at}
+use Rattle.eval_scopes.proofs.binding_list.is_left.Goals as goal
 
 pub returns : goal.returns
 returns g c = λ t.

@@ -1,9 +1,9 @@
 use Rattle.std.proofs.Common.{arith, List, ap, length, subst}
-use Rattle.eval_scopes.specs.declared.env.Binding.{Binding}
+use Rattle.eval_scopes.specs.declared.binding_list.Binding.{Binding}
 use Rattle.eval_scopes.specs.Index.{NoneNamed}
 use Rattle.eval_scopes.proofs.Places.{none_at}
 use Rattle.eval_scopes.proofs.Stacked.{length_taken}
-use Rattle.eval_scopes.proofs.env.Env.position_in_list.Goals as goal
+use Rattle.eval_scopes.proofs.binding_list.BindingList.position_in_list.Goals as goal
 
 pub returns-then-all-le-FEW : goal.returns-then-all-le-FEW
 returns-then-all-le-FEW g c =

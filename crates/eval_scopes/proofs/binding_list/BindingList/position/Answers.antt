@@ -1,5 +1,5 @@
-use Rattle.eval_scopes.proofs.Envs.{unmarked}
-use Rattle.eval_scopes.proofs.env.Env.position.Goals as goal
+use Rattle.eval_scopes.proofs.BindingLists.{unmarked}
+use Rattle.eval_scopes.proofs.binding_list.BindingList.position.Goals as goal
 
 pub returns-then-not-may_have : goal.returns-then-not-may_have
 returns-then-not-may_have g c =

@@ -23,7 +23,7 @@ pub struct Binding<T> {
 /// that none is there. The first few are looked at one after another; behind them a name is sought from
 /// the first one on that has its key, so that thousands of names cost little.
 #[derive(Drop)]
-pub struct Env<T> {
+pub struct BindingList<T> {
     // those in use, and behind them what was left in place for later ones of the same names
     all: Vec<Binding<T>>,
     used: usize,
@@ -32,24 +32,24 @@ pub struct Env<T> {
     mask: Mask,
 }
 
-impl<T> Model for Env<T> {
+impl<T> Model for BindingList<T> {
     ghost use Rattle.std.specs.Prelude.{List, take};
-    ghost use Rattle.eval_scopes.specs.declared.env.Binding.{Binding};
-    ghost use Rattle.eval_scopes.specs.Env.{IsEnv};
+    ghost use Rattle.eval_scopes.specs.declared.binding_list.Binding.{Binding};
+    ghost use Rattle.eval_scopes.specs.BindingList.{IsBindingList};
 
     ghost Value = { List (Binding T) };
 
-    ghost view = { λ e. take e.used e.all.items };
+    ghost view = { λ b. take b.used b.all.items };
 
-    ghost invariant = { λ e. IsEnv e.all.items e.used e.first e.mask };
+    ghost invariant = { λ b. IsBindingList b.all.items b.used b.first b.mask };
 }
 
-impl<T: Drop> Env<T> {
+impl<T: Drop> BindingList<T> {
     /// No binding. It takes no memory.
-    pub fn new(alloc: Global) -> Env<T>
+    pub fn new(alloc: Global) -> BindingList<T>
         ensures { result ≡ [] }
     {
-        Env {
+        BindingList {
             all: Vec::new(alloc),
             used: 0,
             first: Index::new(),

@@ -1,8 +1,8 @@
 use Rattle.std.proofs.Common.{List, subst}
-use Rattle.eval_scopes.specs.declared.env.Binding.{Binding}
+use Rattle.eval_scopes.specs.declared.binding_list.Binding.{Binding}
 use Rattle.eval_scopes.specs.Seen.{IsLeft}
-use Rattle.eval_scopes.proofs.Envs.{left_within}
-use Rattle.eval_scopes.proofs.env.bind_behind.Goals as goal
+use Rattle.eval_scopes.proofs.BindingLists.{left_within}
+use Rattle.eval_scopes.proofs.binding_list.bind_behind.Goals as goal
 
 pub bind_again-requires : goal.bind_again-requires
 bind_again-requires g c =

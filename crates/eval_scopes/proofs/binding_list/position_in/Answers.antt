@@ -1,7 +1,7 @@
 use Rattle.std.proofs.Common.{◌≡◌, false, arith, ap, sym, ◌∙◌, bytes_eq}
-use Rattle.eval_scopes.specs.declared.env.Binding.{Binding}
+use Rattle.eval_scopes.specs.declared.binding_list.Binding.{Binding}
 use Rattle.eval_scopes.proofs.Places.{first_at, one_more}
-use Rattle.eval_scopes.proofs.env.position_in.Goals as goal
+use Rattle.eval_scopes.proofs.binding_list.position_in.Goals as goal
 
 pub loop-i-preserved : goal.loop-i-preserved
 loop-i-preserved g c =

@@ -1,8 +1,8 @@
 use Rattle.std.proofs.Common.{arith, List, subst, sym, ◌∙◌}
-use Rattle.eval_scopes.specs.declared.env.Binding.{Binding}
+use Rattle.eval_scopes.specs.declared.binding_list.Binding.{Binding}
 use Rattle.eval_scopes.specs.Seen.{bounds_of, IsOnly}
 use Rattle.eval_scopes.proofs.Stacked.{only_one}
-use Rattle.eval_scopes.proofs.env.Env.is_only.Goals as goal
+use Rattle.eval_scopes.proofs.binding_list.BindingList.is_only.Goals as goal
 
 pub returns : goal.returns
 returns g c = λ t.
