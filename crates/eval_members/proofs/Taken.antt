@@ -4,7 +4,8 @@ use Rattle.std.proofs.lemmas.List.{length-map, take-map}
 use Rattle.eval_tree.specs.declared.tree.Method.{Method}
 use Rattle.js_store.specs.State.{State}
 use Rattle.js_texts.specs.Texts.{Every}
-use Rattle.eval_members.specs.Operands.{most_taken, operands}
+use Rattle.eval_members.specs.Operands.{operands}
+use Rattle.eval_tree.specs.Methods.{most_taken}
 use Rattle.js_item.specs.declared.item.Item.{Item}
 use Rattle.js_item.specs.Seen.{seen}
 use Rattle.js_item.specs.Fine.{IsFine}

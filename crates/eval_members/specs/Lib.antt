@@ -8,4 +8,3 @@ pub mod Replacing
 pub mod Properties
 pub mod Arrays
 pub mod Members
-pub mod Groups

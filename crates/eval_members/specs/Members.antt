@@ -1,5 +1,6 @@
 -- Members and methods of values.
-use Rattle.std.specs.Prelude.{ℕ, ◌+◌, List, length, pos, codes}
+use Rattle.std.specs.Prelude.{ℕ, ◌+◌, List, length, Option, pos, codes}
+use Rattle.js_number.specs.declared.Num.{Num}
 use Rattle.js_number.specs.declared.Num.TheVariants.{Int}
 use Rattle.js_units.specs.Text.{well}
 use Rattle.js_methods.specs.Cuts.{slice_of, substring_of, substr_of}
@@ -11,6 +12,16 @@ use Rattle.js_replace.specs.Replaced.{replaced_first, replaced_all}
 use Rattle.js_methods.specs.WellFormed.{all_paired}
 use Rattle.eval_tree.specs.declared.tree.Method.{Method}
 use Rattle.eval_tree.specs.declared.tree.Method.TheVariants.{At, CharAt, CharCodeAt, CodePointAt, Concat, EndsWith, Includes, IndexOf, IsWellFormed, Join, LastIndexOf, PadEnd, PadStart, Repeat, Replace, ReplaceAll, Slice, Split, StartsWith, Substr, Substring, ToWellFormed, Trim, TrimEnd, TrimStart}
+use Rattle.eval_members.specs.declared.cutting.Cut.{Cut}
+use Rattle.eval_members.specs.declared.cutting.Cut.TheVariants as cut
+use Rattle.eval_members.specs.declared.cutting.Trim.{Trim}
+use Rattle.eval_members.specs.declared.cutting.Trim.TheVariants as trim
+use Rattle.eval_members.specs.declared.searching.Search.{Search}
+use Rattle.eval_members.specs.declared.searching.Search.TheVariants as sought
+use Rattle.eval_members.specs.declared.padding.Pad.{Pad}
+use Rattle.eval_members.specs.declared.padding.Pad.TheVariants as pad
+use Rattle.eval_members.specs.declared.replacing.Replace.{Replace}
+use Rattle.eval_members.specs.declared.replacing.Replace.TheVariants as replace
 use Rattle.eval_values.specs.declared.value.Kind.TheVariants.{TypeError}
 use Rattle.js_item.specs.Seen.{Val}
 use Rattle.js_item.specs.Contents.{undefined, null, bool, number, text, symbol, list, object}
@@ -89,3 +100,32 @@ abbrev pub called : Method → ℕ → ℕ → Val → List Val → Out Val
 called m at limit (text u) vs = string_call m at limit (length u + all_units (operands m vs)) u (operands m vs)
 called m at limit (list us) vs = list_call m at limit (list_units us + all_units (operands m vs)) us (operands m vs)
 called m at limit v vs = throwing (reads (all_units (operands m vs))) TypeError
+
+-- methods that differ in one definition alone, by the code's names of them
+abbrev pub part_of : Cut → List ℕ → Num → Option Num → List ℕ
+part_of cut.Slice u a b = slice_of u a b
+part_of cut.Substring u a b = substring_of u a b
+part_of cut.Substr u a b = substr_of u a b
+
+abbrev pub trimmed_of : Trim → List ℕ → List ℕ
+trimmed_of trim.Both u = trimmed u
+trimmed_of trim.Start u = trimmed_start u
+trimmed_of trim.End u = trimmed_end u
+
+abbrev pub search_of : Search → List ℕ → List ℕ → Num → Val
+search_of sought.Includes u w n = bool (includes_from u w n)
+search_of sought.IndexOf u w n = place_value (index_from u w n)
+search_of sought.LastIndexOf u w n = place_value (last_index_up_to u w n)
+search_of sought.StartsWith u w n = bool (starts_at u w n)
+
+abbrev pub padded_of : Pad → List ℕ → ℕ → List ℕ → List ℕ
+padded_of pad.Start u m w = pad_start_of u m w
+padded_of pad.End u m w = pad_end_of u m w
+
+abbrev pub replaced_of : Replace → List ℕ → List ℕ → List ℕ → List ℕ
+replaced_of replace.First u w t = replaced_first u w t
+replaced_of replace.All u w t = replaced_all u w t
+
+abbrev pub match_count : Replace → List ℕ → List ℕ → ℕ
+match_count replace.First u w = 1
+match_count replace.All u w = length (matches u w)

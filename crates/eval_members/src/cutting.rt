@@ -10,7 +10,7 @@ ghost use Rattle.eval_values.specs.Conversions.{to_number, all_units};
 ghost use Rattle.eval_values.specs.Arguments.{first_of, second_of, end_in};
 ghost use Rattle.eval_values.specs.Limited.{limited};
 ghost use Rattle.eval_members.specs.Cutting.{cut_call};
-ghost use Rattle.eval_members.specs.Groups.{part_of, trimmed_of};
+ghost use Rattle.eval_members.specs.Members.{part_of, trimmed_of};
 ghost use Rattle.js_item.specs.Fine.{IsFine};
 ghost use Rattle.eval_values.specs.Seen.{all_seen, AllFine};
 ghost use Rattle.eval_values.specs.Does.{Does};

@@ -1,38 +1,17 @@
 // The arguments that a method takes: those that its definition names; further ones are ignored.
 ghost use Rattle.std.specs.Prelude.{◌≡◌};
-ghost use Rattle.eval_members.specs.Operands.{most_taken, operands as operands_of};
+ghost use Rattle.eval_members.specs.Operands.{operands as operands_of};
 ghost use Rattle.eval_values.specs.Seen.{all_seen, AllFine};
 
 use eval_tree::Method;
 use eval_values::Value;
 use js_store::Strings;
 
-// How many of `count` arguments a method takes at most.
-fn most_taken(method: Method, count: usize) -> usize
-    ensures { result ≡ most_taken method count }
-{
-    match method {
-        Method::Concat => count,
-        Method::IsWellFormed
-        | Method::ToWellFormed
-        | Method::Trim
-        | Method::TrimEnd
-        | Method::TrimStart => 0,
-        Method::At
-        | Method::CharAt
-        | Method::CharCodeAt
-        | Method::CodePointAt
-        | Method::Join
-        | Method::Repeat => 1,
-        _ => 2,
-    }
-}
-
 // The first ones of these, as many as a method takes.
 fn taken<T>(method: Method, args: &[T]) -> &[T]
     ensures { result.now ≡ operands_of method args.now }
 {
-    let most = most_taken(method, args.len());
+    let most = method.most_taken(args.len());
     if most >= args.len() {
         return args;
     }

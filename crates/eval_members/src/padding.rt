@@ -9,7 +9,7 @@ ghost use Rattle.eval_values.specs.Arguments.{first_of, second_of};
 ghost use Rattle.eval_values.specs.Limited.{within};
 ghost use Rattle.eval_values.specs.Need.{pad_ids, pad_words};
 ghost use Rattle.eval_members.specs.Padding.{filled, padded, pad_call, repeat_call};
-ghost use Rattle.eval_members.specs.Groups.{padded_of};
+ghost use Rattle.eval_members.specs.Members.{padded_of};
 ghost use Rattle.js_item.specs.Fine.{IsFine};
 ghost use Rattle.eval_values.specs.Seen.{all_seen, AllFine};
 ghost use Rattle.eval_values.specs.Does.{Does};

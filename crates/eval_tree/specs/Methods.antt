@@ -1,4 +1,4 @@
--- The methods by their names.
+-- The methods: their names, and how many arguments each takes.
 use Rattle.std.specs.Prelude.{ℕ, List, codes, Option, Some, None, if◌then◌else◌}
 use Rattle.std.specs.Str.{bytes_eq}
 use Rattle.eval_tree.specs.declared.tree.Method.{Method}
@@ -57,3 +57,19 @@ building_method letters =
 -- the method with this name
 abbrev pub method_of : List ℕ → Option Method
 method_of letters = first_there (unit_method letters) (first_there (search_method letters) (first_there (part_method letters) (building_method letters)))
+
+-- how many of n arguments a method takes at most
+abbrev pub most_taken : Method → ℕ → ℕ
+most_taken method.Concat n = n
+most_taken method.IsWellFormed n = 0
+most_taken method.ToWellFormed n = 0
+most_taken method.Trim n = 0
+most_taken method.TrimEnd n = 0
+most_taken method.TrimStart n = 0
+most_taken method.At n = 1
+most_taken method.CharAt n = 1
+most_taken method.CharCodeAt n = 1
+most_taken method.CodePointAt n = 1
+most_taken method.Join n = 1
+most_taken method.Repeat n = 1
+most_taken _ n = 2

@@ -225,6 +225,27 @@ impl Method {
         }
         building_method(letters)
     }
+
+    /// How many of `count` arguments it takes at most: those that its definition names.
+    pub fn most_taken(self, count: usize) -> usize
+        ensures { result ≡ methods.most_taken self count }
+    {
+        match self {
+            Method::Concat => count,
+            Method::IsWellFormed
+            | Method::ToWellFormed
+            | Method::Trim
+            | Method::TrimEnd
+            | Method::TrimStart => 0,
+            Method::At
+            | Method::CharAt
+            | Method::CharCodeAt
+            | Method::CodePointAt
+            | Method::Join
+            | Method::Repeat => 1,
+            _ => 2,
+        }
+    }
 }
 
 // A method that gives or looks at single units.

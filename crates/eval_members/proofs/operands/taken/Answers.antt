@@ -1,5 +1,5 @@
 use Rattle.std.proofs.Common.{arith, ◌≤◌, length}
-use Rattle.eval_members.specs.Operands.{most_taken}
+use Rattle.eval_tree.specs.Methods.{most_taken}
 use Rattle.eval_members.proofs.Taken.{all_taken}
 use Rattle.eval_members.proofs.operands.taken.Goals as goal
 

@@ -1,7 +1,7 @@
 use Rattle.std.proofs.lemmas.Result.{err_from_is_err_and}
 use Rattle.eval_values.specs.Arguments.{second_of}
 use Rattle.eval_values.specs.Seen.{all_seen}
-use Rattle.eval_members.specs.Groups.{padded_of}
+use Rattle.eval_members.specs.Members.{padded_of}
 use Rattle.eval_members.proofs.Pads.{fills_text, fill_stops}
 use Rattle.eval_members.proofs.padding.fill.Goals as goal
 

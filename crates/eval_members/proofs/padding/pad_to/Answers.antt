@@ -2,7 +2,7 @@ use Rattle.std.proofs.Common.{arith, ◌≤◌, ◌<◌, length}
 use Rattle.js_store.specs.State.{text}
 use Rattle.eval_values.specs.Arguments.{second_of}
 use Rattle.eval_values.specs.Seen.{all_seen}
-use Rattle.eval_members.specs.Groups.{padded_of}
+use Rattle.eval_members.specs.Members.{padded_of}
 use Rattle.eval_members.proofs.Pads.{pads_itself, pads_more}
 use Rattle.eval_values.proofs.Still.{values_fine_still}
 use Rattle.eval_members.proofs.padding.pad_to.Goals as goal
