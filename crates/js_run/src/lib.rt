@@ -14,6 +14,5 @@ mod status;
 mod telling;
 
 pub use run::run_words;
-pub use run_program::{Job, Outcome, run_all, run_group};
-pub use run_program::Kept;
+pub use run_program::{Job, Kept, Outcome, run_all, run_group};
 pub use status::Status;
