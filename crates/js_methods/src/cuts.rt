@@ -1,5 +1,5 @@
 // Methods that give a part of a string, or several put together.
-ghost use Rattle.std.specs.Prelude.{◌≡◌, ◌+◌, ◌*◌, ◌≤◌, ◌++◌, length, slice_range, IfOk, IfSome};
+ghost use Rattle.std.specs.Prelude.{◌+◌, ◌*◌, ◌≤◌, ◌++◌, length, slice_range, IfOk, IfSome};
 ghost use Rattle.js_store.specs.State.{Has, IsKnown, IsSettled, text};
 ghost use Rattle.js_store.specs.Rows.{wide_words, join_ids, join_words};
 ghost use Rattle.js_store.specs.Faults.{fault_of, Uses};

@@ -1,5 +1,5 @@
 // Objects as strings of JSON text.
-ghost use Rattle.std.specs.Prelude.{◌≡◌, ◌+◌, ◌*◌, length, IfOk};
+ghost use Rattle.std.specs.Prelude.{◌+◌, ◌*◌, length, IfOk};
 ghost use Rattle.js_store.specs.State.{Has};
 ghost use Rattle.js_store.specs.Rows.{flat_words};
 ghost use Rattle.js_store.specs.Faults.{Uses};

@@ -33,7 +33,10 @@ pub fn join<S: Strings>(
         (length (joined (text_of (S.state store.old) (S.number sep))
         (texts (S.state store.old) S.number parts.now))) }
     ensures uses { Uses (S.state store.old) (S.state store.new) (full_of result)
-        1 (settle_most (S.state store.old) S.number parts.now + settling (S.state store.old) (S.number sep) + made_words (S.state store.old).limit (joined (text_of (S.state store.old) (S.number sep)) (texts (S.state store.old) S.number parts.now))) }
+        1 (settle_most (S.state store.old) S.number parts.now + settling (S.state store.old) (S.number sep)
+        + made_words (S.state store.old).limit
+        (joined (text_of (S.state store.old) (S.number sep))
+        (texts (S.state store.old) S.number parts.now))) }
 {
     let length = joined_len(store, parts, sep);
     if length > u128::from(store.limit()) {
