@@ -35,7 +35,11 @@ pub fn replace<S: Strings>(
         (length (replaced_first (text (S.state store.old) (S.number s))
         (text (S.state store.old) (S.number w)) (text (S.state store.old) (S.number template)))) }
     ensures uses { Uses (S.state store.old) (S.state store.new) (full_of result)
-        1 (settling (S.state store.old) (S.number s) + settling (S.state store.old) (S.number w) + settling (S.state store.old) (S.number template) + made_words (S.state store.old).limit (replaced_first (text (S.state store.old) (S.number s)) (text (S.state store.old) (S.number w)) (text (S.state store.old) (S.number template)))) }
+        1 (settling (S.state store.old) (S.number s) + settling (S.state store.old) (S.number w)
+        + settling (S.state store.old) (S.number template)
+        + made_words (S.state store.old).limit
+        (replaced_first (text (S.state store.old) (S.number s)) (text (S.state store.old) (S.number w))
+        (text (S.state store.old) (S.number template)))) }
 {
     settle_all(store, s, w, template)?;
     replaced(alloc, store, s, w, template, 1)
@@ -67,7 +71,11 @@ pub fn replace_all<S: Strings>(
         (length (replaced_all (text (S.state store.old) (S.number s)) (text (S.state store.old) (S.number w))
         (text (S.state store.old) (S.number template)))) }
     ensures uses { Uses (S.state store.old) (S.state store.new) (full_of result)
-        1 (settling (S.state store.old) (S.number s) + settling (S.state store.old) (S.number w) + settling (S.state store.old) (S.number template) + made_words (S.state store.old).limit (replaced_all (text (S.state store.old) (S.number s)) (text (S.state store.old) (S.number w)) (text (S.state store.old) (S.number template)))) }
+        1 (settling (S.state store.old) (S.number s) + settling (S.state store.old) (S.number w)
+        + settling (S.state store.old) (S.number template)
+        + made_words (S.state store.old).limit
+        (replaced_all (text (S.state store.old) (S.number s)) (text (S.state store.old) (S.number w))
+        (text (S.state store.old) (S.number template)))) }
 {
     settle_all(store, s, w, template)?;
     // a match for each place, the end among them
@@ -125,7 +133,11 @@ fn replaced<S: Strings>(
         (first_matches most (text (S.state store.old) (S.number s))
         (text (S.state store.old) (S.number w)) 0))) }
     ensures uses { Uses (S.state store.old) (S.state store.new) (full_of result)
-        1 (made_words (S.state store.old).limit (replaced_at (text (S.state store.old) (S.number s)) (text (S.state store.old) (S.number w)) (text (S.state store.old) (S.number template)) 0 (first_matches most (text (S.state store.old) (S.number s)) (text (S.state store.old) (S.number w)) 0))) }
+        1 (made_words (S.state store.old).limit
+        (replaced_at (text (S.state store.old) (S.number s)) (text (S.state store.old) (S.number w))
+        (text (S.state store.old) (S.number template)) 0
+        (first_matches most (text (S.state store.old) (S.number s))
+        (text (S.state store.old) (S.number w)) 0))) }
 {
     let places = places(alloc, store, s, w, most)?;
     let template = copied(alloc, store, template)?;
@@ -157,7 +169,9 @@ fn with_places<S: Strings>(
         (length (replaced_at (text (S.state store.old) (S.number s))
         (text (S.state store.old) (S.number w)) template.now 0 places.now)) }
     ensures uses { Uses (S.state store.old) (S.state store.new) (full_of result)
-        1 (made_words (S.state store.old).limit (replaced_at (text (S.state store.old) (S.number s)) (text (S.state store.old) (S.number w)) template.now 0 places.now)) }
+        1 (made_words (S.state store.old).limit
+        (replaced_at (text (S.state store.old) (S.number s))
+        (text (S.state store.old) (S.number w)) template.now 0 places.now)) }
 {
     let length = result_len(store, s, w, template, places);
     if length > u128::from(store.limit()) {

@@ -36,7 +36,8 @@ pub fn split<S: Strings>(
     ensures known { IfOk result (λ v. AllKnown (S.state store.new) S.number v.items) }
     ensures throws { NeverThrows result }
     ensures uses { Uses (S.state store.old) (S.state store.new) (full_of result)
-        (split_ids (S.state store.old) S.number s sep limit) (split_words (S.state store.old) S.number s sep limit) }
+        (split_ids (S.state store.old) S.number s sep limit)
+        (split_words (S.state store.old) S.number s sep limit) }
 {
     match sep {
         None => Ok(whole(alloc, store, s, limit)?),
@@ -81,8 +82,11 @@ fn split_by<S: Strings>(
         (Some (text (S.state store.old) (S.number sep))) limit) }
     ensures known { IfOk result (λ v. AllKnown (S.state store.new) S.number v.items) }
     ensures uses { Uses (S.state store.old) (S.state store.new) (full_fault_of result)
-        (length (Parts.parts (text (S.state store.old) (S.number s)) (Some (text (S.state store.old) (S.number sep))) limit))
-        (settling (S.state store.old) (S.number s) + settling (S.state store.old) (S.number sep) + copies (Parts.parts (text (S.state store.old) (S.number s)) (Some (text (S.state store.old) (S.number sep))) limit)) }
+        (length (Parts.parts (text (S.state store.old) (S.number s))
+        (Some (text (S.state store.old) (S.number sep))) limit))
+        (settling (S.state store.old) (S.number s) + settling (S.state store.old) (S.number sep)
+        + copies (Parts.parts (text (S.state store.old) (S.number s))
+        (Some (text (S.state store.old) (S.number sep))) limit)) }
 {
     store.settle(s)?;
     store.settle(sep)?;
@@ -107,8 +111,10 @@ fn split_settled<S: Strings>(
         (Some (text (S.state store.old) (S.number sep))) limit) }
     ensures known { IfOk result (λ v. AllKnown (S.state store.new) S.number v.items) }
     ensures uses { Uses (S.state store.old) (S.state store.new) (full_fault_of result)
-        (length (Parts.parts (text (S.state store.old) (S.number s)) (Some (text (S.state store.old) (S.number sep))) limit))
-        (copies (Parts.parts (text (S.state store.old) (S.number s)) (Some (text (S.state store.old) (S.number sep))) limit)) }
+        (length (Parts.parts (text (S.state store.old) (S.number s))
+        (Some (text (S.state store.old) (S.number sep))) limit))
+        (copies (Parts.parts (text (S.state store.old) (S.number s))
+        (Some (text (S.state store.old) (S.number sep))) limit)) }
 {
     let len = store.len(s);
     let size = store.len(sep);

@@ -39,7 +39,11 @@ pub fn substitution<S: Strings>(
         (length (substituted (text (S.state store.old) (S.number template))
         (text (S.state store.old) (S.number s)) at (text (S.state store.old) (S.number w)))) }
     ensures uses { Uses (S.state store.old) (S.state store.new) (full_of result)
-        1 (settling (S.state store.old) (S.number template) + settling (S.state store.old) (S.number s) + settling (S.state store.old) (S.number w) + made_words (S.state store.old).limit (substituted (text (S.state store.old) (S.number template)) (text (S.state store.old) (S.number s)) at (text (S.state store.old) (S.number w)))) }
+        1 (settling (S.state store.old) (S.number template) + settling (S.state store.old) (S.number s)
+        + settling (S.state store.old) (S.number w)
+        + made_words (S.state store.old).limit
+        (substituted (text (S.state store.old) (S.number template)) (text (S.state store.old) (S.number s)) at
+        (text (S.state store.old) (S.number w)))) }
 {
     let template = read(alloc, store, template)?;
     let length = match_len(store, template.as_slice(), s, at, w);

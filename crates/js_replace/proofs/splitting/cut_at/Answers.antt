@@ -1,4 +1,4 @@
-use Rattle.std.proofs.Common.{arith, ◌∙◌, ap, ◌-◌, ◌+◌, ◌++◌, ◌∷◌, [], length, take, drop, get_or, rules}
+use Rattle.std.proofs.Common.{arith, ◌∙◌, ap, ◌-◌, ◌+◌, ◌++◌, ◌∷◌, [], length, take, drop, get_or}
 use Rattle.std.specs.Prelude.{slice_range}
 use Rattle.std.proofs.lemmas.Result.{err_from_is_err_and}
 use Rattle.js_store.specs.State.{text}
@@ -25,10 +25,14 @@ returns-in_err-push_part-clause-uses g c =
     let o = order_turn (length u) size from places k below i.order in
     let room = o.1 in
     let p = err_from_is_err_and c.from_residual.result c.from_residual.ensures.1 in
-    let uses_step = rw (p.1, p.2) (refused (at - from) (limit - k) (limit - (k + 1)) (texts (state c.loop-at.store) number c.loop-at.parts.items) (pieces u size from (drop k places)) (pieces u size (at + size) (drop (k + 1) places)) (take limit (pieces u size 0 places)) (slice_range u from at)
-    (range_length u from at o.0 (omega (arith, room))) (omega (arith, below, count)) (omega arith)
-    (piece_turn u size from places k below) i.made i.step c.in_err-push_part.ensures.uses.step) in
-    search rules
+    let e = c.in_err-push_part.ensures.uses in
+    rw (p.1, p.2) (record {
+      step = refused (at - from) (limit - k) (limit - (k + 1)) (texts (state c.loop-at.store) number c.loop-at.parts.items) (pieces u size from (drop k places)) (pieces u size (at + size) (drop (k + 1) places)) (take limit (pieces u size 0 places)) (slice_range u from at)
+          (range_length u from at o.0 (omega (arith, room))) (omega (arith, below, count)) (omega arith)
+          (piece_turn u size from places k below) i.made i.step e.step;
+      no_slots = e.no_slots;
+      history = e.history ∙ i.history;
+    })
 
 pub loop-at-preserved : goal.loop-at-preserved
 loop-at-preserved g c =
@@ -80,10 +84,14 @@ returns-in_err-push_part-2-clause-uses g c =
     let len = c.len-len.ensures.value in
     let first = last_order (length u) size from places k (omega (arith, above)) i.order in
     let p = err_from_is_err_and c.from_residual-in_err-push_part-2.result c.from_residual-in_err-push_part-2.ensures.1 in
-    let uses_step = rw (p.1, p.2) (refused (c.len-len.result - from) (limit - k) (limit - (k + 1)) (texts (state c.loop-at.store) number c.loop-at.parts.items) (pieces u size from (drop k places)) [] (take limit (pieces u size 0 places)) (slice_range u from (length u))
-    (ap (λ n. n - from) len ∙ range_length u from (length u) first (omega arith)) (omega (arith, above, apart, count, end)) (omega arith)
-    (last_piece u size from places k (omega (arith, above)) first) i.made i.step c.in_err-push_part-2.ensures.uses.step) in
-    search rules
+    let e = c.in_err-push_part-2.ensures.uses in
+    rw (p.1, p.2) (record {
+      step = refused (c.len-len.result - from) (limit - k) (limit - (k + 1)) (texts (state c.loop-at.store) number c.loop-at.parts.items) (pieces u size from (drop k places)) [] (take limit (pieces u size 0 places)) (slice_range u from (length u))
+          (ap (λ n. n - from) len ∙ range_length u from (length u) first (omega arith)) (omega (arith, above, apart, count, end)) (omega arith)
+          (last_piece u size from places k (omega (arith, above)) first) i.made i.step e.step;
+      no_slots = e.no_slots;
+      history = e.history ∙ i.history;
+    })
 
 pub returns-clause-uses : goal.returns-clause-uses
 returns-clause-uses g c =
@@ -102,7 +110,11 @@ returns-clause-uses g c =
     let count = c.requires.count in
     let len = c.len-len.ensures.value in
     let first = last_order (length u) size from places k (omega (arith, above)) i.order in
-    let uses_step = refused (c.len-len.result - from) (limit - k) (limit - (k + 1)) (texts (state c.loop-at.store) number c.loop-at.parts.items) (pieces u size from (drop k places)) [] (take limit (pieces u size 0 places)) (slice_range u from (length u))
-    (ap (λ n. n - from) len ∙ range_length u from (length u) first (omega arith)) (omega (arith, above, apart, count, end)) (omega arith)
-    (last_piece u size from places k (omega (arith, above)) first) i.made i.step c.in_ok-push_part-2.ensures.uses.step in
-    search rules
+    let e = c.in_ok-push_part-2.ensures.uses in
+    record {
+      step = refused (c.len-len.result - from) (limit - k) (limit - (k + 1)) (texts (state c.loop-at.store) number c.loop-at.parts.items) (pieces u size from (drop k places)) [] (take limit (pieces u size 0 places)) (slice_range u from (length u))
+          (ap (λ n. n - from) len ∙ range_length u from (length u) first (omega arith)) (omega (arith, above, apart, count, end)) (omega arith)
+          (last_piece u size from places k (omega (arith, above)) first) i.made i.step e.step;
+      no_slots = e.no_slots;
+      history = e.history ∙ i.history;
+    }

@@ -1,4 +1,4 @@
-use Rattle.std.proofs.Common.{arith, ◌∙◌, ap, ◌-◌, ◌+◌, ◌++◌, ◌∷◌, [], take, drop, rules}
+use Rattle.std.proofs.Common.{arith, ◌∙◌, ap, ◌-◌, ◌+◌, ◌++◌, ◌∷◌, [], take, drop}
 use Rattle.std.specs.Prelude.{slice_range}
 use Rattle.std.proofs.lemmas.Result.{err_from_is_err_and}
 use Rattle.js_store.specs.State.{text}
@@ -22,10 +22,14 @@ returns-in_err-push_part-clause-uses g c =
     let size = c.len.ensures.value in
     let most = c.min-most.ensures in
     let p = err_from_is_err_and c.from_residual.result c.from_residual.ensures.1 in
-    let uses_step = rw (p.1, p.2) (refused (k + 1 - k) (limit - k) (limit - (k + 1)) (texts b number c.loop-i.parts.items) (singles (drop k u)) (singles (drop (k + 1) u)) (take limit (singles u)) (slice_range u k (k + 1))
-    (range_length u k (k + 1) (omega arith) (omega (arith, below, size, most))) (omega (arith, below, most)) (omega arith)
-    (single_turn u k (omega (arith, below, size, most))) i.made i.step c.in_err-push_part.ensures.uses.step) in
-    search rules
+    let e = c.in_err-push_part.ensures.uses in
+    rw (p.1, p.2) (record {
+      step = refused (k + 1 - k) (limit - k) (limit - (k + 1)) (texts b number c.loop-i.parts.items) (singles (drop k u)) (singles (drop (k + 1) u)) (take limit (singles u)) (slice_range u k (k + 1))
+          (range_length u k (k + 1) (omega arith) (omega (arith, below, size, most))) (omega (arith, below, most)) (omega arith)
+          (single_turn u k (omega (arith, below, size, most))) i.made i.step e.step;
+      no_slots = e.no_slots;
+      history = e.history ∙ i.history;
+    })
 
 pub loop-i-preserved : goal.loop-i-preserved
 loop-i-preserved g c =
