@@ -4,7 +4,7 @@ ghost use Rattle.heap_rule.specs.Maps.{Has};
 ghost use Rattle.heap_rule.specs.Views.{IsSettled};
 ghost use Rattle.heap_table.specs.Agents.{Belongs, view_of};
 
-use crate::measures::Refusal;
+use crate::measures::NoRoom;
 use heap_rule::{HeapSize, MAX};
 use heap_table::Heap;
 use heap_text::{JsStr, Text};
@@ -17,12 +17,12 @@ pub(crate) const UNITS: [u16; 64] = [97; 64];
 const LONG: u32 = 1_000_000;
 
 // Strings of so many units made on a heap that has room for them, or the units of one read.
-pub(crate) fn on_heap(alloc: Global, units: u32, count: u32, making: bool) -> Result<u64, Refusal>
+pub(crate) fn on_heap(alloc: Global, units: u32, count: u32, making: bool) -> Result<u64, NoRoom>
     requires { (1 ≤ units) × (units ≤ 64) }
 {
     let strings = if making { count.max(1) } else { 1 };
     let Some(words) = strings.checked_mul((units + 7) / 8) else {
-        return Err(Refusal);
+        return Err(NoRoom);
     };
     let size = HeapSize {
         ids: strings,
@@ -30,7 +30,7 @@ pub(crate) fn on_heap(alloc: Global, units: u32, count: u32, making: bool) -> Re
         slots: 1,
     };
     let Ok((heap, agent)) = Heap::make(alloc, size, 1) else {
-        return Err(Refusal);
+        return Err(NoRoom);
     };
     let mut text = Text::new(&heap, agent, MAX);
     if making {
@@ -40,27 +40,27 @@ pub(crate) fn on_heap(alloc: Global, units: u32, count: u32, making: bool) -> Re
     }
 }
 
-pub(crate) fn copy_lists(alloc: Global, count: u32) -> Result<u64, Refusal> {
+pub(crate) fn copy_lists(alloc: Global, count: u32) -> Result<u64, NoRoom> {
     let mut lists = Vec::new(alloc);
     for _turn in 0..count {
         let Ok(list) = Vec::from_slice(alloc, UNITS.as_slice()) else {
-            return Err(Refusal);
+            return Err(NoRoom);
         };
         if lists.push(list).is_err() {
-            return Err(Refusal);
+            return Err(NoRoom);
         }
     }
     Ok(lists.len() as u64)
 }
 
-pub(crate) fn read_list(alloc: Global, count: u32) -> Result<u64, Refusal> {
+pub(crate) fn read_list(alloc: Global, count: u32) -> Result<u64, NoRoom> {
     let Ok(list) = Vec::from_slice(alloc, UNITS.as_slice()) else {
-        return Err(Refusal);
+        return Err(NoRoom);
     };
     let mut sum = 0u64;
     for i in 0..count {
         let Some(unit) = list.get((i % 64) as usize) else {
-            return Err(Refusal);
+            return Err(NoRoom);
         };
         sum = sum.wrapping_add(u64::from(*unit));
     }
@@ -77,40 +77,40 @@ fn size_of(words: u32) -> HeapSize {
 }
 
 // A long list, copied so often; of each copy one unit is read.
-pub(crate) fn copy_long(alloc: Global, count: u32) -> Result<u64, Refusal> {
+pub(crate) fn copy_long(alloc: Global, count: u32) -> Result<u64, NoRoom> {
     let Ok(list) = Vec::from_elem(alloc, 97u16, LONG as usize) else {
-        return Err(Refusal);
+        return Err(NoRoom);
     };
     let mut sum = 0u64;
     for i in 0..count {
         let Ok(copy) = Vec::from_slice(alloc, list.as_slice()) else {
-            return Err(Refusal);
+            return Err(NoRoom);
         };
         let Some(unit) = copy.get((i % LONG) as usize) else {
-            return Err(Refusal);
+            return Err(NoRoom);
         };
         sum = sum.wrapping_add(u64::from(*unit));
     }
     Ok(sum)
 }
 
-pub(crate) fn make_heap(alloc: Global, words: u32) -> Result<u64, Refusal> {
+pub(crate) fn make_heap(alloc: Global, words: u32) -> Result<u64, NoRoom> {
     match Heap::make(alloc, size_of(words), 1) {
         Ok(_) => Ok(1),
-        Err(_) => Err(Refusal),
+        Err(_) => Err(NoRoom),
     }
 }
 
-pub(crate) fn make_zeros(alloc: Global, words: u32) -> Result<u64, Refusal> {
+pub(crate) fn make_zeros(alloc: Global, words: u32) -> Result<u64, NoRoom> {
     let HeapSize { ids, words, slots } = size_of(words);
     let all = 2 + u64::from(slots) + 2 * u64::from(ids) + u64::from(words);
     match Vec::from_elem(alloc, 0u64, all as usize) {
         Ok(_) => Ok(1),
-        Err(_) => Err(Refusal),
+        Err(_) => Err(NoRoom),
     }
 }
 
-fn make_strings(text: &mut Text, units: u32, count: u32) -> Result<u64, Refusal>
+fn make_strings(text: &mut Text, units: u32, count: u32) -> Result<u64, NoRoom>
     requires text { Belongs text.old.reader.agent text.old.reader.heap.now }
     requires units { units ≤ 64 }
 {
@@ -118,22 +118,22 @@ fn make_strings(text: &mut Text, units: u32, count: u32) -> Result<u64, Refusal>
     let mut made = 0;
     for i in 0..count {
         let Ok(_) = text.make_flat(&all[..units as usize]) else {
-            return Err(Refusal);
+            return Err(NoRoom);
         };
         made = i + 1;
     }
     Ok(u64::from(made))
 }
 
-fn read_string(text: &mut Text, count: u32) -> Result<u64, Refusal>
+fn read_string(text: &mut Text, count: u32) -> Result<u64, NoRoom>
     requires text { Belongs text.old.reader.agent text.old.reader.heap.now }
 {
     let units = UNITS;
     let Ok(s) = text.make_flat(units.as_slice()) else {
-        return Err(Refusal);
+        return Err(NoRoom);
     };
     let Ok(()) = text.settle(s) else {
-        return Err(Refusal);
+        return Err(NoRoom);
     };
     Ok(read_units(text, s, count))
 }

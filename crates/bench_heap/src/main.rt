@@ -28,13 +28,13 @@ mod readers;
 mod ropes;
 mod stores;
 
-use measures::{Measure, Refusal, run};
+use measures::{Measure, NoRoom, run};
 use over_stores::StoreMeasure;
 use std::alloc::Global;
 use std::process::ExitCode;
 use std::thread::Threads;
 use std::{env, io};
-use stores::{Kept, run_over};
+use stores::{StoreKind, run_over};
 
 // What a word names.
 fn measure_of(word: &str) -> Option<Measure> {
@@ -82,11 +82,11 @@ fn run_named<R: Threads + Sync>(
     store: &str,
     word: &str,
     count: u32,
-) -> Option<Result<u64, Refusal>> {
+) -> Option<Result<u64, NoRoom>> {
     match store {
         "text" => Some(run(rt, alloc, measure_of(word)?, count)),
-        "plain" => Some(run_over(alloc, Kept::Plain, store_measure_of(word)?, count)),
-        "heap" => Some(run_over(alloc, Kept::Heap, store_measure_of(word)?, count)),
+        "plain" => Some(run_over(alloc, StoreKind::Plain, store_measure_of(word)?, count)),
+        "heap" => Some(run_over(alloc, StoreKind::Heap, store_measure_of(word)?, count)),
         _ => None,
     }
 }
@@ -96,7 +96,7 @@ fn run_asked<R: Threads + Sync>(
     rt: &R,
     alloc: Global,
     asked: &[String],
-) -> Option<Result<u64, Refusal>> {
+) -> Option<Result<u64, NoRoom>> {
     let [store, word, count] = asked else {
         return None;
     };
@@ -115,7 +115,7 @@ fn main(rt: HostRuntime) -> io::Result<ExitCode> {
     for asked in words.chunks(3) {
         match run_asked(&rt, rt.alloc(), asked) {
             Some(Ok(number)) => println!(rt; "{number}")?,
-            Some(Err(Refusal)) => return Ok(ExitCode::from(6)),
+            Some(Err(NoRoom)) => return Ok(ExitCode::from(6)),
             None => return Ok(ExitCode::from(3)),
         }
     }

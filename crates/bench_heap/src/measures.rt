@@ -43,7 +43,7 @@ pub enum Measure {
 }
 
 /// The heap or the store has no room for so many strings, or there is no memory for it.
-pub struct Refusal;
+pub struct NoRoom;
 
 /// Does it, and answers how many were made, the sum of the units that were read, or the length of
 /// the rope.
@@ -52,7 +52,7 @@ pub fn run<R: Threads + Sync>(
     alloc: Global,
     measure: Measure,
     count: u32,
-) -> Result<u64, Refusal> {
+) -> Result<u64, NoRoom> {
     match measure {
         Measure::Make => on_heap(alloc, 64, count, true),
         Measure::Short => on_heap(alloc, 13, count, true),

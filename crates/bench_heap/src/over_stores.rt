@@ -2,7 +2,7 @@
 ghost use Rattle.std.specs.Prelude.{◌≡◌, ◌<◌, ◌≤◌, length, IfOk};
 ghost use Rattle.js_store.specs.State.{IsKnown, IsSettled, text};
 
-use crate::measures::Refusal;
+use crate::measures::NoRoom;
 use js_methods::repeat;
 use js_number::Num;
 use js_search::index_of;
@@ -45,7 +45,7 @@ pub fn run_on<S: Strings>(
     store: &mut S,
     what: StoreMeasure,
     count: u32,
-) -> Result<u64, Refusal> {
+) -> Result<u64, NoRoom> {
     match what {
         StoreMeasure::Read => read(alloc, store, count),
         StoreMeasure::Blocks => blocks(alloc, store, count),
@@ -87,12 +87,12 @@ fn spelled(number: u32) -> [u16; 20] {
     ]
 }
 
-fn make_all<S: Strings>(store: &mut S, count: u32) -> Result<u64, Refusal> {
+fn make_all<S: Strings>(store: &mut S, count: u32) -> Result<u64, NoRoom> {
     let mut made = 0u64;
     for number in 0..count {
         let units = spelled(number % LISTS);
         let Ok(_) = store.from_units(units.as_slice()) else {
-            return Err(Refusal);
+            return Err(NoRoom);
         };
         made = made.wrapping_add(1);
     }
@@ -100,17 +100,17 @@ fn make_all<S: Strings>(store: &mut S, count: u32) -> Result<u64, Refusal> {
 }
 
 // Strings with the numbers from 0 on, of so many lists, made and interned.
-fn intern_all<S: Strings>(store: &mut S, count: u32, lists: u32) -> Result<u64, Refusal>
+fn intern_all<S: Strings>(store: &mut S, count: u32, lists: u32) -> Result<u64, NoRoom>
     requires { 1 ≤ lists }
 {
     let mut made = 0u64;
     for number in 0..count {
         let units = spelled(number % lists);
         let Ok(s) = store.from_units(units.as_slice()) else {
-            return Err(Refusal);
+            return Err(NoRoom);
         };
         let Ok(_) = store.intern(s) else {
-            return Err(Refusal);
+            return Err(NoRoom);
         };
         made = made.wrapping_add(1);
     }
@@ -127,16 +127,16 @@ fn key(number: u32) -> [u16; 40] {
 }
 
 // Strings of 40 units with the numbers from 0 on, made, and interned where it is asked.
-fn keys<S: Strings>(store: &mut S, count: u32, interned: bool) -> Result<u64, Refusal> {
+fn keys<S: Strings>(store: &mut S, count: u32, interned: bool) -> Result<u64, NoRoom> {
     let mut made = 0u64;
     for number in 0..count {
         let units = key(number);
         let Ok(s) = store.from_units(units.as_slice()) else {
-            return Err(Refusal);
+            return Err(NoRoom);
         };
         if interned {
             let Ok(_) = store.intern(s) else {
-                return Err(Refusal);
+                return Err(NoRoom);
             };
         }
         made = made.wrapping_add(1);
@@ -145,24 +145,24 @@ fn keys<S: Strings>(store: &mut S, count: u32, interned: bool) -> Result<u64, Re
 }
 
 // The long string.
-fn long<S: Strings>(alloc: Global, store: &mut S) -> Result<S::Ref, Refusal>
+fn long<S: Strings>(alloc: Global, store: &mut S) -> Result<S::Ref, NoRoom>
     ensures { IfOk result
         (λ s. IsSettled (S.state store.new) (S.number s) × IsKnown (S.state store.new) (S.number s)
         × (length (text (S.state store.new) (S.number s)) ≡ 1000000)) }
 {
     let Ok(units) = Vec::from_elem(alloc, 97u16, UNITS as usize) else {
-        return Err(Refusal);
+        return Err(NoRoom);
     };
     if units.len() > store.limit() as usize {
-        return Err(Refusal);
+        return Err(NoRoom);
     }
     match store.from_units(&units) {
         Ok(s) => Ok(s),
-        Err(_) => Err(Refusal),
+        Err(_) => Err(NoRoom),
     }
 }
 
-fn read<S: Strings>(alloc: Global, store: &mut S, count: u32) -> Result<u64, Refusal> {
+fn read<S: Strings>(alloc: Global, store: &mut S, count: u32) -> Result<u64, NoRoom> {
     let s = long(alloc, store)?;
     let mut sum = 0u64;
     for i in 0..count {
@@ -172,7 +172,7 @@ fn read<S: Strings>(alloc: Global, store: &mut S, count: u32) -> Result<u64, Ref
     Ok(sum)
 }
 
-fn blocks<S: Strings>(alloc: Global, store: &mut S, count: u32) -> Result<u64, Refusal> {
+fn blocks<S: Strings>(alloc: Global, store: &mut S, count: u32) -> Result<u64, NoRoom> {
     let s = long(alloc, store)?;
     let mut sum = 0u64;
     for turn in 0..count / BLOCK {
@@ -183,10 +183,10 @@ fn blocks<S: Strings>(alloc: Global, store: &mut S, count: u32) -> Result<u64, R
     Ok(sum)
 }
 
-fn seek<S: Strings>(alloc: Global, store: &mut S, count: u32) -> Result<u64, Refusal> {
+fn seek<S: Strings>(alloc: Global, store: &mut S, count: u32) -> Result<u64, NoRoom> {
     let s = long(alloc, store)?;
     let Ok(absent) = store.from_units([98].as_slice()) else {
-        return Err(Refusal);
+        return Err(NoRoom);
     };
     let mut found = 0u64;
     for _turn in 0..count {
@@ -197,15 +197,15 @@ fn seek<S: Strings>(alloc: Global, store: &mut S, count: u32) -> Result<u64, Ref
     Ok(found)
 }
 
-fn repeat_unit<S: Strings>(store: &mut S, count: u32) -> Result<u64, Refusal> {
+fn repeat_unit<S: Strings>(store: &mut S, count: u32) -> Result<u64, NoRoom> {
     let most = Num::Int(i64::from(store.limit()));
     let Ok(unit) = store.from_units([97].as_slice()) else {
-        return Err(Refusal);
+        return Err(NoRoom);
     };
     let mut made = 0u64;
     for _turn in 0..count {
         let Ok(_) = repeat(store, unit, most) else {
-            return Err(Refusal);
+            return Err(NoRoom);
         };
         made = made.wrapping_add(1);
     }

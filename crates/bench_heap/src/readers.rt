@@ -6,7 +6,7 @@ ghost use Rattle.heap_table.specs.Agents.{Belongs, share_of, view_of};
 ghost use Rattle.heap_read.specs.Windows.{IsWindow};
 ghost use Rattle.bench_heap.specs.Readers.{MayRead};
 
-use crate::measures::Refusal;
+use crate::measures::NoRoom;
 use crate::ropes::{make_rope, room_for};
 use heap_rule::MAX;
 use heap_table::Heap;
@@ -21,19 +21,19 @@ pub(crate) fn read_rope<R: Threads + Sync>(
     alloc: Global,
     joins: u32,
     at_once: bool,
-) -> Result<u64, Refusal> {
+) -> Result<u64, NoRoom> {
     let Some(size) = room_for(joins, 8) else {
-        return Err(Refusal);
+        return Err(NoRoom);
     };
     let Ok((heap, agent)) = Heap::make(alloc, size, 8) else {
-        return Err(Refusal);
+        return Err(NoRoom);
     };
     let mut text = Text::new(&heap, agent, MAX);
     let s = make_rope(&mut text, joins, false)?;
     let agents = if at_once { 8 } else { 1 };
     match read_by(rt, &mut text, s, agents) {
         Some(sum) => Ok(sum),
-        None => Err(Refusal),
+        None => Err(NoRoom),
     }
 }
 

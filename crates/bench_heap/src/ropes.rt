@@ -5,7 +5,7 @@ ghost use Rattle.heap_rule.specs.Views.{IsSettled};
 ghost use Rattle.heap_table.specs.Agents.{Belongs, view_of};
 
 use crate::flat::UNITS;
-use crate::measures::Refusal;
+use crate::measures::NoRoom;
 use heap_rule::{HeapSize, MAX};
 use heap_table::Heap;
 use heap_text::{JsStr, Text};
@@ -30,12 +30,12 @@ pub(crate) fn grow_rope(
     joins: u32,
     front: bool,
     settling: bool,
-) -> Result<u64, Refusal> {
+) -> Result<u64, NoRoom> {
     let Some(size) = room_for(joins, 8) else {
-        return Err(Refusal);
+        return Err(NoRoom);
     };
     let Ok((heap, agent)) = Heap::make(alloc, size, 1) else {
-        return Err(Refusal);
+        return Err(NoRoom);
     };
     let mut text = Text::new(&heap, agent, MAX);
     let s = make_rope(&mut text, joins, front)?;
@@ -44,17 +44,17 @@ pub(crate) fn grow_rope(
     }
     match text.settle(s) {
         Ok(()) => Ok(u64::from(text.len(s))),
-        Err(_) => Err(Refusal),
+        Err(_) => Err(NoRoom),
     }
 }
 
 // A rope of 13 units, to which such ropes are joined.
-pub(crate) fn join_ropes(alloc: Global, joins: u32, front: bool) -> Result<u64, Refusal> {
+pub(crate) fn join_ropes(alloc: Global, joins: u32, front: bool) -> Result<u64, NoRoom> {
     let Some(size) = room_for(joins, 0) else {
-        return Err(Refusal);
+        return Err(NoRoom);
     };
     let Ok((heap, agent)) = Heap::make(alloc, size, 1) else {
-        return Err(Refusal);
+        return Err(NoRoom);
     };
     let mut text = Text::new(&heap, agent, MAX);
     let side = make_rope(&mut text, 1, false)?;
@@ -63,7 +63,7 @@ pub(crate) fn join_ropes(alloc: Global, joins: u32, front: bool) -> Result<u64, 
 }
 
 // Twelve units, to which so many are joined.
-pub(crate) fn make_rope(text: &mut Text, joins: u32, front: bool) -> Result<JsStr, Refusal>
+pub(crate) fn make_rope(text: &mut Text, joins: u32, front: bool) -> Result<JsStr, NoRoom>
     requires text { Belongs text.old.reader.agent text.old.reader.heap.now }
     ensures text { Belongs text.new.reader.agent text.new.reader.heap.now }
     ensures heap { text.new.reader.heap ≡ text.old.reader.heap }
@@ -72,10 +72,10 @@ pub(crate) fn make_rope(text: &mut Text, joins: u32, front: bool) -> Result<JsSt
 {
     let units = UNITS;
     let Ok(unit) = text.make_flat(&units[..1]) else {
-        return Err(Refusal);
+        return Err(NoRoom);
     };
     let Ok(s) = text.make_flat(&units[..12]) else {
-        return Err(Refusal);
+        return Err(NoRoom);
     };
     join_often(text, s, unit, joins, front)
 }
@@ -86,7 +86,7 @@ fn join_often(
     side: JsStr,
     joins: u32,
     front: bool,
-) -> Result<JsStr, Refusal>
+) -> Result<JsStr, NoRoom>
     requires text { Belongs text.old.reader.agent text.old.reader.heap.now }
     requires known { HasKey (view_of text.old.reader.agent).units s.id }
     requires side { HasKey (view_of text.old.reader.agent).units side.id }
@@ -101,7 +101,7 @@ fn join_often(
     Ok(s)
 }
 
-fn join_side(text: &mut Text, s: JsStr, side: JsStr, front: bool) -> Result<JsStr, Refusal>
+fn join_side(text: &mut Text, s: JsStr, side: JsStr, front: bool) -> Result<JsStr, NoRoom>
     requires text { Belongs text.old.reader.agent text.old.reader.heap.now }
     requires known { HasKey (view_of text.old.reader.agent).units s.id }
     requires side { HasKey (view_of text.old.reader.agent).units side.id }
@@ -113,30 +113,30 @@ fn join_side(text: &mut Text, s: JsStr, side: JsStr, front: bool) -> Result<JsSt
 {
     if front {
         let Ok(t) = text.concat(side, s) else {
-            return Err(Refusal);
+            return Err(NoRoom);
         };
         return Ok(t);
     }
     let Ok(t) = text.concat(s, side) else {
-        return Err(Refusal);
+        return Err(NoRoom);
     };
     Ok(t)
 }
 
 // So many times the same letter.
-fn letters(alloc: Global, count: usize) -> Result<Vec<u16>, Refusal>
+fn letters(alloc: Global, count: usize) -> Result<Vec<u16>, NoRoom>
     ensures { IfOk result (λ units. length units.items ≡ count) }
 {
     let Ok(units) = Vec::from_elem(alloc, 97u16, count) else {
-        return Err(Refusal);
+        return Err(NoRoom);
     };
     Ok(units)
 }
 
 // So many slices of one string.
-pub(crate) fn cut_parts(alloc: Global, count: u32) -> Result<u64, Refusal> {
+pub(crate) fn cut_parts(alloc: Global, count: u32) -> Result<u64, NoRoom> {
     let Some(ids) = count.checked_add(1) else {
-        return Err(Refusal);
+        return Err(NoRoom);
     };
     let size = HeapSize {
         ids,
@@ -144,20 +144,20 @@ pub(crate) fn cut_parts(alloc: Global, count: u32) -> Result<u64, Refusal> {
         slots: 1,
     };
     let Ok((heap, agent)) = Heap::make(alloc, size, 1) else {
-        return Err(Refusal);
+        return Err(NoRoom);
     };
     let units = letters(alloc, PART as usize + 1)?;
     let mut text = Text::new(&heap, agent, MAX);
     let Ok(s) = text.make_flat(units.as_slice()) else {
-        return Err(Refusal);
+        return Err(NoRoom);
     };
     let Ok(()) = text.settle(s) else {
-        return Err(Refusal);
+        return Err(NoRoom);
     };
     cut_often(&mut text, s, count)
 }
 
-fn cut_often(text: &mut Text, s: JsStr, count: u32) -> Result<u64, Refusal>
+fn cut_often(text: &mut Text, s: JsStr, count: u32) -> Result<u64, NoRoom>
     requires text { Belongs text.old.reader.agent text.old.reader.heap.now }
     requires settled { IsSettled (view_of text.old.reader.agent) s.id }
     requires known { (us : List ℕ) × Has (view_of text.old.reader.agent).units s.id us
@@ -167,7 +167,7 @@ fn cut_often(text: &mut Text, s: JsStr, count: u32) -> Result<u64, Refusal>
     for i in 0..count {
         let from = i % 2;
         let Ok(part) = text.slice(s, from, from + PART) else {
-            return Err(Refusal);
+            return Err(NoRoom);
         };
         sum = sum.wrapping_add(u64::from(part.id));
     }

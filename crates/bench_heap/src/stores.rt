@@ -1,5 +1,5 @@
 // The two stores, with room for what a measure makes.
-use crate::measures::Refusal;
+use crate::measures::NoRoom;
 use crate::over_stores::{StoreMeasure, run_on};
 use heap_intern::Session;
 use heap_rule::HeapSize;
@@ -10,7 +10,7 @@ use std::alloc::Global;
 
 /// Which store is measured.
 #[derive(Clone, Copy)]
-pub enum Kept {
+pub enum StoreKind {
     /// A list of lists of one thread.
     Plain,
     /// A session of the heap that threads share.
@@ -25,15 +25,20 @@ const SIZE: HeapSize = HeapSize {
 };
 
 /// Does what is measured, over that store, so many times.
-pub fn run_over(alloc: Global, kept: Kept, what: StoreMeasure, count: u32) -> Result<u64, Refusal> {
-    match kept {
-        Kept::Plain => {
+pub fn run_over(
+    alloc: Global,
+    kind: StoreKind,
+    what: StoreMeasure,
+    count: u32,
+) -> Result<u64, NoRoom> {
+    match kind {
+        StoreKind::Plain => {
             let mut store = PlainStore::new(alloc, Limit::Bits64);
             run_on(alloc, &mut store, what, count)
         }
-        Kept::Heap => {
+        StoreKind::Heap => {
             let Ok((heap, agent)) = Heap::make(alloc, SIZE, 1) else {
-                return Err(Refusal);
+                return Err(NoRoom);
             };
             let mut store = Session::new(&heap, agent, Limit::Bits64);
             run_on(alloc, &mut store, what, count)

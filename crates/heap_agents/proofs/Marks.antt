@@ -17,10 +17,10 @@ use Rattle.heap_table.specs.Known.{KeepsKnown}
 use Rattle.heap_agents.specs.declared.ids.IdSet.{IdSet}
 use Rattle.heap_agents.specs.Sets.{Covers, IsIn}
 use Rattle.heap_agents.specs.declared.held.Held.{Held}
-use Rattle.heap_agents.specs.declared.member.Member.{Member}
+use Rattle.heap_agents.specs.declared.member.HeapAgent.{HeapAgent}
 use Rattle.heap_agents.specs.Held.{IsHeld, IsMarked, KeepsMarks, Leaves, share_by, size_by, view_by}
 use Rattle.heap_agents.specs.Interned.{KeepsCalls}
-use Rattle.heap_agents.specs.Members.{IsAgentOf, IsSame, IsWhole, MemberLeaves, heap_of, share_if, view_if}
+use Rattle.heap_agents.specs.Members.{IsAgentOf, IsSame, IsWhole, HeapAgentLeaves, heap_of, share_if, view_if}
 use Rattle.heap_agents.proofs.Interned.{continued}
 
 -- what is known and which calls are known stay, so what was marked still may be
@@ -34,13 +34,13 @@ marked_still v w known interned ids m units calls = record {
   calls_room = m.calls_room;
 }
 
-pub same_ids : (x y : Member) → IsSame x y → (size_of (heap_of x)).ids ≡ (size_of (heap_of y)).ids
+pub same_ids : (x y : HeapAgent) → IsSame x y → (size_of (heap_of x)).ids ≡ (size_of (heap_of y)).ids
 same_ids x y s = λ i. (size_of (sym s.0 i)).ids
 
-kept_marks : (x : Held) (y : Member) → KeepsMarks x (record x { member = y })
+kept_marks : (x : Held) (y : HeapAgent) → KeepsMarks x (record x { member = y })
 kept_marks x y = record { known = λ i h. h; interned = λ i h. h; number = λ i. x.number; giver = λ i. x.giver }
 
-module _ (x : Held) (y : Member) (held : IsHeld x) (whole : IsWhole y) (same : IsSame x.member y)
+module _ (x : Held) (y : HeapAgent) (held : IsHeld x) (whole : IsWhole y) (same : IsSame x.member y)
     (units : (i : ℕ) (us : List ℕ) → Has (view_by x).units i us → Has (view_if y.agent).units i us) (calls : KeepsCalls (view_by x) (view_if y.agent)) (agents : (view_if y.agent).agents ≡ (view_by x).agents) where
   pub still : IsHeld (record x { member = y })
   still = record {
@@ -51,7 +51,7 @@ module _ (x : Held) (y : Member) (held : IsHeld x) (whole : IsWhole y) (same : I
   }
 
 -- a call on strings with the marks left alone
-pub moved : (x : Held) (y : Member) → IsHeld x → MemberLeaves x.member y → Leaves x (record x { member = y })
+pub moved : (x : Held) (y : HeapAgent) → IsHeld x → HeapAgentLeaves x.member y → Leaves x (record x { member = y })
 moved x y held l = record {
   held = still x y held l.whole l.same l.continues.known.units (continued (view_by x) (view_if y.agent) l.continues) l.continues.agents;
   same = l.same;
@@ -82,7 +82,7 @@ taken_over v b w may h u i c = subst (λ (m : Calls). Contains m (u, i)) (sym h)
 stays : (v b w : View) → history w ≡ history v ++ b.mine → (u : List ℕ) (i : ℕ) → Contains (history v) (u, i) → Contains (history w) (u, i)
 stays v b w h u i c = subst (λ (m : Calls). Contains m (u, i)) (sym h) (Contains-append_left (history v) b.mine (u, i) c)
 
-module _ (x o : Held) (y : Member) (held : IsHeld x) (theirs : IsHeld o) (whole : IsWhole y) (same : IsSame x.member y) (beside : IsSame x.member o.member) (may : MayJoin (view_by x) (view_by o))
+module _ (x o : Held) (y : HeapAgent) (held : IsHeld x) (theirs : IsHeld o) (whole : IsWhole y) (same : IsSame x.member y) (beside : IsSame x.member o.member) (may : MayJoin (view_by x) (view_by o))
     (ours : KeepsKnown (view_by x) (view_if y.agent)) (others : KeepsKnown (view_by o) (view_if y.agent)) (calls : history (view_if y.agent) ≡ history (view_by x) ++ (view_by o).mine)
     (known interned : IdSet) (room : (n : ℕ) → Covers x.known n → Covers known n) (only : (i : ℕ) → IsIn known i → IsIn x.known i ⊎ IsIn o.known i)
     (calls_room : (n : ℕ) → Covers x.interned n → Covers interned n) (only_calls : (i : ℕ) → IsIn interned i → IsIn x.interned i ⊎ IsIn o.interned i) where
@@ -105,7 +105,7 @@ module _ (x o : Held) (y : Member) (held : IsHeld x) (theirs : IsHeld o) (whole 
   }
 
 -- what a split leaves to both
-module _ (x : Held) (y : Member) (give : ℕ) (held : IsHeld x) (whole : IsWhole y) (same : IsSame x.member y) where
+module _ (x : Held) (y : HeapAgent) (give : ℕ) (held : IsHeld x) (whole : IsWhole y) (same : IsSame x.member y) where
   pub left_held : view_if y.agent ≡ left_after_split (view_by x) give → IsHeld (record x { member = y })
   left_held e = still x y held whole same (λ i us h. subst (λ (v : View). Has v.units i us) (sym e) h)
       (record { calls = λ u i h. subst (λ (v : View). Contains (history v) (u, i)) (sym e) h }) (ap (λ (v : View). v.agents) e)
@@ -115,9 +115,9 @@ module _ (x : Held) (y : Member) (give : ℕ) (held : IsHeld x) (whole : IsWhole
       → IsHeld z × IsSame x.member z.member
   right_held e o z known interned room calls_room member agents marks calls = (
     record {
-      whole = subst (λ (m : Member). IsWhole m) (sym member) whole;
-      agents = agents ∙ (held.agents ∙ sym (ap (λ (m : Member). (view_if m.agent).agents) member ∙ ap (λ (v : View). v.agents) e));
-      marked = subst (λ (m : Member). IsMarked (view_if m.agent) z.known z.interned (size_of (heap_of m)).ids) (sym member)
+      whole = subst (λ (m : HeapAgent). IsWhole m) (sym member) whole;
+      agents = agents ∙ (held.agents ∙ sym (ap (λ (m : HeapAgent). (view_if m.agent).agents) member ∙ ap (λ (v : View). v.agents) e));
+      marked = subst (λ (m : HeapAgent). IsMarked (view_if m.agent) z.known z.interned (size_of (heap_of m)).ids) (sym member)
           (subst (λ (s : IdSet). IsMarked (view_if y.agent) s z.interned (size_of (heap_of y)).ids) (sym marks) (subst (λ (s : IdSet). IsMarked (view_if y.agent) o.known s (size_of (heap_of y)).ids) (sym calls)
           (subst (λ (n : ℕ). IsMarked (view_if y.agent) o.known o.interned n) (same_ids x.member y same) (record {
             known = λ i h. subst (λ (v : View). HasKey v.units i) (sym e) (held.marked.known i ((known i).0 h));
@@ -127,7 +127,7 @@ module _ (x : Held) (y : Member) (give : ℕ) (held : IsHeld x) (whole : IsWhole
             calls_room = calls_room (size_by x).ids held.marked.calls_room;
           }))));
     },
-    subst (λ (m : Member). IsSame x.member m) (sym member) same,
+    subst (λ (m : HeapAgent). IsSame x.member m) (sym member) same,
   )
 
 -- an answer of the string table, marked as both

@@ -5,13 +5,12 @@ use Rattle.std.specs.declared.cmp.Ordering.{Ordering}
 use Rattle.std.specs.declared.cmp.Ordering.TheVariants.{Less, Equal, Greater}
 use Rattle.std.specs.FinMap.{get}
 use Rattle.js_store.specs.declared.limit.Limit.TheVariants.{Bits64}
-use Rattle.js_store.specs.Faults.{Step}
+use Rattle.js_store.specs.Faults.{Uses}
 use Rattle.js_store.specs.Limits.{limit_units}
 use Rattle.js_store.specs.State as store
 use Rattle.heap_rule.specs.declared.view.View.{View}
 use Rattle.heap_rule.specs.Layout.{MAX}
 use Rattle.heap_rule.specs.Maps.{Has}
-use Rattle.heap_rule.specs.Views.{history}
 use Rattle.heap_table.specs.declared.agent.Agent.{Agent}
 use Rattle.heap_table.specs.declared.heap.Heap.{Heap}
 use Rattle.heap_table.specs.Agents.{Belongs, view_of}
@@ -20,16 +19,16 @@ use Rattle.heap_intern.specs.Sessions.{state_by, state_in, table_of, view_in}
 use Rattle.heap_intern.specs.Shares.{BelongsAs}
 use Rattle.heap_intern.proofs.States.{settled_test, test_settled, text_is}
 use Rattle.js_search.specs.Order.{Precedes}
-use Rattle.heap_agents.specs.declared.member.Member.{Member}
+use Rattle.heap_agents.specs.declared.member.HeapAgent.{HeapAgent}
 use Rattle.heap_agents.specs.Members.{IsWhole, heap_of, view_if}
-use Rattle.heap_agents.specs.Searched.{IsOrder, KeepsStrings, MemberSearched}
+use Rattle.heap_agents.specs.Searched.{IsOrder, KeepsStrings, HeapAgentSearched}
 
 is_some : (o : Option (List ℕ)) (us : List ℕ) → o ≡ Some us → IsSome o
 is_some o us e = subst (λ (p : Option (List ℕ)). IsSome p) (sym e) refl
 
 -- by what a store's callers see
-strings : (s t : Session) → Step (state_in s) (state_in t) None 0 0 → history (view_in t) ≡ history (view_in s) → KeepsStrings (view_in s) (view_in t)
-strings s t p h = let g = p.grows in let v : View = view_in s in let w : View = view_in t in let a = g.used_ids in let b = g.used_words in let c = p.within_ids in let d = p.within_words in record {
+strings : (s t : Session) → Uses (state_in s) (state_in t) None 0 0 → KeepsStrings (view_in s) (view_in t)
+strings s t u = let p = u.step in let g = p.grows in let v : View = view_in s in let w : View = view_in t in let a = g.used_ids in let b = g.used_words in let c = p.within_ids in let d = p.within_words in record {
   units = λ i us k. g.known i (is_some (get v.units i) us k) ∙ k;
   settled = λ i k. test_settled w i (g.settled i (settled_test v i k));
   sizes = λ i. record { ids = (g.sizes i).ids; words = (g.sizes i).words; slots = (g.sizes i).slots };
@@ -40,11 +39,11 @@ strings s t p h = let g = p.grows in let v : View = view_in s in let w : View = 
   low_ids = g.low_ids;
   low_words = g.low_words;
   seen = λ i. (g.frame i).seen;
-  calls = h;
+  calls = u.history;
 }
 
-belongs : (h : Heap) (a b : Agent) (s t : Session) → Belongs a h → state_in s ≡ state_by (view_of a) (limit_units Bits64) (table_of h) → Step (state_in s) (state_in t) None 0 0 → BelongsAs (state_in t) b → Belongs b h
-belongs h a b s t is e k of = of h (
+belongs : (h : Heap) (a b : Agent) (s t : Session) → Belongs a h → state_in s ≡ state_by (view_of a) (limit_units Bits64) (table_of h) → Uses (state_in s) (state_in t) None 0 0 → BelongsAs (state_in t) b → Belongs b h
+belongs h a b s t is e u of = let k = u.step in of h (
   (λ i. (k.grows.frame i).table) ∙ (λ i. (e i).frame.table),
   k.grows.sizes ∙ (λ i. (e i).sizes) ∙ (λ i. record { ids = (is.1 i).ids; words = (is.1 i).words; slots = (is.1 i).slots }),
 )
@@ -55,7 +54,7 @@ order_of us vs Equal a b d = b.0 refl
 order_of us vs Greater a b d = d.0 refl
 
 -- the agent a of x looks through the session s
-module _ (x : Member) (a : Agent) (s : Session) (own : x.agent ≡ Some a) (same : view_in s ≡ view_of a) where
+module _ (x : HeapAgent) (a : Agent) (s : Session) (own : x.agent ≡ Some a) (same : view_in s ≡ view_of a) where
   units_in : (n : ℕ) (us : List ℕ) → Has (view_if x.agent).units n us → Has (view_in s).units n us
   units_in n us h = subst (λ (v : View). Has v.units n us) (sym same) (subst (λ (o : Option Agent). Has (view_if o).units n us) own h)
 
@@ -68,13 +67,13 @@ module _ (x : Member) (a : Agent) (s : Session) (own : x.agent ≡ Some a) (same
   said P m n p us vs h k = subst (λ (l : List ℕ). P l vs) (text_in m us h) (subst (λ (l : List ℕ). P (store.text (state_in s) m) l) (text_in n vs k) p)
 
   -- and the agent b is what the session is afterwards
-  pub searched : (z : Member) (h : Heap) (b : Agent) (t : Session) → IsWhole x → z.heap ≡ x.heap → z.limit ≡ x.limit → Belongs a (heap_of z) → h ≡ heap_of z
-      → state_in s ≡ state_by (view_of a) (limit_units Bits64) (table_of h) → Step (state_in s) (state_in t) None 0 0
-      → history (view_in t) ≡ history (view_in s) → view_of b ≡ view_in t → BelongsAs (state_in t) b → MemberSearched x (record z { agent = Some b })
-  searched z h b t whole heap limit is there e k calls view of = record {
-    whole = (belongs (heap_of z) a b s t is (e ∙ (λ i. state_by (view_of a) (limit_units Bits64) (table_of (there i)))) k of, subst (λ (n : ℕ). n ≤ MAX) (sym limit) whole.1);
+  pub searched : (z : HeapAgent) (h : Heap) (b : Agent) (t : Session) → IsWhole x → z.heap ≡ x.heap → z.limit ≡ x.limit → Belongs a (heap_of z) → h ≡ heap_of z
+      → state_in s ≡ state_by (view_of a) (limit_units Bits64) (table_of h) → Uses (state_in s) (state_in t) None 0 0
+      → view_of b ≡ view_in t → BelongsAs (state_in t) b → HeapAgentSearched x (record z { agent = Some b })
+  searched z h b t whole heap limit is there e u view of = record {
+    whole = (belongs (heap_of z) a b s t is (e ∙ (λ i. state_by (view_of a) (limit_units Bits64) (table_of (there i)))) u of, subst (λ (n : ℕ). n ≤ MAX) (sym limit) whole.1);
     same = (λ i. heap_of (record z { heap = heap i }), limit);
     strings = subst (λ (o : Option Agent). KeepsStrings (view_if o) (view_of b)) (sym own)
         (subst (λ (v : View). KeepsStrings v (view_of b)) same (subst (λ (w : View). KeepsStrings (view_in s) w) (sym view)
-        (strings s t k calls)));
+        (strings s t u)));
   }

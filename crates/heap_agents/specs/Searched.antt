@@ -6,7 +6,7 @@ use Rattle.heap_rule.specs.declared.view.View.{View}
 use Rattle.heap_rule.specs.Maps.{Has, HasKey}
 use Rattle.heap_rule.specs.Views.{IsSettled, history}
 use Rattle.js_search.specs.Order.{Precedes}
-use Rattle.heap_agents.specs.declared.member.Member.{Member}
+use Rattle.heap_agents.specs.declared.member.HeapAgent.{HeapAgent}
 use Rattle.heap_agents.specs.Members.{IsSame, IsWhole, view_if}
 
 -- a string that may be searched, and searched for
@@ -27,7 +27,7 @@ pub record KeepsStrings (v w : View) : Type 0 where
   pub seen : w.seen ≡ v.seen
   pub calls : history w ≡ history v
 
-pub record MemberSearched (x y : Member) : Type 0 where
+pub record HeapAgentSearched (x y : HeapAgent) : Type 0 where
   pub whole : IsWhole y
   pub same : IsSame x y
   pub strings : KeepsStrings (view_if x.agent) (view_if y.agent)

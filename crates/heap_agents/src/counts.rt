@@ -9,11 +9,11 @@ ghost use Rattle.heap_agents.specs.Held.{IsHeld, KeepsMarks, share_by, view_by};
 ghost use Rattle.heap_agents.specs.Members.{IsSame, IsWhole, share_if, view_if};
 
 use crate::held::Held;
-use crate::member::Member;
+use crate::member::HeapAgent;
 use heap_read::Reader;
 use heap_string_table::count_interned;
 
-pub(crate) fn share(member: &mut Member) -> u32
+pub(crate) fn share(member: &mut HeapAgent) -> u32
     requires whole { IsWhole member.old }
     ensures member { member.new ≡ member.old }
     ensures share { result ≡ share_if member.old.agent }
@@ -24,7 +24,7 @@ pub(crate) fn share(member: &mut Member) -> u32
     answer
 }
 
-pub(crate) fn totals(member: &mut Member) -> (u32, u32)
+pub(crate) fn totals(member: &mut HeapAgent) -> (u32, u32)
     requires member { IsWhole member.old }
     requires whole { (view_if member.old.agent).share ≡ (view_if member.old.agent).agents }
     ensures member { IsWhole member.new }
@@ -41,7 +41,7 @@ pub(crate) fn totals(member: &mut Member) -> (u32, u32)
     answer
 }
 
-pub(crate) fn count(member: &mut Member) -> u32
+pub(crate) fn count(member: &mut HeapAgent) -> u32
     requires member { IsWhole member.old }
     requires whole { (view_if member.old.agent).share ≡ (view_if member.old.agent).agents }
     ensures member { IsWhole member.new }

@@ -7,7 +7,7 @@ ghost use Rattle.heap_agents.specs.Members.{view_if};
 ghost use Rattle.heap_agents.specs.Sets.{IsIn};
 
 use crate::ids::IdSet;
-use crate::member::Member;
+use crate::member::HeapAgent;
 use std::alloc::Global;
 use std::sync::Arc;
 use std::sync::atomic::AtomicU64;
@@ -17,7 +17,7 @@ use std::sync::atomic::AtomicU64;
 /// agents of a heap together.
 #[derive(Drop)]
 pub struct Held {
-    pub(crate) member: Member,
+    pub(crate) member: HeapAgent,
     pub(crate) agents: u32,
     pub(crate) known: IdSet,
     pub(crate) interned: IdSet,

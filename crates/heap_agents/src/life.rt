@@ -12,14 +12,19 @@ ghost use Rattle.heap_agents.specs.Sets.{Covers, IsIn};
 
 use crate::held::Held;
 use crate::ids::IdSet;
-use crate::member::Member;
+use crate::member::HeapAgent;
 use heap_rule::{HeapSize, MAX};
 use heap_table::{Heap, MakeFault};
 use std::alloc::{AllocError, Global};
 use std::sync::Arc;
 use std::sync::atomic::{AtomicU64, Ordering};
 
-fn make_member(alloc: Global, size: HeapSize, agents: u32, limit: u32) -> Result<Member, MakeFault>
+fn make_member(
+    alloc: Global,
+    size: HeapSize,
+    agents: u32,
+    limit: u32,
+) -> Result<HeapAgent, MakeFault>
     ensures whole { IfOk result (λ m. IsWhole m) }
     ensures size { IfOk result (λ m. size_of (heap_of m) ≡ size) }
     ensures view { IfOk result (λ m. view_if m.agent ≡ first_view size agents) }
@@ -33,14 +38,14 @@ fn make_member(alloc: Global, size: HeapSize, agents: u32, limit: u32) -> Result
     let Ok(heap) = Arc::new(alloc, heap) else {
         return Err(MakeFault::Memory);
     };
-    Ok(Member {
+    Ok(HeapAgent {
         heap,
         agent: Some(agent),
         limit,
     })
 }
 
-fn split_member(member: &mut Member, other: &mut Member, give: u32)
+fn split_member(member: &mut HeapAgent, other: &mut HeapAgent, give: u32)
     requires whole { IsWhole member.old }
     requires same { IsSame member.old other.old }
     requires some { 1 ≤ give }
@@ -57,7 +62,7 @@ fn split_member(member: &mut Member, other: &mut Member, give: u32)
     member.agent = Some(agent);
 }
 
-fn join_member(member: &mut Member, mut other: Member)
+fn join_member(member: &mut HeapAgent, mut other: HeapAgent)
     requires whole { IsWhole member.old }
     requires other { IsWhole other }
     requires beside { IsSame member.old other }
@@ -99,7 +104,12 @@ impl Held {
     }
 
     // The first agent of a heap, by itself.
-    fn first(alloc: Global, member: Member, ids: u32, agents: u32) -> Result<Box<Held>, AllocError>
+    fn first(
+        alloc: Global,
+        member: HeapAgent,
+        ids: u32,
+        agents: u32,
+    ) -> Result<Box<Held>, AllocError>
         requires whole { IsWhole member }
         requires ids { ids ≡ (size_of (heap_of member)).ids }
         requires agents { agents ≡ (view_if member.agent).agents }
@@ -165,7 +175,7 @@ impl Held {
         let interned = self.interned.try_clone()?;
         let numbers = Arc::try_clone(&self.numbers)?;
         let heap = Arc::try_clone(&self.member.heap)?;
-        let member = Member {
+        let member = HeapAgent {
             heap,
             agent: None,
             limit: self.member.limit,

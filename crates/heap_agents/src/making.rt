@@ -13,16 +13,16 @@ ghost use Rattle.heap_text.specs.Joins.{IsCut, IsJoined};
 ghost use Rattle.heap_text.specs.Texts.{Told, Uses};
 ghost use Rattle.heap_agents.specs.Held.{IsHeld, Leaves, size_by, view_by};
 ghost use Rattle.heap_agents.specs.Sets.{IsIn};
-ghost use Rattle.heap_agents.specs.Members.{IsWhole, MemberLeaves, heap_of, view_if};
+ghost use Rattle.heap_agents.specs.Members.{IsWhole, HeapAgentLeaves, heap_of, view_if};
 
 use crate::held::Held;
-use crate::member::Member;
+use crate::member::HeapAgent;
 use heap_text::{JoinFault, JsStr, Text, TextFull};
 
-pub(crate) fn from_units(member: &mut Member, units: &[u16]) -> Result<JsStr, TextFull>
+pub(crate) fn from_units(member: &mut HeapAgent, units: &[u16]) -> Result<JsStr, TextFull>
     requires whole { IsWhole member.old }
     requires short { length units.now ≤ MAX }
-    ensures leaves { MemberLeaves member.old member.new }
+    ensures leaves { HeapAgentLeaves member.old member.new }
     ensures units { IfOk result (λ s. Has (view_if member.new.agent).units s.id units.now) }
     ensures settled { IfOk result (λ s. IsSettled (view_if member.new.agent) s.id) }
     ensures used { IfOk result
@@ -40,11 +40,11 @@ pub(crate) fn from_units(member: &mut Member, units: &[u16]) -> Result<JsStr, Te
     answer
 }
 
-pub(crate) fn concat(member: &mut Member, a: JsStr, b: JsStr) -> Result<JsStr, JoinFault>
+pub(crate) fn concat(member: &mut HeapAgent, a: JsStr, b: JsStr) -> Result<JsStr, JoinFault>
     requires whole { IsWhole member.old }
     requires known { HasKey (view_if member.old.agent).units a.id
         × HasKey (view_if member.old.agent).units b.id }
-    ensures leaves { MemberLeaves member.old member.new }
+    ensures leaves { HeapAgentLeaves member.old member.new }
     ensures units { IfOk result
         (λ s. (us vs : List ℕ) → Has (view_if member.old.agent).units a.id us
         → Has (view_if member.old.agent).units b.id vs
@@ -62,12 +62,12 @@ pub(crate) fn concat(member: &mut Member, a: JsStr, b: JsStr) -> Result<JsStr, J
     answer
 }
 
-pub(crate) fn slice(member: &mut Member, s: JsStr, from: u32, to: u32) -> Result<JsStr, TextFull>
+pub(crate) fn slice(member: &mut HeapAgent, s: JsStr, from: u32, to: u32) -> Result<JsStr, TextFull>
     requires whole { IsWhole member.old }
     requires settled { IsSettled (view_if member.old.agent) s.id }
     requires within { (us : List ℕ) × Has (view_if member.old.agent).units s.id us × (from ≤ to)
         × (to ≤ length us) }
-    ensures leaves { MemberLeaves member.old member.new }
+    ensures leaves { HeapAgentLeaves member.old member.new }
     ensures units { IfOk result
         (λ t. (us : List ℕ) → Has (view_if member.old.agent).units s.id us
         → Has (view_if member.new.agent).units t.id (part from (to - from) us)) }

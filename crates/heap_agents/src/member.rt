@@ -11,13 +11,13 @@ use std::sync::Arc;
 /// A heap with an agent of it, which is out only while a call runs, and the limit of length of the
 /// strings that are joined.
 #[derive(Drop)]
-pub struct Member {
+pub struct HeapAgent {
     pub heap: Arc<Heap, Global>,
     pub agent: Option<Agent>,
     pub limit: u32,
 }
 
-impl Member {
+impl HeapAgent {
     /// Its agent, which is to be put back.
     pub(crate) fn take_agent(&mut self) -> Agent
         requires { IsWhole self.old }

@@ -8,16 +8,16 @@ ghost use Rattle.heap_text.specs.declared.faults.TextFull as text_full;
 ghost use Rattle.heap_text.specs.Settling.{IsNoRoom};
 ghost use Rattle.heap_agents.specs.Held.{IsHeld, Leaves, size_by, view_by};
 ghost use Rattle.heap_agents.specs.Sets.{IsIn};
-ghost use Rattle.heap_agents.specs.Members.{IsWhole, MemberLeaves, heap_of, view_if};
+ghost use Rattle.heap_agents.specs.Members.{IsWhole, HeapAgentLeaves, heap_of, view_if};
 
 use crate::held::Held;
-use crate::member::Member;
+use crate::member::HeapAgent;
 use heap_text::{JsStr, Text, TextFull};
 
-pub(crate) fn length(member: &mut Member, s: JsStr) -> u32
+pub(crate) fn length(member: &mut HeapAgent, s: JsStr) -> u32
     requires whole { IsWhole member.old }
     requires known { HasKey (view_if member.old.agent).units s.id }
-    ensures leaves { MemberLeaves member.old member.new }
+    ensures leaves { HeapAgentLeaves member.old member.new }
     ensures length { (us : List ℕ) → Has (view_if member.old.agent).units s.id us → result ≡ length us }
 {
     let agent = member.take_agent();
@@ -28,10 +28,10 @@ pub(crate) fn length(member: &mut Member, s: JsStr) -> u32
     answer
 }
 
-pub(crate) fn settle(member: &mut Member, s: JsStr) -> Result<(), TextFull>
+pub(crate) fn settle(member: &mut HeapAgent, s: JsStr) -> Result<(), TextFull>
     requires whole { IsWhole member.old }
     requires known { HasKey (view_if member.old.agent).units s.id }
-    ensures leaves { MemberLeaves member.old member.new }
+    ensures leaves { HeapAgentLeaves member.old member.new }
     ensures settled { IfOk result (λ u. IsSettled (view_if member.new.agent) s.id) }
     ensures refused { IfErr result
         (λ f. (us : List ℕ) → Has (view_if member.old.agent).units s.id us
@@ -46,12 +46,12 @@ pub(crate) fn settle(member: &mut Member, s: JsStr) -> Result<(), TextFull>
     answer
 }
 
-pub(crate) fn read(member: &mut Member, s: JsStr, from: u32, out: &mut [u16])
+pub(crate) fn read(member: &mut HeapAgent, s: JsStr, from: u32, out: &mut [u16])
     requires whole { IsWhole member.old }
     requires settled { IsSettled (view_if member.old.agent) s.id }
     requires within { (us : List ℕ) × Has (view_if member.old.agent).units s.id us
         × (from + length out.old ≤ length us) }
-    ensures leaves { MemberLeaves member.old member.new }
+    ensures leaves { HeapAgentLeaves member.old member.new }
     ensures units { (us : List ℕ) → Has (view_if member.old.agent).units s.id us
         → out.new ≡ slice_range us from (from + length out.old) }
 {

@@ -6,20 +6,20 @@ ghost use Rattle.js_search.specs.Order.{units_cmp};
 ghost use Rattle.js_search.specs.Places.{IsFirst, IsLast, Stands, first, last, stands};
 ghost use Rattle.heap_agents.specs.Held.{IsHeld, Searched, view_by};
 ghost use Rattle.heap_agents.specs.Members.{IsWhole, view_if};
-ghost use Rattle.heap_agents.specs.Searched.{IsOrder, IsReadable, MemberSearched};
+ghost use Rattle.heap_agents.specs.Searched.{IsOrder, IsReadable, HeapAgentSearched};
 
 use crate::held::Held;
-use crate::member::Member;
+use crate::member::HeapAgent;
 use heap_intern::Session;
 use heap_text::JsStr;
 use js_store::Limit;
 use std::cmp::Ordering;
 
-pub(crate) fn compare(member: &mut Member, a: JsStr, b: JsStr) -> Ordering
+pub(crate) fn compare(member: &mut HeapAgent, a: JsStr, b: JsStr) -> Ordering
     requires whole { IsWhole member.old }
     requires left { IsReadable (view_if member.old.agent) a.id }
     requires right { IsReadable (view_if member.old.agent) b.id }
-    ensures searched { MemberSearched member.old member.new }
+    ensures searched { HeapAgentSearched member.old member.new }
     ensures order { (us vs : List ℕ) → Has (view_if member.old.agent).units a.id us
         → Has (view_if member.old.agent).units b.id vs
         → result ≡ units_cmp us vs }
@@ -34,11 +34,11 @@ pub(crate) fn compare(member: &mut Member, a: JsStr, b: JsStr) -> Ordering
     answer
 }
 
-pub(crate) fn equal(member: &mut Member, a: JsStr, b: JsStr) -> bool
+pub(crate) fn equal(member: &mut HeapAgent, a: JsStr, b: JsStr) -> bool
     requires whole { IsWhole member.old }
     requires left { IsReadable (view_if member.old.agent) a.id }
     requires right { IsReadable (view_if member.old.agent) b.id }
-    ensures searched { MemberSearched member.old member.new }
+    ensures searched { HeapAgentSearched member.old member.new }
     ensures value { (us vs : List ℕ) → Has (view_if member.old.agent).units a.id us
         → Has (view_if member.old.agent).units b.id vs
         → IsTrue result ↔ (us ≡ vs) }
@@ -50,11 +50,11 @@ pub(crate) fn equal(member: &mut Member, a: JsStr, b: JsStr) -> bool
     answer
 }
 
-pub(crate) fn starts_with(member: &mut Member, hay: JsStr, needle: JsStr, at: u32) -> bool
+pub(crate) fn starts_with(member: &mut HeapAgent, hay: JsStr, needle: JsStr, at: u32) -> bool
     requires whole { IsWhole member.old }
     requires left { IsReadable (view_if member.old.agent) hay.id }
     requires right { IsReadable (view_if member.old.agent) needle.id }
-    ensures searched { MemberSearched member.old member.new }
+    ensures searched { HeapAgentSearched member.old member.new }
     ensures stands { (us vs : List ℕ) → Has (view_if member.old.agent).units hay.id us
         → Has (view_if member.old.agent).units needle.id vs
         → IsTrue result ↔ Stands us vs at }
@@ -69,12 +69,12 @@ pub(crate) fn starts_with(member: &mut Member, hay: JsStr, needle: JsStr, at: u3
     answer
 }
 
-pub(crate) fn index_of(member: &mut Member, hay: JsStr, needle: JsStr, from: u32) -> Option<u32>
+pub(crate) fn index_of(member: &mut HeapAgent, hay: JsStr, needle: JsStr, from: u32) -> Option<u32>
     requires whole { IsWhole member.old }
     requires left { IsReadable (view_if member.old.agent) hay.id }
     requires right { IsReadable (view_if member.old.agent) needle.id }
     requires within { (us : List ℕ) × Has (view_if member.old.agent).units hay.id us × (from ≤ length us) }
-    ensures searched { MemberSearched member.old member.new }
+    ensures searched { HeapAgentSearched member.old member.new }
     ensures least { (us vs : List ℕ) → Has (view_if member.old.agent).units hay.id us
         → Has (view_if member.old.agent).units needle.id vs
         → IsFirst us vs from result }
@@ -90,7 +90,7 @@ pub(crate) fn index_of(member: &mut Member, hay: JsStr, needle: JsStr, from: u32
 }
 
 pub(crate) fn last_index_of(
-    member: &mut Member,
+    member: &mut HeapAgent,
     hay: JsStr,
     needle: JsStr,
     limit: u32,
@@ -98,7 +98,7 @@ pub(crate) fn last_index_of(
     requires whole { IsWhole member.old }
     requires left { IsReadable (view_if member.old.agent) hay.id }
     requires right { IsReadable (view_if member.old.agent) needle.id }
-    ensures searched { MemberSearched member.old member.new }
+    ensures searched { HeapAgentSearched member.old member.new }
     ensures greatest { (us vs : List ℕ) → Has (view_if member.old.agent).units hay.id us
         → Has (view_if member.old.agent).units needle.id vs
         → IsLast us vs limit result }

@@ -12,11 +12,11 @@ ghost use Rattle.heap_agents.specs.Sets.{IsIn};
 ghost use Rattle.heap_agents.specs.Members.{IsSame, IsWhole, view_if};
 
 use crate::held::Held;
-use crate::member::Member;
+use crate::member::HeapAgent;
 use heap_read::Reader;
 use heap_string_table::TableFull;
 
-pub(crate) fn intern(member: &mut Member, s: u32) -> Result<u32, TableFull>
+pub(crate) fn intern(member: &mut HeapAgent, s: u32) -> Result<u32, TableFull>
     requires whole { IsWhole member.old }
     requires known { HasKey (view_if member.old.agent).units s }
     requires settled { IsSettled (view_if member.old.agent) s }

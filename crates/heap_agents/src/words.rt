@@ -7,11 +7,11 @@ ghost use Rattle.heap_rule.specs.Maps.{Has, HasKey};
 ghost use Rattle.heap_rule.specs.Views.{IsSettled};
 ghost use Rattle.heap_table.specs.Agents.{Belongs, view_of};
 ghost use Rattle.heap_agents.specs.Held.{IsHeld, Leaves, view_by};
-ghost use Rattle.heap_agents.specs.Members.{IsWhole, MemberLeaves, view_if};
+ghost use Rattle.heap_agents.specs.Members.{IsWhole, HeapAgentLeaves, view_if};
 ghost use Rattle.heap_agents.specs.Words.{AreShown, AreThere};
 
 use crate::held::Held;
-use crate::member::Member;
+use crate::member::HeapAgent;
 use heap_read::Window;
 use heap_text::{JsStr, Text};
 use js_units::{word_and_lane, words_for};
@@ -72,11 +72,11 @@ fn show_words(text: &mut Text, s: JsStr, at: u32, into: &mut [u64]) -> Shown
     shown
 }
 
-pub(crate) fn show(member: &mut Member, s: JsStr, at: u32, into: &mut [u64]) -> Shown
+pub(crate) fn show(member: &mut HeapAgent, s: JsStr, at: u32, into: &mut [u64]) -> Shown
     requires whole { IsWhole member.old }
     requires known { HasKey (view_if member.old.agent).units s.id }
     requires settled { IsSettled (view_if member.old.agent) s.id }
-    ensures leaves { MemberLeaves member.old member.new }
+    ensures leaves { HeapAgentLeaves member.old member.new }
     ensures shown { (us : List ℕ) → Has (view_if member.old.agent).units s.id us
         → AreShown us at into.old into.new result }
     ensures there { (us : List ℕ) → Has (view_if member.old.agent).units s.id us

@@ -7,7 +7,7 @@ ghost use Rattle.heap_table.specs.Known.{KeepsKnown};
 ghost use Rattle.heap_text.specs.Turns.{GoesOn};
 ghost use Rattle.heap_example.specs.Greeting.{Greets};
 
-use crate::refusal::Refusal;
+use crate::fault::ExampleFault;
 use heap_rule::{HeapSize, MAX};
 use heap_table::Heap;
 use heap_text::{JsStr, Text};
@@ -21,7 +21,7 @@ pub fn greetings(
     hello: &[u16],
     first: &[u16],
     second: &[u16],
-) -> Result<(Vec<u16>, Vec<u16>), Refusal>
+) -> Result<(Vec<u16>, Vec<u16>), ExampleFault>
     requires short { (length hello.now ≤ MAX) × (length first.now ≤ MAX) × (length second.now ≤ MAX) }
     ensures first { IfOk result (λ r. r.0.items ≡ hello.now ++ first.now) }
     ensures second { IfOk result (λ r. r.1.items ≡ hello.now ++ second.now) }
@@ -50,7 +50,7 @@ fn greet_both(
     hello: JsStr,
     first: &[u16],
     second: &[u16],
-) -> (Result<JsStr, Refusal>, Result<JsStr, Refusal>)
+) -> (Result<JsStr, ExampleFault>, Result<JsStr, ExampleFault>)
     requires known_left { HasKey (view_of left.old.reader.agent).units hello.id }
     requires known_right { HasKey (view_of right.old.reader.agent).units hello.id }
     requires short { (length first.now ≤ MAX) × (length second.now ≤ MAX) }
@@ -71,7 +71,7 @@ fn greet_both(
 }
 
 // A new string: the units of `hello`, and then the name.
-fn greet(text: &mut Text, hello: JsStr, name: &[u16]) -> Result<JsStr, Refusal>
+fn greet(text: &mut Text, hello: JsStr, name: &[u16]) -> Result<JsStr, ExampleFault>
     requires known { HasKey (view_of text.old.reader.agent).units hello.id }
     requires short { length name.now ≤ MAX }
     ensures heap { text.new.reader.heap ≡ text.old.reader.heap }
@@ -85,7 +85,7 @@ fn greet(text: &mut Text, hello: JsStr, name: &[u16]) -> Result<JsStr, Refusal>
 }
 
 // The units of a string.
-fn read(alloc: Global, text: &mut Text, s: JsStr) -> Result<Vec<u16>, Refusal>
+fn read(alloc: Global, text: &mut Text, s: JsStr) -> Result<Vec<u16>, ExampleFault>
     requires known { HasKey (view_of text.old.reader.agent).units s.id }
     ensures heap { text.new.reader.heap ≡ text.old.reader.heap }
     ensures known { KeepsKnown (view_of text.old.reader.agent) (view_of text.new.reader.agent) }

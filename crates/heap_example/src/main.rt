@@ -4,8 +4,8 @@
 //! goes through it call by call. A refusal is printed, and the program ends with 1.
 #![tactic(auto)]
 
+mod fault;
 mod greeting;
-mod refusal;
 
 use anyhow::Result;
 use greeting::greetings;

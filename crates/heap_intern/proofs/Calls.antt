@@ -46,6 +46,10 @@ pub never_slots : (f : TextFull) → NeverSlots (Some (fault_in_text f))
 never_slots (text.Ids f) = tt
 never_slots (text.Words f) = tt
 
+pub never_join : (f : JoinFault) → NeverSlots (concat_part (fault_in_join f))
+never_join (join.TooLong x y) = tt
+never_join (join.Full full) = never_slots full
+
 pub shut_text : (w : View) (l : ℕ) (t : TableId) (f : TextFull) (us : List ℕ) → SlotsShut (state_by w l t) (Some (fault_in_text f)) us
 shut_text w l t (text.Ids f) us = tt
 shut_text w l t (text.Words f) us = tt

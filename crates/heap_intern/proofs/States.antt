@@ -1,6 +1,7 @@
 -- What a store's callers see of a view that goes on.
 use Rattle.std.proofs.Common.{◌≡◌, ℕ, ◌<◌, ◌≤◌, true, false, List, [], ◌++◌, sym, refl, ap, ◌∙◌, subst, arith, append_assoc, Option, Some, None, IsTrue}
 use Rattle.std.specs.Prelude.{Contains, unwrap_or, IsSome}
+use Rattle.std.proofs.lemmas.List.{append-nil}
 use Rattle.std.proofs.lemmas.List.Elements.{Contains-append_left}
 use Rattle.std.specs.FinMap.{FinMap, get}
 use Rattle.std.specs.Ordering.{nat_cmp}
@@ -8,7 +9,7 @@ use Rattle.atomic_table.specs.Seated.{TableId}
 use Rattle.js_header.specs.declared.form.Form.{Form}
 use Rattle.js_header.specs.declared.form.Form.TheVariants.{Unborn, Flat, Cons, Sliced, Thin}
 use Rattle.js_store.specs.declared.faults.StoreFault.{StoreFault}
-use Rattle.js_store.specs.Faults.{Step}
+use Rattle.js_store.specs.Faults.{NeverSlots, Step, Uses}
 use Rattle.js_store.specs.State.{Grows}
 use Rattle.js_store.proofs.Laws.{step_within}
 use Rattle.heap_rule.specs.declared.size.Counters.{Counters}
@@ -117,6 +118,10 @@ grows_goes v w calls l t p g = grows_by v w l t p g.known g.sizes g.agents g.sha
 pub step_at : (v w : View) (l : ℕ) (t u : TableId) (f : Option StoreFault) (i n : ℕ) → u ≡ t → Step (state_by v l t) (state_by w l t) f i n → Step (state_by v l t) (state_by w l u) f i n
 step_at v w l t u f i n e h = subst (λ (x : TableId). Step (state_by v l t) (state_by w l x) f i n) (sym e) h
 
+-- a call that leaves the history, and doesn't find the string table full
+pub uses_at : (v w : View) (l : ℕ) (t u : TableId) (f : Option StoreFault) (i n : ℕ) → u ≡ t → history w ≡ history v → NeverSlots f → Step (state_by v l t) (state_by w l t) f i n → Uses (state_by v l t) (state_by w l u) f i n
+uses_at v w l t u f i n e h never s = record { step = step_at v w l t u f i n e s; no_slots = never; history = h }
+
 -- nothing was used, and more might have been
 pub step_most : (v w : View) (l : ℕ) (t : TableId) (i n : ℕ) → IsPossible v → Reads v w → Step (state_by v l t) (state_by w l t) None i n
 step_most v w l t i n p r = step_within (step_reads v w l t p r) (omega arith) (omega arith)
@@ -124,3 +129,6 @@ step_most v w l t i n p r = step_within (step_reads v w l t p r) (omega arith) (
 -- loads of slots
 pub step_looks : (v w : View) (l : ℕ) (t : TableId) → IsPossible v → Looks v w → Step (state_by v l t) (state_by w l t) None 0 0
 step_looks v w l t p k = let a = k.used in let b = k.words in record { grows = grows_goes v w [] l t p k.goes; honest = tt; within_ids = omega arith; within_words = omega arith }
+
+pub history_looks : (v w : View) → Looks v w → history w ≡ history v
+history_looks v w k = history_goes v w [] k.goes ∙ append-nil (history v)

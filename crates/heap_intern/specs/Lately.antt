@@ -3,8 +3,8 @@ use Rattle.std.specs.Prelude.{ℕ, ◌<◌, List}
 use Rattle.heap_rule.specs.declared.view.View.{View}
 use Rattle.heap_rule.specs.Maps.{Has, HasKey}
 use Rattle.heap_read.specs.Written.{Holds}
-use Rattle.heap_intern.specs.declared.kept.Kept.{Kept}
+use Rattle.heap_intern.specs.declared.kept.KeptWord.{KeptWord}
 
 -- where the word has any unit, the string is known, and these are units of it
-abbrev pub IsKept : View → Kept → Type 0
+abbrev pub IsKept : View → KeptWord → Type 0
 IsKept v l = 0 < l.held.count → HasKey v.units l.id × ((us : List ℕ) → Has v.units l.id us → Holds us l.held)

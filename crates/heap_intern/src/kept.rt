@@ -3,24 +3,24 @@ ghost use Rattle.std.specs.Prelude.{◌≡◌, ◌+◌, ◌≤◌, ◌<◌, IfSo
 ghost use Rattle.js_units.specs.Lanes.{lane_count};
 ghost use Rattle.heap_read.specs.Written.{held_unit};
 
-use heap_read::{Held, JsStr};
+use heap_read::{HeldWord, JsStr};
 
 // A word with units of the string with number `id`. They are so for good, since no string changes.
 #[derive(Clone, Copy)]
-pub(crate) struct Kept {
+pub(crate) struct KeptWord {
     pub(crate) id: u32,
-    pub(crate) held: Held,
+    pub(crate) held: HeldWord,
     ghost lanes: { held.lane + held.count ≤ lane_count held.wide },
 }
 
-impl Kept {
+impl KeptWord {
     // No unit of any string.
-    pub(crate) fn none() -> Kept
+    pub(crate) fn none() -> KeptWord
         ensures { result.held.count ≡ 0 }
     {
-        Kept {
+        KeptWord {
             id: 0,
-            held: Held::none(),
+            held: HeldWord::none(),
         }
     }
 

@@ -6,7 +6,7 @@ ghost use Rattle.heap_intern.specs.Lately.{IsKept};
 ghost use Rattle.heap_intern.specs.Recent.{AreRecent};
 ghost use Rattle.heap_intern.specs.Singles.{AreSingles};
 
-use crate::kept::Kept;
+use crate::kept::KeptWord;
 use crate::recent::Recent;
 use crate::singles::Singles;
 use heap_text::Text;
@@ -23,8 +23,8 @@ use js_store::Limit;
 pub struct Session<'h> {
     pub(crate) text: Text<'h>,
     pub(crate) limit: Limit,
-    pub(crate) last: Kept,
-    pub(crate) older: Kept,
+    pub(crate) last: KeptWord,
+    pub(crate) older: KeptWord,
     pub(crate) singles: Singles,
     pub(crate) recent: Recent,
     ghost one_limit: { text.limit ≡ limit_units limit },

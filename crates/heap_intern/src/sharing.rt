@@ -9,7 +9,7 @@ ghost use Rattle.heap_string_table.specs.Counting.{count_below, different};
 ghost use Rattle.heap_intern.specs.Sessions.{state_by, state_in, table_of, view_in};
 ghost use Rattle.heap_intern.specs.Shares.{BelongsAs, IsJoined, IsWhole, MayJoin, left_by, right_by, total_by};
 
-use crate::kept::Kept;
+use crate::kept::KeptWord;
 use crate::recent::Recent;
 use crate::session::Session;
 use crate::singles::Singles;
@@ -29,8 +29,8 @@ impl<'h> Session<'h> {
         Session {
             text: Text::new(heap, agent, limit.units()),
             limit,
-            last: Kept::none(),
-            older: Kept::none(),
+            last: KeptWord::none(),
+            older: KeptWord::none(),
             singles: Singles::none(),
             recent: Recent::none(),
         }
@@ -49,8 +49,8 @@ impl<'h> Session<'h> {
         Session {
             text: self.text.split(give),
             limit: self.limit,
-            last: Kept::none(),
-            older: Kept::none(),
+            last: KeptWord::none(),
+            older: KeptWord::none(),
             singles: Singles::none(),
             recent: Recent::none(),
         }

@@ -7,7 +7,7 @@ ghost use Rattle.heap_read.specs.Reads.{Reads};
 ghost use Rattle.heap_intern.specs.Lately.{IsKept};
 ghost use Rattle.heap_intern.specs.Sessions.{view_in};
 
-use crate::kept::Kept;
+use crate::kept::KeptWord;
 use crate::session::Session;
 use heap_text::{JsStr, Text};
 
@@ -35,7 +35,7 @@ impl<'h> Session<'h> {
 }
 
 // Unit `i` of a settled string, and the word that has it.
-fn word_with(text: &mut Text, s: JsStr, i: u32) -> (Kept, u16)
+fn word_with(text: &mut Text, s: JsStr, i: u32) -> (KeptWord, u16)
     requires settled { IsSettled (view_of text.old.reader.agent) s.id }
     requires within { (us : List ℕ) × Has (view_of text.old.reader.agent).units s.id us × (i < length us) }
     ensures heap { text.new.reader.heap ≡ text.old.reader.heap }
@@ -49,5 +49,5 @@ fn word_with(text: &mut Text, s: JsStr, i: u32) -> (Kept, u16)
     let reader = &mut text.reader;
     let held = reader.hold_in(window, i);
     let unit = held.unit(i);
-    (Kept { id: s.id, held }, unit)
+    (KeptWord { id: s.id, held }, unit)
 }

@@ -7,7 +7,7 @@ use Rattle.heap_rule.specs.Contents.{lane_in}
 use Rattle.heap_rule.specs.Maps.{HasKey}
 use Rattle.heap_rule.specs.Sound.{IsPossible}
 use Rattle.heap_rule.specs.Views.{shown}
-use Rattle.heap_read.specs.declared.source.Held.{Held}
+use Rattle.heap_read.specs.declared.source.HeldWord.{HeldWord}
 use Rattle.heap_read.specs.declared.string.Window.{Window}
 use Rattle.heap_read.specs.Windows.{IsWindow}
 use Rattle.heap_read.specs.Written.{Holds, ShowsOn}
@@ -54,14 +54,14 @@ holds_one us i word e s l = record {
   each = λ k m. only_lane us i word k e s m;
 }
 
-pub holds_front : (xs ys : List ℕ) (h : Held) → Holds xs h → Holds (xs ++ ys) h
+pub holds_front : (xs ys : List ℕ) (h : HeldWord) → Holds xs h → Holds (xs ++ ys) h
 holds_front xs ys h r = let n = length-append xs ys in let s = r.within in record {
   lanes = r.lanes;
   within = omega arith;
   each = λ k l. r.each k l ∙ sym (get_or_append_left xs ys 0 (h.from + k) (omega arith));
 }
 
-pub holds_back : (xs ys : List ℕ) (n : ℕ) (h : Held) → length xs ≡ n → Holds ys h → Holds (xs ++ ys) (record { word = h.word; wide = h.wide; lane = h.lane; from = n + h.from; count = h.count })
+pub holds_back : (xs ys : List ℕ) (n : ℕ) (h : HeldWord) → length xs ≡ n → Holds ys h → Holds (xs ++ ys) (record { word = h.word; wide = h.wide; lane = h.lane; from = n + h.from; count = h.count })
 holds_back xs ys n h e r = let m = length-append xs ys in let s = r.within in record {
   lanes = r.lanes;
   within = omega arith;

@@ -8,7 +8,7 @@ use Rattle.std.proofs.Math.Nat.{mod-lt, pow-le-pow_right}
 use Rattle.std.proofs.Math.Pow.{field, high, low, mod-mod-pow, pow_mono, pow_pos, pow-add, shl_exact, shr-shr}
 use Rattle.js_units.specs.Lanes.{IsWordOf, is_wide, lane_base, lane_count, lane_of, words_over}
 use Rattle.js_units.proofs.PackedWords.{base_some, lane_past, narrow_unit, word_packed}
-use Rattle.heap_read.specs.declared.source.Held.{Held}
+use Rattle.heap_read.specs.declared.source.HeldWord.{HeldWord}
 use Rattle.heap_read.specs.Filling.{IsPlaced}
 use Rattle.heap_read.specs.Shifted.{HoldsLanes, lane_bits}
 use Rattle.heap_read.specs.Written.{HasAt, Holds, held_unit}
@@ -171,7 +171,7 @@ module _ (wide : Bool) (word part before behind upper r low count : ℕ) (room :
   }
 
 -- the word goes on over some units
-pub lanes_on : (wide : Bool) (us : List ℕ) (first done more word part r : ℕ) (h : Held) (i : ℕ) → i ≡ first + done → Holds us h → HasAt h i more
+pub lanes_on : (wide : Bool) (us : List ℕ) (first done more word part r : ℕ) (h : HeldWord) (i : ℕ) → i ≡ first + done → Holds us h → HasAt h i more
     → HoldsLanes wide word done (λ k. get_or us (first + k) 0) → HoldsLanes wide part more (λ k. held_unit h (i + k))
     → r < lane_base wide ^ (done + more) → ((q : ℕ) → q < done → lane_of wide r q ≡ lane_of wide word q) → ((q : ℕ) → lane_of wide r (done + q) ≡ lane_of wide part q)
     → HoldsLanes wide r (done + more) (λ k. get_or us (first + k) 0)
@@ -188,7 +188,7 @@ lanes_on wide us first done more word part r h i e holds at old new small below 
 pub holds_as : (wide : Bool) (x count : ℕ) (unit other : ℕ → ℕ) → HoldsLanes wide x count unit → ((k : ℕ) → k < count → unit k ≡ other k) → HoldsLanes wide x count other
 holds_as wide x count unit other h same = record { small = h.small; each = λ k l. h.each k l ∙ same k l }
 
-pub part_unit_is : (h : Held) (i k : ℕ) → h.from ≤ i → lane_of h.wide h.word (h.lane + (i - h.from) + k) ≡ held_unit h (i + k)
+pub part_unit_is : (h : HeldWord) (i k : ℕ) → h.from ≤ i → lane_of h.wide h.word (h.lane + (i - h.from) + k) ≡ held_unit h (i + k)
 part_unit_is h i k l = let e : h.lane + (i - h.from) + k ≡ h.lane + (i + k - h.from) = omega arith in ap (lane_of h.wide h.word) e
 
 pub other_width : (a b c : Bool) → beq a b ≡ false → b ≡ c → a ≡ not c
@@ -197,7 +197,7 @@ other_width true b false n e = refl
 other_width false b true n e = refl
 other_width false b false n e = let m : beq false false ≡ false = subst (λ (x : Bool). beq false x ≡ false) e n in absurd (cc)
 
-pub four_most : (h : Held) (i count : ℕ) → h.wide ≡ true → HasAt h i count → count ≤ 4
+pub four_most : (h : HeldWord) (i count : ℕ) → h.wide ≡ true → HasAt h i count → count ≤ 4
 four_most h i count e at = let a : h.lane + h.count ≤ 4 = subst (λ (b : Bool). h.lane + h.count ≤ lane_count b) e at.lanes in let b = at.low in let c = at.high in omega arith
 
 -- a unit over 255 is found
@@ -206,7 +206,7 @@ wide_by us true e h = e
 wide_by us false e h = absurd (h (λ q. narrow_unit us q e))
 
 -- of a window, one word after the other
-module _ (us : List ℕ) (h : Held) (i x : ℕ) (holds : Holds us h) (low : h.from ≤ i) (high : i < h.from + h.count) (lanes : HoldsLanes true x (h.count - (i - h.from)) (λ k. held_unit h (i + k))) where
+module _ (us : List ℕ) (h : HeldWord) (i x : ℕ) (holds : Holds us h) (low : h.from ≤ i) (high : i < h.from + h.count) (lanes : HoldsLanes true x (h.count - (i - h.from)) (λ k. held_unit h (i + k))) where
   unit_here : (k : ℕ) → k < h.count - (i - h.from) → lane_of true x k ≡ get_or us (i + k) 0
   unit_here k l = lanes.each k l ∙ unit_held_is us h (i + k) holds (omega arith) (omega arith)
 

@@ -8,7 +8,7 @@ use Rattle.std.proofs.lemmas.Grind.{same_number_lists}
 use Rattle.std.proofs.lemmas.Simd.{chunk-drop}
 use Rattle.js_units.specs.Lanes.{hash_from, lane_count, lane_of}
 use Rattle.js_units.proofs.Hashing.{hash_append}
-use Rattle.heap_read.specs.declared.source.Held.{Held}
+use Rattle.heap_read.specs.declared.source.HeldWord.{HeldWord}
 use Rattle.heap_rule.specs.declared.view.View.{View}
 use Rattle.heap_read.specs.declared.string.Window.{Window}
 use Rattle.heap_read.specs.Reads.{KeepsForms, Reads}
@@ -19,7 +19,7 @@ use Rattle.heap_read.specs.Written.{Holds, ShowsOn}
 use Rattle.heap_read.proofs.Showing.{forms_held, window_frozen, window_kept}
 
 -- the lanes of a held word from that of unit i on
-module _ (us : List ℕ) (h : Held) (holds : Holds us h) (i : ℕ) (low : h.from ≤ i) where
+module _ (us : List ℕ) (h : HeldWord) (holds : Holds us h) (i : ℕ) (low : h.from ≤ i) where
   pub unit_of_lane : (k : ℕ) → k < h.count - (i - h.from) → lane_of h.wide h.word (h.lane + (i - h.from) + k) ≡ get_or us (i + k) 0
   unit_of_lane k l =
       let e : h.lane + (i - h.from + k) ≡ h.lane + (i - h.from) + k = omega arith in

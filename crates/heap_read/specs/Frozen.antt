@@ -5,7 +5,7 @@ use Rattle.js_header.specs.declared.form.Form.TheVariants.{Flat, Thin}
 use Rattle.heap_rule.specs.declared.view.View.{View}
 use Rattle.heap_rule.specs.Contents.{lane_in}
 use Rattle.heap_rule.specs.Maps.{Has, HasKey}
-use Rattle.heap_read.specs.declared.source.Held.{Held}
+use Rattle.heap_read.specs.declared.source.HeldWord.{HeldWord}
 use Rattle.heap_read.specs.declared.string.Window.{Window}
 
 -- a string that is a fixed Flat: it stands in a slot, or another forwards to it
@@ -25,7 +25,7 @@ pub record HasLane (v : View) (wide : Bool) (start o unit : ℕ) : Type 0 where
   pub lane : unit ≡ lane_in (λ _. word) wide start o
 
 -- the word that is held shows units of the window, from words that the view has as frozen
-pub record IsHeld (v : View) (w : Window) (h : Held) : Type 0 where
+pub record IsHeld (v : View) (w : Window) (h : HeldWord) : Type 0 where
   pub lanes : h.lane + h.count ≤ lane_count h.wide
   pub within : h.from + h.count ≤ w.len
   pub each : (k : ℕ) → k < h.count → HasLane v w.wide w.start (w.offset + (h.from + k)) (lane_of h.wide h.word (h.lane + k))

@@ -5,8 +5,8 @@ use Rattle.heap_rule.specs.declared.view.View.{View}
 use Rattle.heap_rule.specs.Births.{part}
 use Rattle.heap_rule.specs.Maps.{HasKey}
 use Rattle.heap_read.specs.declared.source.Piece.{Piece}
-use Rattle.heap_read.specs.declared.source.Source.{Source}
-use Rattle.heap_read.specs.declared.source.Source.TheVariants as source
+use Rattle.heap_read.specs.declared.source.UnitSource.{UnitSource}
+use Rattle.heap_read.specs.declared.source.UnitSource.TheVariants as source
 use Rattle.heap_read.specs.declared.reader.Reader.{Reader}
 use Rattle.heap_read.specs.Readers.{view_in}
 use Rattle.heap_read.specs.Windows.{IsWindow}
@@ -14,7 +14,7 @@ use Rattle.heap_read.specs.Windows.{IsWindow}
 abbrev pub piece_units : View → Piece → List ℕ
 piece_units v p = part p.from p.window.len (unwrap_or (get v.units p.of.id) [])
 
-abbrev pub listed : View → Source → List ℕ
+abbrev pub listed : View → UnitSource → List ℕ
 listed v (source.Units us) = us.now
 listed v (source.Piece p) = piece_units v p
 listed v (source.Pieces p q) = piece_units v p ++ piece_units v q
@@ -23,12 +23,12 @@ abbrev pub ShowsPiece : View → Piece → Type 0
 ShowsPiece v p = HasKey v.units p.of.id × IsWindow v p.window (piece_units v p)
 
 -- each window of the source shows its part
-abbrev pub Shows : View → Source → Type 0
+abbrev pub Shows : View → UnitSource → Type 0
 Shows v (source.Units us) = Unit {0}
 Shows v (source.Piece p) = ShowsPiece v p
 Shows v (source.Pieces p q) = ShowsPiece v p × ShowsPiece v q
 
-abbrev pub listed_in : Reader → Source → List ℕ
+abbrev pub listed_in : Reader → UnitSource → List ℕ
 listed_in r s = listed (view_in r) s
 
 -- one-byte lanes are enough for the units, where the lanes are one-byte ones

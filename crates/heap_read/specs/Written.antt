@@ -3,7 +3,7 @@ use Rattle.std.specs.Prelude.{◌≡◌, ℕ, ◌+◌, ◌-◌, ◌/◌, ◌%◌
 use Rattle.js_units.specs.Lanes.{IsWordOf, lane_count, lane_of, words_over}
 use Rattle.heap_rule.specs.declared.view.View.{View}
 use Rattle.heap_rule.specs.Maps.{Has}
-use Rattle.heap_read.specs.declared.source.Held.{Held}
+use Rattle.heap_read.specs.declared.source.HeldWord.{HeldWord}
 use Rattle.heap_read.specs.declared.string.Window.{Window}
 
 -- the first `done` of the words from `start` on are own and hold the units
@@ -17,17 +17,17 @@ pub record IsWritten (v : View) (wide : Bool) (start : ℕ) (us : List ℕ) : Ty
   pub empty : length us ≡ 0 → start ≡ 0
 
 -- the word that is held shows units of a list: those that it says, in its lanes
-pub record Holds (us : List ℕ) (h : Held) : Type 0 where
+pub record Holds (us : List ℕ) (h : HeldWord) : Type 0 where
   pub lanes : h.lane + h.count ≤ lane_count h.wide
   pub within : h.from + h.count ≤ length us
   pub each : (k : ℕ) → k < h.count → lane_of h.wide h.word (h.lane + k) ≡ slice_index us (h.from + k)
 
 -- unit i of the list, which the held word has
-abbrev pub held_unit : Held → ℕ → ℕ
+abbrev pub held_unit : HeldWord → ℕ → ℕ
 held_unit h i = lane_of h.wide h.word (h.lane + (i - h.from))
 
 -- the word that is held has `count` units from number i on
-pub record HasAt (h : Held) (i count : ℕ) : Type 0 where
+pub record HasAt (h : HeldWord) (i count : ℕ) : Type 0 where
   pub lanes : h.lane + h.count ≤ lane_count h.wide
   pub low : h.from ≤ i
   pub high : i + count ≤ h.from + h.count

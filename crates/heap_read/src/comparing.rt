@@ -9,7 +9,7 @@ ghost use Rattle.heap_read.specs.Windows.{IsFrozenWindow, IsWindow};
 ghost use Rattle.heap_read.specs.Written.{HasAt, held_unit};
 
 use crate::reader::Reader;
-use crate::source::Held;
+use crate::source::HeldWord;
 use crate::string::Window;
 
 impl<'h> Reader<'h> {
@@ -42,7 +42,7 @@ impl<'h> Reader<'h> {
 }
 
 // Whether two words hold the same `count` units from number `i` on.
-fn has_same_units(left: &Held, right: &Held, i: u32, count: u32) -> bool
+fn has_same_units(left: &HeldWord, right: &HeldWord, i: u32, count: u32) -> bool
     requires left { HasAt left.now i count }
     requires right { HasAt right.now i count }
     requires short { i + count < 2 ^ 32 }

@@ -14,14 +14,14 @@ ghost use Rattle.heap_read.specs.Written.{IsWritten};
 
 use crate::reader::Reader;
 use crate::shifting::has_wide_lane;
-use crate::source::Source;
+use crate::source::UnitSource;
 use crate::string::Window;
 use heap_table::CounterFull;
 use js_units::{lanes, words_for};
 
 impl<'h> Reader<'h> {
     /// Whether a unit is over 255.
-    pub fn has_wide(&mut self, source: &Source, n: u32) -> bool
+    pub fn has_wide(&mut self, source: &UnitSource, n: u32) -> bool
         requires shows { Shows (view_in self.old) source.now }
         requires count { length (listed_in self.old source.now) ≡ n }
         ensures reads { Moves Reads self.old self.new }
@@ -31,9 +31,9 @@ impl<'h> Reader<'h> {
         ensures forms { KeepsForms (view_in self.old) (view_in self.new) }
     {
         match source {
-            Source::Units(units) => js_units::has_wide(units),
-            Source::Piece(piece) => self.is_wide_in(piece.window),
-            Source::Pieces(front, back) => self.is_wide_in(front.window)
+            UnitSource::Units(units) => js_units::has_wide(units),
+            UnitSource::Piece(piece) => self.is_wide_in(piece.window),
+            UnitSource::Pieces(front, back) => self.is_wide_in(front.window)
                 || self.is_wide_in(back.window),
         }
     }
@@ -69,7 +69,7 @@ impl<'h> Reader<'h> {
     }
 
     // Word number `at` of the units.
-    fn pack(&mut self, source: &Source, n: u32, wide: bool, at: u32) -> u64
+    fn pack(&mut self, source: &UnitSource, n: u32, wide: bool, at: u32) -> u64
         requires shows { Shows (view_in self.old) source.now }
         requires count { length (listed_in self.old source.now) ≡ n }
         requires wide { wide ≡ is_wide (listed_in self.old source.now) }
@@ -80,7 +80,7 @@ impl<'h> Reader<'h> {
         ensures word { IsWordOf wide (listed_in self.old source.now) at result }
         ensures forms { KeepsForms (view_in self.old) (view_in self.new) }
     {
-        if let Source::Units(units) = source {
+        if let UnitSource::Units(units) = source {
             return js_units::pack(units, wide, at);
         }
         let lanes = lanes(wide);
@@ -89,7 +89,7 @@ impl<'h> Reader<'h> {
     }
 
     /// Content words with the units of a source, now the agent's own. The answer is the first.
-    pub fn write(&mut self, source: &Source, n: u32, wide: bool) -> Result<u32, CounterFull>
+    pub fn write(&mut self, source: &UnitSource, n: u32, wide: bool) -> Result<u32, CounterFull>
         requires shows { Shows (view_in self.old) source.now }
         requires count { length (listed_in self.old source.now) ≡ n }
         requires wide { wide ≡ is_wide (listed_in self.old source.now) }

@@ -10,7 +10,7 @@ ghost use Rattle.heap_read.specs.Sources.{FitsLanes, Shows, listed_in};
 
 use crate::reader::Reader;
 use crate::shifting::replaced;
-use crate::source::Source;
+use crate::source::UnitSource;
 use js_units::{lanes, word_and_lane};
 
 /// Where a run of lanes begins, and how wide they are.
@@ -31,7 +31,7 @@ struct Patch {
 
 impl<'h> Reader<'h> {
     // An own word with these lanes changed. Only one that is not written whole is loaded.
-    fn patched(&mut self, at: u32, patch: Patch, source: &Source) -> u64
+    fn patched(&mut self, at: u32, patch: Patch, source: &UnitSource) -> u64
         requires shows { Shows (view_in self.old) source.now }
         requires own { HasKey (view_in self.old).own_words at }
         requires lanes { patch.low + patch.count ≤ lane_count patch.wide }
@@ -54,7 +54,7 @@ impl<'h> Reader<'h> {
     }
 
     /// Lanes `at` on of a run become the units of a source. The run's words are own there.
-    pub fn copy_lanes(&mut self, source: &Source, n: u32, to: Run, at: u32)
+    pub fn copy_lanes(&mut self, source: &UnitSource, n: u32, to: Run, at: u32)
         requires shows { Shows (view_in self.old) source.now }
         requires count { length (listed_in self.old source.now) ≡ n }
         requires short { at + n ≤ MAX }

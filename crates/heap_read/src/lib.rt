@@ -22,6 +22,6 @@ mod windows;
 
 pub use lanes::Run;
 pub use reader::Reader;
-pub use source::{Held, Piece, Source};
+pub use source::{HeldWord, Piece, UnitSource};
 pub use steps::Steps;
 pub use string::{JsStr, Window};

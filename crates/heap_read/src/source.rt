@@ -25,7 +25,7 @@ pub struct Piece {
 
 /// The units of a slice, or of one or two parts of strings.
 #[derive(Clone, Copy)]
-pub enum Source<'u> {
+pub enum UnitSource<'u> {
     Units(&'u [u16]),
     Piece(Piece),
     Pieces(Piece, Piece),
@@ -34,7 +34,7 @@ pub enum Source<'u> {
 /// One word that was read of a source, so that its units are found with no further load: the
 /// `count` units from number `from` on, the first in lane `lane`.
 #[derive(Clone, Copy)]
-pub struct Held {
+pub struct HeldWord {
     pub word: u64,
     pub wide: bool,
     pub lane: u32,
@@ -42,12 +42,12 @@ pub struct Held {
     pub count: u32,
 }
 
-impl Held {
+impl HeldWord {
     /// No word: it shows no unit.
-    pub fn none() -> Held
+    pub fn none() -> HeldWord
         ensures { (us : List ℕ) → Holds us result }
     {
-        Held {
+        HeldWord {
             word: 0,
             wide: false,
             lane: 0,
@@ -98,7 +98,7 @@ impl Held {
     }
 
     // Whether another word is the same, with unit `i` in the same lane.
-    pub(crate) fn is_alike(&self, other: &Held, i: u32) -> bool
+    pub(crate) fn is_alike(&self, other: &HeldWord, i: u32) -> bool
         requires left { HasAt self.now i 0 }
         requires right { HasAt other.now i 0 }
         ensures { IsTrue result → (k : ℕ) → held_unit self.now (i + k) ≡ held_unit other.now (i + k) }
@@ -111,7 +111,7 @@ impl Held {
 
 impl<'h> Reader<'h> {
     /// The word with unit `i` of a window, by one load, and all units of the window that it shows.
-    pub fn hold_in(&mut self, w: Window, i: u32) -> Held
+    pub fn hold_in(&mut self, w: Window, i: u32) -> HeldWord
         requires frozen { IsFrozenWindow (view_in self.old) w }
         requires within { i < w.len }
         ensures reads { Moves Reads self.old self.new }
@@ -127,7 +127,7 @@ impl<'h> Reader<'h> {
         let (at, k) = word_and_lane(w.wide, place);
         let back = k.min(i);
         let word = self.agent.load_word(self.heap, w.start + at);
-        Held {
+        HeldWord {
             word,
             wide: w.wide,
             lane: k - back,
@@ -137,7 +137,7 @@ impl<'h> Reader<'h> {
     }
 
     // The word with this unit of a source.
-    fn hold(&mut self, source: &Source, i: u32) -> Held
+    fn hold(&mut self, source: &UnitSource, i: u32) -> HeldWord
         requires shows { Shows (view_in self.old) source.now }
         requires within { i < length (listed_in self.old source.now) }
         ensures reads { Moves Reads self.old self.new }
@@ -148,21 +148,21 @@ impl<'h> Reader<'h> {
         ensures holds { Holds (listed_in self.old source.now) result }
     {
         match source {
-            Source::Units(units) => Held {
+            UnitSource::Units(units) => HeldWord {
                 word: u64::from(unit_of(units, i as usize)),
                 wide: true,
                 lane: 0,
                 from: i,
                 count: 1,
             },
-            Source::Piece(piece) => self.hold_in(piece.window, i),
-            Source::Pieces(front, back) => {
+            UnitSource::Piece(piece) => self.hold_in(piece.window, i),
+            UnitSource::Pieces(front, back) => {
                 let left = front.window.len;
                 if i < left {
                     return self.hold_in(front.window, i);
                 }
                 let held = self.hold_in(back.window, i - left);
-                Held {
+                HeldWord {
                     word: held.word,
                     wide: held.wide,
                     lane: held.lane,
@@ -175,7 +175,7 @@ impl<'h> Reader<'h> {
 
     // The `count` units from number `first` on, as lanes of one word, by a load for each word
     // that they lie in.
-    pub(crate) fn word_of(&mut self, source: &Source, wide: bool, first: u32, count: u32) -> u64
+    pub(crate) fn word_of(&mut self, source: &UnitSource, wide: bool, first: u32, count: u32) -> u64
         requires shows { Shows (view_in self.old) source.now }
         requires within { first + count ≤ length (listed_in self.old source.now) }
         requires short { length (listed_in self.old source.now) ≤ MAX }

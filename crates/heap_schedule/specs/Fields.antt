@@ -6,8 +6,8 @@ use Rattle.heap_schedule.specs.declared.field.Keyword.{Keyword}
 use Rattle.heap_schedule.specs.declared.field.Keyword.TheVariants as keyword
 use Rattle.heap_schedule.specs.declared.field.Field.{Field}
 use Rattle.heap_schedule.specs.declared.field.Field.TheVariants as field
-use Rattle.heap_schedule.specs.declared.field.Stop.{Stop}
-use Rattle.heap_schedule.specs.declared.field.Stop.TheVariants.{Refused, Memory}
+use Rattle.heap_schedule.specs.declared.field.LineFault.{LineFault}
+use Rattle.heap_schedule.specs.declared.field.LineFault.TheVariants.{Refused, Memory}
 
 -- The pieces of a text between its separators: one more than there are separators.
 abbrev pub onto_first : ℕ → List (List ℕ) → List (List ℕ)
@@ -84,10 +84,10 @@ abbrev pub fields_of : List ℕ → Option (List Field)
 fields_of line = all_fields (pieces 32 line)
 
 -- A result of reading is what there is to be read; it is a refusal where nothing is.
-abbrev pub Gives : {A B : Type 0} → (A → B) → Result A Stop → Option B → Type 0
+abbrev pub Gives : {A B : Type 0} → (A → B) → Result A LineFault → Option B → Type 0
 Gives f (Ok a) wanted = wanted ≡ Some (f a)
 Gives f (Err Refused) wanted = wanted ≡ None
 Gives f (Err Memory) wanted = ⊤
 
-abbrev pub GivesAll : Result (Vec Field Global) Stop → Option (List Field) → Type 0
+abbrev pub GivesAll : Result (Vec Field Global) LineFault → Option (List Field) → Type 0
 GivesAll r wanted = Gives (λ fields. fields.items) r wanted

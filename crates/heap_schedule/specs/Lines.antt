@@ -12,7 +12,7 @@ use Rattle.heap_schedule.specs.declared.field.Keyword.{Keyword}
 use Rattle.heap_schedule.specs.declared.field.Keyword.TheVariants as keyword
 use Rattle.heap_schedule.specs.declared.field.Field.{Field}
 use Rattle.heap_schedule.specs.declared.field.Field.TheVariants as field
-use Rattle.heap_schedule.specs.declared.field.Stop.{Stop}
+use Rattle.heap_schedule.specs.declared.field.LineFault.{LineFault}
 use Rattle.heap_schedule.specs.declared.line.Line.{Line}
 use Rattle.heap_schedule.specs.declared.line.Line.TheVariants as line
 use Rattle.heap_schedule.specs.declared.line.Making.{Making}
@@ -259,8 +259,8 @@ making_of fs = if (length fs == 5) && is_heap (field_at fs 0)
 
 -- ---- results
 
-abbrev pub GivesLine : Result Line Stop → Option Turn → Type 0
+abbrev pub GivesLine : Result Line LineFault → Option Turn → Type 0
 GivesLine r wanted = Gives named r wanted
 
-abbrev pub GivesNames : Result (Vec ℕ Global) Stop → Option (List ℕ) → Type 0
+abbrev pub GivesNames : Result (Vec ℕ Global) LineFault → Option (List ℕ) → Type 0
 GivesNames r wanted = Gives (λ names. names.items) r wanted

@@ -40,7 +40,7 @@ pub enum Field {
 
 /// Why a text is not read on.
 #[derive(Clone, Copy, Debug, PartialEq, Eq)]
-pub enum Stop {
+pub enum LineFault {
     /// It is not of the form.
     Refused,
     Memory,
@@ -196,7 +196,7 @@ pub(crate) fn behind(bytes: &[u8], at: usize) -> &[u8]
 }
 
 /// The fields of a line.
-pub(crate) fn fields(alloc: Global, line: &[u8]) -> Result<Vec<Field>, Stop>
+pub(crate) fn fields(alloc: Global, line: &[u8]) -> Result<Vec<Field>, LineFault>
     ensures { GivesAll result (fields_of line.now) }
 {
     let mut fields = Vec::new(alloc);
@@ -206,10 +206,10 @@ pub(crate) fn fields(alloc: Global, line: &[u8]) -> Result<Vec<Field>, Stop>
         match field_of(&rest[..end]) {
             Some(field) => {
                 if fields.push(field).is_err() {
-                    return Err(Stop::Memory);
+                    return Err(LineFault::Memory);
                 }
             }
-            None => return Err(Stop::Refused),
+            None => return Err(LineFault::Refused),
         }
         if end == rest.len() {
             return Ok(fields);

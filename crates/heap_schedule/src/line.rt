@@ -3,7 +3,7 @@ ghost use Rattle.std.specs.Prelude.{◌≡◌, true, IfOk};
 ghost use Rattle.heap_schedule.specs.Fields.{Gives};
 ghost use Rattle.heap_schedule.specs.Lines.{GivesLine, GivesNames, counter_in, form_in, is_enter, is_heap, is_learn, is_small, line_by, line_of, making_of, names_in, number_in, place_in, birth_line_of, claim_line_of, counter_line_of, flatten_line_of, form_line_of, join_line_of, len_line_of, length_line_of, slot_line_of, split_line_of, store_line_of, take_line_of, thin_line_of, word_line_of};
 
-use crate::field::{Field, Keyword, Stop};
+use crate::field::{Field, Keyword, LineFault};
 use heap_core::{Counter, Event, HeapSize};
 use js_header::{Form, decode};
 use std::alloc::Global;
@@ -23,18 +23,18 @@ pub enum Line {
     },
 }
 
-fn number_in(field: Field) -> Result<u64, Stop>
+fn number_in(field: Field) -> Result<u64, LineFault>
     ensures { Gives (λ n. n) result (number_in field) }
 {
     match field {
         Field::Number(number) => Ok(number),
-        Field::Keyword(_) => Err(Stop::Refused),
+        Field::Keyword(_) => Err(LineFault::Refused),
     }
 }
 
 // The number of a view, an id, a content word or a slot, or a count of such. All of these are below
 // 2^32 - 1, so a greater number is as little of use as that one.
-fn place_in(field: Field) -> Result<u32, Stop>
+fn place_in(field: Field) -> Result<u32, LineFault>
     ensures { Gives (λ n. n) result (place_in field) }
 {
     match field {
@@ -44,32 +44,32 @@ fn place_in(field: Field) -> Result<u32, Stop>
             }
             Ok(4_294_967_295)
         }
-        Field::Keyword(_) => Err(Stop::Refused),
+        Field::Keyword(_) => Err(LineFault::Refused),
     }
 }
 
-fn counter_in(field: Field) -> Result<Counter, Stop>
+fn counter_in(field: Field) -> Result<Counter, LineFault>
     ensures { Gives (λ k. k) result (counter_in field) }
 {
     match field {
         Field::Keyword(word) => match word {
             Keyword::Ids => Ok(Counter::Ids),
             Keyword::Words => Ok(Counter::Words),
-            _ => Err(Stop::Refused),
+            _ => Err(LineFault::Refused),
         },
-        Field::Number(_) => Err(Stop::Refused),
+        Field::Number(_) => Err(LineFault::Refused),
     }
 }
 
-fn form_in(field: Field) -> Result<Form, Stop>
+fn form_in(field: Field) -> Result<Form, LineFault>
     ensures { Gives (λ f. f) result (form_in field) }
 {
     match field {
         Field::Number(number) => match decode(number) {
             Some(form) => Ok(form),
-            None => Err(Stop::Refused),
+            None => Err(LineFault::Refused),
         },
-        Field::Keyword(_) => Err(Stop::Refused),
+        Field::Keyword(_) => Err(LineFault::Refused),
     }
 }
 
@@ -83,65 +83,65 @@ fn is_learn(field: Field) -> bool
 }
 
 // The ids that are learned, each behind a word `learn`.
-fn names_in(alloc: Global, fields: &[Field]) -> Result<Vec<u32>, Stop>
+fn names_in(alloc: Global, fields: &[Field]) -> Result<Vec<u32>, LineFault>
     ensures { GivesNames result (names_in fields.now) }
 {
     let mut names = Vec::new(alloc);
     let mut rest = fields;
     'names: while !rest.is_empty() {
         if rest.len() < 2 {
-            return Err(Stop::Refused);
+            return Err(LineFault::Refused);
         }
         if !is_learn(rest[0]) {
-            return Err(Stop::Refused);
+            return Err(LineFault::Refused);
         }
         let name = place_in(rest[1])?;
         if names.push(name).is_err() {
-            return Err(Stop::Memory);
+            return Err(LineFault::Memory);
         }
         rest = &rest[2..];
     }
     Ok(names)
 }
 
-fn split_line(fields: &[Field]) -> Result<Line, Stop>
+fn split_line(fields: &[Field]) -> Result<Line, LineFault>
     ensures { GivesLine result (split_line_of fields.now) }
 {
     if fields.len() != 3 {
-        return Err(Stop::Refused);
+        return Err(LineFault::Refused);
     }
     let view = place_in(fields[1])?;
     let give = place_in(fields[2])?;
     Ok(Line::Event(Event::Split { view, give }))
 }
 
-fn join_line(fields: &[Field]) -> Result<Line, Stop>
+fn join_line(fields: &[Field]) -> Result<Line, LineFault>
     ensures { GivesLine result (join_line_of fields.now) }
 {
     if fields.len() != 3 {
-        return Err(Stop::Refused);
+        return Err(LineFault::Refused);
     }
     let view = place_in(fields[1])?;
     let other = place_in(fields[2])?;
     Ok(Line::Event(Event::Join { view, other }))
 }
 
-fn counter_line(fields: &[Field]) -> Result<Line, Stop>
+fn counter_line(fields: &[Field]) -> Result<Line, LineFault>
     ensures { GivesLine result (counter_line_of fields.now) }
 {
     if fields.len() != 3 {
-        return Err(Stop::Refused);
+        return Err(LineFault::Refused);
     }
     let view = place_in(fields[1])?;
     let counter = counter_in(fields[2])?;
     Ok(Line::Event(Event::LoadCounter { view, counter }))
 }
 
-fn claim_line(fields: &[Field]) -> Result<Line, Stop>
+fn claim_line(fields: &[Field]) -> Result<Line, LineFault>
     ensures { GivesLine result (claim_line_of fields.now) }
 {
     if fields.len() != 5 {
-        return Err(Stop::Refused);
+        return Err(LineFault::Refused);
     }
     let view = place_in(fields[1])?;
     let counter = counter_in(fields[2])?;
@@ -155,11 +155,11 @@ fn claim_line(fields: &[Field]) -> Result<Line, Stop>
     }))
 }
 
-fn store_line(fields: &[Field]) -> Result<Line, Stop>
+fn store_line(fields: &[Field]) -> Result<Line, LineFault>
     ensures { GivesLine result (store_line_of fields.now) }
 {
     if fields.len() != 4 {
-        return Err(Stop::Refused);
+        return Err(LineFault::Refused);
     }
     let view = place_in(fields[1])?;
     let at = place_in(fields[2])?;
@@ -167,11 +167,11 @@ fn store_line(fields: &[Field]) -> Result<Line, Stop>
     Ok(Line::Event(Event::StoreWord { view, at, word }))
 }
 
-fn length_line(fields: &[Field]) -> Result<Line, Stop>
+fn length_line(fields: &[Field]) -> Result<Line, LineFault>
     ensures { GivesLine result (length_line_of fields.now) }
 {
     if fields.len() != 4 {
-        return Err(Stop::Refused);
+        return Err(LineFault::Refused);
     }
     let view = place_in(fields[1])?;
     let id = place_in(fields[2])?;
@@ -179,11 +179,11 @@ fn length_line(fields: &[Field]) -> Result<Line, Stop>
     Ok(Line::Event(Event::StoreLength { view, id, length }))
 }
 
-fn birth_line(fields: &[Field]) -> Result<Line, Stop>
+fn birth_line(fields: &[Field]) -> Result<Line, LineFault>
     ensures { GivesLine result (birth_line_of fields.now) }
 {
     if fields.len() != 4 {
-        return Err(Stop::Refused);
+        return Err(LineFault::Refused);
     }
     let view = place_in(fields[1])?;
     let id = place_in(fields[2])?;
@@ -191,11 +191,11 @@ fn birth_line(fields: &[Field]) -> Result<Line, Stop>
     Ok(Line::Event(Event::Birth { view, id, form }))
 }
 
-fn form_line(alloc: Global, fields: &[Field]) -> Result<Line, Stop>
+fn form_line(alloc: Global, fields: &[Field]) -> Result<Line, LineFault>
     ensures { GivesLine result (form_line_of fields.now) }
 {
     if fields.len() < 3 {
-        return Err(Stop::Refused);
+        return Err(LineFault::Refused);
     }
     let view = place_in(fields[1])?;
     let id = place_in(fields[2])?;
@@ -208,11 +208,11 @@ fn form_line(alloc: Global, fields: &[Field]) -> Result<Line, Stop>
     }))
 }
 
-fn len_line(alloc: Global, fields: &[Field]) -> Result<Line, Stop>
+fn len_line(alloc: Global, fields: &[Field]) -> Result<Line, LineFault>
     ensures { GivesLine result (len_line_of fields.now) }
 {
     if fields.len() < 3 {
-        return Err(Stop::Refused);
+        return Err(LineFault::Refused);
     }
     let view = place_in(fields[1])?;
     let id = place_in(fields[2])?;
@@ -225,11 +225,11 @@ fn len_line(alloc: Global, fields: &[Field]) -> Result<Line, Stop>
     }))
 }
 
-fn word_line(alloc: Global, fields: &[Field]) -> Result<Line, Stop>
+fn word_line(alloc: Global, fields: &[Field]) -> Result<Line, LineFault>
     ensures { GivesLine result (word_line_of fields.now) }
 {
     if fields.len() < 3 {
-        return Err(Stop::Refused);
+        return Err(LineFault::Refused);
     }
     let view = place_in(fields[1])?;
     let at = place_in(fields[2])?;
@@ -237,11 +237,11 @@ fn word_line(alloc: Global, fields: &[Field]) -> Result<Line, Stop>
     Ok(Line::Event(Event::LoadWord { view, at, learn }))
 }
 
-fn flatten_line(alloc: Global, fields: &[Field]) -> Result<Line, Stop>
+fn flatten_line(alloc: Global, fields: &[Field]) -> Result<Line, LineFault>
     ensures { GivesLine result (flatten_line_of fields.now) }
 {
     if fields.len() < 5 {
-        return Err(Stop::Refused);
+        return Err(LineFault::Refused);
     }
     let view = place_in(fields[1])?;
     let id = place_in(fields[2])?;
@@ -257,11 +257,11 @@ fn flatten_line(alloc: Global, fields: &[Field]) -> Result<Line, Stop>
     }))
 }
 
-fn thin_line(alloc: Global, fields: &[Field]) -> Result<Line, Stop>
+fn thin_line(alloc: Global, fields: &[Field]) -> Result<Line, LineFault>
     ensures { GivesLine result (thin_line_of fields.now) }
 {
     if fields.len() < 5 {
-        return Err(Stop::Refused);
+        return Err(LineFault::Refused);
     }
     let view = place_in(fields[1])?;
     let id = place_in(fields[2])?;
@@ -277,11 +277,11 @@ fn thin_line(alloc: Global, fields: &[Field]) -> Result<Line, Stop>
     }))
 }
 
-fn take_line(alloc: Global, fields: &[Field]) -> Result<Line, Stop>
+fn take_line(alloc: Global, fields: &[Field]) -> Result<Line, LineFault>
     ensures { GivesLine result (take_line_of fields.now) }
 {
     if fields.len() < 4 {
-        return Err(Stop::Refused);
+        return Err(LineFault::Refused);
     }
     let view = place_in(fields[1])?;
     let slot = place_in(fields[2])?;
@@ -307,11 +307,11 @@ fn is_enter(fields: &[Field]) -> bool
     }
 }
 
-fn slot_line(alloc: Global, fields: &[Field]) -> Result<Line, Stop>
+fn slot_line(alloc: Global, fields: &[Field]) -> Result<Line, LineFault>
     ensures { GivesLine result (slot_line_of fields.now) }
 {
     if fields.len() < 3 {
-        return Err(Stop::Refused);
+        return Err(LineFault::Refused);
     }
     let view = place_in(fields[1])?;
     let slot = place_in(fields[2])?;
@@ -329,7 +329,7 @@ fn slot_line(alloc: Global, fields: &[Field]) -> Result<Line, Stop>
 }
 
 // The line that begins with this word.
-fn line_by(alloc: Global, word: Keyword, fields: &[Field]) -> Result<Line, Stop>
+fn line_by(alloc: Global, word: Keyword, fields: &[Field]) -> Result<Line, LineFault>
     ensures { GivesLine result (line_by word fields.now) }
 {
     match word {
@@ -348,21 +348,21 @@ fn line_by(alloc: Global, word: Keyword, fields: &[Field]) -> Result<Line, Stop>
         Keyword::Slot => slot_line(alloc, fields),
         Keyword::Take => take_line(alloc, fields),
         Keyword::Heap | Keyword::Enter | Keyword::Learn | Keyword::Ids | Keyword::Words => {
-            Err(Stop::Refused)
+            Err(LineFault::Refused)
         }
     }
 }
 
 /// The line of these fields.
-pub(crate) fn line_of(alloc: Global, fields: &[Field]) -> Result<Line, Stop>
+pub(crate) fn line_of(alloc: Global, fields: &[Field]) -> Result<Line, LineFault>
     ensures { GivesLine result (line_of fields.now) }
 {
     if fields.is_empty() {
-        return Err(Stop::Refused);
+        return Err(LineFault::Refused);
     }
     match fields[0] {
         Field::Keyword(word) => line_by(alloc, word, fields),
-        Field::Number(_) => Err(Stop::Refused),
+        Field::Number(_) => Err(LineFault::Refused),
     }
 }
 
@@ -395,15 +395,15 @@ fn is_heap(field: Field) -> bool
 }
 
 /// The first line, of these fields.
-pub(crate) fn making_of(fields: &[Field]) -> Result<Making, Stop>
+pub(crate) fn making_of(fields: &[Field]) -> Result<Making, LineFault>
     ensures read { Gives (λ m. m) result (making_of fields.now) }
     ensures small { IfOk result (λ m. is_small m ≡ true) }
 {
     if fields.len() != 5 {
-        return Err(Stop::Refused);
+        return Err(LineFault::Refused);
     }
     if !is_heap(fields[0]) {
-        return Err(Stop::Refused);
+        return Err(LineFault::Refused);
     }
     let ids = place_in(fields[1])?;
     let words = place_in(fields[2])?;
@@ -414,7 +414,7 @@ pub(crate) fn making_of(fields: &[Field]) -> Result<Making, Stop>
         agents,
     };
     if !is_small(&making) {
-        return Err(Stop::Refused);
+        return Err(LineFault::Refused);
     }
     Ok(making)
 }

@@ -4,7 +4,7 @@ ghost use Rattle.heap_schedule.specs.Fields.{Gives, pieces};
 ghost use Rattle.heap_schedule.specs.Lines.{GivesLine, is_small};
 ghost use Rattle.heap_schedule.specs.Text.{GivesLines, GivesSchedule, lines_from, making_in, schedule_of, turn_in};
 
-use crate::field::{Stop, behind, fields, piece_len};
+use crate::field::{LineFault, behind, fields, piece_len};
 use crate::line::{Line, Making, line_of, making_of};
 use crate::schedule::Schedule;
 use std::alloc::Global;
@@ -17,14 +17,14 @@ pub enum TextStop {
     Memory,
 }
 
-fn read_line(alloc: Global, line: &[u8]) -> Result<Line, Stop>
+fn read_line(alloc: Global, line: &[u8]) -> Result<Line, LineFault>
     ensures { GivesLine result (turn_in line.now) }
 {
     let fields = fields(alloc, line)?;
     line_of(alloc, &fields)
 }
 
-fn read_making(alloc: Global, line: &[u8]) -> Result<Making, Stop>
+fn read_making(alloc: Global, line: &[u8]) -> Result<Making, LineFault>
     ensures read { Gives (λ m. m) result (making_in line.now) }
     ensures small { IfOk result (λ m. is_small m ≡ true) }
 {
@@ -50,8 +50,8 @@ fn read_lines(alloc: Global, text: &[u8]) -> Result<Vec<Line>, TextStop>
                 }
             }
             Err(stop) => match stop {
-                Stop::Refused => return Err(TextStop::Refused(lines.len() + 2)),
-                Stop::Memory => return Err(TextStop::Memory),
+                LineFault::Refused => return Err(TextStop::Refused(lines.len() + 2)),
+                LineFault::Memory => return Err(TextStop::Memory),
             },
         }
         rest = behind(rest, end);
@@ -73,8 +73,8 @@ pub fn read_schedule(alloc: Global, text: &[u8]) -> Result<Schedule, TextStop>
             Err(stop) => Err(stop),
         },
         Err(stop) => match stop {
-            Stop::Refused => Err(TextStop::Refused(1)),
-            Stop::Memory => Err(TextStop::Memory),
+            LineFault::Refused => Err(TextStop::Refused(1)),
+            LineFault::Memory => Err(TextStop::Memory),
         },
     }
 }

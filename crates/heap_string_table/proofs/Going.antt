@@ -1,11 +1,8 @@
 -- What steps leave, one by one and in a row.
-use Rattle.std.proofs.Common.{◌≡◌, ◌≢◌, ℕ, zero, suc, ◌+◌, ◌≤◌, ◌⊎◌, ⊎_elim, inr, Bool, true, false, cond, List, [], ◌∷◌, ◌++◌, sym, refl, ap, ◌∙◌, subst, arith, append-nil, append_assoc, Option, Some, None}
+use Rattle.std.proofs.Common.{◌≡◌, ℕ, zero, suc, ◌+◌, ◌≤◌, ◌⊎◌, ⊎_elim, inr, Bool, true, false, List, [], ◌∷◌, ◌++◌, sym, refl, ap, ◌∙◌, subst, arith, append-nil, append_assoc, Option, Some, None}
 use Rattle.std.specs.Prelude.{unwrap_or}
-use mathlib.Core.Logic.{dite}
-use native.Mathlib.Decide.{ℕ_discrete}
-use Rattle.std.specs.FinMap.{FinMap, contains_key, get, insert}
+use Rattle.std.specs.FinMap.{FinMap, get, insert}
 use Rattle.std.specs.Ordering.{nat_cmp}
-use Rattle.js_header.specs.Form.{form_of}
 use Rattle.js_header.specs.declared.form.Form.{Form}
 use Rattle.js_header.specs.declared.form.Form.TheVariants.{Unborn, Flat, Cons, Sliced, Thin}
 use Rattle.heap_rule.specs.declared.view.View.{View}
@@ -14,11 +11,10 @@ use Rattle.heap_rule.specs.Forms.{IsLater, IsSliced}
 use Rattle.heap_rule.specs.Maps.{Has}
 use Rattle.heap_rule.specs.Paths.{Calls}
 use Rattle.heap_rule.specs.Views.{IsKnown}
-use Rattle.heap_rule.specs.Loads.{added_loads, with_form, loaded_form, loaded_length, loaded_word}
 use Rattle.heap_rule.specs.Learning.{learned_all}
 use Rattle.heap_rule.specs.Slots.{entered, loaded_slot, took_slot}
 use Rattle.heap_rule.specs.HeaderMoves.{seen_form}
-use Rattle.heap_rule.proofs.MapLemmas.{insert_other, insert_same, key_of}
+use Rattle.heap_rule.proofs.MapLemmas.{insert_same, key_of}
 use Rattle.heap_table.specs.Known.{KeepsKnown}
 use Rattle.heap_read.proofs.Loaded.{known_refl, known_trans}
 use Rattle.heap_string_table.specs.Goes.{Goes, Looks}

@@ -1,7 +1,7 @@
 -- What the rule says of one live view alone, beside what heap_rule has of it: a word that is known to be frozen is no own one, so it is as the
 -- view has it; the lanes of a Flat past its length are 0; what a string forwards to is a fixed Flat with its units. And a slot whose string has the
 -- units isn't shut for them.
-use Rattle.std.proofs.Common.{◌≡◌, ℕ, ◌+◌, ◌*◌, ◌/◌, ◌<◌, ◌≤◌, inl, inr, ⊎_elim, Bool, true, false, List, length, sym, refl, ap, ◌∙◌, subst, arith, Option, Some, None}
+use Rattle.std.proofs.Common.{◌≡◌, ℕ, ◌+◌, ◌*◌, ◌/◌, ◌<◌, ◌≤◌, inl, inr, ⊎_elim, Bool, true, false, List, sym, refl, ap, ◌∙◌, subst, arith, Option, Some, None}
 use Rattle.std.specs.Prelude.{unwrap_or}
 use Rattle.std.proofs.Math.Logic.{∥∥₁_elim}
 use Rattle.std.proofs.Props.{props}
@@ -14,15 +14,13 @@ use Rattle.heap_rule.specs.Forms.{IsLater}
 use Rattle.heap_rule.specs.Layout.{content, slot}
 use Rattle.heap_rule.specs.Contents.{lane_in, units_of}
 use Rattle.heap_rule.specs.Maps.{Has, HasKey}
-use Rattle.heap_rule.specs.Views.{IsFrozen, shown}
+use Rattle.heap_rule.specs.Views.{shown}
 use Rattle.heap_rule.specs.Slots.{IsShutAt}
 use Rattle.heap_rule.specs.Sound.{IsPossible, Stands, StandsIn}
 use Rattle.heap_rule.proofs.Birth.{shown_by}
-use Rattle.heap_rule.proofs.Loads.{frozen_right}
 use Rattle.heap_rule.proofs.MapLemmas.{has_key, key_of}
 use Rattle.heap_rule.proofs.Slots.{differs_right}
 use Rattle.heap_rule.proofs.UnitLemmas.{lane_same}
-use Rattle.heap_rule.proofs.Possible.{possible_slot}
 use Rattle.heap_read.proofs.Freezing.{possible_free}
 
 not_own : (o f : Option ℕ) (x : ℕ) → f ≡ Some x → ((y : ℕ) → o ≡ Some y → ⊥) → unwrap_or o (unwrap_or f 0) ≡ x

@@ -15,7 +15,7 @@ ghost use Rattle.heap_string_table.specs.Seeking.{IsSought};
 
 use crate::faults::TableFull;
 use crate::sought::Sought;
-use heap_read::{JsStr, Piece, Reader, Source};
+use heap_read::{JsStr, Piece, Reader, UnitSource};
 use heap_table::CounterFull;
 use js_header::Form;
 
@@ -71,7 +71,7 @@ fn copied_header(reader: &mut Reader, s: Sought) -> Result<u32, TableFull>
         (λ f. (us : List ℕ) → Has (view_in reader.old).units s.id us
         → IsNoHeader (view_in reader.old) (view_in reader.new) (copy_words us) f) }
 {
-    let source = Source::Piece(Piece {
+    let source = UnitSource::Piece(Piece {
         of: JsStr { id: s.id },
         from: 0,
         window: s.window,

@@ -11,12 +11,12 @@ ghost use Rattle.heap_read.specs.Sources.{Shows, listed_in};
 ghost use Rattle.heap_text.specs.Texts.{IsSpared, KeepsOwn, Told, Uses};
 
 use crate::faults::TextFull;
-use heap_read::{JsStr, Reader, Source};
+use heap_read::{JsStr, Reader, UnitSource};
 use js_header::Form;
 
 // A new flat string with the `n` units of a source. The content words come first, then the
 // id.
-pub(crate) fn copy(reader: &mut Reader, source: &Source, n: u32) -> Result<JsStr, TextFull>
+pub(crate) fn copy(reader: &mut Reader, source: &UnitSource, n: u32) -> Result<JsStr, TextFull>
     requires shows { Shows (view_in reader.old) source.now }
     requires count { length (listed_in reader.old source.now) ≡ n }
     requires short { n ≤ MAX }

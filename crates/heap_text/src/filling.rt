@@ -14,7 +14,7 @@ ghost use Rattle.heap_read.specs.Sides.{KnowsSide, LoadsForms, target_loads};
 ghost use Rattle.heap_read.specs.Windows.{IsWindow, ShowsAll};
 ghost use Rattle.heap_text.specs.Filling.{HoldsAbove, IsBoth, units_at};
 
-use heap_read::{JsStr, Piece, Reader, Run, Source, Steps, Window};
+use heap_read::{JsStr, Piece, Reader, Run, Steps, UnitSource, Window};
 use js_header::Form;
 use std::sync::ledger::Ledger;
 
@@ -83,7 +83,7 @@ fn fill_leaf(reader: &mut Reader, of: JsStr, window: Window, at: u32, n: u32, to
         (own_word (view_in reader.new).own_words) at n
         (slice_index (units_at (view_in reader.old) of.id)) }
 {
-    let source = Source::Piece(Piece {
+    let source = UnitSource::Piece(Piece {
         of,
         from: 0,
         window,

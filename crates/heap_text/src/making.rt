@@ -18,7 +18,7 @@ ghost use Rattle.heap_text.specs.Keeping.{Keeps};
 use crate::copying::copy;
 use crate::faults::{JoinFault, TextFull};
 use crate::text::Text;
-use heap_read::{JsStr, Piece, Reader, Source, Window};
+use heap_read::{JsStr, Piece, Reader, UnitSource, Window};
 use js_header::Form;
 
 // The fewest units of a Cons, and of a Sliced.
@@ -46,7 +46,11 @@ impl<'h> Text<'h> {
             (λ f. IsSpared (view_of self.old.reader.agent) (view_of self.new.reader.agent)
             (words_over (is_wide units.now) (length units.now)) f) }
     {
-        copy(&mut self.reader, &Source::Units(units), units.len() as u32)
+        copy(
+            &mut self.reader,
+            &UnitSource::Units(units),
+            units.len() as u32,
+        )
     }
 
     /// The units of one string followed by those of another. It is refused as too long exactly
@@ -126,7 +130,7 @@ fn copy_both(reader: &mut Reader, a: JsStr, b: JsStr, n: u32) -> Result<JsStr, T
     let (left, right) = side_forms(reader, a, b);
     let front = reader.solid_window(a, left);
     let back = reader.solid_window(b, right);
-    let source = Source::Pieces(
+    let source = UnitSource::Pieces(
         Piece {
             of: a,
             from: 0,
@@ -241,7 +245,7 @@ fn copy_part(reader: &mut Reader, s: JsStr, from: u32, n: u32) -> Result<JsStr, 
         offset: window.offset + from,
         len: n,
     };
-    let source = Source::Piece(Piece {
+    let source = UnitSource::Piece(Piece {
         of: s,
         from,
         window: part,

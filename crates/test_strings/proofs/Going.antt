@@ -5,7 +5,7 @@ use Rattle.std.specs.Prelude.{Contains, IsSome, length}
 use Rattle.heap_rule.specs.Paths.{Calls, StartsWith}
 use Rattle.heap_rule.specs.declared.view.View.{View}
 use Rattle.heap_table.specs.declared.heap.Heap.{Heap}
-use Rattle.js_store.specs.Faults.{Step}
+use Rattle.js_store.specs.Faults.{Step, Uses}
 use Rattle.js_store.specs.declared.faults.StoreFault.{StoreFault}
 use Rattle.js_store.specs.State.{IsKnown, State}
 use Rattle.heap_intern.specs.Sessions.{SessionFrame, state_by}
@@ -26,8 +26,8 @@ goes_trans a b c g h = let r = g.history in let s = h.history in record {
   history = (r.0 ++ s.0, s.1 ∙ (ap (λ (l : Calls). l ++ s.0) r.1 ∙ append_assoc a.history r.0 s.0));
 }
 
-pub goes_step : (a b : State SessionFrame) (f : Option StoreFault) (i w : ℕ) → Step a b f i w → b.history ≡ a.history → GoesOn a b
-goes_step a b f i w s e = record { known = s.grows.known; frame = s.grows.frame; sizes = s.grows.sizes; limit = s.grows.limit; history = ([], e ∙ sym (append-nil a.history)) }
+pub goes_uses : (a b : State SessionFrame) (f : Option StoreFault) (i w : ℕ) → Uses a b f i w → GoesOn a b
+goes_uses a b f i w u = let g = u.step.grows in record { known = g.known; frame = g.frame; sizes = g.sizes; limit = g.limit; history = ([], u.history ∙ sym (append-nil a.history)) }
 
 pub goes_interned : (a b : State SessionFrame) (f : Option StoreFault) (i w : ℕ) (us : List ℕ) (n : ℕ) → Step a b f i w → b.history ≡ a.history ++ (us, n) ∷ [] → GoesOn a b
 goes_interned a b f i w us n s e = record { known = s.grows.known; frame = s.grows.frame; sizes = s.grows.sizes; limit = s.grows.limit; history = ((us, n) ∷ [], e) }

@@ -1,11 +1,6 @@
-use Rattle.std.proofs.Common.{◌≡◌, ◌≢◌, ◌+◌, ◌∙◌, ℕ, Bool, true, false, List, length, inl, sym, subst}
-use Rattle.std.specs.Bool.{MatchBool}
+use Rattle.std.proofs.Common.{◌∙◌, inl, sym}
 use Rattle.heap_rule.specs.declared.view.View.{View}
-use Rattle.heap_rule.specs.Maps.{Has}
-use Rattle.heap_rule.specs.Slots.{Differs}
 use Rattle.heap_rule.proofs.MapLemmas.{has_key}
-use Rattle.heap_read.specs.Frozen.{IsFixedWindow}
-use Rattle.heap_read.specs.Windows.{IsWindow}
 use Rattle.heap_read.proofs.Freezing.{fixed_frozen}
 use Rattle.heap_read.proofs.Loaded.{reads_trans}
 use Rattle.heap_read.proofs.Showing.{forms_held}

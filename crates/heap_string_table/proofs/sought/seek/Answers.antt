@@ -3,7 +3,6 @@ use Rattle.js_header.specs.declared.form.Form.{Form}
 use Rattle.js_header.specs.declared.form.Form.TheVariants.{Sliced}
 use Rattle.heap_rule.specs.declared.view.View.{View}
 use Rattle.heap_rule.specs.Maps.{Has}
-use Rattle.heap_read.specs.Reads.{Reads}
 use Rattle.heap_read.specs.Sides.{KnowsSide}
 use Rattle.heap_read.proofs.Leading.{leaf_solid, possible_parent}
 use Rattle.heap_read.proofs.Loaded.{key_kept, reads_trans}

@@ -5,7 +5,7 @@ use Rattle.heap_rule.specs.declared.size.HeapSize.{HeapSize}
 use Rattle.heap_rule.specs.declared.view.View.{View}
 use Rattle.heap_rule.proofs.MapLemmas.{key_of}
 use Rattle.heap_table.specs.Agents.{size_of}
-use Rattle.heap_read.specs.declared.source.Source.TheVariants as source
+use Rattle.heap_read.specs.declared.source.UnitSource.TheVariants as source
 use Rattle.heap_text.specs.Joins.{IsCopied}
 use Rattle.heap_read.specs.Sources.{listed}
 use Rattle.heap_read.proofs.Going.{continues_reads, continues_trans}

@@ -9,7 +9,7 @@ use Rattle.heap_rule.proofs.MapLemmas.{key_of}
 use Rattle.heap_rule.proofs.Possible.{possible_long, possible_short}
 use Rattle.heap_table.specs.Agents.{size_of}
 use Rattle.heap_read.specs.declared.string.Window.{Window}
-use Rattle.heap_read.specs.declared.source.Source.TheVariants as source
+use Rattle.heap_read.specs.declared.source.UnitSource.TheVariants as source
 use Rattle.heap_read.specs.Sources.{listed}
 use Rattle.heap_text.specs.Texts.{Told}
 use Rattle.heap_read.proofs.Going.{continues_reads, continues_trans}

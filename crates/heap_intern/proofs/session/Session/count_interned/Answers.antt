@@ -1,10 +1,10 @@
-use Rattle.std.proofs.Common.{◌∙◌, ap, sym, None, rules}
+use Rattle.std.proofs.Common.{◌∙◌, ap, sym, None}
 use Rattle.std.specs.FinMap.{contains_key}
 use Rattle.js_store.specs.Limits.{limit_units}
 use Rattle.heap_rule.specs.declared.size.HeapSize.{HeapSize}
 use Rattle.heap_string_table.specs.Counting.{count_below}
 use Rattle.heap_intern.specs.Sessions.{table_of}
-use Rattle.heap_intern.proofs.States.{step_at, step_looks}
+use Rattle.heap_intern.proofs.States.{history_looks, step_looks, uses_at}
 use Rattle.heap_rule.specs.declared.view.View.{View}
 use Rattle.heap_intern.proofs.Lately.{kept_by}
 use Rattle.heap_intern.proofs.OneUnit.{singles_by}
@@ -12,12 +12,10 @@ use Rattle.heap_intern.proofs.MadeLately.{recent_by}
 use Rattle.heap_intern.proofs.session.Session.count_interned.Goals as goal
 
 pub returns-clause-uses : goal.returns-clause-uses
-returns-clause-uses c =
-    let s = c.args.self.now in
+returns-clause-uses c = let s = c.args.self.now in
     let v : View = s.text.reader.agent.seat.me.0 in let w : View = c.count_interned.new.reader.agent.seat.me.0 in
-    let uses_step = step_at v w (limit_units s.limit) (table_of s.text.reader.heap.now) (table_of c.count_interned.new.reader.heap.now) None 0 0 (ap (λ y. table_of y.now) c.count_interned.ensures.heap)
-    (step_looks v w (limit_units s.limit) (table_of s.text.reader.heap.now) s.text.reader.belongs.5 c.count_interned.ensures.looks) in
-    search rules
+    uses_at v w (limit_units s.limit) (table_of s.text.reader.heap.now) (table_of c.count_interned.new.reader.heap.now) None 0 0 (ap (λ y. table_of y.now) c.count_interned.ensures.heap) (history_looks v w c.count_interned.ensures.looks) tt
+    (step_looks v w (limit_units s.limit) (table_of s.text.reader.heap.now) s.text.reader.belongs.5 c.count_interned.ensures.looks)
 
 pub invariant_of-self-clause-last_kept : goal.invariant_of-self-clause-last_kept
 invariant_of-self-clause-last_kept c = let s = c.args.self.now in let v : View = s.text.reader.agent.seat.me.0 in let w : View = c.count_interned.new.reader.agent.seat.me.0 in kept_by v w (c.count_interned.ensures.looks.goes.known) s.last s.last_kept

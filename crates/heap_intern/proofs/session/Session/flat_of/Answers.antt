@@ -1,4 +1,4 @@
-use Rattle.std.proofs.Common.{◌≡◌, ◌∙◌, ℕ, List, None, Some, length, ap, arith, rules}
+use Rattle.std.proofs.Common.{◌≡◌, ◌∙◌, ℕ, List, None, Some, length, ap, arith}
 use Rattle.js_header.specs.declared.form.Form.TheVariants.{Flat}
 use Rattle.js_units.specs.Lanes.{words_over}
 use Rattle.js_store.specs.Rows.{flat_words}
@@ -10,7 +10,7 @@ use Rattle.js_units.specs.Lanes as texts
 use Rattle.heap_intern.specs.Faults.{fault_in_text}
 use Rattle.heap_intern.specs.Sound.{limit_high}
 use Rattle.heap_intern.proofs.Calls.{flat_is, never_slots, step_refused, step_used, told_here}
-use Rattle.heap_intern.proofs.States.{history_continues, settled_test, step_at}
+use Rattle.heap_intern.proofs.States.{history_continues, settled_test, uses_at}
 use Rattle.heap_intern.proofs.Lately.{kept_by}
 use Rattle.heap_intern.proofs.OneUnit.{singles_by}
 use Rattle.heap_intern.proofs.MadeLately.{recent_by}
@@ -24,25 +24,15 @@ returns-in-Ok-clause-ok c = let w : View = c.make_flat.new.self.reader.agent.sea
     (c.in-Ok.ensures.units, settled_test w c.in-Ok.s.id (Flat (texts.is_wide c.args.units.now) f.0 _, f.1, λ x. x))
 
 pub returns-in-Ok-clause-uses : goal.returns-in-Ok-clause-uses
-returns-in-Ok-clause-uses c =
-    let s = c.args.self.now in let v : View = s.text.reader.agent.seat.me.0 in let w : View = c.make_flat.new.self.reader.agent.seat.me.0 in let us : List ℕ = c.args.units.now in let l = limit_units s.limit in let t = table_of s.text.reader.heap.now in
-    let uses_step = step_at v w l t (table_of c.make_flat.new.self.reader.heap.now) None 1 (flat_words us) (ap (λ x. table_of x.now) c.make_flat.ensures.kept.heap)
-    (step_used v w l t 1 (words_over (texts.is_wide us) (length us)) 1 (flat_words us) (omega arith) (let e = flat_is us in omega arith) s.text.reader.belongs.5 c.make_flat.ensures.continues c.in-Ok.ensures.used) in
-    let history =
-    history_continues c.args.self.now.text.reader.agent.seat.me.0 c.make_flat.new.self.reader.agent.seat.me.0 c.make_flat.ensures.continues in
-    search rules
+returns-in-Ok-clause-uses c = let s = c.args.self.now in let v : View = s.text.reader.agent.seat.me.0 in let w : View = c.make_flat.new.self.reader.agent.seat.me.0 in let us : List ℕ = c.args.units.now in let l = limit_units s.limit in let t = table_of s.text.reader.heap.now in
+    uses_at v w l t (table_of c.make_flat.new.self.reader.heap.now) None 1 (flat_words us) (ap (λ x. table_of x.now) c.make_flat.ensures.kept.heap) (history_continues v w c.make_flat.ensures.continues) tt
+    (step_used v w l t 1 (words_over (texts.is_wide us) (length us)) 1 (flat_words us) (omega arith) (let e = flat_is us in omega arith) s.text.reader.belongs.5 c.make_flat.ensures.continues c.in-Ok.ensures.used)
 
 pub returns-in-Err-clause-uses : goal.returns-in-Err-clause-uses
-returns-in-Err-clause-uses c =
-    let s = c.args.self.now in let v : View = s.text.reader.agent.seat.me.0 in let w : View = c.make_flat.new.self.reader.agent.seat.me.0 in let us : List ℕ = c.args.units.now in let l = limit_units s.limit in let t = table_of s.text.reader.heap.now in
+returns-in-Err-clause-uses c = let s = c.args.self.now in let v : View = s.text.reader.agent.seat.me.0 in let w : View = c.make_flat.new.self.reader.agent.seat.me.0 in let us : List ℕ = c.args.units.now in let l = limit_units s.limit in let t = table_of s.text.reader.heap.now in
     let words : ℕ = words_over (texts.is_wide us) (length us) in let sizes : w.sizes ≡ size_of s.text.reader.heap.now = c.make_flat.new.self.reader.belongs.1 ∙ ap (λ x. size_of x.now) c.make_flat.ensures.kept.heap in
-    let uses_step = rw c.text_fault.ensures (step_at v w l t (table_of c.make_flat.new.self.reader.heap.now) (Some (fault_in_text c.in-Err.full)) 1 (flat_words us) (ap (λ x. table_of x.now) c.make_flat.ensures.kept.heap)
-    (step_refused v w l t words (flat_words us) c.in-Err.full (let e = flat_is us in omega arith) s.text.reader.belongs.5 c.make_flat.ensures.continues (told_here w (size_of s.text.reader.heap.now) words c.in-Err.full sizes c.in-Err.ensures.refused) c.in-Err.ensures.spared)) in
-    let history =
-    history_continues c.args.self.now.text.reader.agent.seat.me.0 c.make_flat.new.self.reader.agent.seat.me.0 c.make_flat.ensures.continues in
-    let no_slots =
-    rw c.text_fault.ensures (never_slots c.in-Err.full) in
-    search rules
+    rw c.text_fault.ensures (uses_at v w l t (table_of c.make_flat.new.self.reader.heap.now) (Some (fault_in_text c.in-Err.full)) 1 (flat_words us) (ap (λ x. table_of x.now) c.make_flat.ensures.kept.heap) (history_continues v w c.make_flat.ensures.continues) (never_slots c.in-Err.full)
+    (step_refused v w l t words (flat_words us) c.in-Err.full (let e = flat_is us in omega arith) s.text.reader.belongs.5 c.make_flat.ensures.continues (told_here w (size_of s.text.reader.heap.now) words c.in-Err.full sizes c.in-Err.ensures.refused) c.in-Err.ensures.spared))
 
 pub invariant_of-self-clause-last_kept : goal.invariant_of-self-clause-last_kept
 invariant_of-self-clause-last_kept c = let s = c.args.self.now in let v : View = s.text.reader.agent.seat.me.0 in let w : View = c.make_flat.new.self.reader.agent.seat.me.0 in kept_by v w (c.make_flat.ensures.continues.known) s.last s.last_kept

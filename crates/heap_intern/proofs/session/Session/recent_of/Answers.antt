@@ -1,11 +1,11 @@
-use Rattle.std.proofs.Common.{◌∙◌, None, ap, rules}
+use Rattle.std.proofs.Common.{◌∙◌, None, ap}
 use Rattle.js_store.specs.Limits.{limit_units}
 use Rattle.heap_rule.specs.declared.view.View.{View}
 use Rattle.heap_intern.specs.Sessions.{table_of}
 use Rattle.heap_intern.proofs.Lately.{kept_by}
 use Rattle.heap_intern.proofs.OneUnit.{singles_by}
 use Rattle.heap_intern.proofs.MadeLately.{recent_by}
-use Rattle.heap_intern.proofs.States.{step_at, step_reads, test_settled}
+use Rattle.heap_intern.proofs.States.{history_reads, step_reads, test_settled, uses_at}
 use Rattle.heap_intern.proofs.session.Session.recent_of.Goals as goal
 
 pub has_units-requires-clause-settled : goal.has_units-requires-clause-settled
@@ -21,13 +21,9 @@ invariant_of-self c = let s = c.args.self.now in let v : View = s.text.reader.ag
 }
 
 pub returns-then-has_units-clause-uses : goal.returns-then-has_units-clause-uses
-returns-then-has_units-clause-uses c =
-    let s = c.args.self.now in let v : View = s.text.reader.agent.seat.me.0 in let w : View = c.has_units.new.text.reader.agent.seat.me.0 in let l = limit_units s.limit in let t = table_of s.text.reader.heap.now in let e = c.has_units.ensures in
-    let uses_step = step_at v w l t (table_of c.has_units.new.text.reader.heap.now) None 0 0 (ap (λ x. table_of x.now) e.heap) (step_reads v w l t s.text.reader.belongs.5 e.reads) in
-    search rules
+returns-then-has_units-clause-uses c = let s = c.args.self.now in let v : View = s.text.reader.agent.seat.me.0 in let w : View = c.has_units.new.text.reader.agent.seat.me.0 in let l = limit_units s.limit in let t = table_of s.text.reader.heap.now in let e = c.has_units.ensures in
+    uses_at v w l t (table_of c.has_units.new.text.reader.heap.now) None 0 0 (ap (λ x. table_of x.now) e.heap) (history_reads v w e.reads) tt (step_reads v w l t s.text.reader.belongs.5 e.reads)
 
 pub returns-clause-uses : goal.returns-clause-uses
-returns-clause-uses c =
-    let s = c.args.self.now in let v : View = s.text.reader.agent.seat.me.0 in let w : View = c.has_units.new.text.reader.agent.seat.me.0 in let l = limit_units s.limit in let t = table_of s.text.reader.heap.now in let e = c.has_units.ensures in
-    let uses_step = step_at v w l t (table_of c.has_units.new.text.reader.heap.now) None 0 0 (ap (λ x. table_of x.now) e.heap) (step_reads v w l t s.text.reader.belongs.5 e.reads) in
-    search rules
+returns-clause-uses c = let s = c.args.self.now in let v : View = s.text.reader.agent.seat.me.0 in let w : View = c.has_units.new.text.reader.agent.seat.me.0 in let l = limit_units s.limit in let t = table_of s.text.reader.heap.now in let e = c.has_units.ensures in
+    uses_at v w l t (table_of c.has_units.new.text.reader.heap.now) None 0 0 (ap (λ x. table_of x.now) e.heap) (history_reads v w e.reads) tt (step_reads v w l t s.text.reader.belongs.5 e.reads)

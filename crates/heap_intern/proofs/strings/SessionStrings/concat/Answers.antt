@@ -1,4 +1,4 @@
-use Rattle.std.proofs.Common.{◌∙◌, ℕ, List, [], None, Ok, Err, length, ap, rules}
+use Rattle.std.proofs.Common.{◌∙◌, ℕ, List, [], None, Ok, Err, length, ap}
 use Rattle.std.specs.Prelude.{unwrap_or}
 use Rattle.std.specs.FinMap.{get}
 use Rattle.js_store.specs.Faults.{concat_part}
@@ -8,8 +8,8 @@ use Rattle.heap_rule.specs.declared.view.View.{View}
 use Rattle.heap_table.specs.Agents.{size_of}
 use Rattle.heap_intern.specs.Faults.{fault_in_join}
 use Rattle.heap_intern.specs.Sessions.{table_of}
-use Rattle.heap_intern.proofs.Calls.{joined_fits, joined_in, joined_ok, joined_step, joined_told}
-use Rattle.heap_intern.proofs.States.{has_text, step_at}
+use Rattle.heap_intern.proofs.Calls.{joined_fits, joined_in, joined_ok, joined_step, joined_told, never_join}
+use Rattle.heap_intern.proofs.States.{has_text, history_continues, uses_at}
 use Rattle.heap_intern.proofs.Lately.{kept_by}
 use Rattle.heap_intern.proofs.OneUnit.{singles_by}
 use Rattle.heap_intern.proofs.MadeLately.{recent_by}
@@ -28,15 +28,13 @@ returns-in-Ok-clause-answer c = let s = c.args.self.now in let v : View = s.text
     joined_fits v w l t c.args.a c.args.b us vs s.text.reader.belongs.5 e.continues l c.in-Ok.s j
 
 pub returns-in-Ok-clause-uses : goal.returns-in-Ok-clause-uses
-returns-in-Ok-clause-uses c =
-    let s = c.args.self.now in let v : View = s.text.reader.agent.seat.me.0 in let w : View = c.concat.new.self.reader.agent.seat.me.0 in let e = c.concat.ensures in
+returns-in-Ok-clause-uses c = let s = c.args.self.now in let v : View = s.text.reader.agent.seat.me.0 in let w : View = c.concat.new.self.reader.agent.seat.me.0 in let e = c.concat.ensures in
     let us : List ℕ = unwrap_or (get v.units c.args.a.id) [] in let vs : List ℕ = unwrap_or (get v.units c.args.b.id) [] in
     let h = has_text v.units c.args.a.id c.requires.left in let k = has_text v.units c.args.b.id c.requires.right in
     let l = limit_units s.limit in let t = table_of s.text.reader.heap.now in
     let j = joined_in v w (size_of s.text.reader.heap.now) s.text.limit l c.args.a c.args.b us vs (Ok c.in-Ok.s) (c.concat.new.self.reader.belongs.1 ∙ ap (λ x. size_of x.now) e.kept.heap) s.one_limit (c.in-Ok.ensures.joined us vs h k) in
-    let uses_step = step_at v w l t (table_of c.concat.new.self.reader.heap.now) None (join_ids (length us) (length vs)) (join_words (length us) (length vs)) (ap (λ x. table_of x.now) e.kept.heap)
-    (joined_ok v w l t c.args.a c.args.b us vs s.text.reader.belongs.5 e.continues l c.in-Ok.s j) in
-    search rules
+    uses_at v w l t (table_of c.concat.new.self.reader.heap.now) None (join_ids (length us) (length vs)) (join_words (length us) (length vs)) (ap (λ x. table_of x.now) e.kept.heap) (history_continues v w e.continues) tt
+    (joined_ok v w l t c.args.a c.args.b us vs s.text.reader.belongs.5 e.continues l c.in-Ok.s j)
 
 pub returns-in-Err-clause-answer : goal.returns-in-Err-clause-answer
 returns-in-Err-clause-answer c = let s = c.args.self.now in let v : View = s.text.reader.agent.seat.me.0 in let w : View = c.concat.new.self.reader.agent.seat.me.0 in let e = c.concat.ensures in
@@ -47,15 +45,13 @@ returns-in-Err-clause-answer c = let s = c.args.self.now in let v : View = s.tex
     rw c.join_fault.ensures (joined_told v w l t c.args.a c.args.b us vs s.text.reader.belongs.5 e.continues l c.in-Err.fault j)
 
 pub returns-in-Err-clause-uses : goal.returns-in-Err-clause-uses
-returns-in-Err-clause-uses c =
-    let s = c.args.self.now in let v : View = s.text.reader.agent.seat.me.0 in let w : View = c.concat.new.self.reader.agent.seat.me.0 in let e = c.concat.ensures in
+returns-in-Err-clause-uses c = let s = c.args.self.now in let v : View = s.text.reader.agent.seat.me.0 in let w : View = c.concat.new.self.reader.agent.seat.me.0 in let e = c.concat.ensures in
     let us : List ℕ = unwrap_or (get v.units c.args.a.id) [] in let vs : List ℕ = unwrap_or (get v.units c.args.b.id) [] in
     let h = has_text v.units c.args.a.id c.requires.left in let k = has_text v.units c.args.b.id c.requires.right in
     let l = limit_units s.limit in let t = table_of s.text.reader.heap.now in
     let j = joined_in v w (size_of s.text.reader.heap.now) s.text.limit l c.args.a c.args.b us vs (Err c.in-Err.fault) (c.concat.new.self.reader.belongs.1 ∙ ap (λ x. size_of x.now) e.kept.heap) s.one_limit (c.in-Err.ensures.joined us vs h k) in
-    let uses_step = rw c.join_fault.ensures (step_at v w l t (table_of c.concat.new.self.reader.heap.now) (concat_part (fault_in_join c.in-Err.fault)) (join_ids (length us) (length vs)) (join_words (length us) (length vs)) (ap (λ x. table_of x.now) e.kept.heap)
-    (joined_step v w l t c.args.a c.args.b us vs s.text.reader.belongs.5 e.continues l c.in-Err.fault j)) in
-    search rules
+    rw c.join_fault.ensures (uses_at v w l t (table_of c.concat.new.self.reader.heap.now) (concat_part (fault_in_join c.in-Err.fault)) (join_ids (length us) (length vs)) (join_words (length us) (length vs)) (ap (λ x. table_of x.now) e.kept.heap) (history_continues v w e.continues) (never_join c.in-Err.fault)
+    (joined_step v w l t c.args.a c.args.b us vs s.text.reader.belongs.5 e.continues l c.in-Err.fault j))
 
 pub invariant_of-self-clause-last_kept : goal.invariant_of-self-clause-last_kept
 invariant_of-self-clause-last_kept c = let s = c.args.self.now in let v : View = s.text.reader.agent.seat.me.0 in let w : View = c.concat.new.self.reader.agent.seat.me.0 in kept_by v w c.concat.ensures.continues.known s.last s.last_kept

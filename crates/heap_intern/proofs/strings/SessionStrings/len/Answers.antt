@@ -1,10 +1,10 @@
-use Rattle.std.proofs.Common.{◌∙◌, ℕ, None, length, ap, sym, arith, rules}
+use Rattle.std.proofs.Common.{◌∙◌, ℕ, None, length, ap, sym, arith}
 use Rattle.heap_rule.specs.declared.view.View.{View}
 use Rattle.js_store.specs.Limits.{limit_units}
 use Rattle.heap_rule.proofs.MapLemmas.{has_key}
 use Rattle.heap_rule.proofs.Possible.{possible_short}
 use Rattle.heap_intern.specs.Sessions.{table_of}
-use Rattle.heap_intern.proofs.States.{history_reads, step_at, step_reads, text_is}
+use Rattle.heap_intern.proofs.States.{history_reads, step_reads, text_is, uses_at}
 use Rattle.heap_intern.proofs.Lately.{kept_by}
 use Rattle.heap_intern.proofs.OneUnit.{singles_by}
 use Rattle.heap_intern.proofs.MadeLately.{recent_by}
@@ -17,12 +17,8 @@ pub returns-clause-most : goal.returns-clause-most
 returns-clause-most c = let v : View = c.args.self.now.text.reader.agent.seat.me.0 in let u = has_key v.units c.args.s.id c.requires in let n = c.len.ensures.length u.0 u.1 in let m = possible_short v c.args.self.now.text.reader.belongs.5 c.args.s.id u.0 u.1 in omega arith
 
 pub returns-clause-uses : goal.returns-clause-uses
-returns-clause-uses c =
-    let s = c.args.self.now in let v : View = s.text.reader.agent.seat.me.0 in let w : View = c.len.new.self.reader.agent.seat.me.0 in
-    let uses_step = step_at v w (limit_units s.limit) (table_of s.text.reader.heap.now) (table_of c.len.new.self.reader.heap.now) None 0 0 (ap (λ x. table_of x.now) c.len.ensures.kept.heap) (step_reads v w (limit_units s.limit) (table_of s.text.reader.heap.now) s.text.reader.belongs.5 c.len.ensures.reads) in
-    let history =
-    history_reads c.args.self.now.text.reader.agent.seat.me.0 c.len.new.self.reader.agent.seat.me.0 c.len.ensures.reads in
-    search rules
+returns-clause-uses c = let s = c.args.self.now in let v : View = s.text.reader.agent.seat.me.0 in let w : View = c.len.new.self.reader.agent.seat.me.0 in
+    uses_at v w (limit_units s.limit) (table_of s.text.reader.heap.now) (table_of c.len.new.self.reader.heap.now) None 0 0 (ap (λ x. table_of x.now) c.len.ensures.kept.heap) (history_reads v w c.len.ensures.reads) tt (step_reads v w (limit_units s.limit) (table_of s.text.reader.heap.now) s.text.reader.belongs.5 c.len.ensures.reads)
 
 pub invariant_of-self-clause-last_kept : goal.invariant_of-self-clause-last_kept
 invariant_of-self-clause-last_kept c = let s = c.args.self.now in let v : View = s.text.reader.agent.seat.me.0 in let w : View = c.len.new.self.reader.agent.seat.me.0 in kept_by v w (c.len.ensures.reads.known) s.last s.last_kept

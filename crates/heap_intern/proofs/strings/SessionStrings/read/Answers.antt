@@ -1,4 +1,4 @@
-use Rattle.std.proofs.Common.{◌∙◌, ◌+◌, ℕ, None, length, ap, sym, arith, rules}
+use Rattle.std.proofs.Common.{◌∙◌, ◌+◌, ℕ, None, length, ap, sym, arith}
 use Rattle.std.specs.Prelude.{slice_range}
 use Rattle.heap_rule.specs.declared.view.View.{View}
 use Rattle.heap_rule.proofs.MapLemmas.{has_key}
@@ -8,7 +8,7 @@ use Rattle.heap_intern.specs.Sessions.{table_of}
 use Rattle.heap_intern.proofs.Lately.{kept_by}
 use Rattle.heap_intern.proofs.OneUnit.{singles_by}
 use Rattle.heap_intern.proofs.MadeLately.{recent_by}
-use Rattle.heap_intern.proofs.States.{history_reads, step_at, step_reads, text_is}
+use Rattle.heap_intern.proofs.States.{history_reads, step_reads, text_is, uses_at}
 use Rattle.heap_intern.proofs.strings.SessionStrings.read.Goals as goal
 
 pub read_in-requires-clause-window : goal.read_in-requires-clause-window
@@ -24,14 +24,10 @@ returns-clause-units c = let v : View = c.args.self.now.text.reader.agent.seat.m
     c.read_in.ensures.units u.0 (c.window-window.ensures.shows u.0 u.1).0 ∙ ap (λ us. slice_range us c.args.from (c.args.from + length c.args.into.now)) (sym (text_is v.units c.args.s.id u.0 u.1))
 
 pub returns-clause-uses : goal.returns-clause-uses
-returns-clause-uses c =
-    let s = c.args.self.now in let v : View = s.text.reader.agent.seat.me.0 in let x : View = c.window-window.new.self.reader.agent.seat.me.0 in let w : View = c.read_in.new.self.reader.agent.seat.me.0 in
-    let uses_step = step_at v w (limit_units s.limit) (table_of s.text.reader.heap.now) (table_of c.read_in.new.self.reader.heap.now) None 0 0 (ap (λ y. table_of y.now) (c.read_in.ensures.kept.heap ∙ c.window-window.ensures.kept.heap))
-    (step_reads v w (limit_units s.limit) (table_of s.text.reader.heap.now) s.text.reader.belongs.5 (reads_trans v x w c.window-window.ensures.reads c.read_in.ensures.reads)) in
-    let history =
-    let v : View = c.args.self.now.text.reader.agent.seat.me.0 in let x : View = c.window-window.new.self.reader.agent.seat.me.0 in let w : View = c.read_in.new.self.reader.agent.seat.me.0 in
-    history_reads v w (reads_trans v x w c.window-window.ensures.reads c.read_in.ensures.reads) in
-    search rules
+returns-clause-uses c = let s = c.args.self.now in let v : View = s.text.reader.agent.seat.me.0 in let x : View = c.window-window.new.self.reader.agent.seat.me.0 in let w : View = c.read_in.new.self.reader.agent.seat.me.0 in
+    let r = reads_trans v x w c.window-window.ensures.reads c.read_in.ensures.reads in
+    uses_at v w (limit_units s.limit) (table_of s.text.reader.heap.now) (table_of c.read_in.new.self.reader.heap.now) None 0 0 (ap (λ y. table_of y.now) (c.read_in.ensures.kept.heap ∙ c.window-window.ensures.kept.heap)) (history_reads v w r) tt
+    (step_reads v w (limit_units s.limit) (table_of s.text.reader.heap.now) s.text.reader.belongs.5 r)
 
 pub invariant_of-self-clause-last_kept : goal.invariant_of-self-clause-last_kept
 invariant_of-self-clause-last_kept c = let s = c.args.self.now in let v : View = s.text.reader.agent.seat.me.0 in let x : View = c.window-window.new.self.reader.agent.seat.me.0 in let w : View = c.read_in.new.self.reader.agent.seat.me.0 in

@@ -1,11 +1,11 @@
-use Rattle.std.proofs.Common.{◌≡◌, ◌∙◌, ℕ, List, Bool, None, Some, length, ap, subst, sym, rules}
+use Rattle.std.proofs.Common.{◌≡◌, ◌∙◌, ℕ, List, Bool, None, Some, length, ap, subst, sym}
 use Rattle.std.specs.FinMap.{get}
 use Rattle.heap_rule.specs.declared.size.HeapSize.{HeapSize}
 use Rattle.heap_rule.specs.declared.view.View.{View}
 use Rattle.heap_rule.proofs.MapLemmas.{has_key}
 use Rattle.heap_table.specs.Agents.{size_of}
 use Rattle.heap_text.specs.Settling.{IsBitOf, IsNoRoom}
-use Rattle.js_store.specs.Faults.{Step}
+use Rattle.js_store.specs.Faults.{Uses}
 use Rattle.js_store.specs.Limits.{limit_units}
 use Rattle.js_store.specs.Rows.{settle_words}
 use Rattle.heap_intern.specs.Faults.{fault_in_text}
@@ -15,37 +15,27 @@ use Rattle.heap_intern.proofs.Calls.{never_slots, settle_refused, settled_step}
 use Rattle.heap_intern.proofs.Lately.{kept_by}
 use Rattle.heap_intern.proofs.OneUnit.{singles_by}
 use Rattle.heap_intern.proofs.MadeLately.{recent_by}
-use Rattle.heap_intern.proofs.States.{history_continues, settled_test, step_at, text_is}
+use Rattle.heap_intern.proofs.States.{history_continues, settled_test, text_is, uses_at}
 use Rattle.heap_intern.proofs.strings.SessionStrings.settle.Goals as goal
 
 pub returns-in-Ok-clause-ok : goal.returns-in-Ok-clause-ok
 returns-in-Ok-clause-ok c = settled_test c.settle.new.self.reader.agent.seat.me.0 c.args.s.id c.in-Ok.ensures.settled
 
 pub returns-in-Ok-clause-uses : goal.returns-in-Ok-clause-uses
-returns-in-Ok-clause-uses c =
-    let s = c.args.self.now in let v : View = s.text.reader.agent.seat.me.0 in let w : View = c.settle.new.self.reader.agent.seat.me.0 in let i = c.args.s.id in let l = limit_units s.limit in let t = table_of s.text.reader.heap.now in
+returns-in-Ok-clause-uses c = let s = c.args.self.now in let v : View = s.text.reader.agent.seat.me.0 in let w : View = c.settle.new.self.reader.agent.seat.me.0 in let i = c.args.s.id in let l = limit_units s.limit in let t = table_of s.text.reader.heap.now in
     let p = has_key v.units i c.requires in let e = c.settle.ensures in
-    let uses_step = subst (λ (us : List ℕ). Step (state_by v l t) (state_by w l (table_of c.settle.new.self.reader.heap.now)) None 0 (settle_words (is_settled (get v.forms i)) (length us))) (sym (text_is v.units i p.0 p.1))
-    (step_at v w l t (table_of c.settle.new.self.reader.heap.now) None 0 (settle_words (is_settled (get v.forms i)) (length p.0)) (ap (λ x. table_of x.now) e.kept.heap)
-    (settled_step v w l t i p.0 s.text.reader.belongs.5 e.continues (λ h. (e.again h).1) (c.in-Ok.ensures.used p.0 p.1))) in
-    let history =
-    history_continues c.args.self.now.text.reader.agent.seat.me.0 c.settle.new.self.reader.agent.seat.me.0 c.settle.ensures.continues in
-    search rules
+    subst (λ (us : List ℕ). Uses (state_by v l t) (state_by w l (table_of c.settle.new.self.reader.heap.now)) None 0 (settle_words (is_settled (get v.forms i)) (length us))) (sym (text_is v.units i p.0 p.1))
+    (uses_at v w l t (table_of c.settle.new.self.reader.heap.now) None 0 (settle_words (is_settled (get v.forms i)) (length p.0)) (ap (λ x. table_of x.now) e.kept.heap) (history_continues v w e.continues) tt
+    (settled_step v w l t i p.0 s.text.reader.belongs.5 e.continues (λ h. (e.again h).1) (c.in-Ok.ensures.used p.0 p.1)))
 
 pub returns-in-Err-clause-uses : goal.returns-in-Err-clause-uses
-returns-in-Err-clause-uses c =
-    let s = c.args.self.now in let v : View = s.text.reader.agent.seat.me.0 in let w : View = c.settle.new.self.reader.agent.seat.me.0 in let i = c.args.s.id in let l = limit_units s.limit in let t = table_of s.text.reader.heap.now in
+returns-in-Err-clause-uses c = let s = c.args.self.now in let v : View = s.text.reader.agent.seat.me.0 in let w : View = c.settle.new.self.reader.agent.seat.me.0 in let i = c.args.s.id in let l = limit_units s.limit in let t = table_of s.text.reader.heap.now in
     let p = has_key v.units i c.requires in let e = c.settle.ensures in let f = c.in-Err.full in
     let sizes : w.sizes ≡ size_of s.text.reader.heap.now = c.settle.new.self.reader.belongs.1 ∙ ap (λ x. size_of x.now) e.kept.heap in
     let room : (wide : Bool) × IsBitOf v c.args.s.id wide × IsNoRoom v w w.sizes p.0 f wide = subst (λ (z : HeapSize). (wide : Bool) × IsBitOf v c.args.s.id wide × IsNoRoom v w z p.0 f wide) (sym sizes) (c.in-Err.ensures.refused p.0 p.1) in
-    let uses_step = rw c.text_fault.ensures (subst (λ (us : List ℕ). Step (state_by v l t) (state_by w l (table_of c.settle.new.self.reader.heap.now)) (Some (fault_in_text f)) 0 (settle_words (is_settled (get v.forms i)) (length us))) (sym (text_is v.units i p.0 p.1))
-    (step_at v w l t (table_of c.settle.new.self.reader.heap.now) (Some (fault_in_text f)) 0 (settle_words (is_settled (get v.forms i)) (length p.0)) (ap (λ x. table_of x.now) e.kept.heap)
-    (settle_refused v w l t i p.0 s.text.reader.belongs.5 e.continues f (λ h. let bad = (c.in-Err.ensures.again h).0 in absurd (cc)) room))) in
-    let history =
-    history_continues c.args.self.now.text.reader.agent.seat.me.0 c.settle.new.self.reader.agent.seat.me.0 c.settle.ensures.continues in
-    let no_slots =
-    rw c.text_fault.ensures (never_slots c.in-Err.full) in
-    search rules
+    rw c.text_fault.ensures (subst (λ (us : List ℕ). Uses (state_by v l t) (state_by w l (table_of c.settle.new.self.reader.heap.now)) (Some (fault_in_text f)) 0 (settle_words (is_settled (get v.forms i)) (length us))) (sym (text_is v.units i p.0 p.1))
+    (uses_at v w l t (table_of c.settle.new.self.reader.heap.now) (Some (fault_in_text f)) 0 (settle_words (is_settled (get v.forms i)) (length p.0)) (ap (λ x. table_of x.now) e.kept.heap) (history_continues v w e.continues) (never_slots f)
+    (settle_refused v w l t i p.0 s.text.reader.belongs.5 e.continues f (λ h. let bad = (c.in-Err.ensures.again h).0 in absurd (cc)) room)))
 
 pub invariant_of-self-clause-last_kept : goal.invariant_of-self-clause-last_kept
 invariant_of-self-clause-last_kept c = let s = c.args.self.now in let v : View = s.text.reader.agent.seat.me.0 in let w : View = c.settle.new.self.reader.agent.seat.me.0 in kept_by v w (c.settle.ensures.continues.known) s.last s.last_kept

@@ -3,7 +3,7 @@ use Rattle.std.specs.Prelude.{nat_lt, ◌||◌}
 use Rattle.std.proofs.lemmas.List.Folds.{list_any-append}
 use Rattle.js_units.specs.Lanes.{is_wide}
 use Rattle.heap_rule.specs.declared.view.View.{View}
-use Rattle.heap_read.specs.declared.source.Source.{Source}
+use Rattle.heap_read.specs.declared.source.UnitSource.{UnitSource}
 use Rattle.heap_read.specs.Sources.{Shows, listed, piece_units}
 use Rattle.heap_read.proofs.Listing.{listed_same, shows_kept}
 use Rattle.heap_read.proofs.Showing.{forms_held}
@@ -37,5 +37,5 @@ returns-else-is_wide_in-clause-wide c = let v : View = c.args.self.now.agent.sea
     let p = c.in-Pieces.front in let q = c.in-Pieces.back in let s = subst (Shows v) c.in-Pieces.is c.requires.shows in let us : List ℕ = piece_units v p in let vs : List ℕ = piece_units v q in
     let front : is_wide us ≡ false = sym (e.wide us s.0.1) ∙ c.if-is_wide_in.false in
     let back = f.wide vs (window_later v x q.window vs e.reads.view e.forms s.1.1) in
-    let whole : is_wide (listed v c.args.source.now) ≡ is_wide (us ++ vs) = ap (λ (y : Source). is_wide (listed v y)) c.in-Pieces.is in
+    let whole : is_wide (listed v c.args.source.now) ≡ is_wide (us ++ vs) = ap (λ (y : UnitSource). is_wide (listed v y)) c.in-Pieces.is in
     back ∙ sym (whole ∙ (list_any-append (λ u. nat_lt 255 u) us vs ∙ ap (λ (b : Bool). b || is_wide vs) front))

@@ -1,5 +1,5 @@
 use Rattle.std.proofs.Common.{[], arith}
-use Rattle.heap_intern.proofs.kept.Kept.none.Goals as goal
+use Rattle.heap_intern.proofs.kept.KeptWord.none.Goals as goal
 
 pub returns : goal.returns
 returns c = let h = (c.none.ensures []).within in omega arith

@@ -6,7 +6,7 @@ use thiserror::Error;
 
 /// A call that was refused, with what it answered.
 #[derive(Debug, Drop, Error)]
-pub enum Refusal {
+pub enum ExampleFault {
     #[error("no heap was made: {0:?}")]
     Make(#[from] MakeFault),
     #[error("the heap is full: {0:?}")]

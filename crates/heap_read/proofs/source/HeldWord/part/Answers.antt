@@ -3,7 +3,7 @@ use Rattle.js_units.specs.Lanes.{lane_base, lane_count, lane_of}
 use Rattle.heap_read.specs.Shifted.{HoldsLanes}
 use Rattle.heap_read.specs.Written.{held_unit}
 use Rattle.heap_read.proofs.ShiftedLanes.{four_most, half_word, holds_as, other_width, part_unit_is}
-use Rattle.heap_read.proofs.source.Held.part.Goals as goal
+use Rattle.heap_read.proofs.source.HeldWord.part.Goals as goal
 
 pub widened-requires : goal.widened-requires
 widened-requires c = let h = c.args.self.now in let count = c.args.count in let most : count ≤ 4 = subst (λ (b : Bool). count ≤ lane_count b) c.if-wide.true c.requires.room in
