@@ -1,4 +1,4 @@
-use Rattle.std.proofs.Common.{◌≡◌, ◌∙◌, arith, sym, map, rules}
+use Rattle.std.proofs.Common.{◌≡◌, ◌∙◌, arith, sym, map}
 use Rattle.std.proofs.lemmas.Result.{err_from_is_err_and}
 use Rattle.js_store.proofs.Laws.{grows_trans}
 use Rattle.js_texts.proofs.Lists.{on_ok_map}
@@ -48,11 +48,11 @@ append_object-loop-member-preserved g t c =
           let v = w.in_ok-append_item.ensures in
           record {
             made = turn_shown a b g.S.Strings.number i.grows c.args.of.now c.requires ms order c.loop-member.member-index c.member-item.result c.loop-member-test.true c.member-item.is
-                (state w.append_key.new.store) (grows_trans i.grows k.step.grows) c.loop-member.text w.append_key.new.text w.append_item.new.text c.loop-member.sep (sym c.is_shown.ensures ∙ w.if-is_shown.true) k.added v.added ∙ i.made;
-            grows = grows_trans i.grows (grows_trans k.step.grows v.step.grows);
-            ids = (words_shown a b (state w.append_key.new.store) g.S.Strings.number i.grows (grows_trans i.grows k.step.grows) c.args.of.now c.requires ms order c.loop-member.member-index c.member-item.result c.loop-member-test.true c.member-item.is i.ids i.words (state w.append_item.new.store) k.step v.step).0;
-            words = (words_shown a b (state w.append_key.new.store) g.S.Strings.number i.grows (grows_trans i.grows k.step.grows) c.args.of.now c.requires ms order c.loop-member.member-index c.member-item.result c.loop-member-test.true c.member-item.is i.ids i.words (state w.append_item.new.store) k.step v.step).1;
-            history = v.history ∙ (k.history ∙ i.history);
+                (state w.append_key.new.store) (grows_trans i.grows k.uses.step.grows) c.loop-member.text w.append_key.new.text w.append_item.new.text c.loop-member.sep (sym c.is_shown.ensures ∙ w.if-is_shown.true) k.added v.added ∙ i.made;
+            grows = grows_trans i.grows (grows_trans k.uses.step.grows v.uses.step.grows);
+            ids = (words_shown a b (state w.append_key.new.store) g.S.Strings.number i.grows (grows_trans i.grows k.uses.step.grows) c.args.of.now c.requires ms order c.loop-member.member-index c.member-item.result c.loop-member-test.true c.member-item.is i.ids i.words (state w.append_item.new.store) k.uses.step v.uses.step).0;
+            words = (words_shown a b (state w.append_key.new.store) g.S.Strings.number i.grows (grows_trans i.grows k.uses.step.grows) c.args.of.now c.requires ms order c.loop-member.member-index c.member-item.result c.loop-member-test.true c.member-item.is i.ids i.words (state w.append_item.new.store) k.uses.step v.uses.step).1;
+            history = v.uses.history ∙ (k.uses.history ∙ i.history);
           })
       | append_object-else-is_shown w ↦ rw (w.store-is, w.text-is, w.sep-is) (record {
         made = skip_turn (says a g.S.Strings.number) c.loop-member.text c.loop-member.sep ms c.loop-member.member-index c.member-item.result c.loop-member-test.true c.member-item.is (sym c.is_shown.ensures ∙ w.if-is_shown.false) ∙ i.made;
@@ -81,8 +81,12 @@ append_object-returns-in_err-append_key-clause-uses g t c =
     let i = c.loop-member.invariant in
     let order : map lent_entry ms ≡ ordered (index_in a g.S.Strings.number) (entries c.args.of.now) = rw c.deref-member-items.ensures.value c.in_ok-members.ensures.value in
     let p = err_from_is_err_and c.from_residual-in_err-append_key.result c.from_residual-in_err-append_key.ensures.1 in
-    let uses_step = rw (p.1, p.2) (key_uses a b b g.S.Strings.number i.grows i.grows c.args.of.now c.requires ms order c.loop-member.member-index c.member-item.result c.loop-member-test.true c.member-item.is i.ids i.words _ _ c.in_err-append_key.ensures.uses.step) in
-    search rules
+    let e = c.in_err-append_key.ensures.uses in
+    rw (p.1, p.2) (record {
+      step = key_uses a b b g.S.Strings.number i.grows i.grows c.args.of.now c.requires ms order c.loop-member.member-index c.member-item.result c.loop-member-test.true c.member-item.is i.ids i.words _ _ e.step;
+      no_slots = e.no_slots;
+      history = e.history ∙ i.history;
+    })
 
 pub append_object-returns-in_err-append_item-clause-uses : goal.append_object-returns-in_err-append_item-clause-uses
 append_object-returns-in_err-append_item-clause-uses g t c =
@@ -91,11 +95,15 @@ append_object-returns-in_err-append_item-clause-uses g t c =
     let a = state c.args.store.now in
     let b = state c.loop-member.store in
     let i = c.loop-member.invariant in
-    let k = c.in_ok-append_key.ensures in
+    let k = c.in_ok-append_key.ensures.uses in
     let order : map lent_entry ms ≡ ordered (index_in a g.S.Strings.number) (entries c.args.of.now) = rw c.deref-member-items.ensures.value c.in_ok-members.ensures.value in
     let p = err_from_is_err_and c.from_residual-in_err-append_item.result c.from_residual-in_err-append_item.ensures.1 in
-    let uses_step = rw (p.1, p.2) (item_uses a b (state c.append_key.new.store) g.S.Strings.number i.grows (grows_trans i.grows k.uses.step.grows) c.args.of.now c.requires ms order c.loop-member.member-index c.member-item.result c.loop-member-test.true c.member-item.is i.ids i.words _ _ k.uses.step c.in_err-append_item.ensures.uses.step) in
-    search rules
+    let e = c.in_err-append_item.ensures.uses in
+    rw (p.1, p.2) (record {
+      step = item_uses a b (state c.append_key.new.store) g.S.Strings.number i.grows (grows_trans i.grows k.step.grows) c.args.of.now c.requires ms order c.loop-member.member-index c.member-item.result c.loop-member-test.true c.member-item.is i.ids i.words _ _ k.step e.step;
+      no_slots = e.no_slots;
+      history = e.history ∙ (k.history ∙ i.history);
+    })
 
 pub append_object-returns-clause-uses : goal.append_object-returns-clause-uses
 append_object-returns-clause-uses g t c =
@@ -104,5 +112,8 @@ append_object-returns-clause-uses g t c =
     let a = state c.args.store.now in
     let i = c.loop-member.invariant in
     let order : map lent_entry ms ≡ ordered (index_in a g.S.Strings.number) (entries c.args.of.now) = rw c.deref-member-items.ensures.value c.in_ok-members.ensures.value in
-    let uses_step = rw (none_told c.append_end.result c.append_end.ensures.fault) (all_uses a (state c.loop-member.store) g.S.Strings.number c.args.of.now ms _ order i.grows i.ids i.words) in
-    search rules
+    rw (none_told c.append_end.result c.append_end.ensures.fault) (record {
+      step = all_uses a (state c.loop-member.store) g.S.Strings.number c.args.of.now ms _ order i.grows i.ids i.words;
+      no_slots = tt;
+      history = i.history;
+    })

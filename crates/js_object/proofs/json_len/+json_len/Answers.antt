@@ -1,4 +1,4 @@
-use Rattle.std.proofs.Common.{◌≡◌, ◌∙◌, arith, sym, map, rules}
+use Rattle.std.proofs.Common.{◌≡◌, ◌∙◌, arith, sym, map}
 use Rattle.std.proofs.lemmas.Result.{err_from_is_err_and}
 use Rattle.js_store.proofs.Laws.{grows_trans}
 use Rattle.js_item.specs.Fine.{strings_of}
@@ -72,16 +72,16 @@ object_len-loop-member-preserved g t c =
           let k = w.in_ok-key.ensures in
           let v = w.in_ok-value.ensures in
           let d = state w.key_len.new.store in
-          let h = grows_trans i.grows k.step.grows in
+          let h = grows_trans i.grows k.uses.step.grows in
           record {
             units = len_shown a b d number i.grows h c.args.of.now c.requires.readable ms order c.loop-member.member-index c.member-item.result c.loop-member-test.true c.member-item.is
                 c.loop-member.len c.if-is_shown.len w.in_ok-key.key w.in_ok-value.value (sym c.is_shown.ensures ∙ w.if-is_shown.true) k.value v.value w.len-is ∙ i.units;
             most = most_shown a b d number i.grows h c.args.of.now c.requires.readable ms order c.loop-member.member-index c.member-item.result c.loop-member-test.true c.member-item.is
                 c.loop-member.len i.most c.if-is_shown.len w.in_ok-key.key w.in_ok-value.value k.most v.most w.len-is;
-            grows = grows_trans i.grows (grows_trans k.step.grows v.step.grows);
-            ids = (words_shown a b d number i.grows h c.args.of.now c.requires.readable ms order c.loop-member.member-index c.member-item.result c.loop-member-test.true c.member-item.is i.ids i.words (state w.item_len.new.store) k.step v.step).0;
-            words = (words_shown a b d number i.grows h c.args.of.now c.requires.readable ms order c.loop-member.member-index c.member-item.result c.loop-member-test.true c.member-item.is i.ids i.words (state w.item_len.new.store) k.step v.step).1;
-            history = v.history ∙ (k.history ∙ i.history);
+            grows = grows_trans i.grows (grows_trans k.uses.step.grows v.uses.step.grows);
+            ids = (words_shown a b d number i.grows h c.args.of.now c.requires.readable ms order c.loop-member.member-index c.member-item.result c.loop-member-test.true c.member-item.is i.ids i.words (state w.item_len.new.store) k.uses.step v.uses.step).0;
+            words = (words_shown a b d number i.grows h c.args.of.now c.requires.readable ms order c.loop-member.member-index c.member-item.result c.loop-member-test.true c.member-item.is i.ids i.words (state w.item_len.new.store) k.uses.step v.uses.step).1;
+            history = v.uses.history ∙ (k.uses.history ∙ i.history);
           })
       | object_len-else-is_shown w ↦ rw w.store-is (
           let skipped = len_skipped a b b number i.grows i.grows c.args.of.now c.requires.readable ms order c.loop-member.member-index c.member-item.result c.loop-member-test.true c.member-item.is (sym c.is_shown.ensures ∙ w.if-is_shown.false) in
@@ -127,8 +127,12 @@ object_len-returns-in_err-key-clause-uses g t c =
     let i = c.loop-member.invariant in
     let order : map lent_entry ms ≡ ordered (index_in a g.S.Strings.number) (entries c.args.of.now) = rw c.deref-member-items.ensures.value c.in_ok-members.ensures.value in
     let p = err_from_is_err_and c.from_residual-in_err-key.result c.from_residual-in_err-key.ensures.1 in
-    let uses_step = rw (p.1, p.2) (key_uses a b b g.S.Strings.number i.grows i.grows c.args.of.now c.requires.readable ms order c.loop-member.member-index c.member-item.result c.loop-member-test.true c.member-item.is i.ids i.words _ _ c.in_err-key.ensures.uses.step) in
-    search rules
+    let e = c.in_err-key.ensures.uses in
+    rw (p.1, p.2) (record {
+      step = key_uses a b b g.S.Strings.number i.grows i.grows c.args.of.now c.requires.readable ms order c.loop-member.member-index c.member-item.result c.loop-member-test.true c.member-item.is i.ids i.words _ _ e.step;
+      no_slots = e.no_slots;
+      history = e.history ∙ i.history;
+    })
 
 pub object_len-returns-in_err-value-clause-uses : goal.object_len-returns-in_err-value-clause-uses
 object_len-returns-in_err-value-clause-uses g t c =
@@ -138,10 +142,14 @@ object_len-returns-in_err-value-clause-uses g t c =
     let b = state c.loop-member.store in
     let i = c.loop-member.invariant in
     let order : map lent_entry ms ≡ ordered (index_in a g.S.Strings.number) (entries c.args.of.now) = rw c.deref-member-items.ensures.value c.in_ok-members.ensures.value in
-    let k = c.in_ok-key.ensures in
+    let k = c.in_ok-key.ensures.uses in
     let p = err_from_is_err_and c.from_residual-in_err-value.result c.from_residual-in_err-value.ensures.1 in
-    let uses_step = rw (p.1, p.2) (item_uses a b (state c.key_len.new.store) g.S.Strings.number i.grows (grows_trans i.grows k.uses.step.grows) c.args.of.now c.requires.readable ms order c.loop-member.member-index c.member-item.result c.loop-member-test.true c.member-item.is i.ids i.words _ _ k.uses.step c.in_err-value.ensures.uses.step) in
-    search rules
+    let e = c.in_err-value.ensures.uses in
+    rw (p.1, p.2) (record {
+      step = item_uses a b (state c.key_len.new.store) g.S.Strings.number i.grows (grows_trans i.grows k.step.grows) c.args.of.now c.requires.readable ms order c.loop-member.member-index c.member-item.result c.loop-member-test.true c.member-item.is i.ids i.words _ _ k.step e.step;
+      no_slots = e.no_slots;
+      history = e.history ∙ (k.history ∙ i.history);
+    })
 
 pub object_len-returns-clause-uses : goal.object_len-returns-clause-uses
 object_len-returns-clause-uses g t c =
@@ -151,5 +159,8 @@ object_len-returns-clause-uses g t c =
     let b = state c.loop-member.store in
     let i = c.loop-member.invariant in
     let order : map lent_entry ms ≡ ordered (index_in a g.S.Strings.number) (entries c.args.of.now) = rw c.deref-member-items.ensures.value c.in_ok-members.ensures.value in
-    let uses_step = all_uses a b g.S.Strings.number c.args.of.now ms _ order i.grows i.ids i.words in
-    search rules
+    record {
+      step = all_uses a b g.S.Strings.number c.args.of.now ms _ order i.grows i.ids i.words;
+      no_slots = tt;
+      history = i.history;
+    }

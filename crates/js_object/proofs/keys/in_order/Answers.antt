@@ -1,4 +1,4 @@
-use Rattle.std.proofs.Common.{◌≡◌, ◌++◌, [], ◌∙◌, map, take, ap, refl, rules}
+use Rattle.std.proofs.Common.{◌≡◌, ◌++◌, [], ◌∙◌, map, take, ap, refl}
 use Rattle.std.proofs.lemmas.Result.{IfOk-weaker}
 use Rattle.std.specs.BTreeMap.{values}
 use Rattle.js_store.proofs.Laws.{step_trans}
@@ -14,13 +14,23 @@ key_index-requires g c =
 
 pub returns-in_err-index-clause-uses : goal.returns-in_err-index-clause-uses
 returns-in_err-index-clause-uses g c =
-    let uses_step = step_trans c.loop-member.invariant.step c.in_err-index.ensures.uses.step in
-    search rules
+    let i = c.loop-member.invariant in
+    let e = c.in_err-index.ensures.uses in
+    record {
+      step = step_trans i.step e.step;
+      no_slots = tt;
+      history = e.history ∙ i.history;
+    }
 
 pub returns-in_err-enter-clause-uses : goal.returns-in_err-enter-clause-uses
 returns-in_err-enter-clause-uses g c =
-    let uses_step = step_trans c.loop-member.invariant.step c.in_ok-index.ensures.uses.step in
-    search rules
+    let i = c.loop-member.invariant in
+    let e = c.in_ok-index.ensures.uses in
+    record {
+      step = step_trans i.step e.step;
+      no_slots = tt;
+      history = e.history ∙ i.history;
+    }
 
 pub loop-member-preserved : goal.loop-member-preserved
 loop-member-preserved g c =
