@@ -17,10 +17,10 @@ use Rattle.std.specs.Option.{option_copied}
 use Rattle.eval_tree.specs.declared.tree.Script.{Script}
 use Rattle.eval_tree.specs.Tree.{Tree, tree_of}
 use Rattle.run_command.specs.Words.{Asked, IsInRange, Request, files, made_from, request_of}
-use Rattle.run_sources.specs.declared.sources.Source.{Source}
+use Rattle.run_sources.specs.declared.sources.SourceText.{SourceText}
 use Rattle.run_sources.specs.declared.sources.Sources.{Sources}
-use Rattle.run_sources.specs.declared.stop.Stop.{Stop}
-use Rattle.run_sources.specs.declared.stop.Stop.TheVariants as stop
+use Rattle.run_sources.specs.declared.stop.ScriptsFault.{ScriptsFault}
+use Rattle.run_sources.specs.declared.stop.ScriptsFault.TheVariants as stop
 use Rattle.run_sources.specs.Answers.{RefusesFile, RefusesScript, source_for, sources_for}
 use Rattle.run_sources.specs.Program.{Name, Program, in_order, program_from}
 use Rattle.run_sources.specs.Reading as reading
@@ -44,7 +44,7 @@ use Rattle.js_run.specs.Verdict.{BadWords, NoMemory, NotRead, Refused, TooLarge,
 
 module _ (setup : Setup) (sources : Program Named) (ended : Ended) (old new : Sinks) where
   -- the texts spell no program, or memory was wanting
-  pub script_stopped : (s : Stop) → RefusesScript sources s → ended.kept ≡ None → IsEnd (stop_report s) ended.code old new → Becomes (HasCauseOf setup sources) ended old new
+  pub script_stopped : (s : ScriptsFault) → RefusesScript sources s → ended.kept ≡ None → IsEnd (stop_report s) ended.code old new → Becomes (HasCauseOf setup sources) ended old new
   script_stopped (stop.Refused name fault) why none end = record { verdict = Refused name.now fault; cause = why; ending = end; kept = none }
   script_stopped stop.NoMemory why none end = record { verdict = NoMemory; cause = tt; ending = end; kept = none }
   script_stopped (stop.NotRead name) why none end = absurd why
@@ -66,7 +66,7 @@ module _ (setup : Setup) (sources : Program Named) (ended : Ended) (old new : Si
 
 module _ (request : Request) (before after : FilesState) (ended : Ended) (old new : Sinks) where
   -- a file wasn't read, or memory was wanting
-  pub file_stopped : (prelude : Option Name) (scripts : List Name) (s : Stop) → request.asked ≡ files prelude scripts → RefusesFile before after (in_order (record { prelude = prelude; scripts = scripts })) s
+  pub file_stopped : (prelude : Option Name) (scripts : List Name) (s : ScriptsFault) → request.asked ≡ files prelude scripts → RefusesFile before after (in_order (record { prelude = prelude; scripts = scripts })) s
       → ended.kept ≡ None → IsEnd (stop_report s) ended.code old new → Becomes (HasCauseIn before after request) ended old new
   file_stopped prelude scripts (stop.NotRead name) asked why none end = record { verdict = NotRead name.now; cause = rw (asked) why; ending = end; kept = none }
   file_stopped prelude scripts (stop.TooLarge name) asked why none end = record { verdict = TooLarge name.now; cause = rw (asked) why; ending = end; kept = none }
@@ -158,7 +158,7 @@ module _ (setup : Setup) where
       let few = script_count prelude ran.prelude ran.scripts.items (prelude_by setup prelude) (scripts_by setup prelude scripts) p.files p.has_prelude (has_flow prelude) (no_flow prelude) p.are same in
       omega (arith, few, meant)
 
-same_prelude : (source : Option Source) (tree : Option Tree) (outcome : Option Outcome) → SpellsPrelude (option_map source_for source) tree → HasOutcome tree outcome → SamePrelude source outcome
+same_prelude : (source : Option SourceText) (tree : Option Tree) (outcome : Option Outcome) → SpellsPrelude (option_map source_for source) tree → HasOutcome tree outcome → SamePrelude source outcome
 same_prelude None None None spells has = tt
 same_prelude None None (Some o) spells has = absurd has
 same_prelude None (Some t) outcome spells has = absurd spells

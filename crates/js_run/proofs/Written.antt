@@ -5,7 +5,7 @@ use Rattle.js_io.proofs.Prefixes.{Appends-nil, then_second, first_failed}
 use Rattle.js_eval.specs.declared.ending.End.{End}
 use Rattle.js_eval.specs.declared.ending.End.TheVariants.{Done, Threw, Unsupported, Full, Memory}
 use Rattle.run_program.specs.declared.job.Outcome.{Outcome}
-use Rattle.run_sources.specs.declared.sources.Source.{Source}
+use Rattle.run_sources.specs.declared.sources.SourceText.{SourceText}
 use Rattle.run_sources.specs.Answers.{source_for}
 use Rattle.run_sources.specs.Program.{with_prelude}
 use Rattle.run_program.specs.Ran.{all_outcomes}
@@ -40,10 +40,10 @@ module _ {X : Type 0} (piece : X → List ℕ) (whole : List X → List ℕ) (la
 
 -- ---- the lines of files, each with its name
 
-abbrev pub lines_from : List Source → List Outcome → List ℕ
+abbrev pub lines_from : List SourceText → List Outcome → List ℕ
 lines_from sources outcomes = end_lines (source_names sources) (outcome_ends outcomes)
 
-module _ (sources : List Source) (outcomes : List Outcome) (i : ℕ) (s : Source) (o : Outcome) (first : i < length sources) (second : i < length outcomes)
+module _ (sources : List SourceText) (outcomes : List Outcome) (i : ℕ) (s : SourceText) (o : Outcome) (first : i < length sources) (second : i < length outcomes)
     (s_is : s ≡ get_or sources i s) (o_is : o ≡ get_or outcomes i o) where
   split_line : lines_from (drop i sources) (drop i outcomes) ≡ end_line s.name.now o.end ++ lines_from (drop (i + 1) sources) (drop (i + 1) outcomes)
   split_line = ap (λ l. lines_from l (drop i outcomes)) (front sources i s first s_is) ∙ ap (λ l. lines_from (s ∷ drop (i + 1) sources) l) (front outcomes i o second o_is)
@@ -51,7 +51,7 @@ module _ (sources : List Source) (outcomes : List Outcome) (i : ℕ) (s : Source
   -- the line is that of these two, also where it was written of what stands in these places
   named_line : {E : Type 0} (r : Result Unit E) (a b : SinkState) → WritesAll r a b (end_line (get_or sources i s).name.now (get_or outcomes i o).end) → WritesAll r a b (end_line s.name.now o.end)
   named_line r a b w = subst (λ (y : Outcome). WritesAll r a b (end_line s.name.now y.end)) (sym o_is)
-      (subst (λ (x : Source). WritesAll r a b (end_line x.name.now (get_or outcomes i o).end)) (sym s_is) w)
+      (subst (λ (x : SourceText). WritesAll r a b (end_line x.name.now (get_or outcomes i o).end)) (sym s_is) w)
 
   pub line_then : {E : Type 0} (r : Result Unit E) (a b c : SinkState) → WritesAll {E = E} (Ok tt) a b (end_line (get_or sources i s).name.now (get_or outcomes i o).end)
       → WritesAll r b c (lines_from (drop (i + 1) sources) (drop (i + 1) outcomes)) → WritesAll r a c (lines_from (drop i sources) (drop i outcomes))
@@ -63,27 +63,27 @@ module _ (sources : List Source) (outcomes : List Outcome) (i : ℕ) (s : Source
   line_failed {E} e a b v = subst (λ (l : List ℕ). WritesAll {E = E} (Err e) a b l) (sym split_line)
       (first_failed e a b (end_line s.name.now o.end) (lines_from (drop (i + 1) sources) (drop (i + 1) outcomes)) (named_line {E = E} (Err e) a b v))
 
-names_are : (sources : List Source) → map (λ s. s.name) (map source_for sources) ≡ source_names sources
+names_are : (sources : List SourceText) → map (λ s. s.name) (map source_for sources) ≡ source_names sources
 names_are [] = refl
 names_are (s ∷ sources) = ap (λ ns. s.name.now ∷ ns) (names_are sources)
 
-abbrev all_lines : Option Source → List Source → Option Outcome → List Outcome → List ℕ
+abbrev all_lines : Option SourceText → List SourceText → Option Outcome → List Outcome → List ℕ
 all_lines prelude sources first outcomes = end_lines (with_prelude (option_map (λ s. s.name) (option_map source_for prelude)) (map (λ s. s.name) (map source_for sources))) (outcome_ends (all_outcomes first outcomes))
 
 -- the lines of all files, without a prelude and with one
-pub without_prelude : (prelude : Option Source) (sources : List Source) (first : Option Outcome) (outcomes : List Outcome) → SamePrelude prelude first → prelude ≡ None
+pub without_prelude : (prelude : Option SourceText) (sources : List SourceText) (first : Option Outcome) (outcomes : List Outcome) → SamePrelude prelude first → prelude ≡ None
     → all_lines prelude sources first outcomes ≡ lines_from sources outcomes
 without_prelude None sources None outcomes same is = ap (λ ns. end_lines ns (outcome_ends outcomes)) (names_are sources)
 without_prelude None sources (Some o) outcomes same is = absurd same
 without_prelude (Some s) sources first outcomes same is = absurd (cc is)
 
-pub behind_prelude : (s : Source) (o : Outcome) (prelude : Option Source) (sources : List Source) (first : Option Outcome) (outcomes : List Outcome) → prelude ≡ Some s → first ≡ Some o
+pub behind_prelude : (s : SourceText) (o : Outcome) (prelude : Option SourceText) (sources : List SourceText) (first : Option Outcome) (outcomes : List Outcome) → prelude ≡ Some s → first ≡ Some o
     → all_lines prelude sources first outcomes ≡ end_line s.name.now o.end ++ lines_from sources outcomes
 behind_prelude s o prelude sources first outcomes is first_is =
     ap₂ (λ p f. all_lines p sources f outcomes) is first_is ∙ ap (λ ns. end_line s.name.now o.end ++ end_lines ns (outcome_ends outcomes)) (names_are sources)
 
 -- no line is left where no outcome is
-pub no_lines : (sources : List Source) (outcomes : List Outcome) → outcomes ≡ [] → lines_from sources outcomes ≡ []
+pub no_lines : (sources : List SourceText) (outcomes : List Outcome) → outcomes ≡ [] → lines_from sources outcomes ≡ []
 no_lines [] outcomes is = refl
 no_lines (s ∷ sources) outcomes is = ap (λ (os : List Outcome). lines_from (s ∷ sources) os) is
 

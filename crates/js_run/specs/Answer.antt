@@ -3,29 +3,29 @@ use Rattle.std.specs.Prelude.{◌≡◌, ◌≤◌, ⊤, List, Option, None, Som
 use Rattle.js_eval.specs.declared.ending.End.{End}
 use Rattle.run_program.specs.declared.job.Outcome.{Outcome}
 use Rattle.run_program.specs.declared.ran.Ran.{Ran}
-use Rattle.run_sources.specs.declared.sources.Source.{Source}
+use Rattle.run_sources.specs.declared.sources.SourceText.{SourceText}
 use Rattle.run_sources.specs.declared.sources.Sources.{Sources}
-use Rattle.run_sources.specs.declared.stop.Stop.{Stop}
-use Rattle.run_sources.specs.declared.stop.Stop.TheVariants as stop
+use Rattle.run_sources.specs.declared.stop.ScriptsFault.{ScriptsFault}
+use Rattle.run_sources.specs.declared.stop.ScriptsFault.TheVariants as stop
 use Rattle.run_sources.specs.Program.{Name}
 use Rattle.js_run.specs.Moment.{Sinks, Ended}
 use Rattle.js_run.specs.Verdict.{Verdict, Report, Refusal, report_of, kept_of, unread_line, large_line, refused_line, memory_line}
 use Rattle.js_run.specs.Ending.{IsEnd}
 
-abbrev pub stop_report : Stop → Report
+abbrev pub stop_report : ScriptsFault → Report
 stop_report (stop.NotRead name) = Refusal 3 (unread_line name.now)
 stop_report (stop.TooLarge name) = Refusal 3 (large_line name.now)
 stop_report (stop.Refused name fault) = Refusal 4 (refused_line name.now fault)
 stop_report stop.NoMemory = Refusal 6 memory_line
 
-abbrev pub source_names : List Source → List Name
+abbrev pub source_names : List SourceText → List Name
 source_names sources = map (λ s. s.name.now) sources
 
 abbrev pub outcome_ends : List Outcome → List End
 outcome_ends outcomes = map (λ o. o.end) outcomes
 
 -- there is an outcome of the prelude exactly where there is a prelude
-abbrev pub SamePrelude : Option Source → Option Outcome → Type 0
+abbrev pub SamePrelude : Option SourceText → Option Outcome → Type 0
 SamePrelude None None = ⊤
 SamePrelude (Some source) (Some outcome) = ⊤
 SamePrelude None (Some outcome) = ⊥

@@ -13,7 +13,7 @@ use crate::telling::tell_words;
 use js_io::{Files, Gate, Sink};
 use js_parse::{no_refused_script, one_script};
 use run_command::{WordsFault, read_words};
-use run_sources::Stop;
+use run_sources::ScriptsFault;
 use std::alloc::Global;
 use std::thread::Threads;
 
@@ -37,7 +37,7 @@ fn run<R: Threads + Sync, F: Files, O: Sink, E: Sink, G: Gate + Sync>(
                 code: tell_words(err),
                 kept: None,
             },
-            WordsFault::Memory => stopped(Stop::NoMemory, err),
+            WordsFault::Memory => stopped(ScriptsFault::NoMemory, err),
         },
     }
 }

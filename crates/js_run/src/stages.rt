@@ -18,9 +18,11 @@ use crate::status::Status;
 use crate::telling::{tell_ran, tell_stop};
 use heap_rule::HeapSize;
 use js_io::{Files, Gate, Sink};
-use run_command::{Plan, Source};
+use run_command::{Input, Plan};
 use run_program::{Ran, Setup, run_program};
-use run_sources::{Scripts, Sources, Stop, made_sources, parse_sources, read_sources, texts_from};
+use run_sources::{
+    Scripts, ScriptsFault, Sources, made_sources, parse_sources, read_sources, texts_from,
+};
 use std::alloc::Global;
 use std::thread::Threads;
 
@@ -28,12 +30,12 @@ use std::thread::Threads;
 fn counts(plan: &Plan<'_>) -> bool
     ensures { result ≡ (setup_of (request_for plan.now)).count }
 {
-    match &plan.source {
-        Source::Files {
+    match &plan.input {
+        Input::Files {
             prelude: _,
             scripts: _,
         } => plan.summary,
-        Source::Generated(_) => true,
+        Input::Generated(_) => true,
     }
 }
 
@@ -55,7 +57,7 @@ fn setup(plan: &Plan<'_>) -> Setup
 }
 
 /// Tells why nothing was run.
-pub(crate) fn stopped<E: Sink>(stop: Stop<'_>, err: &mut E) -> Status
+pub(crate) fn stopped<E: Sink>(stop: ScriptsFault<'_>, err: &mut E) -> Status
     ensures told { (out : SinkState) → IsEnd (stop_report stop.entry) result.code
         (sinks out (E.state err.old)) (sinks out (E.state err.new)) }
     ensures kept { result.kept ≡ None }
@@ -93,7 +95,7 @@ fn run_scripts<R: Threads + Sync, O: Sink, E: Sink, G: Gate + Sync>(
                 kept: Some(kept),
             }
         }
-        Err(_) => stopped(Stop::NoMemory, err),
+        Err(_) => stopped(ScriptsFault::NoMemory, err),
     }
 }
 
@@ -135,11 +137,11 @@ fn run_made<R: Threads + Sync, O: Sink, E: Sink, G: Gate + Sync>(
 {
     let texts = match texts_from(alloc, number) {
         Ok(texts) => texts,
-        Err(_) => return stopped(Stop::NoMemory, err),
+        Err(_) => return stopped(ScriptsFault::NoMemory, err),
     };
     match made_sources(alloc, &texts) {
         Ok(sources) => run_sources(rt, alloc, setup, &sources, out, err, gate),
-        Err(_) => stopped(Stop::NoMemory, err),
+        Err(_) => stopped(ScriptsFault::NoMemory, err),
     }
 }
 
@@ -187,10 +189,10 @@ pub(crate) fn run_plan<R: Threads + Sync, F: Files, O: Sink, E: Sink, G: Gate + 
         (ended result) (sinks (O.state out.old) (E.state err.old)) (sinks (O.state out.new) (E.state err.new)) }
 {
     let setup = setup(plan);
-    match &plan.source {
-        Source::Files { prelude, scripts } => {
+    match &plan.input {
+        Input::Files { prelude, scripts } => {
             run_files(rt, alloc, setup, *prelude, scripts, files, out, err, gate)
         }
-        Source::Generated(number) => run_made(rt, alloc, setup, *number, out, err, gate),
+        Input::Generated(number) => run_made(rt, alloc, setup, *number, out, err, gate),
     }
 }

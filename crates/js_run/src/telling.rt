@@ -15,7 +15,7 @@ use js_io::{Failed, Sink, write_all};
 use js_parse::ParseFault;
 use js_store::FullReport;
 use run_program::{Outcome, Ran};
-use run_sources::{Source, Sources, Stop};
+use run_sources::{ScriptsFault, SourceText, Sources};
 
 fn write_both<O: Sink>(sink: &mut O, first: &[u8], second: &[u8]) -> Result<(), Failed>
     ensures { WritesAll result (O.state sink.old) (O.state sink.new) (first.now ++ second.now) }
@@ -142,7 +142,7 @@ fn write_out<O: Sink>(out: &mut O, ran: &Ran) -> Result<(), Failed>
 // Writes the lines of the scripts that didn't end Done, in order.
 fn write_ends<E: Sink>(
     err: &mut E,
-    sources: &[Source<'_>],
+    sources: &[SourceText<'_>],
     scripts: &[Outcome],
 ) -> Result<(), Failed>
     requires { length scripts.now ≤ length sources.now }
@@ -243,25 +243,25 @@ fn write_refusal<E: Sink>(err: &mut E, name: &str, fault: ParseFault) -> Result<
 }
 
 /// Tells why nothing was run, whatever the other sink took, and gives the status.
-pub(crate) fn tell_stop<E: Sink>(stop: Stop<'_>, err: &mut E) -> u8
+pub(crate) fn tell_stop<E: Sink>(stop: ScriptsFault<'_>, err: &mut E) -> u8
     ensures { (out : SinkState) → IsEnd (stop_report stop.entry) result
         (sinks out (E.state err.old)) (sinks out (E.state err.new)) }
 {
     // a fault of err changes no status
     match stop {
-        Stop::NotRead(name) => {
+        ScriptsFault::NotRead(name) => {
             let _ = write_both(err, name.as_bytes(), b": cannot be read\n");
             3
         }
-        Stop::TooLarge(name) => {
+        ScriptsFault::TooLarge(name) => {
             let _ = write_both(err, name.as_bytes(), b": larger than 1048576 bytes\n");
             3
         }
-        Stop::Refused(name, fault) => {
+        ScriptsFault::Refused(name, fault) => {
             let _ = write_refusal(err, name, fault);
             4
         }
-        Stop::NoMemory => {
+        ScriptsFault::NoMemory => {
             let _ = write_all(err, b"jsstr: out of memory\n");
             6
         }

@@ -2,8 +2,8 @@
 use Rattle.std.specs.Prelude.{ℕ, List, [], ◌∷◌, Option, Some, None}
 use Rattle.parse_syntax.specs.Lang.{second_of}
 use Rattle.parse_syntax.specs.Reader.{Reader, and_then, one_of, choose, heads, succeed}
-use Rattle.parse_syntax.specs.declared.token.Token.{Token}
-use Rattle.parse_syntax.specs.declared.token.Token.TheVariants as token
+use Rattle.parse_syntax.specs.declared.token.GrammarToken.{GrammarToken}
+use Rattle.parse_syntax.specs.declared.token.GrammarToken.TheVariants as token
 use Rattle.js_lex.specs.declared.token.Mark.TheVariants as mark
 use Rattle.parse_syntax.specs.declared.token.Word.TheVariants as word
 use Rattle.eval_tree.specs.declared.tree.Op.{Op}
@@ -19,7 +19,7 @@ use Rattle.parse_look.specs.declared.look.Fixed.{Fixed}
 use Rattle.parse_look.specs.declared.look.Fixed.TheVariants as fixed
 
 -- a word or mark that is nothing but itself
-abbrev pub terminal : Fixed → Token → Option (Unit {0})
+abbrev pub terminal : Fixed → GrammarToken → Option (Unit {0})
 terminal fixed.OpenParen = opening
 terminal fixed.CloseParen = closing
 terminal fixed.CloseBracket = close_bracket
@@ -43,7 +43,7 @@ terminal fixed.Else = else_word
 terminal fixed.For = for_word
 
 -- the operators by level
-abbrev pub operators : Level → Token → Option (ℕ × Op)
+abbrev pub operators : Level → GrammarToken → Option (ℕ × Op)
 operators level.Or = or_op
 operators level.And = and_op
 operators level.Equal = equal_op
@@ -54,7 +54,7 @@ abbrev pub ident : ℕ → ℕ → Ident
 ident at n = record { at = at; number = n }
 
 -- what a primary of several tokens begins with
-abbrev pub opener_of : Token → Option Opener
+abbrev pub opener_of : GrammarToken → Option Opener
 opener_of (token.Mark at mark.OpenParen l) = Some opener.Paren
 opener_of (token.Word at word.String number) = Some opener.Builtin
 opener_of (token.Word at word.Symbol number) = Some opener.Builtin
@@ -67,23 +67,23 @@ opener_of (token.Word at word.DecodeUri number) = Some opener.Builtin
 opener_of (token.Word at word.DecodeUriComponent number) = Some opener.Builtin
 opener_of _ = None
 
-abbrev pub openers : List Token → Option Opener
+abbrev pub openers : List GrammarToken → Option Opener
 openers [] = None
 openers (t ∷ s) = opener_of t
 
 -- the function that is called
 
-abbrev pub read_string_called : Reader Token Builtin
+abbrev pub read_string_called : Reader GrammarToken Builtin
 read_string_called = choose (heads point) (and_then second_of (one_of point) (one_of from_word)) (succeed builtin.String)
 
-abbrev pub read_symbol_called : Reader Token Builtin
+abbrev pub read_symbol_called : Reader GrammarToken Builtin
 read_symbol_called = and_then second_of (one_of point) (one_of symbol_function)
 
-abbrev pub read_json_called : Reader Token Builtin
+abbrev pub read_json_called : Reader GrammarToken Builtin
 read_json_called = and_then second_of (one_of point) (one_of stringify_word)
 
-abbrev pub read_object_called : Reader Token Builtin
+abbrev pub read_object_called : Reader GrammarToken Builtin
 read_object_called = and_then second_of (one_of point) (one_of keys_word)
 
-abbrev pub read_called : Reader Token (ℕ × Builtin)
+abbrev pub read_called : Reader GrammarToken (ℕ × Builtin)
 read_called = choose (heads string_word) (and_then pair_of (one_of string_word) read_string_called) (choose (heads symbol_word) (and_then pair_of (one_of symbol_word) read_symbol_called) (choose (heads json_word) (and_then pair_of (one_of json_word) read_json_called) (choose (heads object_word) (and_then pair_of (one_of object_word) read_object_called) (one_of uri_function))))

@@ -5,7 +5,7 @@ ghost use Rattle.parse_look.specs.Gives.{Fails};
 ghost use Rattle.parse_look.specs.declared.fault.Fault.TheVariants.{Memory};
 
 use js_units::NoMemory;
-use parse_syntax::Token;
+use parse_syntax::GrammarToken;
 use std::alloc::{AllocError, AllocFailed};
 
 /// Why tokens are no script: at the first token of `rest`, or at the end of the text where there is none; or want
@@ -14,18 +14,18 @@ use std::alloc::{AllocError, AllocFailed};
 pub enum Fault<'a> {
     Memory,
     /// The token can't stand there.
-    Wrong { rest: &'a [Token] },
+    Wrong { rest: &'a [GrammarToken] },
     /// It could, but for the limit on nesting.
-    TooDeep { rest: &'a [Token] },
+    TooDeep { rest: &'a [GrammarToken] },
 }
 
-pub fn refused(tokens: &[Token]) -> Fault<'_>
+pub fn refused(tokens: &[GrammarToken]) -> Fault<'_>
     ensures { Fails result (wrong {A = ℕ} tokens.now) }
 {
     Fault::Wrong { rest: tokens }
 }
 
-pub fn too_deep(tokens: &[Token]) -> Fault<'_>
+pub fn too_deep(tokens: &[GrammarToken]) -> Fault<'_>
     ensures { Fails result (too_deep {A = ℕ} tokens.now) }
 {
     Fault::TooDeep { rest: tokens }

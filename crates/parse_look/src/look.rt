@@ -5,7 +5,7 @@ ghost use Rattle.eval_tree.specs.Tree.{expr_tree, step_tree};
 ghost use Rattle.parse_syntax.specs.Tables.{tables_of};
 ghost use Rattle.parse_syntax.specs.Terminals as terminals;
 ghost use Rattle.parse_syntax.specs.Terminals.{Ident, when};
-ghost use Rattle.parse_syntax.specs.declared.token.Token.TheVariants as token;
+ghost use Rattle.parse_syntax.specs.declared.token.GrammarToken.TheVariants as token;
 ghost use Rattle.parse_syntax.specs.Reading.{step_mark, goes_on, read_header};
 ghost use Rattle.parse_look.specs.Look.{terminal, operators, openers, read_string_called, read_symbol_called, read_json_called, read_object_called, read_called, ident};
 ghost use Rattle.parse_look.specs.Gives.{Gives};
@@ -15,7 +15,7 @@ use crate::object::letters;
 use eval_tree::{Builtin, Expr, Op, PostStep};
 use js_lex::Mark;
 use js_units::NoMemory;
-use parse_syntax::{Property, Tables, Token, Word};
+use parse_syntax::{GrammarToken, Property, Tables, Word};
 use std::alloc::Global;
 
 /// A word or mark that is nothing but itself.
@@ -56,7 +56,7 @@ pub enum Level {
     Sum,
 }
 
-pub fn next(tokens: &[Token]) -> Option<(Token, &[Token])>
+pub fn next(tokens: &[GrammarToken]) -> Option<(GrammarToken, &[GrammarToken])>
     ensures { MatchOption result (tokens.now ≡ []) (λ found. tokens.now ≡ found.0 ∷ found.1.now) }
 {
     match tokens {
@@ -100,24 +100,24 @@ fn is_word(fixed: Fixed, word: Word) -> bool
     }
 }
 
-fn is(fixed: Fixed, token: Token) -> bool
+fn is(fixed: Fixed, token: GrammarToken) -> bool
     ensures { terminal fixed token ≡ when result tt }
 {
     match token {
-        Token::Mark {
+        GrammarToken::Mark {
             mark,
             after_line,
             ..
         } => is_mark(fixed, mark, after_line),
-        Token::Word { word, .. } => is_word(fixed, word),
-        Token::Number { value, .. } => matches!(fixed, Fixed::Nought) && value == 0,
-        Token::Directive { .. } => matches!(fixed, Fixed::Directive),
-        Token::Text { .. } | Token::Name { .. } => false,
+        GrammarToken::Word { word, .. } => is_word(fixed, word),
+        GrammarToken::Number { value, .. } => matches!(fixed, Fixed::Nought) && value == 0,
+        GrammarToken::Directive { .. } => matches!(fixed, Fixed::Directive),
+        GrammarToken::Text { .. } | GrammarToken::Name { .. } => false,
     }
 }
 
 /// The rest behind this token, which has to come next.
-pub fn take(tokens: &[Token], fixed: Fixed) -> Result<&[Token], Fault<'_>>
+pub fn take(tokens: &[GrammarToken], fixed: Fixed) -> Result<&[GrammarToken], Fault<'_>>
     ensures { Gives (λ _. tt) (λ rest. rest.now) result (one_of (terminal fixed) tokens.now) }
 {
     let Some((token, rest)) = next(tokens) else {
@@ -131,7 +131,7 @@ pub fn take(tokens: &[Token], fixed: Fixed) -> Result<&[Token], Fault<'_>>
 }
 
 /// The rest behind this token, where it comes next.
-pub fn behind(tokens: &[Token], fixed: Fixed) -> Option<&[Token]>
+pub fn behind(tokens: &[GrammarToken], fixed: Fixed) -> Option<&[GrammarToken]>
     ensures { MatchOption result (heads (terminal fixed) tokens.now ≡ false)
         (λ rest. one_of (terminal fixed) tokens.now ≡ Got tt rest.now) }
 {
@@ -139,13 +139,13 @@ pub fn behind(tokens: &[Token], fixed: Fixed) -> Option<&[Token]>
     if is(fixed, token) { Some(rest) } else { None }
 }
 
-pub fn begins_step(tokens: &[Token]) -> bool
+pub fn begins_step(tokens: &[GrammarToken]) -> bool
     ensures { result ≡ heads step_mark tokens.now }
 {
     matches!(
         next(tokens),
         Some((
-            Token::Mark {
+            GrammarToken::Mark {
                 mark: Mark::Point | Mark::OpenBracket,
                 ..
             },
@@ -155,14 +155,14 @@ pub fn begins_step(tokens: &[Token]) -> bool
 }
 
 /// A sign: its offset, and whether it is a minus.
-pub fn sign(tokens: &[Token]) -> Option<((u32, bool), &[Token])>
+pub fn sign(tokens: &[GrammarToken]) -> Option<((u32, bool), &[GrammarToken])>
     ensures { MatchOption result (heads terminals.sign tokens.now ≡ false)
         (λ found. one_of terminals.sign tokens.now ≡ Got (found.0.0, found.0.1) found.1.now) }
 {
     match next(tokens) {
         Some(
             (
-                Token::Mark {
+                GrammarToken::Mark {
                     at,
                     mark: Mark::Minus,
                     ..
@@ -172,7 +172,7 @@ pub fn sign(tokens: &[Token]) -> Option<((u32, bool), &[Token])>
         ) => Some(((at, true), rest)),
         Some(
             (
-                Token::Mark {
+                GrammarToken::Mark {
                     at,
                     mark: Mark::Not,
                     ..
@@ -184,11 +184,11 @@ pub fn sign(tokens: &[Token]) -> Option<((u32, bool), &[Token])>
     }
 }
 
-fn op(level: Level, token: Token) -> Option<(u32, Op)>
+fn op(level: Level, token: GrammarToken) -> Option<(u32, Op)>
     ensures { MatchOption result (operators level token ≡ None)
         (λ found. operators level token ≡ Some (found.0, found.1)) }
 {
-    let Token::Mark { at, mark, .. } = token else {
+    let GrammarToken::Mark { at, mark, .. } = token else {
         return None;
     };
     match (level, mark) {
@@ -207,7 +207,7 @@ fn op(level: Level, token: Token) -> Option<(u32, Op)>
 }
 
 /// An operator of the level, with its offset.
-pub fn operator(level: Level, tokens: &[Token]) -> Option<((u32, Op), &[Token])>
+pub fn operator(level: Level, tokens: &[GrammarToken]) -> Option<((u32, Op), &[GrammarToken])>
     ensures { MatchOption result (heads (operators level) tokens.now ≡ false)
         (λ found. one_of (operators level) tokens.now ≡ Got (found.0.0, found.0.1) found.1.now) }
 {
@@ -237,8 +237,8 @@ fn constant(word: Word) -> Option<Expr>
 pub fn simple<'a>(
     alloc: Global,
     tables: &Tables,
-    tokens: &'a [Token],
-) -> Result<Option<(Expr, &'a [Token])>, NoMemory>
+    tokens: &'a [GrammarToken],
+) -> Result<Option<(Expr, &'a [GrammarToken])>, NoMemory>
     ensures { IfOk result (λ found.
         MatchOption found (heads (terminals.simple (tables_of tables.now)) tokens.now ≡ false)
         (λ one. one_of (terminals.simple (tables_of tables.now)) tokens.now
@@ -248,17 +248,17 @@ pub fn simple<'a>(
         return Ok(None);
     };
     match token {
-        Token::Text { number, .. } => Ok(Some((Expr::Literal { number }, rest))),
-        Token::Number { value, .. } => Ok(Some((Expr::Number { value }, rest))),
-        Token::Name { number, .. } => {
+        GrammarToken::Text { number, .. } => Ok(Some((Expr::Literal { number }, rest))),
+        GrammarToken::Number { value, .. } => Ok(Some((Expr::Number { value }, rest))),
+        GrammarToken::Name { number, .. } => {
             let name = letters(alloc, tables, number)?;
             Ok(Some((Expr::Variable { name }, rest)))
         }
-        Token::Word { word, .. } => match constant(word) {
+        GrammarToken::Word { word, .. } => match constant(word) {
             Some(value) => Ok(Some((value, rest))),
             None => Ok(None),
         },
-        Token::Directive { .. } | Token::Mark { .. } => Ok(None),
+        GrammarToken::Directive { .. } | GrammarToken::Mark { .. } => Ok(None),
     }
 }
 
@@ -270,13 +270,13 @@ pub enum Opener {
     Literal,
 }
 
-pub fn next_opener(tokens: &[Token]) -> Option<Opener>
+pub fn next_opener(tokens: &[GrammarToken]) -> Option<Opener>
     ensures { result ≡ openers tokens.now }
 {
     match next(tokens) {
         Some(
             (
-                Token::Mark {
+                GrammarToken::Mark {
                     mark: Mark::OpenParen,
                     ..
                 },
@@ -285,7 +285,7 @@ pub fn next_opener(tokens: &[Token]) -> Option<Opener>
         ) => Some(Opener::Paren),
         Some(
             (
-                Token::Mark {
+                GrammarToken::Mark {
                     mark: Mark::OpenBrace,
                     ..
                 },
@@ -294,7 +294,7 @@ pub fn next_opener(tokens: &[Token]) -> Option<Opener>
         ) => Some(Opener::Literal),
         Some(
             (
-                Token::Word {
+                GrammarToken::Word {
                     word: Word::String
                     | Word::Symbol
                     | Word::Json
@@ -313,14 +313,14 @@ pub fn next_opener(tokens: &[Token]) -> Option<Opener>
 }
 
 /// The mark `[`: its offset.
-pub fn open_bracket(tokens: &[Token]) -> Option<(u32, &[Token])>
+pub fn open_bracket(tokens: &[GrammarToken]) -> Option<(u32, &[GrammarToken])>
     ensures { MatchOption result (heads terminals.open_bracket tokens.now ≡ false)
         (λ found. one_of terminals.open_bracket tokens.now ≡ Got found.0 found.1.now) }
 {
     match next(tokens) {
         Some(
             (
-                Token::Mark {
+                GrammarToken::Mark {
                     at,
                     mark: Mark::OpenBracket,
                     ..
@@ -333,14 +333,14 @@ pub fn open_bracket(tokens: &[Token]) -> Option<(u32, &[Token])>
 }
 
 /// `length` or `description`.
-pub fn member(tokens: &[Token]) -> Option<(PostStep, &[Token])>
+pub fn member(tokens: &[GrammarToken]) -> Option<(PostStep, &[GrammarToken])>
     ensures { MatchOption result (heads terminals.member_word tokens.now ≡ false)
         (λ found. one_of terminals.member_word tokens.now ≡ Got (step_tree found.0) found.1.now) }
 {
     match next(tokens) {
         Some(
             (
-                Token::Name {
+                GrammarToken::Name {
                     property: Property::Length,
                     ..
                 },
@@ -349,7 +349,7 @@ pub fn member(tokens: &[Token]) -> Option<(PostStep, &[Token])>
         ) => { Some((PostStep::Length, rest)) }
         Some(
             (
-                Token::Name {
+                GrammarToken::Name {
                     property: Property::Description,
                     ..
                 },
@@ -360,13 +360,13 @@ pub fn member(tokens: &[Token]) -> Option<(PostStep, &[Token])>
     }
 }
 
-fn string_function(tokens: &[Token]) -> Result<(Builtin, &[Token]), Fault<'_>>
+fn string_function(tokens: &[GrammarToken]) -> Result<(Builtin, &[GrammarToken]), Fault<'_>>
     ensures { Gives (λ found. found.0) (λ found. found.1.now) result (one_of terminals.from_word tokens.now) }
 {
     match next(tokens) {
         Some(
             (
-                Token::Name {
+                GrammarToken::Name {
                     property: Property::FromCharCode,
                     ..
                 },
@@ -375,7 +375,7 @@ fn string_function(tokens: &[Token]) -> Result<(Builtin, &[Token]), Fault<'_>>
         ) => { Ok((Builtin::FromCharCode, rest)) }
         Some(
             (
-                Token::Name {
+                GrammarToken::Name {
                     property: Property::FromCodePoint,
                     ..
                 },
@@ -386,14 +386,14 @@ fn string_function(tokens: &[Token]) -> Result<(Builtin, &[Token]), Fault<'_>>
     }
 }
 
-fn symbol_function(tokens: &[Token]) -> Result<(Builtin, &[Token]), Fault<'_>>
+fn symbol_function(tokens: &[GrammarToken]) -> Result<(Builtin, &[GrammarToken]), Fault<'_>>
     ensures { Gives (λ found. found.0) (λ found. found.1.now) result
         (one_of terminals.symbol_function tokens.now) }
 {
     match next(tokens) {
         Some(
             (
-                Token::Word {
+                GrammarToken::Word {
                     word: Word::For,
                     ..
                 },
@@ -402,7 +402,7 @@ fn symbol_function(tokens: &[Token]) -> Result<(Builtin, &[Token]), Fault<'_>>
         ) => Ok((Builtin::SymbolFor, rest)),
         Some(
             (
-                Token::Name {
+                GrammarToken::Name {
                     property: Property::KeyFor,
                     ..
                 },
@@ -413,14 +413,14 @@ fn symbol_function(tokens: &[Token]) -> Result<(Builtin, &[Token]), Fault<'_>>
     }
 }
 
-fn json_function(tokens: &[Token]) -> Result<(Builtin, &[Token]), Fault<'_>>
+fn json_function(tokens: &[GrammarToken]) -> Result<(Builtin, &[GrammarToken]), Fault<'_>>
     ensures { Gives (λ found. found.0) (λ found. found.1.now) result
         (one_of terminals.stringify_word tokens.now) }
 {
     match next(tokens) {
         Some(
             (
-                Token::Name {
+                GrammarToken::Name {
                     property: Property::Stringify,
                     ..
                 },
@@ -431,13 +431,13 @@ fn json_function(tokens: &[Token]) -> Result<(Builtin, &[Token]), Fault<'_>>
     }
 }
 
-fn object_function(tokens: &[Token]) -> Result<(Builtin, &[Token]), Fault<'_>>
+fn object_function(tokens: &[GrammarToken]) -> Result<(Builtin, &[GrammarToken]), Fault<'_>>
     ensures { Gives (λ found. found.0) (λ found. found.1.now) result (one_of terminals.keys_word tokens.now) }
 {
     match next(tokens) {
         Some(
             (
-                Token::Name {
+                GrammarToken::Name {
                     property: Property::Keys,
                     ..
                 },
@@ -449,7 +449,7 @@ fn object_function(tokens: &[Token]) -> Result<(Builtin, &[Token]), Fault<'_>>
 }
 
 // String, and perhaps a point and a function of it.
-fn string_called(tokens: &[Token]) -> Result<(Builtin, &[Token]), Fault<'_>>
+fn string_called(tokens: &[GrammarToken]) -> Result<(Builtin, &[GrammarToken]), Fault<'_>>
     ensures { Gives (λ found. found.0) (λ found. found.1.now) result (read_string_called tokens.now) }
 {
     match behind(tokens, Fixed::Point) {
@@ -458,21 +458,21 @@ fn string_called(tokens: &[Token]) -> Result<(Builtin, &[Token]), Fault<'_>>
     }
 }
 
-fn symbol_called(tokens: &[Token]) -> Result<(Builtin, &[Token]), Fault<'_>>
+fn symbol_called(tokens: &[GrammarToken]) -> Result<(Builtin, &[GrammarToken]), Fault<'_>>
     ensures { Gives (λ found. found.0) (λ found. found.1.now) result (read_symbol_called tokens.now) }
 {
     let rest = take(tokens, Fixed::Point)?;
     symbol_function(rest)
 }
 
-fn json_called(tokens: &[Token]) -> Result<(Builtin, &[Token]), Fault<'_>>
+fn json_called(tokens: &[GrammarToken]) -> Result<(Builtin, &[GrammarToken]), Fault<'_>>
     ensures { Gives (λ found. found.0) (λ found. found.1.now) result (read_json_called tokens.now) }
 {
     let rest = take(tokens, Fixed::Point)?;
     json_function(rest)
 }
 
-fn object_called(tokens: &[Token]) -> Result<(Builtin, &[Token]), Fault<'_>>
+fn object_called(tokens: &[GrammarToken]) -> Result<(Builtin, &[GrammarToken]), Fault<'_>>
     ensures { Gives (λ found. found.0) (λ found. found.1.now) result (read_object_called tokens.now) }
 {
     let rest = take(tokens, Fixed::Point)?;
@@ -480,11 +480,11 @@ fn object_called(tokens: &[Token]) -> Result<(Builtin, &[Token]), Fault<'_>>
 }
 
 // A URI handling function.
-fn uri_function(tokens: &[Token]) -> Result<((u32, Builtin), &[Token]), Fault<'_>>
+fn uri_function(tokens: &[GrammarToken]) -> Result<((u32, Builtin), &[GrammarToken]), Fault<'_>>
     ensures { Gives (λ found. (found.0.0, found.0.1)) (λ found. found.1.now) result
         (one_of terminals.uri_function tokens.now) }
 {
-    let Some((Token::Word { at, word, .. }, rest)) = next(tokens) else {
+    let Some((GrammarToken::Word { at, word, .. }, rest)) = next(tokens) else {
         return Err(refused(tokens));
     };
     match word {
@@ -499,13 +499,13 @@ fn uri_function(tokens: &[Token]) -> Result<((u32, Builtin), &[Token]), Fault<'_
 /// The built-in function that is called, with the offset of its first word: `String`,
 /// `String . fromCharCode`, `String . fromCodePoint`, `Symbol . for`, `Symbol . keyFor`, `JSON . stringify`,
 /// `Object . keys`, or a URI handling function.
-pub fn called(tokens: &[Token]) -> Result<((u32, Builtin), &[Token]), Fault<'_>>
+pub fn called(tokens: &[GrammarToken]) -> Result<((u32, Builtin), &[GrammarToken]), Fault<'_>>
     ensures { Gives (λ found. (found.0.0, found.0.1)) (λ found. found.1.now) result (read_called tokens.now) }
 {
     match next(tokens) {
         Some(
             (
-                Token::Word {
+                GrammarToken::Word {
                     at,
                     word: Word::String,
                     ..
@@ -518,7 +518,7 @@ pub fn called(tokens: &[Token]) -> Result<((u32, Builtin), &[Token]), Fault<'_>>
         }
         Some(
             (
-                Token::Word {
+                GrammarToken::Word {
                     at,
                     word: Word::Symbol,
                     ..
@@ -531,7 +531,7 @@ pub fn called(tokens: &[Token]) -> Result<((u32, Builtin), &[Token]), Fault<'_>>
         }
         Some(
             (
-                Token::Word {
+                GrammarToken::Word {
                     at,
                     word: Word::Json,
                     ..
@@ -544,7 +544,7 @@ pub fn called(tokens: &[Token]) -> Result<((u32, Builtin), &[Token]), Fault<'_>>
         }
         Some(
             (
-                Token::Word {
+                GrammarToken::Word {
                     at,
                     word: Word::Object,
                     ..
@@ -567,31 +567,31 @@ pub struct Ident {
 }
 
 /// A name, which has to come next.
-pub fn name(tokens: &[Token]) -> Result<(Ident, &[Token]), Fault<'_>>
+pub fn name(tokens: &[GrammarToken]) -> Result<(Ident, &[GrammarToken]), Fault<'_>>
     ensures { Gives (λ found. ident found.0.at found.0.number) (λ found. found.1.now) result
         (one_of terminals.name tokens.now) }
 {
     match next(tokens) {
-        Some((Token::Name { at, number, .. }, rest)) => Ok((Ident { at, number }, rest)),
+        Some((GrammarToken::Name { at, number, .. }, rest)) => Ok((Ident { at, number }, rest)),
         _ => Err(refused(tokens)),
     }
 }
 
-fn same_name(tokens: &[Token], name: Ident) -> Result<&[Token], Fault<'_>>
+fn same_name(tokens: &[GrammarToken], name: Ident) -> Result<&[GrammarToken], Fault<'_>>
     ensures { Gives (λ _. tt) (λ rest. rest.now) result (one_of (terminals.the_name name.number) tokens.now) }
 {
     match next(tokens) {
-        Some((Token::Name { number, .. }, rest)) if number == name.number => Ok(rest),
+        Some((GrammarToken::Name { number, .. }, rest)) if number == name.number => Ok(rest),
         _ => Err(refused(tokens)),
     }
 }
 
-fn bound(tokens: &[Token]) -> Result<(u32, &[Token]), Fault<'_>>
+fn bound(tokens: &[GrammarToken]) -> Result<(u32, &[GrammarToken]), Fault<'_>>
     ensures { Gives (λ found. found.0) (λ found. found.1.now) result
         (one_of terminals.bound_number tokens.now) }
 {
     match next(tokens) {
-        Some((Token::Number { value, .. }, rest)) if value <= 1_000_000 => {
+        Some((GrammarToken::Number { value, .. }, rest)) if value <= 1_000_000 => {
             Ok((value as u32, rest))
         }
         _ => Err(refused(tokens)),
@@ -599,7 +599,7 @@ fn bound(tokens: &[Token]) -> Result<(u32, &[Token]), Fault<'_>>
 }
 
 /// `for ( let Name = 0 ; Name < Bound ; Name ++ )`
-pub fn header(tokens: &[Token]) -> Result<((Ident, u32), &[Token]), Fault<'_>>
+pub fn header(tokens: &[GrammarToken]) -> Result<((Ident, u32), &[GrammarToken]), Fault<'_>>
     ensures { Gives (λ found. (ident found.0.0.at found.0.0.number, found.0.1)) (λ found. found.1.now) result
         (read_header tokens.now) }
 {
@@ -621,13 +621,13 @@ pub fn header(tokens: &[Token]) -> Result<((Ident, u32), &[Token]), Fault<'_>>
 }
 
 /// `=`, or the offset of a `+=`.
-pub fn assign_op(tokens: &[Token]) -> Result<(Option<u32>, &[Token]), Fault<'_>>
+pub fn assign_op(tokens: &[GrammarToken]) -> Result<(Option<u32>, &[GrammarToken]), Fault<'_>>
     ensures { Gives (λ found. found.0) (λ found. found.1.now) result (one_of terminals.assign_op tokens.now) }
 {
     match next(tokens) {
         Some(
             (
-                Token::Mark {
+                GrammarToken::Mark {
                     mark: Mark::Assign,
                     ..
                 },
@@ -636,7 +636,7 @@ pub fn assign_op(tokens: &[Token]) -> Result<(Option<u32>, &[Token]), Fault<'_>>
         ) => Ok((None, rest)),
         Some(
             (
-                Token::Mark {
+                GrammarToken::Mark {
                     at,
                     mark: Mark::AddAssign,
                     ..
@@ -649,13 +649,13 @@ pub fn assign_op(tokens: &[Token]) -> Result<(Option<u32>, &[Token]), Fault<'_>>
 }
 
 /// Whether statements go on: up to the end of a block or of the tokens.
-pub fn goes_on(tokens: &[Token]) -> bool
+pub fn goes_on(tokens: &[GrammarToken]) -> bool
     ensures { result ≡ goes_on tokens.now }
 {
     !matches!(
         next(tokens),
         None | Some((
-            Token::Mark {
+            GrammarToken::Mark {
                 mark: Mark::CloseBrace,
                 ..
             },
@@ -665,14 +665,14 @@ pub fn goes_on(tokens: &[Token]) -> bool
 }
 
 /// The rest behind an `else` that an `if` follows.
-pub fn else_if(tokens: &[Token]) -> Option<&[Token]>
+pub fn else_if(tokens: &[GrammarToken]) -> Option<&[GrammarToken]>
     ensures { MatchOption result (heads_two terminals.else_word terminals.if_word tokens.now ≡ false)
         (λ rest. (one_of terminals.else_word tokens.now ≡ Got tt rest.now)
         × (heads_two terminals.else_word terminals.if_word tokens.now ≡ true)) }
 {
     let Some(
         (
-            Token::Word {
+            GrammarToken::Word {
                 word: Word::Else,
                 ..
             },
@@ -683,7 +683,7 @@ pub fn else_if(tokens: &[Token]) -> Option<&[Token]>
         return None;
     };
     match next(rest) {
-        Some((Token::Word { word: Word::If, .. }, _)) => Some(rest),
+        Some((GrammarToken::Word { word: Word::If, .. }, _)) => Some(rest),
         _ => None,
     }
 }

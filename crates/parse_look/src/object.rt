@@ -12,7 +12,7 @@ use eval_tree::{Method, Name, PostStep};
 use itoa::Buffer;
 use js_lex::Mark;
 use js_units::{NoMemory, Units};
-use parse_syntax::{Property, Tables, Token};
+use parse_syntax::{GrammarToken, Property, Tables};
 use std::alloc::Global;
 
 /// The letters of a name by its number.
@@ -68,8 +68,8 @@ fn decimal_text(alloc: Global, value: u64) -> Result<Units, NoMemory>
 pub fn key<'a>(
     alloc: Global,
     tables: &Tables,
-    tokens: &'a [Token],
-) -> Result<(Units, &'a [Token]), Fault<'a>>
+    tokens: &'a [GrammarToken],
+) -> Result<(Units, &'a [GrammarToken]), Fault<'a>>
     ensures { Gives (λ found. found.0) (λ found. found.1.now) result
         (one_of (terminals.key (tables_of tables.now)) tokens.now) }
 {
@@ -77,12 +77,18 @@ pub fn key<'a>(
         return Err(refused(tokens));
     };
     match token {
-        Token::Text { number, .. } => Ok((key_text(alloc, tables, number)?, rest)),
-        Token::Number { value, .. } => Ok((decimal_text(alloc, value)?, rest)),
-        Token::Name { number, .. } => Ok((units_of(alloc, letters_of(tables, number))?, rest)),
-        Token::Word { number, .. } => Ok((units_of(alloc, letters_of(tables, number))?, rest)),
-        Token::Directive { .. } => Err(refused(tokens)),
-        Token::Mark { .. } => Err(refused(tokens)),
+        GrammarToken::Text { number, .. } => Ok((key_text(alloc, tables, number)?, rest)),
+        GrammarToken::Number { value, .. } => Ok((decimal_text(alloc, value)?, rest)),
+        GrammarToken::Name { number, .. } => Ok((
+            units_of(alloc, letters_of(tables, number))?,
+            rest,
+        )),
+        GrammarToken::Word { number, .. } => Ok((
+            units_of(alloc, letters_of(tables, number))?,
+            rest,
+        )),
+        GrammarToken::Directive { .. } => Err(refused(tokens)),
+        GrammarToken::Mark { .. } => Err(refused(tokens)),
     }
 }
 
@@ -101,8 +107,8 @@ pub fn property(alloc: Global, at: u32, letters: &[u8]) -> Result<PostStep, NoMe
 pub fn property_word<'a>(
     alloc: Global,
     tables: &Tables,
-    tokens: &'a [Token],
-) -> Result<Option<(PostStep, &'a [Token])>, NoMemory>
+    tokens: &'a [GrammarToken],
+) -> Result<Option<(PostStep, &'a [GrammarToken])>, NoMemory>
     ensures { IfOk result (λ found.
         MatchOption found (heads (terminals.property_word (tables_of tables.now)) tokens.now ≡ false)
         (λ one. one_of (terminals.property_word (tables_of tables.now)) tokens.now
@@ -112,30 +118,30 @@ pub fn property_word<'a>(
         return Ok(None);
     };
     match token {
-        Token::Name {
+        GrammarToken::Name {
             property: Property::Length | Property::Description | Property::Method(_),
             ..
         } => Ok(None),
-        Token::Name { at, number, .. } => {
+        GrammarToken::Name { at, number, .. } => {
             let step = property(alloc, at, letters_of(tables, number))?;
             Ok(Some((step, rest)))
         }
-        Token::Word { at, number, .. } => {
+        GrammarToken::Word { at, number, .. } => {
             let step = property(alloc, at, letters_of(tables, number))?;
             Ok(Some((step, rest)))
         }
-        Token::Directive { .. } => Ok(None),
-        Token::Text { .. } => Ok(None),
-        Token::Number { .. } => Ok(None),
-        Token::Mark { .. } => Ok(None),
+        GrammarToken::Directive { .. } => Ok(None),
+        GrammarToken::Text { .. } => Ok(None),
+        GrammarToken::Number { .. } => Ok(None),
+        GrammarToken::Mark { .. } => Ok(None),
     }
 }
 
 /// A method with its offset and its letters.
 pub fn method<'t, 'a>(
     tables: &'t Tables,
-    tokens: &'a [Token],
-) -> Option<((u32, Method, &'t [u8]), &'a [Token])>
+    tokens: &'a [GrammarToken],
+) -> Option<((u32, Method, &'t [u8]), &'a [GrammarToken])>
     ensures { MatchOption result (heads (terminals.method (tables_of tables.now)) tokens.now ≡ false)
         (λ found. one_of (terminals.method (tables_of tables.now)) tokens.now
         ≡ Got ((found.0.0, found.0.1), found.0.2.now) found.1.now) }
@@ -143,7 +149,7 @@ pub fn method<'t, 'a>(
     match next(tokens) {
         Some(
             (
-                Token::Name {
+                GrammarToken::Name {
                     at,
                     number,
                     property: Property::Method(method),
@@ -159,14 +165,14 @@ pub fn method<'t, 'a>(
 }
 
 /// The `{` of an object literal: its offset.
-pub fn open_literal(tokens: &[Token]) -> Option<(u32, &[Token])>
+pub fn open_literal(tokens: &[GrammarToken]) -> Option<(u32, &[GrammarToken])>
     ensures { MatchOption result (heads terminals.open_literal tokens.now ≡ false)
         (λ found. one_of terminals.open_literal tokens.now ≡ Got found.0 found.1.now) }
 {
     match next(tokens) {
         Some(
             (
-                Token::Mark {
+                GrammarToken::Mark {
                     at,
                     mark: Mark::OpenBrace,
                     ..

@@ -6,7 +6,7 @@ use Rattle.parse_syntax.proofs.Local.{IsEating}
 use Rattle.parse_syntax.proofs.Part.{Rooms, same_room, same_end, eats_by}
 use Rattle.parse_syntax.proofs.Heads.{begins_length}
 use Rattle.parse_syntax.proofs.Loops.{then_eats}
-use Rattle.parse_syntax.specs.declared.token.Token.{Token}
+use Rattle.parse_syntax.specs.declared.token.GrammarToken.{GrammarToken}
 use Rattle.parse_syntax.specs.Tables.{Tables}
 use Rattle.eval_tree.specs.Tree.{ExprTree}
 use Rattle.parse_syntax.specs.Terminals.{comma}
@@ -24,14 +24,14 @@ Any k = Unit {0}
 
 module _ (tables : Tables) where
   pub inner_eats : (n : ℕ) → IsEating (inner tables n Whole)
-  inner_eats zero = record { less = λ s x rest e. let q : Answer Token ExprTree = wrong s in cc }
+  inner_eats zero = record { less = λ s x rest e. let q : Answer GrammarToken ExprTree = wrong s in cc }
   inner_eats (suc n) = let l = same_expressions tables Any n in eats_by l.whole.lawful (λ ts x h. begins_length begins_unary ts (l.starts.by ts x h))
 
   pub item_eats : (n : ℕ) → IsEating (and_then second_of (one_of comma) (inner tables n Whole))
   item_eats n = then_eats second_of comma (inner tables n Whole) (inner_eats n)
 
   -- what an expression and an operand are where one more is open
-  abbrev below : ℕ → Which → Lang Token ExprTree
+  abbrev below : ℕ → Which → Lang GrammarToken ExprTree
   below zero w = Never
   below (suc n) w = within_room tables n w
 

@@ -4,9 +4,9 @@ use Rattle.js_lex.specs.declared.token.Mark.TheVariants as mark
 use Rattle.parse_syntax.specs.Lang.{first_of, second_of}
 use Rattle.parse_syntax.specs.Reader.{Answer, Got, Bad, Wrong, Reader, ◌>>=◌, wrong, too_deep, and_then, map_by, take_or, one_of, choose, opens, heads, is_some}
 use Rattle.parse_syntax.proofs.Part.{then_strict}
-use Rattle.parse_syntax.specs.declared.token.Token.{Token}
+use Rattle.parse_syntax.specs.declared.token.GrammarToken.{GrammarToken}
 use Rattle.parse_syntax.specs.Tables.{Tables}
-use Rattle.parse_syntax.specs.declared.token.Token.TheVariants as token
+use Rattle.parse_syntax.specs.declared.token.GrammarToken.TheVariants as token
 use Rattle.parse_syntax.specs.declared.token.Word.TheVariants as word
 use Rattle.parse_syntax.specs.declared.token.Property.TheVariants as property
 use Rattle.eval_tree.specs.declared.tree.Method.{Method}
@@ -25,24 +25,24 @@ use Rattle.parse_statements.specs.At.{has_room, inner, parens_at, args_at, given
 
 -- answers
 
-pub bind_got : {A : Type 0} (a : Answer Token A) → (a >>= λ x r. Got x r) ≡ a
+pub bind_got : {A : Type 0} (a : Answer GrammarToken A) → (a >>= λ x r. Got x r) ≡ a
 bind_got (Got x r) = refl
 bind_got (Bad k r) = refl
 
-pub bind_bind : {A B C : Type 0} (a : Answer Token A) (f : A → List Token → Answer Token B) (g : B → List Token → Answer Token C) → ((a >>= f) >>= g) ≡ (a >>= λ x r. f x r >>= g)
+pub bind_bind : {A B C : Type 0} (a : Answer GrammarToken A) (f : A → List GrammarToken → Answer GrammarToken B) (g : B → List GrammarToken → Answer GrammarToken C) → ((a >>= f) >>= g) ≡ (a >>= λ x r. f x r >>= g)
 bind_bind (Got x r) f g = refl
 bind_bind (Bad k r) f g = refl
 
 -- a word, and then what hands on its value
-module _ {A B : Type 0} (v : Token → Option A) (q : Reader Token B) where
-  then_got : (a : Answer Token A) → (a >>= λ x r. q r >>= λ y r'. Got y r') ≡ (a >>= λ _ r. q r)
+module _ {A B : Type 0} (v : GrammarToken → Option A) (q : Reader GrammarToken B) where
+  then_got : (a : Answer GrammarToken A) → (a >>= λ x r. q r >>= λ y r'. Got y r') ≡ (a >>= λ _ r. q r)
   then_got (Bad k r) = refl
   then_got (Got x r) = bind_got (q r)
 
-  pub word_then : (s : List Token) → and_then second_of (one_of v) q s ≡ (one_of v s >>= λ _ r. q r)
+  pub word_then : (s : List GrammarToken) → and_then second_of (one_of v) q s ≡ (one_of v s >>= λ _ r. q r)
   word_then s = then_got (one_of v s)
 
-pub head_of : {A : Type 0} (v : Token → Option A) (s : List Token) (x : A) (rest : List Token) → one_of v s ≡ Got x rest → heads v s ≡ true
+pub head_of : {A : Type 0} (v : GrammarToken → Option A) (s : List GrammarToken) (x : A) (rest : List GrammarToken) → one_of v s ≡ Got x rest → heads v s ≡ true
 head_of v [] x rest e = cc
 head_of v (t ∷ s) x rest e = go (v t) e
   where
@@ -65,27 +65,27 @@ less_one n = omega arith
 
 -- none of these begins a primary
 
-no_opening : (s : List Token) → openers s ≡ None → heads opening s ≡ false
+no_opening : (s : List GrammarToken) → openers s ≡ None → heads opening s ≡ false
 no_opening [] o = refl
 no_opening (token.Mark at mark.OpenParen l ∷ s) o = cc
 no_opening (_ ∷ s) o = refl
 
-no_string : (s : List Token) → openers s ≡ None → heads string_word s ≡ false
+no_string : (s : List GrammarToken) → openers s ≡ None → heads string_word s ≡ false
 no_string [] o = refl
 no_string (token.Word at word.String number ∷ s) o = cc
 no_string (_ ∷ s) o = refl
 
-no_symbol : (s : List Token) → openers s ≡ None → heads symbol_word s ≡ false
+no_symbol : (s : List GrammarToken) → openers s ≡ None → heads symbol_word s ≡ false
 no_symbol [] o = refl
 no_symbol (token.Word at word.Symbol number ∷ s) o = cc
 no_symbol (_ ∷ s) o = refl
 
-no_json : (s : List Token) → openers s ≡ None → heads json_word s ≡ false
+no_json : (s : List GrammarToken) → openers s ≡ None → heads json_word s ≡ false
 no_json [] o = refl
 no_json (token.Word at word.Json number ∷ s) o = cc
 no_json (_ ∷ s) o = refl
 
-no_uri : (s : List Token) → openers s ≡ None → heads uri_function s ≡ false
+no_uri : (s : List GrammarToken) → openers s ≡ None → heads uri_function s ≡ false
 no_uri [] o = refl
 no_uri (token.Word at word.EncodeUri number ∷ s) o = cc
 no_uri (token.Word at word.EncodeUriComponent number ∷ s) o = cc
@@ -93,36 +93,36 @@ no_uri (token.Word at word.DecodeUri number ∷ s) o = cc
 no_uri (token.Word at word.DecodeUriComponent number ∷ s) o = cc
 no_uri (_ ∷ s) o = refl
 
-no_object : (s : List Token) → openers s ≡ None → heads object_word s ≡ false
+no_object : (s : List GrammarToken) → openers s ≡ None → heads object_word s ≡ false
 no_object [] o = refl
 no_object (token.Word at word.Object number ∷ s) o = cc
 no_object (_ ∷ s) o = refl
 
-no_literal : (s : List Token) → openers s ≡ None → heads open_literal s ≡ false
+no_literal : (s : List GrammarToken) → openers s ≡ None → heads open_literal s ≡ false
 no_literal [] o = refl
 no_literal (token.Mark at mark.OpenBrace l ∷ s) o = cc
 no_literal (_ ∷ s) o = refl
 
 -- the functions of String, Symbol and Object have any number of arguments
 
-from_plain : (s r : List Token) (w : Builtin) → one_of from_word s ≡ Got w r → w ≡ builtin.Stringify → ⊥
+from_plain : (s r : List GrammarToken) (w : Builtin) → one_of from_word s ≡ Got w r → w ≡ builtin.Stringify → ⊥
 from_plain [] r w e = cc
 from_plain (token.Name at n property.FromCharCode ∷ s) r w e = λ h. let q : builtin.FromCharCode ≡ w = cc in let z : builtin.FromCharCode ≡ builtin.Stringify = q ∙ h in cc
 from_plain (token.Name at n property.FromCodePoint ∷ s) r w e = λ h. let q : builtin.FromCodePoint ≡ w = cc in let z : builtin.FromCodePoint ≡ builtin.Stringify = q ∙ h in cc
 from_plain (_ ∷ s) r w e = cc
 
-symbol_plain : (s r : List Token) (w : Builtin) → one_of symbol_function s ≡ Got w r → w ≡ builtin.Stringify → ⊥
+symbol_plain : (s r : List GrammarToken) (w : Builtin) → one_of symbol_function s ≡ Got w r → w ≡ builtin.Stringify → ⊥
 symbol_plain [] r w e = cc
 symbol_plain (token.Word at word.For number ∷ s) r w e = λ h. let q : builtin.SymbolFor ≡ w = cc in let z : builtin.SymbolFor ≡ builtin.Stringify = q ∙ h in cc
 symbol_plain (token.Name at n property.KeyFor ∷ s) r w e = λ h. let q : builtin.KeyFor ≡ w = cc in let z : builtin.KeyFor ≡ builtin.Stringify = q ∙ h in cc
 symbol_plain (_ ∷ s) r w e = cc
 
-keys_plain : (s r : List Token) (w : Builtin) → one_of keys_word s ≡ Got w r → w ≡ builtin.Stringify → ⊥
+keys_plain : (s r : List GrammarToken) (w : Builtin) → one_of keys_word s ≡ Got w r → w ≡ builtin.Stringify → ⊥
 keys_plain [] r w e = cc
 keys_plain (token.Name at n property.Keys ∷ s) r w e = λ h. let q : builtin.Keys ≡ w = cc in let z : builtin.Keys ≡ builtin.Stringify = q ∙ h in cc
 keys_plain (_ ∷ s) r w e = cc
 
-json_one : (s r : List Token) (w : Builtin) → one_of stringify_word s ≡ Got w r → w ≡ builtin.Stringify
+json_one : (s r : List GrammarToken) (w : Builtin) → one_of stringify_word s ≡ Got w r → w ≡ builtin.Stringify
 json_one [] r w e = cc
 json_one (token.Name at n property.Stringify ∷ s) r w e = let q : builtin.Stringify ≡ w = cc in sym q
 json_one (_ ∷ s) r w e = cc
@@ -146,56 +146,56 @@ module _ (tables : Tables) where
   inner_operand zero h = absurd (omega arith)
   inner_operand (suc n) h = subst (λ m. read_within tables n Operand ≡ unary_at tables m) (sym (less_one n)) (operand_is n)
 
-  pub parens_is : (n : ℕ) (s : List Token) → 0 < n → parens_at tables n s ≡ (one_of opening s >>= λ _ r. expression_at tables (n - 1) r >>= λ x r. one_of closing r >>= λ _ r. Got x r)
+  pub parens_is : (n : ℕ) (s : List GrammarToken) → 0 < n → parens_at tables n s ≡ (one_of opening s >>= λ _ r. expression_at tables (n - 1) r >>= λ x r. one_of closing r >>= λ _ r. Got x r)
   unfolding parens_at
   parens_is n s h = word_then opening (and_then first_of (inner tables n Whole) (one_of closing)) s ∙ ap (λ q. one_of opening s >>= λ _ r. q r >>= λ x r. one_of closing r >>= λ _ r. Got x r) (inner_whole n h)
 
   -- built-in functions
 
-  pub given_args : (n : ℕ) (w : Builtin) (s : List Token) → (w ≡ builtin.Stringify → ⊥) → given_at tables n w s ≡ args_at tables n s
+  pub given_args : (n : ℕ) (w : Builtin) (s : List GrammarToken) → (w ≡ builtin.Stringify → ⊥) → given_at tables n w s ≡ args_at tables n s
   unfolding given_at args_at
   given_args n builtin.Stringify s h = absurd (h refl)
   given_args n _ s h = refl
 
-  pub given_one : (n : ℕ) (w : Builtin) (s : List Token) → w ≡ builtin.Stringify → given_at tables n w s ≡ (parens_at tables n s >>= λ x r. Got (x ∷ []) r)
+  pub given_one : (n : ℕ) (w : Builtin) (s : List GrammarToken) → w ≡ builtin.Stringify → given_at tables n w s ≡ (parens_at tables n s >>= λ x r. Got (x ∷ []) r)
   unfolding given_at parens_at
   given_one n w s h = rw h refl
 
   -- what is called, with its arguments
-  abbrev calling : ℕ → ℕ → Builtin → List Token → Answer Token ExprTree
+  abbrev calling : ℕ → ℕ → Builtin → List GrammarToken → Answer GrammarToken ExprTree
   calling n at w r = given_at tables n w r >>= λ ts r'. Got (builtin_of at (w, ts)) r'
 
-  plain_call : (n at : ℕ) (s : List Token) → (map_by plain_string (read_args (inner tables n Whole)) s >>= λ p r. Got (builtin_of at p) r) ≡ calling n at builtin.String s
+  plain_call : (n at : ℕ) (s : List GrammarToken) → (map_by plain_string (read_args (inner tables n Whole)) s >>= λ p r. Got (builtin_of at p) r) ≡ calling n at builtin.String s
   unfolding given_at
   plain_call n at s = bind_bind (read_args (inner tables n Whole) s) (λ ts r. Got (plain_string ts) r) (λ p r. Got (builtin_of at p) r)
 
   -- a function behind a point, where its arguments are read by a
-  function_call : (n at : ℕ) (v : Token → Option Builtin) (a : Reader Token (List ExprTree)) (r : List Token) → ((w : Builtin) (r' : List Token) → one_of v r ≡ Got w r' → a r' ≡ given_at tables n w r') → (and_then pair_of (one_of v) a r >>= λ p r. Got (builtin_of at p) r) ≡ (one_of v r >>= λ w r'. calling n at w r')
+  function_call : (n at : ℕ) (v : GrammarToken → Option Builtin) (a : Reader GrammarToken (List ExprTree)) (r : List GrammarToken) → ((w : Builtin) (r' : List GrammarToken) → one_of v r ≡ Got w r' → a r' ≡ given_at tables n w r') → (and_then pair_of (one_of v) a r >>= λ p r. Got (builtin_of at p) r) ≡ (one_of v r >>= λ w r'. calling n at w r')
   function_call n at v a r h = go (one_of v r) refl
     where
-      args : (w : Builtin) (r' : List Token) → a r' ≡ given_at tables n w r' → ((a r' >>= λ ts r''. Got (pair_of w ts) r'') >>= λ p r. Got (builtin_of at p) r) ≡ calling n at w r'
+      args : (w : Builtin) (r' : List GrammarToken) → a r' ≡ given_at tables n w r' → ((a r' >>= λ ts r''. Got (pair_of w ts) r'') >>= λ p r. Got (builtin_of at p) r) ≡ calling n at w r'
       args w r' e = bind_bind (a r') (λ ts r''. Got (pair_of w ts) r'') (λ p r. Got (builtin_of at p) r) ∙ ap (λ q. q >>= λ ts r''. Got (builtin_of at (w, ts)) r'') e
 
-      go : (b : Answer Token Builtin) → one_of v r ≡ b → ((b >>= λ w r'. a r' >>= λ ts r''. Got (pair_of w ts) r'') >>= λ p r. Got (builtin_of at p) r) ≡ (b >>= λ w r'. calling n at w r')
+      go : (b : Answer GrammarToken Builtin) → one_of v r ≡ b → ((b >>= λ w r'. a r' >>= λ ts r''. Got (pair_of w ts) r'') >>= λ p r. Got (builtin_of at p) r) ≡ (b >>= λ w r'. calling n at w r')
       go (Bad k r') e = refl
       go (Got w r') e = args w r' (h w r' e)
 
-  behind : {A : Type 0} (s : List Token) (q : Reader Token A) (g : A → List Token → Answer Token ExprTree) → (and_then second_of (one_of point) q s >>= g) ≡ (one_of point s >>= λ _ r. q r >>= g)
+  behind : {A : Type 0} (s : List GrammarToken) (q : Reader GrammarToken A) (g : A → List GrammarToken → Answer GrammarToken ExprTree) → (and_then second_of (one_of point) q s >>= g) ≡ (one_of point s >>= λ _ r. q r >>= g)
   behind s q g = ap (λ a. a >>= g) (word_then point q s) ∙ bind_bind (one_of point s) (λ _ r. q r) g
 
-  given_plain : (n : ℕ) (w : Builtin) (r : List Token) → (w ≡ builtin.Stringify → ⊥) → read_args (inner tables n Whole) r ≡ given_at tables n w r
+  given_plain : (n : ℕ) (w : Builtin) (r : List GrammarToken) → (w ≡ builtin.Stringify → ⊥) → read_args (inner tables n Whole) r ≡ given_at tables n w r
   unfolding args_at
   given_plain n w r h = sym (given_args n w r h)
 
-  given_single : (n : ℕ) (w : Builtin) (r : List Token) → w ≡ builtin.Stringify → map_by single_of (read_parens (inner tables n Whole)) r ≡ given_at tables n w r
+  given_single : (n : ℕ) (w : Builtin) (r : List GrammarToken) → w ≡ builtin.Stringify → map_by single_of (read_parens (inner tables n Whole)) r ≡ given_at tables n w r
   unfolding given_at
   given_single n w r h = rw h refl
 
   -- so have the URI handling functions
-  uri_call : (n at : ℕ) (w : Builtin) (s : List Token) → (w ≡ builtin.Stringify → ⊥) → (read_args (inner tables n Whole) s >>= λ ts r. Got (uri_of (at, w) ts) r) ≡ calling n at w s
+  uri_call : (n at : ℕ) (w : Builtin) (s : List GrammarToken) → (w ≡ builtin.Stringify → ⊥) → (read_args (inner tables n Whole) s >>= λ ts r. Got (uri_of (at, w) ts) r) ≡ calling n at w s
   uri_call n at w s h = ap (λ a. a >>= λ ts r. Got (uri_of (at, w) ts) r) (given_plain n w s h)
 
-  string_call : (n at : ℕ) (s : List Token) → (choose (heads point) (and_then second_of (one_of point) (and_then pair_of (one_of from_word) (read_args (inner tables n Whole)))) (map_by plain_string (read_args (inner tables n Whole))) s >>= λ p r. Got (builtin_of at p) r) ≡ (read_string_called s >>= λ w r. calling n at w r)
+  string_call : (n at : ℕ) (s : List GrammarToken) → (choose (heads point) (and_then second_of (one_of point) (and_then pair_of (one_of from_word) (read_args (inner tables n Whole)))) (map_by plain_string (read_args (inner tables n Whole))) s >>= λ p r. Got (builtin_of at p) r) ≡ (read_string_called s >>= λ w r. calling n at w r)
   string_call n at s = go (heads point s) refl
     where
       go : (b : Bool) → heads point s ≡ b → (choose (heads point) (and_then second_of (one_of point) (and_then pair_of (one_of from_word) (read_args (inner tables n Whole)))) (map_by plain_string (read_args (inner tables n Whole))) s >>= λ p r. Got (builtin_of at p) r) ≡ (read_string_called s >>= λ w r. calling n at w r)
@@ -204,11 +204,11 @@ module _ (tables : Tables) where
           ∙ sym (behind s (one_of from_word) (λ w r. calling n at w r)))
       go false h = rw h (plain_call n at s)
 
-  paired : (at : ℕ) (a : Answer Token Builtin) (g : ℕ × Builtin → List Token → Answer Token ExprTree) → ((a >>= λ w r. Got (pair_of at w) r) >>= g) ≡ (a >>= λ w r. g (at, w) r)
+  paired : (at : ℕ) (a : Answer GrammarToken Builtin) (g : ℕ × Builtin → List GrammarToken → Answer GrammarToken ExprTree) → ((a >>= λ w r. Got (pair_of at w) r) >>= g) ≡ (a >>= λ w r. g (at, w) r)
   paired at (Got w r) g = refl
   paired at (Bad k r) g = refl
 
-  pub builtin_is : (n : ℕ) (s : List Token) → builtin_at tables n s ≡ (read_called s >>= λ c r. given_at tables n c.1 r >>= λ ts r'. Got (builtin_of c.0 (c.1, ts)) r')
+  pub builtin_is : (n : ℕ) (s : List GrammarToken) → builtin_at tables n s ≡ (read_called s >>= λ c r. given_at tables n c.1 r >>= λ ts r'. Got (builtin_of c.0 (c.1, ts)) r')
   unfolding builtin_at
   builtin_is n [] = refl
   builtin_is n (token.Word at word.String number ∷ s) = string_call n at s ∙ sym (paired at (read_string_called s) (λ c r. calling n c.0 c.1 r))
@@ -235,11 +235,11 @@ module _ (tables : Tables) where
 
   -- primaries
 
-  pub primary_simple : (n : ℕ) (s : List Token) (x : ExprTree) (r : List Token) → one_of (simple tables) s ≡ Got x r → primary_at tables n s ≡ Got x r
+  pub primary_simple : (n : ℕ) (s : List GrammarToken) (x : ExprTree) (r : List GrammarToken) → one_of (simple tables) s ≡ Got x r → primary_at tables n s ≡ Got x r
   unfolding primary_at
   primary_simple n s x r e = rw (head_of (simple tables) s x r e) e
 
-  pub primary_none : (n : ℕ) (s : List Token) → heads (simple tables) s ≡ false → openers s ≡ None → primary_at tables n s ≡ wrong s
+  pub primary_none : (n : ℕ) (s : List GrammarToken) → heads (simple tables) s ≡ false → openers s ≡ None → primary_at tables n s ≡ wrong s
   unfolding primary_at
   primary_none n s h o = rw (h, no_opening s o, no_string s o, no_symbol s o, no_json s o, no_uri s o, no_object s o) (last n)
     where
@@ -247,7 +247,7 @@ module _ (tables : Tables) where
       last zero = rw (no_literal s o) refl
       last (suc n) = (then_strict object_of open_literal (read_members tables (inner tables (suc n) Whole))).fails s (no_literal s o)
 
-  pub primary_deep : (n : ℕ) (s : List Token) (o : Opener) → openers s ≡ Some o → n ≡ 0 → primary_at tables n s ≡ too_deep s
+  pub primary_deep : (n : ℕ) (s : List GrammarToken) (o : Opener) → openers s ≡ Some o → n ≡ 0 → primary_at tables n s ≡ too_deep s
   unfolding primary_at
   primary_deep n [] o e h = absurd cc
   primary_deep n (token.Mark at mark.OpenParen l ∷ s) o e h = rw (no_room_for n h) refl
@@ -262,7 +262,7 @@ module _ (tables : Tables) where
   primary_deep n (token.Word at word.DecodeUriComponent number ∷ s) o e h = rw (no_room_for n h) refl
   primary_deep n (_ ∷ s) o e h = absurd cc
 
-  pub primary_paren : (n : ℕ) (s : List Token) → openers s ≡ Some opener.Paren → 0 < n → primary_at tables n s ≡ parens_at tables n s
+  pub primary_paren : (n : ℕ) (s : List GrammarToken) → openers s ≡ Some opener.Paren → 0 < n → primary_at tables n s ≡ parens_at tables n s
   unfolding primary_at parens_at
   primary_paren n [] e h = absurd cc
   primary_paren n (token.Mark at mark.OpenParen l ∷ s) e h = rw (room_for n h) refl
@@ -277,7 +277,7 @@ module _ (tables : Tables) where
   primary_paren n (token.Word at word.DecodeUriComponent number ∷ s) e h = absurd cc
   primary_paren n (_ ∷ s) e h = absurd cc
 
-  pub primary_builtin : (n : ℕ) (s : List Token) → openers s ≡ Some opener.Builtin → 0 < n → primary_at tables n s ≡ builtin_at tables n s
+  pub primary_builtin : (n : ℕ) (s : List GrammarToken) → openers s ≡ Some opener.Builtin → 0 < n → primary_at tables n s ≡ builtin_at tables n s
   unfolding primary_at builtin_at
   primary_builtin n [] e h = absurd cc
   primary_builtin n (token.Word at word.String number ∷ s) e h = rw (room_for n h) refl
@@ -292,7 +292,7 @@ module _ (tables : Tables) where
   primary_builtin n (token.Mark at mark.OpenParen l ∷ s) e h = absurd cc
   primary_builtin n (_ ∷ s) e h = absurd cc
 
-  pub primary_literal : (n : ℕ) (s : List Token) → openers s ≡ Some opener.Literal → 0 < n → primary_at tables n s ≡ literal_at tables n s
+  pub primary_literal : (n : ℕ) (s : List GrammarToken) → openers s ≡ Some opener.Literal → 0 < n → primary_at tables n s ≡ literal_at tables n s
   unfolding primary_at literal_at
   primary_literal n [] e h = absurd cc
   primary_literal n (token.Mark at mark.OpenBrace l ∷ s) e h = rw (room_for n h) refl
@@ -309,44 +309,44 @@ module _ (tables : Tables) where
 
   -- object literals
 
-  pub literal_is : (n : ℕ) (s : List Token) → literal_at tables n s ≡ (one_of open_literal s >>= λ at r. members_at tables n r >>= λ ms r'. Got (object_of at ms) r')
+  pub literal_is : (n : ℕ) (s : List GrammarToken) → literal_at tables n s ≡ (one_of open_literal s >>= λ at r. members_at tables n r >>= λ ms r'. Got (object_of at ms) r')
   unfolding literal_at members_at
   literal_is n s = refl
 
-  pub entry_is : (n : ℕ) (s : List Token) → 0 < n → entry_at tables n s ≡ (one_of (key tables) s >>= λ k r. one_of colon r >>= λ _ r. expression_at tables (n - 1) r >>= λ x r. Got (k, x) r)
+  pub entry_is : (n : ℕ) (s : List GrammarToken) → 0 < n → entry_at tables n s ≡ (one_of (key tables) s >>= λ k r. one_of colon r >>= λ _ r. expression_at tables (n - 1) r >>= λ x r. Got (k, x) r)
   unfolding entry_at
   entry_is n s h = go (expression_at tables (n - 1)) (inner_whole n h)
     where
-      value : (k : List ℕ) (a : Answer Token ExprTree) → ((a >>= λ y r. Got y r) >>= λ y r. Got (pair_of k y) r) ≡ (a >>= λ y r. Got (k, y) r)
+      value : (k : List ℕ) (a : Answer GrammarToken ExprTree) → ((a >>= λ y r. Got y r) >>= λ y r. Got (pair_of k y) r) ≡ (a >>= λ y r. Got (k, y) r)
       value k (Bad w r) = refl
       value k (Got y r) = refl
 
-      behind_key : (q : Reader Token ExprTree) (k : List ℕ) (a : Answer Token (Unit {0})) → ((a >>= λ _ r. q r >>= λ y r. Got y r) >>= λ y r. Got (pair_of k y) r) ≡ (a >>= λ _ r. q r >>= λ y r. Got (k, y) r)
+      behind_key : (q : Reader GrammarToken ExprTree) (k : List ℕ) (a : Answer GrammarToken (Unit {0})) → ((a >>= λ _ r. q r >>= λ y r. Got y r) >>= λ y r. Got (pair_of k y) r) ≡ (a >>= λ _ r. q r >>= λ y r. Got (k, y) r)
       behind_key q k (Bad w r) = refl
       behind_key q k (Got u r) = value k (q r)
 
-      first : (q : Reader Token ExprTree) (a : Answer Token (List ℕ)) → (a >>= λ k r. (one_of colon r >>= λ _ r. q r >>= λ y r. Got y r) >>= λ y r. Got (pair_of k y) r) ≡ (a >>= λ k r. one_of colon r >>= λ _ r. q r >>= λ y r. Got (k, y) r)
+      first : (q : Reader GrammarToken ExprTree) (a : Answer GrammarToken (List ℕ)) → (a >>= λ k r. (one_of colon r >>= λ _ r. q r >>= λ y r. Got y r) >>= λ y r. Got (pair_of k y) r) ≡ (a >>= λ k r. one_of colon r >>= λ _ r. q r >>= λ y r. Got (k, y) r)
       first q (Bad w r) = refl
       first q (Got k r) = behind_key q k (one_of colon r)
 
-      go : (q : Reader Token ExprTree) → inner tables n Whole ≡ q → entry_at tables n s ≡ (one_of (key tables) s >>= λ k r. one_of colon r >>= λ _ r. q r >>= λ x r. Got (k, x) r)
+      go : (q : Reader GrammarToken ExprTree) → inner tables n Whole ≡ q → entry_at tables n s ≡ (one_of (key tables) s >>= λ k r. one_of colon r >>= λ _ r. q r >>= λ x r. Got (k, x) r)
       go q i = rw i (first q (one_of (key tables) s))
 
   -- steps
 
-  pub member_plain : (n : ℕ) (s : List Token) (x : StepTree) (r : List Token) → one_of member_word s ≡ Got x r → member_at tables n s ≡ Got x r
+  pub member_plain : (n : ℕ) (s : List GrammarToken) (x : StepTree) (r : List GrammarToken) → one_of member_word s ≡ Got x r → member_at tables n s ≡ Got x r
   unfolding member_at
   member_plain n s x r e = rw (head_of member_word s x r e) e
 
-  pub member_property : (n : ℕ) (s : List Token) (x : StepTree) (r : List Token) → heads member_word s ≡ false → one_of (property_word tables) s ≡ Got x r → member_at tables n s ≡ Got x r
+  pub member_property : (n : ℕ) (s : List GrammarToken) (x : StepTree) (r : List GrammarToken) → heads member_word s ≡ false → one_of (property_word tables) s ≡ Got x r → member_at tables n s ≡ Got x r
   unfolding member_at
   member_property n s x r h e = rw (h, head_of (property_word tables) s x r e) e
 
-  pub member_none : (n : ℕ) (s : List Token) → heads member_word s ≡ false → heads (property_word tables) s ≡ false → heads (method tables) s ≡ false → member_at tables n s ≡ wrong s
+  pub member_none : (n : ℕ) (s : List GrammarToken) → heads member_word s ≡ false → heads (property_word tables) s ≡ false → heads (method tables) s ≡ false → member_at tables n s ≡ wrong s
   unfolding member_at
   member_none n s h p m = rw (h, p) (none s m)
     where
-      none : (s : List Token) → heads (method tables) s ≡ false → (one_of (method tables) s >>= λ x r. read_method_args (has_room n) (inner tables n Whole) r >>= λ y r. Got (method_of x y) r) ≡ wrong s
+      none : (s : List GrammarToken) → heads (method tables) s ≡ false → (one_of (method tables) s >>= λ x r. read_method_args (has_room n) (inner tables n Whole) r >>= λ y r. Got (method_of x y) r) ≡ wrong s
       none [] e = refl
       none (t ∷ s) e = go (method tables t) e
         where
@@ -355,32 +355,32 @@ module _ (tables : Tables) where
           go (Some x) e = let q : true ≡ false = e in cc
 
   -- a method
-  module _ (n : ℕ) (s : List Token) (m : (ℕ × Method) × List ℕ) (r : List Token) (h : heads member_word s ≡ false) (p : heads (property_word tables) s ≡ false) (e : one_of (method tables) s ≡ Got m r) where
+  module _ (n : ℕ) (s : List GrammarToken) (m : (ℕ × Method) × List ℕ) (r : List GrammarToken) (h : heads member_word s ≡ false) (p : heads (property_word tables) s ≡ false) (e : one_of (method tables) s ≡ Got m r) where
     pub member_bare : heads opening r ≡ false → member_at tables n s ≡ Got (tree.of_property m.0.0 m.1) r
     unfolding member_at
     member_bare b = rw (h, p, e, b) refl
 
-    pub member_deep : (y : Unit {0}) (r' : List Token) → one_of opening r ≡ Got y r' → n ≡ 0 → member_at tables n s ≡ too_deep r
+    pub member_deep : (y : Unit {0}) (r' : List GrammarToken) → one_of opening r ≡ Got y r' → n ≡ 0 → member_at tables n s ≡ too_deep r
     unfolding member_at
     member_deep y r' o z = rw (h, p, e, head_of opening r y r' o, no_room_for n z, head_of opening r y r' o) refl
 
-    pub member_call : (y : Unit {0}) (r' : List Token) → one_of opening r ≡ Got y r' → 0 < n → member_at tables n s ≡ (args_at tables n r >>= λ ts r'. Got (method_of m (Some ts)) r')
+    pub member_call : (y : Unit {0}) (r' : List GrammarToken) → one_of opening r ≡ Got y r' → 0 < n → member_at tables n s ≡ (args_at tables n r >>= λ ts r'. Got (method_of m (Some ts)) r')
     unfolding member_at args_at
     member_call y r' o z = rw (h, p, e, head_of opening r y r' o, room_for n z) (flat (read_args (inner tables n Whole) r))
       where
-        flat : (a : Answer Token (List ExprTree)) → ((a >>= λ x r. Got (Some x) r) >>= λ y r. Got (method_of m y) r) ≡ (a >>= λ ts r'. Got (method_of m (Some ts)) r')
+        flat : (a : Answer GrammarToken (List ExprTree)) → ((a >>= λ x r. Got (Some x) r) >>= λ y r. Got (method_of m y) r) ≡ (a >>= λ ts r'. Got (method_of m (Some ts)) r')
         flat (Got x r) = refl
         flat (Bad k r) = refl
 
-  no_step : (n : ℕ) (s : List Token) → heads open_bracket s ≡ false → heads point s ≡ false → opens (has_room n) (heads open_bracket) (read_index (inner tables n Whole)) s ≡ wrong s
+  no_step : (n : ℕ) (s : List GrammarToken) → heads open_bracket s ≡ false → heads point s ≡ false → opens (has_room n) (heads open_bracket) (read_index (inner tables n Whole)) s ≡ wrong s
   no_step zero s h p = rw h refl
   no_step (suc n) s h p = (then_strict index_of open_bracket (and_then first_of (inner tables (suc n) Whole) (one_of close_bracket))).fails s h
 
-  pub step_member : (n : ℕ) (s : List Token) → heads open_bracket s ≡ false → step_at tables n s ≡ (one_of point s >>= λ _ r. member_at tables n r)
+  pub step_member : (n : ℕ) (s : List GrammarToken) → heads open_bracket s ≡ false → step_at tables n s ≡ (one_of point s >>= λ _ r. member_at tables n r)
   unfolding step_at member_at
   step_member n s h = go (heads point s) refl
     where
-      none : (s : List Token) → heads point s ≡ false → one_of point s ≡ Bad Wrong s
+      none : (s : List GrammarToken) → heads point s ≡ false → one_of point s ≡ Bad Wrong s
       none [] p = refl
       none (token.Mark at mark.Point l ∷ s) p = cc
       none (_ ∷ s) p = refl
@@ -389,73 +389,73 @@ module _ (tables : Tables) where
       go true p = rw p (word_then point (read_word tables (has_room n) (inner tables n Whole)) s)
       go false p = rw (p, none s p) (no_step n s h p)
 
-  bracket_no_point : (s r : List Token) (at : ℕ) → one_of open_bracket s ≡ Got at r → heads point s ≡ false
+  bracket_no_point : (s r : List GrammarToken) (at : ℕ) → one_of open_bracket s ≡ Got at r → heads point s ≡ false
   bracket_no_point [] r at e = refl
   bracket_no_point (token.Mark a mark.Point l ∷ s) r at e = cc
   bracket_no_point (_ ∷ s) r at e = refl
 
-  pub step_deep : (n : ℕ) (s : List Token) (at : ℕ) (r : List Token) → one_of open_bracket s ≡ Got at r → n ≡ 0 → step_at tables n s ≡ too_deep s
+  pub step_deep : (n : ℕ) (s : List GrammarToken) (at : ℕ) (r : List GrammarToken) → one_of open_bracket s ≡ Got at r → n ≡ 0 → step_at tables n s ≡ too_deep s
   unfolding step_at
   step_deep n s at r e z = rw (bracket_no_point s r at e, no_room_for n z, head_of open_bracket s at r e) refl
 
-  pub step_index : (n : ℕ) (s : List Token) (at : ℕ) (r : List Token) → one_of open_bracket s ≡ Got at r → 0 < n → step_at tables n s ≡ (expression_at tables (n - 1) r >>= λ x r'. one_of close_bracket r' >>= λ _ r''. Got (index_of at x) r'')
+  pub step_index : (n : ℕ) (s : List GrammarToken) (at : ℕ) (r : List GrammarToken) → one_of open_bracket s ≡ Got at r → 0 < n → step_at tables n s ≡ (expression_at tables (n - 1) r >>= λ x r'. one_of close_bracket r' >>= λ _ r''. Got (index_of at x) r'')
   unfolding step_at
   step_index n s at r e z = rw (bracket_no_point s r at e, room_for n z, e) (closed (inner tables n Whole r) ∙ ap (λ q. q r >>= λ x r'. one_of close_bracket r' >>= λ _ r''. Got (index_of at x) r'') (inner_whole n z))
     where
-      end : (x : ExprTree) (a : Answer Token (Unit {0})) → ((a >>= λ _ r. Got x r) >>= λ y r'. Got (index_of at y) r') ≡ (a >>= λ _ r''. Got (index_of at x) r'')
+      end : (x : ExprTree) (a : Answer GrammarToken (Unit {0})) → ((a >>= λ _ r. Got x r) >>= λ y r'. Got (index_of at y) r') ≡ (a >>= λ _ r''. Got (index_of at x) r'')
       end x (Got y r) = refl
       end x (Bad k r) = refl
 
-      closed : (a : Answer Token ExprTree) → ((a >>= λ x r. one_of close_bracket r >>= λ _ r'. Got x r') >>= λ y r'. Got (index_of at y) r') ≡ (a >>= λ x r'. one_of close_bracket r' >>= λ _ r''. Got (index_of at x) r'')
+      closed : (a : Answer GrammarToken ExprTree) → ((a >>= λ x r. one_of close_bracket r >>= λ _ r'. Got x r') >>= λ y r'. Got (index_of at y) r') ≡ (a >>= λ x r'. one_of close_bracket r' >>= λ _ r''. Got (index_of at x) r'')
       closed (Got x r) = end x (one_of close_bracket r)
       closed (Bad k r) = refl
 
   -- operands
 
-  pub unary_plain : (n : ℕ) (s : List Token) → heads sign s ≡ false → unary_at tables n s ≡ post_at tables n s
+  pub unary_plain : (n : ℕ) (s : List GrammarToken) → heads sign s ≡ false → unary_at tables n s ≡ post_at tables n s
   unfolding unary_at post_at
   unary_plain n s h = rw h refl
 
-  pub unary_deep : (n : ℕ) (s : List Token) (o : ℕ × Bool) (r : List Token) → one_of sign s ≡ Got o r → n ≡ 0 → unary_at tables n s ≡ too_deep s
+  pub unary_deep : (n : ℕ) (s : List GrammarToken) (o : ℕ × Bool) (r : List GrammarToken) → one_of sign s ≡ Got o r → n ≡ 0 → unary_at tables n s ≡ too_deep s
   unfolding unary_at
   unary_deep n s o r e z = rw (head_of sign s o r e, no_room_for n z, head_of sign s o r e) refl
 
-  pub unary_signed : (n : ℕ) (s : List Token) (o : ℕ × Bool) (r : List Token) → one_of sign s ≡ Got o r → 0 < n → unary_at tables n s ≡ (unary_at tables (n - 1) r >>= λ x r'. Got (unary_of o x) r')
+  pub unary_signed : (n : ℕ) (s : List GrammarToken) (o : ℕ × Bool) (r : List GrammarToken) → one_of sign s ≡ Got o r → 0 < n → unary_at tables n s ≡ (unary_at tables (n - 1) r >>= λ x r'. Got (unary_of o x) r')
   unfolding unary_at
   unary_signed n s o r e z = go (unary_at tables (n - 1)) (inner_operand n z)
     where
-      go : (q : Reader Token ExprTree) → inner tables n Operand ≡ q → unary_at tables n s ≡ (q r >>= λ x r'. Got (unary_of o x) r')
+      go : (q : Reader GrammarToken ExprTree) → inner tables n Operand ≡ q → unary_at tables n s ≡ (q r >>= λ x r'. Got (unary_of o x) r')
       go q i = rw (head_of sign s o r e, room_for n z, e, i) refl
 
   -- conditionals
 
-  pub expression_is : (n : ℕ) (s : List Token) → expression_at tables n s ≡ (chain_at tables n level.Or s >>= λ t r. branches_at tables n t r)
+  pub expression_is : (n : ℕ) (s : List GrammarToken) → expression_at tables n s ≡ (chain_at tables n level.Or s >>= λ t r. branches_at tables n t r)
   unfolding expression_at chain_at branches_at
   expression_is n s = refl
 
-  pub branches_none : (n : ℕ) (t : ExprTree) (s : List Token) → heads question s ≡ false → branches_at tables n t s ≡ Got t s
+  pub branches_none : (n : ℕ) (t : ExprTree) (s : List GrammarToken) → heads question s ≡ false → branches_at tables n t s ≡ Got t s
   unfolding branches_at
   branches_none n t s h = rw h refl
 
-  pub branches_deep : (n : ℕ) (t : ExprTree) (s r : List Token) → one_of question s ≡ Got tt r → n ≡ 0 → branches_at tables n t s ≡ too_deep s
+  pub branches_deep : (n : ℕ) (t : ExprTree) (s r : List GrammarToken) → one_of question s ≡ Got tt r → n ≡ 0 → branches_at tables n t s ≡ too_deep s
   unfolding branches_at
   branches_deep n t s r e z = rw (head_of question s tt r e, no_room_for n z, head_of question s tt r e) refl
 
-  pub branches_some : (n : ℕ) (t : ExprTree) (s r : List Token) → one_of question s ≡ Got tt r → 0 < n → branches_at tables n t s ≡ (expression_at tables (n - 1) r >>= λ x r1. one_of colon r1 >>= λ _ r2. expression_at tables (n - 1) r2 >>= λ y r3. Got (tree.conditional t x y) r3)
+  pub branches_some : (n : ℕ) (t : ExprTree) (s r : List GrammarToken) → one_of question s ≡ Got tt r → 0 < n → branches_at tables n t s ≡ (expression_at tables (n - 1) r >>= λ x r1. one_of colon r1 >>= λ _ r2. expression_at tables (n - 1) r2 >>= λ y r3. Got (tree.conditional t x y) r3)
   unfolding branches_at
   branches_some n t s r e z = go (expression_at tables (n - 1)) (inner_whole n z)
     where
-      last : (q : Reader Token ExprTree) (x : ExprTree) (a : Answer Token (Unit {0})) → (((a >>= λ _ r2. q r2 >>= λ y r3. Got y r3) >>= λ y r'. Got (branches_of x y) r') >>= λ b r. Got (cond_of t b) r) ≡ (a >>= λ _ r2. q r2 >>= λ y r3. Got (tree.conditional t x y) r3)
+      last : (q : Reader GrammarToken ExprTree) (x : ExprTree) (a : Answer GrammarToken (Unit {0})) → (((a >>= λ _ r2. q r2 >>= λ y r3. Got y r3) >>= λ y r'. Got (branches_of x y) r') >>= λ b r. Got (cond_of t b) r) ≡ (a >>= λ _ r2. q r2 >>= λ y r3. Got (tree.conditional t x y) r3)
       last q x (Bad k r) = refl
       last q x (Got u r) = go (q r)
         where
-          go : (a : Answer Token ExprTree) → (((a >>= λ y r3. Got y r3) >>= λ y r'. Got (branches_of x y) r') >>= λ b r. Got (cond_of t b) r) ≡ (a >>= λ y r3. Got (tree.conditional t x y) r3)
+          go : (a : Answer GrammarToken ExprTree) → (((a >>= λ y r3. Got y r3) >>= λ y r'. Got (branches_of x y) r') >>= λ b r. Got (cond_of t b) r) ≡ (a >>= λ y r3. Got (tree.conditional t x y) r3)
           go (Bad k r) = refl
           go (Got y r) = refl
 
-      first : (q : Reader Token ExprTree) (a : Answer Token ExprTree) → ((a >>= λ x r1. (one_of colon r1 >>= λ _ r2. q r2 >>= λ y r3. Got y r3) >>= λ y r'. Got (branches_of x y) r') >>= λ b r. Got (cond_of t b) r) ≡ (a >>= λ x r1. one_of colon r1 >>= λ _ r2. q r2 >>= λ y r3. Got (tree.conditional t x y) r3)
+      first : (q : Reader GrammarToken ExprTree) (a : Answer GrammarToken ExprTree) → ((a >>= λ x r1. (one_of colon r1 >>= λ _ r2. q r2 >>= λ y r3. Got y r3) >>= λ y r'. Got (branches_of x y) r') >>= λ b r. Got (cond_of t b) r) ≡ (a >>= λ x r1. one_of colon r1 >>= λ _ r2. q r2 >>= λ y r3. Got (tree.conditional t x y) r3)
       first q (Bad k r) = refl
       first q (Got x r) = last q x (one_of colon r)
 
-      go : (q : Reader Token ExprTree) → inner tables n Whole ≡ q → branches_at tables n t s ≡ (q r >>= λ x r1. one_of colon r1 >>= λ _ r2. q r2 >>= λ y r3. Got (tree.conditional t x y) r3)
+      go : (q : Reader GrammarToken ExprTree) → inner tables n Whole ≡ q → branches_at tables n t s ≡ (q r >>= λ x r1. one_of colon r1 >>= λ _ r2. q r2 >>= λ y r3. Got (tree.conditional t x y) r3)
       go q i = rw (head_of question s tt r e, room_for n z, e, i) (ap (λ a. a >>= λ b r. Got (cond_of t b) r) (bind_got (q r >>= λ x r1. (one_of colon r1 >>= λ _ r2. q r2 >>= λ y r3. Got y r3) >>= λ y r'. Got (branches_of x y) r')) ∙ first q (q r))

@@ -3,7 +3,7 @@ use Rattle.std.proofs.Common.{◌≡◌, ℕ, List, [], Bool, sym, ◌∙◌}
 use Rattle.std.specs.Prelude.{Result, Ok, Err, IfOk}
 use Rattle.parse_syntax.specs.Reader.{Got, Bad, Wrong, TooDeep, read_whole}
 use Rattle.parse_syntax.specs.Refused.{IsRefused}
-use Rattle.parse_syntax.specs.declared.token.Token.{Token}
+use Rattle.parse_syntax.specs.declared.token.GrammarToken.{GrammarToken}
 use Rattle.parse_syntax.specs.Tables.{Tables}
 use Rattle.eval_tree.specs.Tree.{StmtTree}
 use Rattle.parse_syntax.specs.Grammar.{Statements}
@@ -13,7 +13,7 @@ use Rattle.parse_look.specs.declared.fault.Fault.{Fault}
 use Rattle.parse_look.specs.declared.fault.Fault.TheVariants as fault
 use Rattle.parse_look.specs.Gives.{Gives, OnFault, IsOrMemory}
 
-module _ {X : Type 0} (view : X → List StmtTree) (tables : Tables) (prints : Bool) (n : ℕ) (ts : List Token) where
+module _ {X : Type 0} (view : X → List StmtTree) (tables : Tables) (prints : Bool) (n : ℕ) (ts : List GrammarToken) where
   pub is_spelled : (r : Result X Fault) → Gives view (λ _. []) r (read_whole (read_statements tables prints n) ts) → IfOk r (λ e. Statements tables prints n ts (view e))
   is_spelled (Ok e) h = all_read tables prints n ts (view e) [] h
   is_spelled (Err e) h = tt

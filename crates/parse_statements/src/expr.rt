@@ -13,7 +13,7 @@ use parse_look::{
     open_bracket, open_literal, operator, property, property_word, refused, sign, simple, take,
     too_deep,
 };
-use parse_syntax::{Tables, Token};
+use parse_syntax::{GrammarToken, Tables};
 use std::alloc::Global;
 
 /// `( [ Expr { , Expr } ] )`, where one more may be open.
@@ -22,9 +22,9 @@ use std::alloc::Global;
 pub(crate) fn args<'a>(
     alloc: Global,
     tables: &Tables,
-    tokens: &'a [Token],
+    tokens: &'a [GrammarToken],
     room: u32,
-) -> Result<(Vec<Expr>, &'a [Token]), Fault<'a>>
+) -> Result<(Vec<Expr>, &'a [GrammarToken]), Fault<'a>>
     requires { 0 < room }
     ensures { Gives (λ found. map expr_tree found.0.items) (λ found. found.1.now) result
         (args_at (tables_of tables.now) room tokens.now) }
@@ -51,9 +51,9 @@ pub(crate) fn args<'a>(
 pub(crate) fn parens<'a>(
     alloc: Global,
     tables: &Tables,
-    tokens: &'a [Token],
+    tokens: &'a [GrammarToken],
     room: u32,
-) -> Result<(Expr, &'a [Token]), Fault<'a>>
+) -> Result<(Expr, &'a [GrammarToken]), Fault<'a>>
     requires { 0 < room }
     ensures { Gives (λ found. expr_tree found.0) (λ found. found.1.now) result
         (parens_at (tables_of tables.now) room tokens.now) }
@@ -70,10 +70,10 @@ pub(crate) fn parens<'a>(
 fn given<'a>(
     alloc: Global,
     tables: &Tables,
-    tokens: &'a [Token],
+    tokens: &'a [GrammarToken],
     room: u32,
     which: Builtin,
-) -> Result<(Vec<Expr>, &'a [Token]), Fault<'a>>
+) -> Result<(Vec<Expr>, &'a [GrammarToken]), Fault<'a>>
     requires { 0 < room }
     ensures { Gives (λ found. map expr_tree found.0.items) (λ found. found.1.now) result
         (given_at (tables_of tables.now) room which tokens.now) }
@@ -95,9 +95,9 @@ fn given<'a>(
 fn builtin_call<'a>(
     alloc: Global,
     tables: &Tables,
-    tokens: &'a [Token],
+    tokens: &'a [GrammarToken],
     room: u32,
-) -> Result<(Expr, &'a [Token]), Fault<'a>>
+) -> Result<(Expr, &'a [GrammarToken]), Fault<'a>>
     requires { 0 < room }
     ensures { Gives (λ found. expr_tree found.0) (λ found. found.1.now) result
         (builtin_at (tables_of tables.now) room tokens.now) }
@@ -113,9 +113,9 @@ fn builtin_call<'a>(
 fn entry<'a>(
     alloc: Global,
     tables: &Tables,
-    tokens: &'a [Token],
+    tokens: &'a [GrammarToken],
     room: u32,
-) -> Result<((Units, Expr), &'a [Token]), Fault<'a>>
+) -> Result<((Units, Expr), &'a [GrammarToken]), Fault<'a>>
     requires { 0 < room }
     ensures { Gives (λ found. entry_tree found.0) (λ found. found.1.now) result
         (entry_at (tables_of tables.now) room tokens.now) }
@@ -132,9 +132,9 @@ fn entry<'a>(
 fn members<'a>(
     alloc: Global,
     tables: &Tables,
-    tokens: &'a [Token],
+    tokens: &'a [GrammarToken],
     room: u32,
-) -> Result<(Vec<(Units, Expr)>, &'a [Token]), Fault<'a>>
+) -> Result<(Vec<(Units, Expr)>, &'a [GrammarToken]), Fault<'a>>
     requires { 0 < room }
     ensures { Gives (λ found. map entry_tree found.0.items) (λ found. found.1.now) result
         (members_at (tables_of tables.now) room tokens.now) }
@@ -160,9 +160,9 @@ fn members<'a>(
 fn object_literal<'a>(
     alloc: Global,
     tables: &Tables,
-    tokens: &'a [Token],
+    tokens: &'a [GrammarToken],
     room: u32,
-) -> Result<(Expr, &'a [Token]), Fault<'a>>
+) -> Result<(Expr, &'a [GrammarToken]), Fault<'a>>
     requires { 0 < room }
     ensures { Gives (λ found. expr_tree found.0) (λ found. found.1.now) result
         (literal_at (tables_of tables.now) room tokens.now) }
@@ -180,9 +180,9 @@ fn object_literal<'a>(
 fn primary<'a>(
     alloc: Global,
     tables: &Tables,
-    tokens: &'a [Token],
+    tokens: &'a [GrammarToken],
     room: u32,
-) -> Result<(Expr, &'a [Token]), Fault<'a>>
+) -> Result<(Expr, &'a [GrammarToken]), Fault<'a>>
     ensures { Gives (λ found. expr_tree found.0) (λ found. found.1.now) result
         (primary_at (tables_of tables.now) room tokens.now) }
 {
@@ -208,9 +208,9 @@ fn primary<'a>(
 fn behind_point<'a>(
     alloc: Global,
     tables: &Tables,
-    tokens: &'a [Token],
+    tokens: &'a [GrammarToken],
     room: u32,
-) -> Result<(PostStep, &'a [Token]), Fault<'a>>
+) -> Result<(PostStep, &'a [GrammarToken]), Fault<'a>>
     ensures { Gives (λ found. step_tree found.0) (λ found. found.1.now) result
         (member_at (tables_of tables.now) room tokens.now) }
 {
@@ -240,9 +240,9 @@ fn behind_point<'a>(
 fn step<'a>(
     alloc: Global,
     tables: &Tables,
-    tokens: &'a [Token],
+    tokens: &'a [GrammarToken],
     room: u32,
-) -> Result<(PostStep, &'a [Token]), Fault<'a>>
+) -> Result<(PostStep, &'a [GrammarToken]), Fault<'a>>
     ensures { Gives (λ found. step_tree found.0) (λ found. found.1.now) result
         (step_at (tables_of tables.now) room tokens.now) }
 {
@@ -263,9 +263,9 @@ fn step<'a>(
 fn postfix<'a>(
     alloc: Global,
     tables: &Tables,
-    tokens: &'a [Token],
+    tokens: &'a [GrammarToken],
     room: u32,
-) -> Result<(Expr, &'a [Token]), Fault<'a>>
+) -> Result<(Expr, &'a [GrammarToken]), Fault<'a>>
     ensures { Gives (λ found. expr_tree found.0) (λ found. found.1.now) result
         (post_at (tables_of tables.now) room tokens.now) }
 {
@@ -286,9 +286,9 @@ fn postfix<'a>(
 fn unary<'a>(
     alloc: Global,
     tables: &Tables,
-    tokens: &'a [Token],
+    tokens: &'a [GrammarToken],
     room: u32,
-) -> Result<(Expr, &'a [Token]), Fault<'a>>
+) -> Result<(Expr, &'a [GrammarToken]), Fault<'a>>
     ensures { Gives (λ found. expr_tree found.0) (λ found. found.1.now) result
         (unary_at (tables_of tables.now) room tokens.now) }
 {
@@ -309,10 +309,10 @@ fn unary<'a>(
 fn operand<'a>(
     alloc: Global,
     tables: &Tables,
-    tokens: &'a [Token],
+    tokens: &'a [GrammarToken],
     room: u32,
     level: Level,
-) -> Result<(Expr, &'a [Token]), Fault<'a>>
+) -> Result<(Expr, &'a [GrammarToken]), Fault<'a>>
     ensures { Gives (λ found. expr_tree found.0) (λ found. found.1.now) result
         (operand_at (tables_of tables.now) room level tokens.now) }
 {
@@ -330,10 +330,10 @@ fn operand<'a>(
 fn chained<'a>(
     alloc: Global,
     tables: &Tables,
-    tokens: &'a [Token],
+    tokens: &'a [GrammarToken],
     room: u32,
     level: Level,
-) -> Result<(Expr, &'a [Token]), Fault<'a>>
+) -> Result<(Expr, &'a [GrammarToken]), Fault<'a>>
     ensures { Gives (λ found. expr_tree found.0) (λ found. found.1.now) result
         (chain_at (tables_of tables.now) room level tokens.now) }
 {
@@ -355,9 +355,9 @@ fn branches<'a>(
     alloc: Global,
     tables: &Tables,
     test: Expr,
-    tokens: &'a [Token],
+    tokens: &'a [GrammarToken],
     room: u32,
-) -> Result<(Expr, &'a [Token]), Fault<'a>>
+) -> Result<(Expr, &'a [GrammarToken]), Fault<'a>>
     ensures { Gives (λ found. expr_tree found.0) (λ found. found.1.now) result
         (branches_at (tables_of tables.now) room (expr_tree test) tokens.now) }
 {
@@ -380,9 +380,9 @@ fn branches<'a>(
 pub(crate) fn expression<'a>(
     alloc: Global,
     tables: &Tables,
-    tokens: &'a [Token],
+    tokens: &'a [GrammarToken],
     room: u32,
-) -> Result<(Expr, &'a [Token]), Fault<'a>>
+) -> Result<(Expr, &'a [GrammarToken]), Fault<'a>>
     ensures { Gives (λ found. expr_tree found.0) (λ found. found.1.now) result
         (expression_at (tables_of tables.now) room tokens.now) }
 {

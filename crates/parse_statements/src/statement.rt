@@ -19,7 +19,7 @@ use js_lex::Mark;
 use parse_look::{
     Fault, Fixed, assign_op, behind, else_if, goes_on, header, name, next, refused, take, too_deep,
 };
-use parse_syntax::{Tables, Token, Word};
+use parse_syntax::{GrammarToken, Tables, Word};
 use std::alloc::Global;
 
 // [ = Expr ]
@@ -27,9 +27,9 @@ use std::alloc::Global;
 fn init<'a>(
     alloc: Global,
     tables: &Tables,
-    tokens: &'a [Token],
+    tokens: &'a [GrammarToken],
     room: u32,
-) -> Result<(Option<Expr>, &'a [Token]), Fault<'a>>
+) -> Result<(Option<Expr>, &'a [GrammarToken]), Fault<'a>>
     ensures { Gives (λ found. init_tree found.0) (λ found. found.1.now) result
         (init_at (tables_of tables.now) room tokens.now) }
 {
@@ -47,9 +47,9 @@ fn init<'a>(
 fn declaration<'a>(
     alloc: Global,
     tables: &Tables,
-    tokens: &'a [Token],
+    tokens: &'a [GrammarToken],
     room: u32,
-) -> Result<(Stmt, &'a [Token]), Fault<'a>>
+) -> Result<(Stmt, &'a [GrammarToken]), Fault<'a>>
     ensures { Gives (λ found. stmt_tree found.0) (λ found. found.1.now) result
         (let_at (tables_of tables.now) room tokens.now) }
 {
@@ -66,9 +66,9 @@ fn declaration<'a>(
 fn constant<'a>(
     alloc: Global,
     tables: &Tables,
-    tokens: &'a [Token],
+    tokens: &'a [GrammarToken],
     room: u32,
-) -> Result<(Stmt, &'a [Token]), Fault<'a>>
+) -> Result<(Stmt, &'a [GrammarToken]), Fault<'a>>
     ensures { Gives (λ found. stmt_tree found.0) (λ found. found.1.now) result
         (const_at (tables_of tables.now) room tokens.now) }
 {
@@ -86,9 +86,9 @@ fn constant<'a>(
 fn assign<'a>(
     alloc: Global,
     tables: &Tables,
-    tokens: &'a [Token],
+    tokens: &'a [GrammarToken],
     room: u32,
-) -> Result<(Stmt, &'a [Token]), Fault<'a>>
+) -> Result<(Stmt, &'a [GrammarToken]), Fault<'a>>
     ensures { Gives (λ found. stmt_tree found.0) (λ found. found.1.now) result
         (assign_at (tables_of tables.now) room tokens.now) }
 {
@@ -105,9 +105,9 @@ fn assign<'a>(
 fn print_line<'a>(
     alloc: Global,
     tables: &Tables,
-    tokens: &'a [Token],
+    tokens: &'a [GrammarToken],
     room: u32,
-) -> Result<(Stmt, &'a [Token]), Fault<'a>>
+) -> Result<(Stmt, &'a [GrammarToken]), Fault<'a>>
     requires { 0 < room }
     ensures { Gives (λ found. stmt_tree found.0) (λ found. found.1.now) result
         (print_at (tables_of tables.now) room tokens.now) }
@@ -123,10 +123,10 @@ fn print_line<'a>(
 fn list<'a>(
     alloc: Global,
     tables: &Tables,
-    tokens: &'a [Token],
+    tokens: &'a [GrammarToken],
     prints: bool,
     room: u32,
-) -> Result<(Vec<Stmt>, &'a [Token]), Fault<'a>>
+) -> Result<(Vec<Stmt>, &'a [GrammarToken]), Fault<'a>>
     ensures { Gives (λ found. map stmt_tree found.0.items) (λ found. found.1.now) result
         (statements_at (tables_of tables.now) prints room tokens.now) }
 {
@@ -146,10 +146,10 @@ fn list<'a>(
 fn inside<'a>(
     alloc: Global,
     tables: &Tables,
-    tokens: &'a [Token],
+    tokens: &'a [GrammarToken],
     prints: bool,
     room: u32,
-) -> Result<(Block, &'a [Token]), Fault<'a>>
+) -> Result<(Block, &'a [GrammarToken]), Fault<'a>>
     requires { 0 < room }
     ensures { Gives (λ found. block_tree found.0) (λ found. found.1.now) result
         (block_at (tables_of tables.now) prints room tokens.now) }
@@ -167,10 +167,10 @@ fn inside<'a>(
 fn condition<'a>(
     alloc: Global,
     tables: &Tables,
-    tokens: &'a [Token],
+    tokens: &'a [GrammarToken],
     prints: bool,
     room: u32,
-) -> Result<(Arm, &'a [Token]), Fault<'a>>
+) -> Result<(Arm, &'a [GrammarToken]), Fault<'a>>
     requires { 0 < room }
     ensures { Gives (λ found. arm_tree found.0) (λ found. found.1.now) result
         (arm_at (tables_of tables.now) prints room tokens.now) }
@@ -187,10 +187,10 @@ fn condition<'a>(
 fn otherwise<'a>(
     alloc: Global,
     tables: &Tables,
-    tokens: &'a [Token],
+    tokens: &'a [GrammarToken],
     prints: bool,
     room: u32,
-) -> Result<(Block, &'a [Token]), Fault<'a>>
+) -> Result<(Block, &'a [GrammarToken]), Fault<'a>>
     requires { 0 < room }
     ensures { Gives (λ found. block_tree found.0) (λ found. found.1.now) result
         (rest_at (tables_of tables.now) prints room tokens.now) }
@@ -207,10 +207,10 @@ fn otherwise<'a>(
 fn if_statement<'a>(
     alloc: Global,
     tables: &Tables,
-    tokens: &'a [Token],
+    tokens: &'a [GrammarToken],
     prints: bool,
     room: u32,
-) -> Result<(Stmt, &'a [Token]), Fault<'a>>
+) -> Result<(Stmt, &'a [GrammarToken]), Fault<'a>>
     requires { 0 < room }
     ensures { Gives (λ found. stmt_tree found.0) (λ found. found.1.now) result
         (if_at (tables_of tables.now) prints room tokens.now) }
@@ -233,10 +233,10 @@ fn if_statement<'a>(
 fn for_statement<'a>(
     alloc: Global,
     tables: &Tables,
-    tokens: &'a [Token],
+    tokens: &'a [GrammarToken],
     prints: bool,
     room: u32,
-) -> Result<(Stmt, &'a [Token]), Fault<'a>>
+) -> Result<(Stmt, &'a [GrammarToken]), Fault<'a>>
     requires { 0 < room }
     ensures { Gives (λ found. stmt_tree found.0) (λ found. found.1.now) result
         (for_at (tables_of tables.now) prints room tokens.now) }
@@ -252,17 +252,17 @@ fn for_statement<'a>(
 fn statement<'a>(
     alloc: Global,
     tables: &Tables,
-    tokens: &'a [Token],
+    tokens: &'a [GrammarToken],
     prints: bool,
     room: u32,
-) -> Result<(Stmt, &'a [Token]), Fault<'a>>
+) -> Result<(Stmt, &'a [GrammarToken]), Fault<'a>>
     ensures { Gives (λ found. stmt_tree found.0) (λ found. found.1.now) result
         (statement_at (tables_of tables.now) prints room tokens.now) }
 {
     match next(tokens) {
         Some(
             (
-                Token::Word {
+                GrammarToken::Word {
                     word: Word::Let,
                     ..
                 },
@@ -271,17 +271,17 @@ fn statement<'a>(
         ) => declaration(alloc, tables, tokens, room),
         Some(
             (
-                Token::Word {
+                GrammarToken::Word {
                     word: Word::Const,
                     ..
                 },
                 _,
             ),
         ) => constant(alloc, tables, tokens, room),
-        Some((Token::Name { .. }, _)) => assign(alloc, tables, tokens, room),
+        Some((GrammarToken::Name { .. }, _)) => assign(alloc, tables, tokens, room),
         Some(
             (
-                Token::Mark {
+                GrammarToken::Mark {
                     mark: Mark::OpenBrace,
                     ..
                 },
@@ -296,7 +296,7 @@ fn statement<'a>(
         }
         Some(
             (
-                Token::Word {
+                GrammarToken::Word {
                     word: Word::Print,
                     ..
                 },
@@ -311,7 +311,7 @@ fn statement<'a>(
             }
             print_line(alloc, tables, tokens, room)
         }
-        Some((Token::Word { word: Word::If, .. }, _)) => {
+        Some((GrammarToken::Word { word: Word::If, .. }, _)) => {
             if room == 0 {
                 return Err(too_deep(tokens));
             }
@@ -319,7 +319,7 @@ fn statement<'a>(
         }
         Some(
             (
-                Token::Word {
+                GrammarToken::Word {
                     word: Word::For,
                     ..
                 },
@@ -337,7 +337,7 @@ fn statement<'a>(
 
 // [ Directive ]
 #[tactic(auto, using(crate::proofs::Lines::strict_none, crate::proofs::Lines::strict_some))]
-fn strict(tokens: &[Token]) -> Result<&[Token], Fault<'_>>
+fn strict(tokens: &[GrammarToken]) -> Result<&[GrammarToken], Fault<'_>>
     ensures { Gives (λ _. tt) (λ rest. rest.now) result (read_strict tokens.now) }
 {
     match behind(tokens, Fixed::Directive) {
@@ -351,7 +351,7 @@ fn strict(tokens: &[Token]) -> Result<&[Token], Fault<'_>>
 fn whole<'a>(
     alloc: Global,
     tables: &Tables,
-    tokens: &'a [Token],
+    tokens: &'a [GrammarToken],
     prints: bool,
     room: u32,
 ) -> Result<Vec<Stmt>, Fault<'a>>
@@ -376,7 +376,7 @@ fn limit() -> u32
 pub fn statements<'a>(
     alloc: Global,
     tables: &Tables,
-    tokens: &'a [Token],
+    tokens: &'a [GrammarToken],
     prints: bool,
 ) -> Result<Vec<Stmt>, Fault<'a>>
     ensures spells { IfOk result (λ body. Statements (tables_of tables.now) prints most tokens.now

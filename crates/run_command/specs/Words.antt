@@ -11,8 +11,8 @@ use Rattle.js_store.specs.declared.limit.Limit.TheVariants.{Bits32, Bits64}
 use Rattle.run_command.specs.Command.{command, gives_matches}
 use Rattle.run_command.specs.declared.plan.Plan.{Plan}
 use Rattle.run_command.specs.declared.plan.Sizes.{Sizes}
-use Rattle.run_command.specs.declared.plan.Source.{Source}
-use Rattle.run_command.specs.declared.plan.Source.TheVariants as source
+use Rattle.run_command.specs.declared.plan.Input.{Input}
+use Rattle.run_command.specs.declared.plan.Input.TheVariants as input
 use Rattle.run_command.specs.declared.plan.WordsFault.{WordsFault}
 use Rattle.run_command.specs.declared.plan.WordsFault.TheVariants.{Refused, Memory}
 
@@ -121,14 +121,14 @@ request_of words = if gives_matches words then request_in (matches_of command wo
 
 -- ---- what the code answers
 
-abbrev pub asked_for : Source → Asked
-asked_for (source.Files prelude scripts) = files (option_map (λ n. n.now) prelude) (map (λ n. n.now) scripts.items)
-asked_for (source.Generated number) = made_from number
+abbrev pub asked_for : Input → Asked
+asked_for (input.Files prelude scripts) = files (option_map (λ n. n.now) prelude) (map (λ n. n.now) scripts.items)
+asked_for (input.Generated number) = made_from number
 
 -- the request that a plan is
 abbrev pub request_for : Plan → Request
 request_for plan = record {
-  asked = asked_for plan.source;
+  asked = asked_for plan.input;
   jobs = plan.jobs;
   sizes = plan.sizes;
   summary = plan.summary;

@@ -8,5 +8,5 @@ mod options;
 mod plan;
 mod words;
 
-pub use plan::{Plan, Sizes, Source, WordsFault};
+pub use plan::{Input, Plan, Sizes, WordsFault};
 pub use words::read_words;

@@ -3,7 +3,7 @@ ghost use Rattle.std.specs.Prelude.{◌≡◌, Some, length, option_map, IfOk, I
 ghost use Rattle.clap.specs.Words.{found_of, rows_of};
 ghost use Rattle.run_command.specs.Words.{made_from, IsRefusal, asked_for, asked_in, files_in, generated_in, limit_in, named_in, number_of, request_for, request_in, request_with, sizes_in, summary_in};
 
-use crate::plan::{Plan, Sizes, Source, WordsFault};
+use crate::plan::{Input, Plan, Sizes, WordsFault};
 use clap::ArgMatches;
 use js_store::Limit;
 use std::alloc::Global;
@@ -77,9 +77,9 @@ fn file_count(matches: &ArgMatches) -> usize
 }
 
 // Files, and a prelude or none.
-fn named<'a>(alloc: Global, matches: &ArgMatches<'a>) -> Result<Source<'a>, WordsFault>
+fn named<'a>(alloc: Global, matches: &ArgMatches<'a>) -> Result<Input<'a>, WordsFault>
     ensures asked { IfOk result
-        (λ source. named_in (rows_of (found_of matches.now)) ≡ Some (asked_for source)) }
+        (λ input. named_in (rows_of (found_of matches.now)) ≡ Some (asked_for input)) }
     ensures refused { IfErr result (IsRefusal (named_in (rows_of (found_of matches.now)))) }
 {
     let files = match matches.get_strs("FILE") {
@@ -93,7 +93,7 @@ fn named<'a>(alloc: Global, matches: &ArgMatches<'a>) -> Result<Source<'a>, Word
         return Err(WordsFault::Refused);
     }
     let scripts = files.to_vec(alloc)?;
-    Ok(Source::Files {
+    Ok(Input::Files {
         prelude: matches.get_str("prelude"),
         scripts,
     })
@@ -112,30 +112,30 @@ fn generated(matches: &ArgMatches) -> Option<u32>
     number_in(matches, "generate", 0, u32::MAX)
 }
 
-fn source_in<'a>(alloc: Global, matches: &ArgMatches<'a>) -> Result<Source<'a>, WordsFault>
+fn input_in<'a>(alloc: Global, matches: &ArgMatches<'a>) -> Result<Input<'a>, WordsFault>
     ensures asked { IfOk result
-        (λ source. asked_in (rows_of (found_of matches.now)) ≡ Some (asked_for source)) }
+        (λ input. asked_in (rows_of (found_of matches.now)) ≡ Some (asked_for input)) }
     ensures refused { IfErr result (IsRefusal (asked_in (rows_of (found_of matches.now)))) }
 {
     if matches.get_str("generate").is_none() {
         return named(alloc, matches);
     }
     match generated(matches) {
-        Some(number) => Ok(Source::Generated(number)),
+        Some(number) => Ok(Input::Generated(number)),
         None => Err(WordsFault::Refused),
     }
 }
 
 // The numbers and flags of a plan.
-fn plan_with<'a>(matches: &ArgMatches<'a>, source: Source<'a>) -> Option<Plan<'a>>
+fn plan_with<'a>(matches: &ArgMatches<'a>, input: Input<'a>) -> Option<Plan<'a>>
     ensures { option_map request_for result
-        ≡ request_with (asked_for source.entry) (rows_of (found_of matches.now)) }
+        ≡ request_with (asked_for input.entry) (rows_of (found_of matches.now)) }
 {
     let jobs = number_in(matches, "jobs", 1, JOBS_MAX)?;
     let sizes = sizes_in(matches)?;
     let limit = limit_in(matches)?;
     Some(Plan {
-        source,
+        input,
         jobs,
         sizes,
         summary: summary_in(matches),
@@ -149,8 +149,8 @@ pub(crate) fn plan_in<'a>(alloc: Global, matches: &ArgMatches<'a>) -> Result<Pla
         (λ plan. request_in (rows_of (found_of matches.now)) ≡ Some (request_for plan)) }
     ensures refused { IfErr result (IsRefusal (request_in (rows_of (found_of matches.now)))) }
 {
-    let source = source_in(alloc, matches)?;
-    match plan_with(matches, source) {
+    let input = input_in(alloc, matches)?;
+    match plan_with(matches, input) {
         Some(plan) => Ok(plan),
         None => Err(WordsFault::Refused),
     }

@@ -7,7 +7,7 @@ use std::alloc::AllocError;
 
 /// What is run.
 #[derive(Debug, Drop)]
-pub enum Source<'a> {
+pub enum Input<'a> {
     /// The scripts of these files, in this order, each after the prelude where there is one.
     Files {
         prelude: Option<&'a str>,
@@ -28,7 +28,7 @@ pub struct Sizes {
 /// What the words ask for.
 #[derive(Debug, Drop)]
 pub struct Plan<'a> {
-    pub source: Source<'a>,
+    pub input: Input<'a>,
     /// How many scripts may run at one time.
     pub jobs: u32,
     pub sizes: Sizes,

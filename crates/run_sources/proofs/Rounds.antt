@@ -3,7 +3,7 @@ use Rattle.std.proofs.Common.{◌≡◌, ◌+◌, ◌*◌, ◌++◌, ℕ, zero, 
 use Rattle.run_sources.specs.Draws.{after, draw, each, listed, next}
 use Rattle.run_sources.specs.Lines.{digits, line, word_line}
 use Rattle.run_sources.specs.Texts.{Named, before, drawn_line, letter, named_for, named_script, prelude, script, word, word_length}
-use Rattle.run_sources.specs.declared.texts.Text.{Text}
+use Rattle.run_sources.specs.declared.texts.GeneratedText.{GeneratedText}
 use Rattle.std.specs.String.{string_bytes}
 use Rattle.std.proofs.lemmas.List.{map-append}
 
@@ -112,17 +112,17 @@ four_is x s1 s2 s3 s4 e1 e2 e3 e4 = e4 ∙ ap next (e3 ∙ ap next (e2 ∙ ap ne
 
 -- ---- the list of texts
 
-named_is : (t : Text) (name text : List ℕ) → string_bytes t.name ≡ name → string_bytes t.text ≡ text → named_for t ≡ record { name = name; text = text }
+named_is : (t : GeneratedText) (name text : List ℕ) → string_bytes t.name ≡ name → string_bytes t.text ≡ text → named_for t ≡ record { name = name; text = text }
 named_is t name text n e =
     let both : List ℕ → List ℕ → Named = λ a b. record { name = a; text = b } in
     ap₂ both n e
 
-pub first_text : (n : ℕ) (items : List Text) (t : Text) → items ≡ t ∷ [] → string_bytes t.name ≡ codes "gen-prelude" → string_bytes t.text ≡ prelude n
+pub first_text : (n : ℕ) (items : List GeneratedText) (t : GeneratedText) → items ≡ t ∷ [] → string_bytes t.name ≡ codes "gen-prelude" → string_bytes t.text ≡ prelude n
     → map named_for items ≡ (record { name = codes "gen-prelude"; text = prelude n }) ∷ listed (named_script n) 0
 first_text n items t one name text =
     ap (map named_for) one ∙ ap₂ (λ (first : Named) rest. first ∷ rest) (named_is t (codes "gen-prelude") (prelude n) name text) (sym (listed_none (named_script n)))
 
-pub next_text : (n state j : ℕ) (items more : List Text) (t : Text) → map named_for items ≡ (record { name = codes "gen-prelude"; text = prelude n }) ∷ listed (named_script n) j
+pub next_text : (n state j : ℕ) (items more : List GeneratedText) (t : GeneratedText) → map named_for items ≡ (record { name = codes "gen-prelude"; text = prelude n }) ∷ listed (named_script n) j
     → state ≡ after (128 * j) (before n 16) → more ≡ items ++ t ∷ [] → string_bytes t.name ≡ codes "gen-" ++ digits j → string_bytes t.text ≡ script j state
     → map named_for more ≡ (record { name = codes "gen-prelude"; text = prelude n }) ∷ listed (named_script n) (j + 1)
 next_text n state j items more t is at pushed name text =

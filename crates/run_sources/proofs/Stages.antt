@@ -8,8 +8,8 @@ use Rattle.js_io.specs.Counts.{next_count}
 use Rattle.js_io.specs.FilesState.{FilesState, IsTooLarge, Tells}
 use Rattle.js_parse.specs.declared.fault.Role.TheVariants.{Main}
 use Rattle.eval_tree.specs.Tree.{Tree}
-use Rattle.run_sources.specs.declared.stop.Stop.{Stop}
-use Rattle.run_sources.specs.declared.stop.Stop.TheVariants as stop
+use Rattle.run_sources.specs.declared.stop.ScriptsFault.{ScriptsFault}
+use Rattle.run_sources.specs.declared.stop.ScriptsFault.TheVariants as stop
 use Rattle.run_sources.specs.Program.{Name, Program, outer_of, program_from, with_prelude}
 use Rattle.run_sources.specs.Reading as reading
 use Rattle.run_sources.specs.Reading.{AreRead, IsLarge, IsPreludeRead, IsQuiet, IsRead, IsUnread, KeepsFiles, Read, ReadUpTo}
@@ -56,7 +56,7 @@ large_of a b name later keeps quiet larger =
     subst (λ (n : ℕ). IsTooLarge (a.held name) n later) quiet.not_large (subst (λ (o : _). IsTooLarge o b.oversize later) (keeps.held name) larger)
 
 -- this read was not quiet, or memory was wanting
-pub read_halt : (a b c : FilesState) (all before after : List Name) (sources : List Named) (name : Name) (s : Stop) → all ≡ before ++ name ∷ after → KeepsFiles a b → IsQuiet a b
+pub read_halt : (a b c : FilesState) (all before after : List Name) (sources : List Named) (name : Name) (s : ScriptsFault) → all ≡ before ++ name ∷ after → KeepsFiles a b → IsQuiet a b
     → Read a.held before sources → RefusesRead b c name s → RefusesFile a c all s
 read_halt a b c all before after sources name (stop.NotRead blamed) split keeps quiet read (named, once, large, blames) = record {
   up_to = record { before = before; after = after; sources = sources; split = split ∙ ap (λ n. before ++ n ∷ after) (sym named); read = read };
@@ -74,7 +74,7 @@ read_halt a b c all before after sources name stop.NoMemory split keeps quiet re
 read_halt a b c all before after sources name (stop.Refused blamed fault) split keeps quiet read more = absurd more
 
 -- the prelude's read was not quiet, or memory was wanting
-pub prelude_halt : (a c : FilesState) (prelude : Option Name) (scripts : List Name) (s : Stop) → RefusesPrelude a c prelude s → RefusesFile a c (with_prelude prelude scripts) s
+pub prelude_halt : (a c : FilesState) (prelude : Option Name) (scripts : List Name) (s : ScriptsFault) → RefusesPrelude a c prelude s → RefusesFile a c (with_prelude prelude scripts) s
 prelude_halt a c None scripts s why = absurd why
 prelude_halt a c (Some name) scripts s why = read_halt a a c (name ∷ scripts) [] scripts [] name s refl (keeps_refl a) (quiet_refl a) reading.Read.none why
 
@@ -101,7 +101,7 @@ module _ (a b : FilesState) (prelude : Option Name) (source : Option Named) (kee
   }
 
   -- a script's read was not quiet, or memory was wanting
-  pub scripts_halt : (c : FilesState) (scripts : List Name) (s : Stop) → IsQuiet a b → RefusesFile b c scripts s → RefusesFile a c (with_prelude prelude scripts) s
+  pub scripts_halt : (c : FilesState) (scripts : List Name) (s : ScriptsFault) → IsQuiet a b → RefusesFile b c scripts s → RefusesFile a c (with_prelude prelude scripts) s
   scripts_halt c scripts (stop.NotRead name) quiet why = record {
     up_to = up_to scripts name.now why.up_to;
     once = why.once ∙ ap next_count quiet.calm;
@@ -151,7 +151,7 @@ small_short (prelude ∷ scripts) small = record {
 -- ---- texts
 
 -- this text is no script, or memory was wanting
-pub script_halt : (outer : List (List ℕ)) (all before after : List Named) (trees : List Tree) (source : Named) (s : Stop) → all ≡ before ++ source ∷ after → AllSpell outer before trees
+pub script_halt : (outer : List (List ℕ)) (all before after : List Named) (trees : List Tree) (source : Named) (s : ScriptsFault) → all ≡ before ++ source ∷ after → AllSpell outer before trees
     → RefusesText Main outer source s → RefusesAmong outer all s
 script_halt outer all before after trees source (stop.Refused name fault) split spell (named, refused) =
     subst (λ (l : List Named). FirstAmong outer name.now fault l) (sym split) (refused_after outer before trees name.now source after fault (sym named) spell refused)
@@ -161,7 +161,7 @@ script_halt outer all before after trees source (stop.TooLarge name) split spell
 
 module _ (sources : Program Named) where
   -- the prelude is refused, or memory was wanting
-  pub prelude_refused : (prelude : Option Named) (s : Stop) → sources.prelude ≡ prelude → RefusesPreludeText prelude s → RefusesScript sources s
+  pub prelude_refused : (prelude : Option Named) (s : ScriptsFault) → sources.prelude ≡ prelude → RefusesPreludeText prelude s → RefusesScript sources s
   prelude_refused None s is why = absurd why
   prelude_refused (Some source) (stop.Refused name fault) is (named, refused) = spelling.FirstRefused.of_prelude source is (sym named) refused
   prelude_refused (Some source) stop.NoMemory is why = tt
@@ -169,7 +169,7 @@ module _ (sources : Program Named) where
   prelude_refused (Some source) (stop.TooLarge name) is why = absurd why
 
   -- a script is, after a prelude that isn't
-  pub scripts_refused : (prelude : Option Tree) (s : Stop) → SpellsPrelude sources.prelude prelude → RefusesAmong (outer_of prelude) sources.scripts s → RefusesScript sources s
+  pub scripts_refused : (prelude : Option Tree) (s : ScriptsFault) → SpellsPrelude sources.prelude prelude → RefusesAmong (outer_of prelude) sources.scripts s → RefusesScript sources s
   scripts_refused prelude (stop.Refused name fault) spells why = spelling.FirstRefused.of_script prelude spells why
   scripts_refused prelude stop.NoMemory spells why = tt
   scripts_refused prelude (stop.NotRead name) spells why = absurd why

@@ -4,7 +4,7 @@ use Rattle.std.specs.declared.option.Option.{Option}
 use Rattle.std.specs.List.{All}
 use Rattle.std.proofs.lemmas.List.{map_push, take_more}
 use Rattle.run_sources.specs.Texts.{Named, named_for}
-use Rattle.run_sources.specs.declared.texts.Text.{Text}
+use Rattle.run_sources.specs.declared.texts.GeneratedText.{GeneratedText}
 use Rattle.js_parse.specs.declared.fault.Role.TheVariants.{Main}
 use Rattle.js_parse.specs.declared.fault.ParseFault.{ParseFault}
 use Rattle.js_parse.specs.Spells as script
@@ -51,7 +51,7 @@ take_whole [] = refl
 take_whole (x ∷ xs) = ap (λ l. x ∷ l) (take_whole xs)
 
 -- the first text and the rest
-pub begun : (texts : List Text) (t : Text) (prelude : Named) (scripts : List Named) → 0 < length texts → t ≡ get_or texts 0 t → prelude ≡ named_for t
+pub begun : (texts : List GeneratedText) (t : GeneratedText) (prelude : Named) (scripts : List Named) → 0 < length texts → t ≡ get_or texts 0 t → prelude ≡ named_for t
     → scripts ≡ map named_for (take (length texts - 1) (drop 1 texts)) → program_from (map named_for texts) ≡ record { prelude = Some prelude; scripts = scripts }
 begun [] t prelude scripts some is first rest = absurd (omega (arith, some))
 begun (x ∷ xs) t prelude scripts some is first rest =

@@ -10,11 +10,11 @@ use Rattle.js_parse.specs.declared.fault.Role.{Role}
 use Rattle.js_parse.specs.declared.fault.Role.TheVariants as role
 use Rattle.js_parse.specs.Spells as script
 use Rattle.eval_tree.specs.Tree.{Tree, tree_of}
-use Rattle.run_sources.specs.declared.sources.Source.{Source}
+use Rattle.run_sources.specs.declared.sources.SourceText.{SourceText}
 use Rattle.run_sources.specs.declared.sources.Sources.{Sources}
 use Rattle.run_sources.specs.declared.sources.Scripts.{Scripts}
-use Rattle.run_sources.specs.declared.stop.Stop.{Stop}
-use Rattle.run_sources.specs.declared.stop.Stop.TheVariants as stop
+use Rattle.run_sources.specs.declared.stop.ScriptsFault.{ScriptsFault}
+use Rattle.run_sources.specs.declared.stop.ScriptsFault.TheVariants as stop
 use Rattle.run_sources.specs.Program.{Name, Program}
 use Rattle.run_sources.specs.Reading.{IsQuiet, IsUnread, IsLarge}
 use Rattle.run_sources.specs.Spelling.{FirstAmong, FirstRefused}
@@ -23,7 +23,7 @@ use Rattle.run_sources.specs.Spelling.{FirstAmong, FirstRefused}
 abbrev pub names_for : Option (Bor (List ℕ)) → List (Bor (List ℕ)) → Program Name
 names_for prelude scripts = record { prelude = option_map (λ n. n.now) prelude; scripts = map (λ n. n.now) scripts }
 
-abbrev pub source_for : Source → Named
+abbrev pub source_for : SourceText → Named
 source_for source = record { name = source.name.now; text = source.bytes.items }
 
 abbrev pub sources_for : Sources → Program Named
@@ -45,14 +45,14 @@ pub record AreShort (sources : Program Named) : Type 0 where
   pub scripts : All IsShort sources.scripts
 
 -- the reads before this one were quiet and this one was not; or memory was wanting
-abbrev pub RefusesFile : FilesState → FilesState → List Name → Stop → Type 0
+abbrev pub RefusesFile : FilesState → FilesState → List Name → ScriptsFault → Type 0
 RefusesFile old new names (stop.NotRead name) = IsUnread old new names name.now
 RefusesFile old new names (stop.TooLarge name) = IsLarge old new names name.now
 RefusesFile old new names stop.NoMemory = IsQuiet old new
 RefusesFile old new names _ = ⊥
 
 -- the first text that is no script, for this fault; or memory was wanting
-abbrev pub RefusesScript : Program Named → Stop → Type 0
+abbrev pub RefusesScript : Program Named → ScriptsFault → Type 0
 RefusesScript sources (stop.Refused name fault) = FirstRefused sources name.now fault
 RefusesScript sources stop.NoMemory = ⊤
 RefusesScript sources _ = ⊥
@@ -60,30 +60,30 @@ RefusesScript sources _ = ⊥
 -- ---- of parts. No public contract cites these.
 
 -- this read failed or found too large a file, and no other did; or memory was wanting
-abbrev pub RefusesRead : FilesState → FilesState → Name → Stop → Type 0
+abbrev pub RefusesRead : FilesState → FilesState → Name → ScriptsFault → Type 0
 RefusesRead old new name (stop.NotRead blamed) = (blamed.now ≡ name) × (new.faults ≡ next_count old.faults) × (new.oversize ≡ old.oversize) × (new.blamed ≡ name)
 RefusesRead old new name (stop.TooLarge blamed) = (blamed.now ≡ name) × (new.faults ≡ old.faults) × IsTooLarge (old.held name) old.oversize new.oversize × (new.blamed ≡ name)
 RefusesRead old new name stop.NoMemory = IsQuiet old new
 RefusesRead old new name _ = ⊥
 
 -- there is a prelude, and its read was refused
-abbrev pub RefusesPrelude : FilesState → FilesState → Option Name → Stop → Type 0
+abbrev pub RefusesPrelude : FilesState → FilesState → Option Name → ScriptsFault → Type 0
 RefusesPrelude old new None s = ⊥
 RefusesPrelude old new (Some name) s = RefusesRead old new name s
 
 -- the text is no script, for this fault; or memory was wanting
-abbrev pub RefusesText : Role → List (List ℕ) → Named → Stop → Type 0
+abbrev pub RefusesText : Role → List (List ℕ) → Named → ScriptsFault → Type 0
 RefusesText r outer source (stop.Refused refused fault) = (refused.now ≡ source.name) × script.Refused r outer source.text fault
 RefusesText r outer source stop.NoMemory = ⊤
 RefusesText r outer source _ = ⊥
 
 -- there is a prelude, and it is refused
-abbrev pub RefusesPreludeText : Option Named → Stop → Type 0
+abbrev pub RefusesPreludeText : Option Named → ScriptsFault → Type 0
 RefusesPreludeText None s = ⊥
 RefusesPreludeText (Some source) s = RefusesText role.Prelude [] source s
 
 -- the first of the scripts that is none, or out of memory
-abbrev pub RefusesAmong : List (List ℕ) → List Named → Stop → Type 0
+abbrev pub RefusesAmong : List (List ℕ) → List Named → ScriptsFault → Type 0
 RefusesAmong outer sources (stop.Refused name fault) = FirstAmong outer name.now fault sources
 RefusesAmong outer sources stop.NoMemory = ⊤
 RefusesAmong outer sources _ = ⊥

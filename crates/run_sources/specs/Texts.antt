@@ -3,7 +3,7 @@ use Rattle.std.specs.Prelude.{◌+◌, ◌*◌, ◌≤◌, ◌++◌, ℕ, zero, 
 use Rattle.std.specs.String.{string_bytes}
 use Rattle.run_sources.specs.Draws.{after, draw, each, listed, next}
 use Rattle.run_sources.specs.Lines.{all_line, digits, line, print_line, word_line}
-use Rattle.run_sources.specs.declared.texts.Text.{Text}
+use Rattle.run_sources.specs.declared.texts.GeneratedText.{GeneratedText}
 
 -- a word, drawn from state x on: 6 to 25 letters
 abbrev pub word_length : ℕ → ℕ
@@ -44,7 +44,7 @@ abbrev pub generated : ℕ → List Named
 generated n = record { name = codes "gen-prelude"; text = prelude n } ∷ listed (named_script n) 32
 
 -- what a text of the code is
-abbrev pub named_for : Text → Named
+abbrev pub named_for : GeneratedText → Named
 named_for text = record { name = string_bytes text.name; text = string_bytes text.text }
 
 -- a text of at most 4,096 bytes

@@ -5,21 +5,24 @@ ghost use Rattle.run_sources.specs.Texts.{named_for, IsSmall};
 ghost use Rattle.run_sources.specs.Program.{program_from};
 ghost use Rattle.run_sources.specs.Answers.{source_for, sources_for, AreShort};
 
-use crate::sources::{Source, Sources};
-use crate::texts::Text;
+use crate::sources::{SourceText, Sources};
+use crate::texts::GeneratedText;
 use std::alloc::{AllocError, Global};
 
 // A text, under its name.
-fn made_source<'a>(alloc: Global, text: &'a Text) -> Result<Source<'a>, AllocError>
+fn made_source<'a>(alloc: Global, text: &'a GeneratedText) -> Result<SourceText<'a>, AllocError>
     ensures { IfOk result (λ source. source_for source ≡ named_for text.entry.now) }
 {
-    Ok(Source {
+    Ok(SourceText {
         name: text.name.as_str(),
         bytes: text.text.as_bytes().to_vec(alloc)?,
     })
 }
 
-fn made_scripts<'a>(alloc: Global, texts: &'a [Text]) -> Result<Vec<Source<'a>>, AllocError>
+fn made_scripts<'a>(
+    alloc: Global,
+    texts: &'a [GeneratedText],
+) -> Result<Vec<SourceText<'a>>, AllocError>
     ensures { IfOk result (λ sources. map source_for sources.items ≡ map named_for texts.entry.now) }
 {
     let mut sources = Vec::new(alloc);
@@ -31,7 +34,10 @@ fn made_scripts<'a>(alloc: Global, texts: &'a [Text]) -> Result<Vec<Source<'a>>,
 }
 
 /// The texts, of which the first, if there is one, is the prelude.
-pub fn made_sources<'a>(alloc: Global, texts: &'a [Text]) -> Result<Sources<'a>, AllocError>
+pub fn made_sources<'a>(
+    alloc: Global,
+    texts: &'a [GeneratedText],
+) -> Result<Sources<'a>, AllocError>
     requires { All IsSmall (map named_for texts.now) }
     ensures made { IfOk result
         (λ sources. sources_for sources ≡ program_from (map named_for texts.entry.now)) }

@@ -7,8 +7,8 @@ ghost use Rattle.run_sources.specs.Program.{outer_of};
 ghost use Rattle.run_sources.specs.Spelling.{AllSpell, Spell, SpellsPrelude};
 ghost use Rattle.run_sources.specs.Answers.{source_for, sources_for, trees_for, AreShort, IsPreludeShort, IsShort, RefusesAmong, RefusesPreludeText, RefusesScript, RefusesText};
 
-use crate::sources::{Scripts, Source, Sources};
-use crate::stop::Stop;
+use crate::sources::{Scripts, SourceText, Sources};
+use crate::stop::ScriptsFault;
 use eval_tree::{Names, Script};
 use js_parse::{ParseFault, Role, parse};
 use std::alloc::Global;
@@ -16,10 +16,10 @@ use std::alloc::Global;
 // The script that a text spells in a role, after a prelude that declares the outer names.
 fn parse_text<'a>(
     alloc: Global,
-    source: &Source<'a>,
+    source: &SourceText<'a>,
     role: Role,
     outer: &Names,
-) -> Result<Script, Stop<'a>>
+) -> Result<Script, ScriptsFault<'a>>
     requires { IsShort (source_for source.now) }
     ensures spells { IfOk result (λ script. Spells role outer.now source.now.bytes.items (tree_of script)) }
     ensures refused { IfErr result (RefusesText role outer.now (source_for source.now)) }
@@ -28,24 +28,36 @@ fn parse_text<'a>(
     match parse(alloc, &source.bytes, role, outer) {
         Ok(script) => Ok(script),
         Err(fault) => match fault {
-            ParseFault::Memory => Err(Stop::NoMemory),
-            ParseFault::Lex(fault) => Err(Stop::Refused(name, ParseFault::Lex(fault))),
-            ParseFault::Unexpected { at } => Err(Stop::Refused(
+            ParseFault::Memory => Err(ScriptsFault::NoMemory),
+            ParseFault::Lex(fault) => Err(ScriptsFault::Refused(name, ParseFault::Lex(fault))),
+            ParseFault::Unexpected { at } => Err(ScriptsFault::Refused(
                 name,
                 ParseFault::Unexpected { at },
             )),
             ParseFault::NotInProfile { at } => {
-                Err(Stop::Refused(name, ParseFault::NotInProfile { at }))
+                Err(ScriptsFault::Refused(name, ParseFault::NotInProfile { at }))
             }
-            ParseFault::TooDeep { at } => Err(Stop::Refused(name, ParseFault::TooDeep { at })),
-            ParseFault::Duplicate { at } => Err(Stop::Refused(name, ParseFault::Duplicate { at })),
-            ParseFault::LoopName { at } => Err(Stop::Refused(name, ParseFault::LoopName { at })),
+            ParseFault::TooDeep { at } => Err(ScriptsFault::Refused(
+                name,
+                ParseFault::TooDeep { at },
+            )),
+            ParseFault::Duplicate { at } => Err(ScriptsFault::Refused(
+                name,
+                ParseFault::Duplicate { at },
+            )),
+            ParseFault::LoopName { at } => Err(ScriptsFault::Refused(
+                name,
+                ParseFault::LoopName { at },
+            )),
         },
     }
 }
 
 // The prelude that its text spells, if there is one.
-fn parse_prelude<'a>(alloc: Global, source: &Option<Source<'a>>) -> Result<Option<Script>, Stop<'a>>
+fn parse_prelude<'a>(
+    alloc: Global,
+    source: &Option<SourceText<'a>>,
+) -> Result<Option<Script>, ScriptsFault<'a>>
     requires { IsPreludeShort (option_map source_for source.now) }
     ensures spells { IfOk result
         (λ script. SpellsPrelude (option_map source_for source.now) (option_map tree_of script)) }
@@ -64,9 +76,9 @@ fn parse_prelude<'a>(alloc: Global, source: &Option<Source<'a>>) -> Result<Optio
 // The scripts that texts spell after a prelude that declares the outer names, in order.
 fn parse_scripts<'a>(
     alloc: Global,
-    sources: &[Source<'a>],
+    sources: &[SourceText<'a>],
     outer: &Names,
-) -> Result<Vec<Script>, Stop<'a>>
+) -> Result<Vec<Script>, ScriptsFault<'a>>
     requires { All IsShort (map source_for sources.now) }
     ensures spell { IfOk result
         (λ scripts. AllSpell outer.now (map source_for sources.now) (map tree_of scripts.items)) }
@@ -83,9 +95,9 @@ fn parse_scripts<'a>(
 // The scripts that texts spell after a prelude or none.
 fn parse_after<'a>(
     alloc: Global,
-    sources: &[Source<'a>],
+    sources: &[SourceText<'a>],
     prelude: &Option<Script>,
-) -> Result<Vec<Script>, Stop<'a>>
+) -> Result<Vec<Script>, ScriptsFault<'a>>
     requires { All IsShort (map source_for sources.now) }
     ensures spell { IfOk result
         (λ scripts. AllSpell (outer_of (option_map tree_of prelude.now)) (map source_for sources.now)
@@ -103,7 +115,7 @@ fn parse_after<'a>(
 }
 
 /// The scripts that the texts spell, the prelude first and each script after the names that it declares.
-pub fn parse_sources<'a>(alloc: Global, sources: &Sources<'a>) -> Result<Scripts, Stop<'a>>
+pub fn parse_sources<'a>(alloc: Global, sources: &Sources<'a>) -> Result<Scripts, ScriptsFault<'a>>
     requires { AreShort (sources_for sources.now) }
     ensures spell { IfOk result (λ scripts. Spell (sources_for sources.now) (trees_for scripts)) }
     ensures refused { IfErr result (RefusesScript (sources_for sources.now)) }

@@ -5,8 +5,8 @@ ghost use Rattle.run_sources.specs.Program.{in_order};
 ghost use Rattle.run_sources.specs.Reading.{KeepsFiles, IsQuiet, IsRead, IsPreludeRead, Read, AreRead};
 ghost use Rattle.run_sources.specs.Answers.{names_for, source_for, sources_for, AreShort, RefusesFile, RefusesPrelude, RefusesRead};
 
-use crate::sources::{Source, Sources};
-use crate::stop::Stop;
+use crate::sources::{SourceText, Sources};
+use crate::stop::ScriptsFault;
 use js_io::{Files, ReadFault};
 use std::alloc::Global;
 
@@ -15,17 +15,17 @@ fn read_file<'a, F: Files>(
     alloc: Global,
     name: &'a str,
     files: &mut F,
-) -> Result<Source<'a>, Stop<'a>>
+) -> Result<SourceText<'a>, ScriptsFault<'a>>
     ensures keeps { KeepsFiles (F.state files.old) (F.state files.new) }
     ensures quiet { IfOk result (λ _. IsQuiet (F.state files.old) (F.state files.new)) }
     ensures read { IfOk result (λ source. IsRead (F.state files.old).held name.now (source_for source)) }
     ensures refused { IfErr result (RefusesRead (F.state files.old) (F.state files.new) name.now) }
 {
     match files.read(alloc, name) {
-        Ok(bytes) => Ok(Source { name, bytes }),
-        Err(ReadFault::Failed) => Err(Stop::NotRead(name)),
-        Err(ReadFault::TooLarge) => Err(Stop::TooLarge(name)),
-        Err(ReadFault::Memory) => Err(Stop::NoMemory),
+        Ok(bytes) => Ok(SourceText { name, bytes }),
+        Err(ReadFault::Failed) => Err(ScriptsFault::NotRead(name)),
+        Err(ReadFault::TooLarge) => Err(ScriptsFault::TooLarge(name)),
+        Err(ReadFault::Memory) => Err(ScriptsFault::NoMemory),
     }
 }
 
@@ -34,7 +34,7 @@ fn read_prelude<'a, F: Files>(
     alloc: Global,
     name: Option<&'a str>,
     files: &mut F,
-) -> Result<Option<Source<'a>>, Stop<'a>>
+) -> Result<Option<SourceText<'a>>, ScriptsFault<'a>>
     ensures keeps { KeepsFiles (F.state files.old) (F.state files.new) }
     ensures quiet { IfOk result (λ _. IsQuiet (F.state files.old) (F.state files.new)) }
     ensures read { IfOk result
@@ -57,7 +57,7 @@ fn read_scripts<'a, F: Files>(
     alloc: Global,
     names: &[&'a str],
     files: &mut F,
-) -> Result<Vec<Source<'a>>, Stop<'a>>
+) -> Result<Vec<SourceText<'a>>, ScriptsFault<'a>>
     ensures keeps { KeepsFiles (F.state files.old) (F.state files.new) }
     ensures quiet { IfOk result (λ _. IsQuiet (F.state files.old) (F.state files.new)) }
     ensures read { IfOk result
@@ -80,7 +80,7 @@ pub fn read_sources<'a, F: Files>(
     prelude: Option<&'a str>,
     scripts: &[&'a str],
     files: &mut F,
-) -> Result<Sources<'a>, Stop<'a>>
+) -> Result<Sources<'a>, ScriptsFault<'a>>
     ensures keeps { KeepsFiles (F.state files.old) (F.state files.new) }
     ensures quiet { IfOk result (λ _. IsQuiet (F.state files.old) (F.state files.new)) }
     ensures read { IfOk result

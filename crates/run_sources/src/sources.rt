@@ -3,7 +3,7 @@ use eval_tree::Script;
 
 /// A text: the word that names it, and its bytes.
 #[derive(Debug, Drop)]
-pub struct Source<'a> {
+pub struct SourceText<'a> {
     pub name: &'a str,
     pub bytes: Vec<u8>,
 }
@@ -11,8 +11,8 @@ pub struct Source<'a> {
 /// The texts of a run: a prelude or none, and scripts.
 #[derive(Debug, Drop)]
 pub struct Sources<'a> {
-    pub prelude: Option<Source<'a>>,
-    pub scripts: Vec<Source<'a>>,
+    pub prelude: Option<SourceText<'a>>,
+    pub scripts: Vec<SourceText<'a>>,
 }
 
 /// The scripts that the texts spell.

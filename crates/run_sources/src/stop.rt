@@ -1,13 +1,13 @@
 // Why there are no scripts.
 ghost use Rattle.std.specs.Prelude.{◌≡◌};
-ghost use Rattle.run_sources.specs.declared.stop.Stop.TheVariants as stop;
+ghost use Rattle.run_sources.specs.declared.stop.ScriptsFault.TheVariants as stop;
 
 use js_parse::ParseFault;
 use std::alloc::{AllocError, AllocFailed};
 
 /// Why there are no scripts, with the word that names the file.
 #[derive(Clone, Copy, Debug)]
-pub enum Stop<'a> {
+pub enum ScriptsFault<'a> {
     /// The file can't be read.
     NotRead(&'a str),
     /// It has more than [`js_io::FILE_MAX`] bytes.
@@ -17,18 +17,18 @@ pub enum Stop<'a> {
     NoMemory,
 }
 
-impl From<AllocError> for Stop<'_> {
+impl From<AllocError> for ScriptsFault<'_> {
     ghost from_gives = { λ _ e. e ≡ stop.NoMemory };
 
     fn from(_: AllocError) -> Self {
-        Stop::NoMemory
+        ScriptsFault::NoMemory
     }
 }
 
-impl<T: Drop> From<AllocFailed<T>> for Stop<'_> {
+impl<T: Drop> From<AllocFailed<T>> for ScriptsFault<'_> {
     ghost from_gives = { λ _ e. e ≡ stop.NoMemory };
 
     fn from(_: AllocFailed<T>) -> Self {
-        Stop::NoMemory
+        ScriptsFault::NoMemory
     }
 }

@@ -18,7 +18,7 @@ const LINES: u32 = 32;
 
 /// A text, with the name that stands for it where a file's name would.
 #[derive(Debug, Drop)]
-pub struct Text {
+pub struct GeneratedText {
     pub name: String,
     pub text: String,
 }
@@ -75,18 +75,18 @@ fn script(alloc: Global, draws: &mut Draws, j: u32) -> Result<String, AllocError
 }
 
 /// The texts that are made from a number: the prelude, and then the scripts in order.
-pub fn texts_from(alloc: Global, n: u32) -> Result<Vec<Text>, AllocError>
+pub fn texts_from(alloc: Global, n: u32) -> Result<Vec<GeneratedText>, AllocError>
     ensures made { IfOk result (λ texts. map named_for texts.items ≡ generated n) }
     ensures small { IfOk result (λ texts. All IsSmall (map named_for texts.items)) }
 {
     let mut draws = Draws { state: n };
     let mut texts = Vec::new(alloc);
-    texts.push(Text {
+    texts.push(GeneratedText {
         name: String::from_str(alloc, "gen-prelude")?,
         text: prelude(alloc, &mut draws)?,
     })?;
     for j in 0..SCRIPTS {
-        texts.push(Text {
+        texts.push(GeneratedText {
             name: script_name(alloc, j)?,
             text: script(alloc, &mut draws, j)?,
         })?;

@@ -6,7 +6,7 @@ use js_eval::{End, Env, Lines, eval};
 use js_parse::{Role, parse};
 use js_store::Limit;
 use plain_store::PlainStore;
-use run_sources::{Text, texts_from};
+use run_sources::{GeneratedText, texts_from};
 use std::alloc::Global;
 use std::test::Fail;
 
@@ -22,7 +22,7 @@ fn hashed(before: u64, bytes: &[u8]) -> u64 {
 }
 
 // That of the texts in order, each behind its name and a line end.
-fn hash(texts: &[Text]) -> u64 {
+fn hash(texts: &[GeneratedText]) -> u64 {
     let mut hash = START;
     for text in texts {
         hash = hashed(hash, text.name.as_bytes());
@@ -41,7 +41,7 @@ fn script(alloc: Global, text: &str, role: Role, outer: &Names) -> Option<Script
 }
 
 // Whether all texts are scripts, the first one as the prelude of the others.
-fn are_scripts(alloc: Global, texts: &[Text]) -> bool {
+fn are_scripts(alloc: Global, texts: &[GeneratedText]) -> bool {
     let Some((first, rest)) = texts.split_first() else {
         return false;
     };

@@ -5,7 +5,7 @@ use run_command::{Plan, Sizes, read_words};
 use std::alloc::Global;
 use std::test::Fail;
 
-// Words with one blank between two; and the source, the jobs, the sizes, whether a summary is asked for,
+// Words with one blank between two; and the input, the jobs, the sizes, whether a summary is asked for,
 // and the limit. Refused are the number of files; numbers out of their ranges, of other letters, with no
 // digit, or too large for every type; sizes that are too much together; options given twice, without a
 // value, with one too many, or unknown; requests for help; files or a prelude beside a number.
@@ -117,14 +117,14 @@ impl Table for Words {
 }
 
 fn asked(alloc: Global, plan: &Plan) -> Result<String, Fail> {
-    let source = &plan.source;
+    let input = &plan.input;
     let Sizes {
         ids,
         heap_words,
         slots,
     } = plan.sizes;
     let (jobs, summary, limit) = (plan.jobs, plan.summary, plan.limit);
-    Ok(format!(in alloc; "{source:?}, {jobs}, {ids} {heap_words} {slots}, {summary}, {limit:?}")?)
+    Ok(format!(in alloc; "{input:?}, {jobs}, {ids} {heap_words} {slots}, {summary}, {limit:?}")?)
 }
 
 #[test]

@@ -3,7 +3,7 @@ use Rattle.std.proofs.lemmas.Result.{IfOk-weaker, IfErr-weaker}
 use Rattle.clap.specs.Words.{first_value, found_of, rows_of}
 use Rattle.run_command.specs.Words.{IsRefusal, asked_for, asked_in, named_in}
 use Rattle.run_command.proofs.Asking.{asked_generated, asked_named, is_given, not_given}
-use Rattle.run_command.proofs.options.source_in.Goals as goal
+use Rattle.run_command.proofs.options.input_in.Goals as goal
 
 pub returns-then-is_none-clause-asked : goal.returns-then-is_none-clause-asked
 returns-then-is_none-clause-asked c =
