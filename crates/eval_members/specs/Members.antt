@@ -14,13 +14,13 @@ use Rattle.eval_tree.specs.declared.tree.Method.{Method}
 use Rattle.eval_tree.specs.declared.tree.Method.TheVariants.{At, CharAt, CharCodeAt, CodePointAt, Concat, EndsWith, Includes, IndexOf, IsWellFormed, Join, LastIndexOf, PadEnd, PadStart, Repeat, Replace, ReplaceAll, Slice, Split, StartsWith, Substr, Substring, ToWellFormed, Trim, TrimEnd, TrimStart}
 use Rattle.eval_members.specs.declared.cutting.Cut.{Cut}
 use Rattle.eval_members.specs.declared.cutting.Cut.TheVariants as cut
-use Rattle.eval_members.specs.declared.cutting.Trim.{Trim}
+use Rattle.eval_members.specs.declared.cutting.Trim.{Trim as Trims}
 use Rattle.eval_members.specs.declared.cutting.Trim.TheVariants as trim
 use Rattle.eval_members.specs.declared.searching.Search.{Search}
 use Rattle.eval_members.specs.declared.searching.Search.TheVariants as sought
 use Rattle.eval_members.specs.declared.padding.Pad.{Pad}
 use Rattle.eval_members.specs.declared.padding.Pad.TheVariants as pad
-use Rattle.eval_members.specs.declared.replacing.Replace.{Replace}
+use Rattle.eval_members.specs.declared.replacing.Replace.{Replace as Replaces}
 use Rattle.eval_members.specs.declared.replacing.Replace.TheVariants as replace
 use Rattle.eval_values.specs.declared.value.Kind.TheVariants.{TypeError}
 use Rattle.js_item.specs.Seen.{Val}
@@ -107,7 +107,7 @@ part_of cut.Slice u a b = slice_of u a b
 part_of cut.Substring u a b = substring_of u a b
 part_of cut.Substr u a b = substr_of u a b
 
-abbrev pub trimmed_of : Trim → List ℕ → List ℕ
+abbrev pub trimmed_of : Trims → List ℕ → List ℕ
 trimmed_of trim.Both u = trimmed u
 trimmed_of trim.Start u = trimmed_start u
 trimmed_of trim.End u = trimmed_end u
@@ -122,10 +122,10 @@ abbrev pub padded_of : Pad → List ℕ → ℕ → List ℕ → List ℕ
 padded_of pad.Start u m w = pad_start_of u m w
 padded_of pad.End u m w = pad_end_of u m w
 
-abbrev pub replaced_of : Replace → List ℕ → List ℕ → List ℕ → List ℕ
+abbrev pub replaced_of : Replaces → List ℕ → List ℕ → List ℕ → List ℕ
 replaced_of replace.First u w t = replaced_first u w t
 replaced_of replace.All u w t = replaced_all u w t
 
-abbrev pub match_count : Replace → List ℕ → List ℕ → ℕ
+abbrev pub match_count : Replaces → List ℕ → List ℕ → ℕ
 match_count replace.First u w = 1
 match_count replace.All u w = length (matches u w)
