@@ -8,7 +8,7 @@ use Rattle.js_lex.proofs.SomeAnswer as lexed
 use Rattle.parse_syntax.specs.Reader.{Answer, Got, Bad, Kind, read_whole}
 use Rattle.parse_syntax.specs.Refused.{IsRefused}
 use Rattle.parse_syntax.proofs.One as grammar
-use Rattle.parse_syntax.specs.declared.token.Token.{Token}
+use Rattle.parse_syntax.specs.declared.token.GrammarToken.{GrammarToken}
 use Rattle.eval_tree.specs.Tree.{Tree, StmtTree, Stmts, stmts}
 use Rattle.parse_syntax.specs.Tables.{Tables}
 use Rattle.parse_syntax.specs.Grammar.{Statements, own_names, most}
@@ -36,12 +36,12 @@ module _ (r : Role) (bytes : List ℕ) where
       ap (λ n. make n x.keys) a ∙ ap (λ k. make y.names k) b
 
   -- what the same bytes are read as is the same
-  record Same (ts us : List Token) (xs ys : List (List ℕ)) (a b : Tables) : Type 0 where
+  record Same (ts us : List GrammarToken) (xs ys : List (List ℕ)) (a b : Tables) : Type 0 where
     tokens : ts ≡ us
     literals : xs ≡ ys
     tables : a ≡ b
 
-  one_source : (ts us : List Token) (xs ys : List (List ℕ)) (a b : Tables) → Reads bytes ts xs a.names a.keys → Reads bytes us ys b.names b.keys → Same ts us xs ys a b
+  one_source : (ts us : List GrammarToken) (xs ys : List (List ℕ)) (a b : Tables) → Reads bytes ts xs a.names a.keys → Reads bytes us ys b.names b.keys → Same ts us xs ys a b
   one_source ts us xs ys a b p q =
       let same = same_source bytes ts us xs ys a.names b.names a.keys b.keys p q in
       record { tokens = same.0; literals = same.1; tables = same_tables a b same.2 same.3 }
@@ -55,21 +55,21 @@ module _ (r : Role) (bytes : List ℕ) where
       same_tree x y same.literals (p.body ∙ (ap stmts lines ∙ sym q.body)) (p.top ∙ (ap own_names lines ∙ sym q.top))
 
   -- what holds of one parse holds of the other
-  carried : (P : Tables → List Token → Tree → Type 0) (x y : Tree) (p : Parses r bytes x) (q : Parses r bytes y) → P q.tables q.tokens y → P p.tables p.tokens x
+  carried : (P : Tables → List GrammarToken → Tree → Type 0) (x y : Tree) (p : Parses r bytes x) (q : Parses r bytes y) → P q.tables q.tokens y → P p.tables p.tokens x
   carried P x y p q h =
       let same = one_source p.tokens q.tokens x.literals y.literals p.tables q.tables p.reads q.reads in
       subst (λ a. P a p.tokens x) (sym same.tables) (subst (λ t. P q.tables t x) (sym same.tokens) (subst (λ z. P q.tables q.tokens z) (sym (one_parse x y p q)) h))
 
   -- the same tokens and tables
-  same_refusal : (ts us : List Token) (xs ys : List (List ℕ)) (a b : Tables) (k : Kind) (rest : List Token) → Reads bytes ts xs a.names a.keys → Reads bytes us ys b.names b.keys → IsRefused (Statements b (prints r)) most us k rest → IsRefused (Statements a (prints r)) most ts k rest
+  same_refusal : (ts us : List GrammarToken) (xs ys : List (List ℕ)) (a b : Tables) (k : Kind) (rest : List GrammarToken) → Reads bytes ts xs a.names a.keys → Reads bytes us ys b.names b.keys → IsRefused (Statements b (prints r)) most us k rest → IsRefused (Statements a (prints r)) most ts k rest
   same_refusal ts us xs ys a b k rest p q h =
       let same = one_source ts us xs ys a b p q in
       subst (λ n. IsRefused (Statements n (prints r)) most ts k rest) (sym same.tables) (subst (λ t. IsRefused (Statements b (prints r)) most t k rest) (sym same.tokens) h)
 
-  not_parsed : (x : Tree) (ts : List Token) (xs : List (List ℕ)) (a : Tables) (k : Kind) (rest : List Token) → Parses r bytes x → Reads bytes ts xs a.names a.keys → IsRefused (Statements a (prints r)) most ts k rest → ⊥
+  not_parsed : (x : Tree) (ts : List GrammarToken) (xs : List (List ℕ)) (a : Tables) (k : Kind) (rest : List GrammarToken) → Parses r bytes x → Reads bytes ts xs a.names a.keys → IsRefused (Statements a (prints r)) most ts k rest → ⊥
   not_parsed x ts xs a k rest p q h = grammar.not_both (Statements p.tables (prints r)) most p.tokens p.statements k rest p.parsed (same_refusal p.tokens ts x.literals xs p.tables a k rest p.reads q h)
 
-  no_fault : (ts : List Token) (xs ns ks : List (List ℕ)) (f : LexFault) → Reads bytes ts xs ns ks → LexFaultOf bytes f → ⊥
+  no_fault : (ts : List GrammarToken) (xs ns ks : List (List ℕ)) (f : LexFault) → Reads bytes ts xs ns ks → LexFaultOf bytes f → ⊥
   no_fault ts xs ns ks f a h = lexer.apart bytes a.lexed f a.lexes h
 
 module _ (r : Role) (outer : List (List ℕ)) (bytes : List ℕ) where
@@ -101,7 +101,7 @@ module _ (r : Role) (outer : List (List ℕ)) (bytes : List ℕ) where
   of_tree x p (inl none) = inl (x, record { parses = p; innocent = none })
   of_tree x p (inr h) = inr (misnamed h.0, of_names x h.0 p h.1)
 
-  of_tokens : (ts : List Token) (xs : List (List ℕ)) (a : Tables) → Reads bytes ts xs a.names a.keys → (q : Answer Token (List StmtTree)) → read_whole (read_statements a (prints r) most) ts ≡ q → ((y : Tree) × Spells r outer bytes y) ⊎ ((e : ParseFault) × Refused r outer bytes e)
+  of_tokens : (ts : List GrammarToken) (xs : List (List ℕ)) (a : Tables) → Reads bytes ts xs a.names a.keys → (q : Answer GrammarToken (List StmtTree)) → read_whole (read_statements a (prints r) most) ts ≡ q → ((y : Tree) × Spells r outer bytes y) ⊎ ((e : ParseFault) × Refused r outer bytes e)
   of_tokens ts xs a p (Got lines rest) e =
       let x : Tree = record { literals = xs; body = stmts lines; top = own_names lines } in
       of_tree x (record { tokens = ts; tables = a; statements = lines; reads = p; parsed = all_read a (prints r) most ts lines rest e; body = refl; top = refl }) (right_or_first outer a ts x)

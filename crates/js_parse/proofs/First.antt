@@ -4,7 +4,7 @@ use Rattle.std.specs.Prelude.{nat_lt}
 use Rattle.std.proofs.lemmas.Bool.{ltb-true, ltb-false}
 use Rattle.eval_tree.specs.Tree.{Tree}
 use Rattle.parse_syntax.specs.Reader.{is_some}
-use Rattle.parse_syntax.specs.declared.token.Token.{Token}
+use Rattle.parse_syntax.specs.declared.token.GrammarToken.{GrammarToken}
 use Rattle.parse_syntax.specs.Tables.{Tables}
 use Rattle.parse_syntax.specs.Terminals.{colon, place}
 use Rattle.js_parse.specs.Names.{Declaring, NameFault, Duplicate, LoopName, ProtoKey}
@@ -50,7 +50,7 @@ only f g (inl e) = e
 only f g (inr i) = absurd i
 
 module _ (tables : Tables) where
-  key_of : (b : Token) (ts : List Token) (f : NameFault) → opens_entry b ≡ true → In f (key_first tables ts) → (at : ℕ) × (f ≡ ProtoKey at) × HasProtoKey tables (b ∷ ts) at
+  key_of : (b : GrammarToken) (ts : List GrammarToken) (f : NameFault) → opens_entry b ≡ true → In f (key_first tables ts) → (at : ℕ) × (f ≡ ProtoKey at) × HasProtoKey tables (b ∷ ts) at
   key_of b [] f o i = absurd i
   key_of b (k ∷ []) f o i = absurd i
   key_of b (k ∷ c ∷ ts) f o i =
@@ -58,17 +58,17 @@ module _ (tables : Tables) where
       let p = opened (is_proto tables k) (ProtoKey (place k) ∷ []) f q.1 in
       (place k, only f (ProtoKey (place k)) p.1, here b k c ts o p.0 q.0)
 
-  key_sound : (ts : List Token) (f : NameFault) → In f (proto_faults tables ts) → (at : ℕ) × (f ≡ ProtoKey at) × HasProtoKey tables ts at
+  key_sound : (ts : List GrammarToken) (f : NameFault) → In f (proto_faults tables ts) → (at : ℕ) × (f ≡ ProtoKey at) × HasProtoKey tables ts at
   key_sound [] f i = absurd i
   key_sound (b ∷ ts) f i = either (apart f (proto_behind tables b ts) (proto_faults tables ts) i)
       (λ j. let o = opened (opens_entry b) (key_first tables ts) f j in key_of b ts f o.0 o.1)
       (λ j. let r = key_sound ts f j in (r.0, r.1, later b ts r.0 r.2))
 
-  key_complete : (ts : List Token) (at : ℕ) → HasProtoKey tables ts at → In (ProtoKey at) (proto_faults tables ts)
+  key_complete : (ts : List GrammarToken) (at : ℕ) → HasProtoKey tables ts at → In (ProtoKey at) (proto_faults tables ts)
   key_complete _ _ (here b k c ts o p q) = in_left (ProtoKey (place k)) (proto_behind tables b (k ∷ c ∷ ts)) (proto_faults tables (k ∷ c ∷ ts)) (rw (o, q, p) (inl refl))
   key_complete _ _ (later t ts at h) = in_right (ProtoKey at) (proto_behind tables t ts) (proto_faults tables ts) (key_complete ts at h)
 
-module _ (outer : List (List ℕ)) (tables : Tables) (tokens : List Token) (t : Tree) where
+module _ (outer : List (List ℕ)) (tables : Tables) (tokens : List GrammarToken) (t : Tree) where
   abbrev pub all_faults : List NameFault
   all_faults = proto_faults tables tokens ++ faults_of outer t
 
@@ -125,5 +125,5 @@ same_rank (LoopName a) (ProtoKey b) e = absurd (omega arith)
 same_rank (ProtoKey a) (Duplicate b) e = absurd (omega arith)
 same_rank (ProtoKey a) (LoopName b) e = absurd (omega arith)
 
-pub one_first : (outer : List (List ℕ)) (tables : Tables) (tokens : List Token) (t : Tree) (f g : NameFault) → IsFirstFault outer tables tokens t f → IsFirstFault outer tables tokens t g → f ≡ g
+pub one_first : (outer : List (List ℕ)) (tables : Tables) (tokens : List GrammarToken) (t : Tree) (f g : NameFault) → IsFirstFault outer tables tokens t f → IsFirstFault outer tables tokens t g → f ≡ g
 one_first outer tables tokens t f g a b = let l : rank f ≤ rank g = a.first g b.has in let m : rank g ≤ rank f = b.first f a.has in same_rank f g (omega arith)

@@ -8,7 +8,7 @@ use Rattle.parse_syntax.specs.Refused.{IsRefused}
 use Rattle.parse_look.specs.declared.fault.Fault.{Fault}
 use Rattle.parse_look.specs.declared.fault.Fault.TheVariants as parser
 use Rattle.parse_look.specs.Gives.{OnFault}
-use Rattle.parse_syntax.specs.declared.token.Token.{Token}
+use Rattle.parse_syntax.specs.declared.token.GrammarToken.{GrammarToken}
 use Rattle.parse_syntax.specs.Tables.{Tables}
 use Rattle.parse_syntax.specs.Grammar.{Statements, own_names, most}
 use Rattle.eval_tree.specs.declared.tree.Script.{Script}
@@ -32,31 +32,31 @@ lex_refused role bytes (lex.Literal f) (inr h) = inr (λ outer. lexical (lex.Lit
 lex_refused role bytes (lex.Number f) (inr h) = inr (λ outer. lexical (lex.Number f) h)
 
 -- what the parser says of a fault
-abbrev pub Says : Fault → (Kind → List Token → Type 0) → Type 0
+abbrev pub Says : Fault → (Kind → List GrammarToken → Type 0) → Type 0
 Says parser.Memory P = Unit {0}
 Says (parser.Wrong rest) P = P Wrong rest.now
 Says (parser.TooDeep rest) P = P TooDeep rest.now
 
-pub grammar_refused : (role : Role) (bytes : List ℕ) (end : ℕ) (ts : List Token) (literals : List (List ℕ)) (tables : Tables) (f : Fault) → end ≡ length bytes → Reads bytes ts literals tables.names tables.keys → Says f (IsRefused (Statements tables (prints role)) most ts) → IsRefusal role bytes (grammar_fault f ts end)
+pub grammar_refused : (role : Role) (bytes : List ℕ) (end : ℕ) (ts : List GrammarToken) (literals : List (List ℕ)) (tables : Tables) (f : Fault) → end ≡ length bytes → Reads bytes ts literals tables.names tables.keys → Says f (IsRefused (Statements tables (prints role)) most ts) → IsRefusal role bytes (grammar_fault f ts end)
 grammar_refused role bytes end ts literals tables parser.Memory e reads h = inl refl
 grammar_refused role bytes end ts literals tables (parser.Wrong rest) e reads h = rw e (inr (λ outer. grammatical ts literals tables Wrong rest.now reads h))
 grammar_refused role bytes end ts literals tables (parser.TooDeep rest) e reads h = rw e (inr (λ outer. grammatical ts literals tables TooDeep rest.now reads h))
 
-pub says_of : (f : Fault) (P : Kind → List Token → Type 0) → OnFault {X = ℕ} (Err f) P → Says f P
+pub says_of : (f : Fault) (P : Kind → List GrammarToken → Type 0) → OnFault {X = ℕ} (Err f) P → Says f P
 says_of parser.Memory P h = tt
 says_of (parser.Wrong rest) P h = h
 says_of (parser.TooDeep rest) P h = h
 
 -- the same of what the calls gave
-pub grammar_told : (role : Role) (bytes : List ℕ) (ts tokens others : List Token) (literals : List (List ℕ)) (tables : Tables) (printing : Bool) (f : Fault) (r : ParseFault) → printing ≡ prints role → tokens ≡ ts → others ≡ ts → Reads bytes ts literals tables.names tables.keys → Says f (IsRefused (Statements tables printing) most tokens) → r ≡ grammar_fault f others (length bytes) → IsRefusal role bytes r
+pub grammar_told : (role : Role) (bytes : List ℕ) (ts tokens others : List GrammarToken) (literals : List (List ℕ)) (tables : Tables) (printing : Bool) (f : Fault) (r : ParseFault) → printing ≡ prints role → tokens ≡ ts → others ≡ ts → Reads bytes ts literals tables.names tables.keys → Says f (IsRefused (Statements tables printing) most tokens) → r ≡ grammar_fault f others (length bytes) → IsRefusal role bytes r
 grammar_told role bytes ts tokens others literals tables printing f r p t o reads h e =
-    let P : Bool → List Token → Type 0 = λ b us. Says f (IsRefused (Statements tables b) most us) in
+    let P : Bool → List GrammarToken → Type 0 = λ b us. Says f (IsRefused (Statements tables b) most us) in
     let a : P (prints role) tokens = subst (λ b. P b tokens) p h in
     let b : P (prints role) ts = subst (λ us. P (prints role) us) t a in
     rw (e, o) (grammar_refused role bytes (length bytes) ts literals tables f refl reads b)
 
 -- the tree and the first key that is __proto__
-pub parses_with : (role : Role) (bytes : List ℕ) (ts tokens others : List Token) (literals : List (List ℕ)) (tables : Tables) (printing : Bool) (x : Script) (body : List Stmt) (found : Option NameFault) → printing ≡ prints role → tokens ≡ ts → others ≡ ts → Reads bytes ts literals tables.names tables.keys → Statements tables printing most tokens (map stmt_tree body) → x.literals.items ≡ literals → x.body.items ≡ body → x.top ≡ own_names (map stmt_tree body) → found ≡ offers None (proto_faults tables others) → ParsesWith role bytes (tree_of x) found
+pub parses_with : (role : Role) (bytes : List ℕ) (ts tokens others : List GrammarToken) (literals : List (List ℕ)) (tables : Tables) (printing : Bool) (x : Script) (body : List Stmt) (found : Option NameFault) → printing ≡ prints role → tokens ≡ ts → others ≡ ts → Reads bytes ts literals tables.names tables.keys → Statements tables printing most tokens (map stmt_tree body) → x.literals.items ≡ literals → x.body.items ≡ body → x.top ≡ own_names (map stmt_tree body) → found ≡ offers None (proto_faults tables others) → ParsesWith role bytes (tree_of x) found
 parses_with role bytes ts tokens others literals tables printing x body found p t o reads h l b top f = record {
   parses = record {
     tokens = ts;

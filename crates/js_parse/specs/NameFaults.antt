@@ -5,7 +5,7 @@ use Rattle.std.specs.Str.{bytes_eq}
 use Rattle.eval_tree.specs.Tree as tree
 use Rattle.eval_tree.specs.Tree.{Tree, StmtTree, BlockTree, block_of, Stmts, Arms}
 use Rattle.parse_syntax.specs.Reader.{is_some}
-use Rattle.parse_syntax.specs.declared.token.Token.{Token}
+use Rattle.parse_syntax.specs.declared.token.GrammarToken.{GrammarToken}
 use Rattle.parse_syntax.specs.Tables.{Tables}
 use Rattle.parse_syntax.specs.Terminals.{colon, place}
 use Rattle.js_parse.specs.Names.{NameFault, Duplicate, LoopName, ProtoKey}
@@ -78,19 +78,19 @@ abbrev pub faults_of : List (List ℕ) → Tree → List NameFault
 faults_of outer t = faults_among t.body (all_marked false t.top nobody) (is_in outer)
 
 -- a key that is __proto__
-abbrev pub proto_fault : Tables → Token → List NameFault
+abbrev pub proto_fault : Tables → GrammarToken → List NameFault
 proto_fault tables k = if is_proto tables k then ProtoKey (place k) ∷ [] else []
 
 -- that of the first token, where a colon follows it
-abbrev pub key_first : Tables → List Token → List NameFault
+abbrev pub key_first : Tables → List GrammarToken → List NameFault
 key_first tables (k ∷ c ∷ ts) = if is_some (colon c) then proto_fault tables k else []
 key_first tables _ = []
 
 -- that behind a token
-abbrev pub proto_behind : Tables → Token → List Token → List NameFault
+abbrev pub proto_behind : Tables → GrammarToken → List GrammarToken → List NameFault
 proto_behind tables b ts = if opens_entry b then key_first tables ts else []
 
-abbrev pub proto_faults : Tables → List Token → List NameFault
+abbrev pub proto_faults : Tables → List GrammarToken → List NameFault
 proto_faults tables [] = []
 proto_faults tables (b ∷ ts) = proto_behind tables b ts ++ proto_faults tables ts
 

@@ -4,7 +4,7 @@ use Rattle.js_lex.specs.declared.token.LexFault.{LexFault}
 use Rattle.js_lex.specs.Tokens.{LexFaultOf}
 use Rattle.parse_syntax.specs.Reader.{Kind, Wrong, TooDeep, is_some}
 use Rattle.parse_syntax.specs.Refused.{IsRefused}
-use Rattle.parse_syntax.specs.declared.token.Token.{Token}
+use Rattle.parse_syntax.specs.declared.token.GrammarToken.{GrammarToken}
 use Rattle.parse_syntax.specs.Tables.{Tables}
 use Rattle.parse_syntax.specs.Terminals.{is_word, place, point, opening}
 use Rattle.eval_tree.specs.Tree.{Tree, StmtTree, stmts}
@@ -24,7 +24,7 @@ prints role.Main = true
 
 -- the bytes are of the grammar, and give this tree
 pub record Parses (r : Role) (bytes : List ℕ) (script : Tree) : Type 0 where
-  pub tokens : List Token
+  pub tokens : List GrammarToken
   pub tables : Tables
   pub statements : List StmtTree
   pub reads : Reads bytes tokens script.literals tables.names tables.keys
@@ -38,25 +38,25 @@ pub record Spells (r : Role) (outer : List (List ℕ)) (bytes : List ℕ) (scrip
   pub innocent : (f : NameFault) → HasNameFault outer parses.tables parses.tokens script f → ⊥
 
 -- the tokens before the rest
-abbrev pub front_of : List Token → List Token → List Token
+abbrev pub front_of : List GrammarToken → List GrammarToken → List GrammarToken
 front_of tokens rest = take (length tokens - length rest) tokens
 
 -- of a point and a word the place of the word
-abbrev pub pointed : List Token → Option ℕ
+abbrev pub pointed : List GrammarToken → Option ℕ
 pointed (p ∷ t ∷ []) = if is_some (point p) then (if is_word t then Some (place t) else None) else None
 pointed _ = None
 
 -- the word behind a point that ends the front, where ( follows. Where it is a method, ( is never wrong
-abbrev pub called : List Token → Token → Option ℕ
+abbrev pub called : List GrammarToken → GrammarToken → Option ℕ
 called front t = if is_some (opening t) then pointed (drop (length front - 2) front) else None
 
 -- a token can't stand there: a word that is called so is at fault in its place
-abbrev pub misplaced_at : Option ℕ → Token → ParseFault
+abbrev pub misplaced_at : Option ℕ → GrammarToken → ParseFault
 misplaced_at (Some at) t = fault.NotInProfile at
 misplaced_at None t = if is_word t then fault.NotInProfile (place t) else fault.Unexpected (place t)
 
 -- the fault at the first token of the rest behind the front, or at the end of the text
-abbrev pub misplaced : Kind → List Token → List Token → ℕ → ParseFault
+abbrev pub misplaced : Kind → List GrammarToken → List GrammarToken → ℕ → ParseFault
 misplaced Wrong front [] end = fault.Unexpected end
 misplaced Wrong front (t ∷ rest) end = misplaced_at (called front t) t
 misplaced TooDeep front [] end = fault.TooDeep end
@@ -71,7 +71,7 @@ misnamed (ProtoKey at) = fault.NotInProfile at
 -- tokens begin no script; where they are one, the first fault of its names and keys
 pub data Refused (r : Role) (outer : List (List ℕ)) (bytes : List ℕ) : ParseFault → Type 0 where
   lexical : (f : LexFault) → LexFaultOf bytes f → Refused r outer bytes (fault.Lex f)
-  grammatical : (tokens : List Token) (literals : List (List ℕ)) (tables : Tables) (kind : Kind) (rest : List Token) → Reads bytes tokens literals tables.names tables.keys → IsRefused (Statements tables (prints r)) most tokens kind rest → Refused r outer bytes (misplaced kind (front_of tokens rest) rest (length bytes))
+  grammatical : (tokens : List GrammarToken) (literals : List (List ℕ)) (tables : Tables) (kind : Kind) (rest : List GrammarToken) → Reads bytes tokens literals tables.names tables.keys → IsRefused (Statements tables (prints r)) most tokens kind rest → Refused r outer bytes (misplaced kind (front_of tokens rest) rest (length bytes))
   of_names : (script : Tree) (f : NameFault) (p : Parses r bytes script) → IsFirstFault outer p.tables p.tokens script f → Refused r outer bytes (misnamed f)
 
 -- x, or out of memory

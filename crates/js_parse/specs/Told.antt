@@ -8,7 +8,7 @@ use Rattle.parse_look.specs.declared.fault.Fault.TheVariants as grammatical
 use Rattle.js_parse.specs.declared.fault.Role.{Role}
 use Rattle.js_parse.specs.declared.fault.ParseFault.{ParseFault}
 use Rattle.js_parse.specs.declared.fault.ParseFault.TheVariants as fault
-use Rattle.parse_syntax.specs.declared.token.Token.{Token}
+use Rattle.parse_syntax.specs.declared.token.GrammarToken.{GrammarToken}
 use Rattle.eval_tree.specs.Tree.{Tree}
 use Rattle.js_parse.specs.Names.{NameFault}
 use Rattle.js_parse.specs.NameFaults.{offers, proto_faults}
@@ -18,7 +18,7 @@ abbrev pub lex_fault : LexFault → ParseFault
 lex_fault lexical.Memory = fault.Memory
 lex_fault f = fault.Lex f
 
-abbrev pub grammar_fault : Fault → List Token → ℕ → ParseFault
+abbrev pub grammar_fault : Fault → List GrammarToken → ℕ → ParseFault
 grammar_fault grammatical.Memory tokens end = fault.Memory
 grammar_fault (grammatical.Wrong rest) tokens end = misplaced Wrong (front_of tokens rest.now) rest.now end
 grammar_fault (grammatical.TooDeep rest) tokens end = misplaced TooDeep (front_of tokens rest.now) rest.now end

@@ -16,7 +16,7 @@ use js_lex::LexFault;
 use js_units::{NoMemory, Units};
 use parse_statements::{declared, statements};
 use parse_syntax::Tables;
-use parse_tokens::{Source, tokens};
+use parse_tokens::{ScriptTokens, tokens};
 use std::alloc::Global;
 
 fn prints(role: Role) -> bool
@@ -65,7 +65,7 @@ pub(crate) fn grammatical(
         Ok(source) => source,
         Err(fault) => return Err(lex_fault(fault)),
     };
-    let Source {
+    let ScriptTokens {
         tokens,
         literals,
         names,

@@ -10,54 +10,54 @@ use crate::fault::ParseFault;
 use js_lex::Mark;
 use parse_look::next;
 use parse_statements::Fault;
-use parse_syntax::Token;
+use parse_syntax::GrammarToken;
 
 // The offset of a token.
-pub(crate) fn place(token: &Token) -> u32
+pub(crate) fn place(token: &GrammarToken) -> u32
     ensures { result ≡ terminals.place token.now }
 {
     match token {
-        Token::Directive { at } => *at,
-        Token::Text { at, .. } => *at,
-        Token::Number { at, .. } => *at,
-        Token::Name { at, .. } => *at,
-        Token::Word { at, .. } => *at,
-        Token::Mark { at, .. } => *at,
+        GrammarToken::Directive { at } => *at,
+        GrammarToken::Text { at, .. } => *at,
+        GrammarToken::Number { at, .. } => *at,
+        GrammarToken::Name { at, .. } => *at,
+        GrammarToken::Word { at, .. } => *at,
+        GrammarToken::Mark { at, .. } => *at,
     }
 }
 
 // Whether a token that can't stand where it stands is a word.
-fn is_word(token: &Token) -> bool
+fn is_word(token: &GrammarToken) -> bool
     ensures { result ≡ terminals.is_word token.now }
 {
     match token {
-        Token::Name { .. } => true,
-        Token::Word { .. } => true,
-        Token::Directive { .. } => false,
-        Token::Text { .. } => false,
-        Token::Number { .. } => false,
-        Token::Mark { .. } => false,
+        GrammarToken::Name { .. } => true,
+        GrammarToken::Word { .. } => true,
+        GrammarToken::Directive { .. } => false,
+        GrammarToken::Text { .. } => false,
+        GrammarToken::Number { .. } => false,
+        GrammarToken::Mark { .. } => false,
     }
 }
 
-fn is_opening(token: &Token) -> bool
+fn is_opening(token: &GrammarToken) -> bool
     ensures { result ≡ is_some (terminals.opening token.now) }
 {
     matches!(
         token,
-        Token::Mark {
+        GrammarToken::Mark {
             mark: Mark::OpenParen,
             ..
         }
     )
 }
 
-fn is_point(token: Token) -> bool
+fn is_point(token: GrammarToken) -> bool
     ensures { result ≡ is_some (terminals.point token) }
 {
     matches!(
         token,
-        Token::Mark {
+        GrammarToken::Mark {
             mark: Mark::Point,
             ..
         }
@@ -65,7 +65,7 @@ fn is_point(token: Token) -> bool
 }
 
 // The tokens before the rest.
-fn front<'a>(tokens: &'a [Token], rest: &[Token]) -> &'a [Token]
+fn front<'a>(tokens: &'a [GrammarToken], rest: &[GrammarToken]) -> &'a [GrammarToken]
     ensures { result.now ≡ front_of tokens.now rest.now }
 {
     let count = tokens.len().saturating_sub(rest.len());
@@ -73,7 +73,7 @@ fn front<'a>(tokens: &'a [Token], rest: &[Token]) -> &'a [Token]
 }
 
 // Of two tokens that are a point and a word the place of the word.
-fn pointed(two: &[Token]) -> Option<u32>
+fn pointed(two: &[GrammarToken]) -> Option<u32>
     ensures { result ≡ definition.pointed two.now }
 {
     let (point, rest) = next(two)?;
@@ -92,7 +92,7 @@ fn pointed(two: &[Token]) -> Option<u32>
 }
 
 // The word behind a point that ends the front, where `(` follows.
-fn called(front: &[Token], token: &Token) -> Option<u32>
+fn called(front: &[GrammarToken], token: &GrammarToken) -> Option<u32>
     ensures { result ≡ definition.called front.now token.now }
 {
     if !is_opening(token) {
@@ -102,7 +102,7 @@ fn called(front: &[Token], token: &Token) -> Option<u32>
     pointed(&front[before..])
 }
 
-fn misplaced_at(called: Option<u32>, token: &Token) -> ParseFault
+fn misplaced_at(called: Option<u32>, token: &GrammarToken) -> ParseFault
     ensures { result ≡ definition.misplaced_at called token.now }
 {
     let at = place(token);
@@ -119,7 +119,7 @@ fn misplaced_at(called: Option<u32>, token: &Token) -> ParseFault
 }
 
 // The fault at a token that can't stand there, or at the end.
-fn wrong(tokens: &[Token], rest: &[Token], end: u32) -> ParseFault
+fn wrong(tokens: &[GrammarToken], rest: &[GrammarToken], end: u32) -> ParseFault
     ensures { result ≡ misplaced Wrong (front_of tokens.now rest.now) rest.now end }
 {
     match rest {
@@ -129,7 +129,7 @@ fn wrong(tokens: &[Token], rest: &[Token], end: u32) -> ParseFault
 }
 
 // The fault at a token that opens one too many.
-fn too_deep(tokens: &[Token], rest: &[Token], end: u32) -> ParseFault
+fn too_deep(tokens: &[GrammarToken], rest: &[GrammarToken], end: u32) -> ParseFault
     ensures { result ≡ misplaced TooDeep (front_of tokens.now rest.now) rest.now end }
 {
     match rest {
@@ -139,7 +139,7 @@ fn too_deep(tokens: &[Token], rest: &[Token], end: u32) -> ParseFault
 }
 
 /// The fault of tokens of a text of this length.
-pub(crate) fn grammar_fault(fault: Fault<'_>, tokens: &[Token], end: u32) -> ParseFault
+pub(crate) fn grammar_fault(fault: Fault<'_>, tokens: &[GrammarToken], end: u32) -> ParseFault
     ensures { result ≡ told.grammar_fault fault.entry tokens.now end }
 {
     match fault {

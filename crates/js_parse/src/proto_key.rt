@@ -11,26 +11,26 @@ use crate::misplaced::place;
 use crate::name_fault::{NameFault, offer};
 use js_lex::Mark;
 use parse_look::next;
-use parse_syntax::{Tables, Token};
+use parse_syntax::{GrammarToken, Tables};
 
-fn opens_entry(token: Token) -> bool
+fn opens_entry(token: GrammarToken) -> bool
     ensures { result ≡ definition.opens_entry token }
 {
     matches!(
         token,
-        Token::Mark {
+        GrammarToken::Mark {
             mark: Mark::OpenBrace | Mark::Comma,
             ..
         }
     )
 }
 
-fn is_colon(token: Token) -> bool
+fn is_colon(token: GrammarToken) -> bool
     ensures { result ≡ is_some (terminals.colon token) }
 {
     matches!(
         token,
-        Token::Mark {
+        GrammarToken::Mark {
             mark: Mark::Colon,
             ..
         }
@@ -56,24 +56,24 @@ fn is_proto_text(tables: &Tables, number: u32) -> bool
 }
 
 // Whether the key is `__proto__`.
-fn is_proto(tables: &Tables, key: Token) -> bool
+fn is_proto(tables: &Tables, key: GrammarToken) -> bool
     ensures { result ≡ definition.is_proto (tables_of tables.now) key }
 {
     match key {
-        Token::Text { number, .. } => is_proto_text(tables, number),
-        Token::Name { number, .. } => is_proto_word(tables, number),
-        Token::Word { number, .. } => is_proto_word(tables, number),
-        Token::Number { .. } => false,
-        Token::Directive { .. } => false,
-        Token::Mark { .. } => false,
+        GrammarToken::Text { number, .. } => is_proto_text(tables, number),
+        GrammarToken::Name { number, .. } => is_proto_word(tables, number),
+        GrammarToken::Word { number, .. } => is_proto_word(tables, number),
+        GrammarToken::Number { .. } => false,
+        GrammarToken::Directive { .. } => false,
+        GrammarToken::Mark { .. } => false,
     }
 }
 
 // The first of a fault and that of the key behind a token, where one stands there.
 fn behind(
     tables: &Tables,
-    token: Token,
-    rest: &[Token],
+    token: GrammarToken,
+    rest: &[GrammarToken],
     first: Option<NameFault>,
 ) -> Option<NameFault>
     ensures { found_of result ≡ offers (found_of first) (proto_behind (tables_of tables.now) token rest.now) }
@@ -97,7 +97,7 @@ fn behind(
 }
 
 /// The first key of an object literal that is `__proto__`, if there is one.
-pub(crate) fn first_proto_key(tables: &Tables, tokens: &[Token]) -> Option<NameFault>
+pub(crate) fn first_proto_key(tables: &Tables, tokens: &[GrammarToken]) -> Option<NameFault>
     ensures { found_of result ≡ offers None (proto_faults (tables_of tables.now) tokens.now) }
 {
     let mut first = None;
