@@ -1,4 +1,4 @@
-use Rattle.std.proofs.Common.{◌≡◌, ◌+◌, ◌<◌, ◌≤◌, ◌++◌, take, length, All}
+use Rattle.std.proofs.Common.{◌≡◌, ◌+◌, ◌<◌, ◌++◌, take, length, All}
 use Rattle.js_json.proofs.printing.push_front.Given as goal
 
 abbrev pub invariant-loop-i : goal.invariant-loop-i
