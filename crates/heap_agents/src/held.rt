@@ -3,7 +3,6 @@ ghost use Rattle.std.specs.Prelude.{◌≡◌, ◌↔◌, ℕ, List, Contains, I
 ghost use Rattle.heap_rule.specs.Maps.{HasKey};
 ghost use Rattle.heap_rule.specs.Views.{history};
 ghost use Rattle.heap_agents.specs.Held.{IsHeld, KeepsMarks, view_by};
-ghost use Rattle.heap_agents.specs.Members.{view_if};
 ghost use Rattle.heap_agents.specs.Sets.{IsIn};
 
 use crate::ids::IdSet;
@@ -12,9 +11,9 @@ use std::alloc::Global;
 use std::sync::Arc;
 use std::sync::atomic::AtomicU64;
 
-/// An agent of a heap, and beside it how many agents the heap may have, the ids that were answered to it, those of them that the string table
-/// answered, its number and that of the agent that it was split off from. Numbers are counted by all
-/// agents of a heap together.
+/// An agent of a heap, and beside it how many agents the heap may have, the ids that were answered to
+/// it, those of them that the string table answered, its number and that of the agent that it was split
+/// off from. Numbers are counted by all agents of a heap together.
 #[derive(Drop)]
 pub struct Held {
     pub(crate) member: HeapAgent,

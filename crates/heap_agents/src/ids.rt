@@ -1,6 +1,6 @@
 // A set of numbers below a bound that is told when it is made, a bit for each: what an agent of the heap
 // keeps of the ids that it may use.
-ghost use Rattle.std.specs.Prelude.{◌≡◌, ◌↔◌, ◌⊎◌, ℕ, ◌*◌, ◌<◌, ◌≤◌, IfOk, IsTrue};
+ghost use Rattle.std.specs.Prelude.{◌≡◌, ◌↔◌, ◌⊎◌, ℕ, ◌<◌, IfOk, IsTrue};
 ghost use Rattle.heap_agents.specs.Sets.{Covers, IsIn};
 
 use std::alloc::{AllocError, Global};

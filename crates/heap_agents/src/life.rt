@@ -1,5 +1,5 @@
 // How heaps and agents are made and given back.
-ghost use Rattle.std.specs.Prelude.{◌≡◌, ◌↔◌, ◌++◌, ◌+◌, ◌≤◌, ◌<◌, ℕ, IfOk, IfErr, IsTrue, OnOk, Err};
+ghost use Rattle.std.specs.Prelude.{◌≡◌, ◌↔◌, ◌++◌, ◌+◌, ◌≤◌, ◌<◌, ℕ, IfOk, IfErr, OnOk, Err};
 ghost use Rattle.heap_rule.specs.Agents.{MayJoin, first_view, joined, left_after_split, right_after_split};
 ghost use Rattle.heap_rule.specs.Layout.{MAX};
 ghost use Rattle.heap_rule.specs.Views.{history};

@@ -1,14 +1,11 @@
 // Strings of given units, of two strings, and of a part of one.
-ghost use Rattle.std.specs.Prelude.{◌≡◌, ◌≢◌, ℕ, ◌+◌, ◌-◌, ◌++◌, ◌⊎◌, ◌≤◌, ◌<◌, List, length, IfOk, IfErr, Result};
+ghost use Rattle.std.specs.Prelude.{ℕ, ◌+◌, ◌-◌, ◌++◌, ◌≤◌, ◌<◌, List, length, IfOk, IfErr, Result};
 ghost use Rattle.js_units.specs.Lanes.{is_wide, words_over};
-ghost use Rattle.heap_read.specs.declared.string.JsStr as js_str;
 ghost use Rattle.heap_rule.specs.Births.{part};
 ghost use Rattle.heap_rule.specs.Layout.{MAX};
 ghost use Rattle.heap_rule.specs.Maps.{Has, HasKey};
 ghost use Rattle.heap_rule.specs.Views.{IsSettled};
 ghost use Rattle.heap_table.specs.Agents.{size_of};
-ghost use Rattle.heap_text.specs.declared.faults.JoinFault as join_fault;
-ghost use Rattle.heap_text.specs.declared.faults.TextFull as text_full;
 ghost use Rattle.heap_text.specs.Joins.{IsCut, IsJoined};
 ghost use Rattle.heap_text.specs.Texts.{Told, Uses};
 ghost use Rattle.heap_agents.specs.Held.{IsHeld, Leaves, size_by, view_by};

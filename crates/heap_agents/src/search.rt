@@ -1,6 +1,5 @@
 // Comparing settled strings, and finding one in another, by the calls of `js_search` on a session.
 ghost use Rattle.std.specs.Prelude.{◌≡◌, ◌↔◌, ℕ, ◌≤◌, List, length, Option, IsTrue};
-ghost use Rattle.std.specs.declared.cmp.Ordering as ordering;
 ghost use Rattle.heap_rule.specs.Maps.{Has};
 ghost use Rattle.js_search.specs.Order.{units_cmp};
 ghost use Rattle.js_search.specs.Places.{IsFirst, IsLast, Stands, first, last, stands};

@@ -1,8 +1,7 @@
 // The string table.
-ghost use Rattle.std.specs.Prelude.{◌≡◌, ◌↔◌, ℕ, List, Result, IfOk, IsTrue, Contains};
+ghost use Rattle.std.specs.Prelude.{◌≡◌, ℕ, List, Result, IfOk};
 ghost use Rattle.heap_rule.specs.Maps.{Has, HasKey};
-ghost use Rattle.heap_rule.specs.Views.{IsSettled, history};
-ghost use Rattle.heap_string_table.specs.declared.faults.TableFull as table_full;
+ghost use Rattle.heap_rule.specs.Views.{IsSettled};
 ghost use Rattle.heap_string_table.specs.Answers.{Interns, IsForwarded, IsPlan, Plan};
 ghost use Rattle.heap_table.specs.Agents.{view_of};
 ghost use Rattle.heap_table.specs.Known.{KeepsKnown};

@@ -1,5 +1,5 @@
 // The content words of a settled string.
-ghost use Rattle.std.specs.Prelude.{◌≡◌, ℕ, ◌+◌, ◌-◌, ◌%◌, ◌≤◌, ◌<◌, List, length, false, min};
+ghost use Rattle.std.specs.Prelude.{◌≡◌, ℕ, ◌+◌, ◌-◌, ◌%◌, ◌≤◌, ◌<◌, List, false, min};
 ghost use Rattle.js_units.specs.Lanes.{lane_count, words_over};
 ghost use Rattle.heap_read.specs.Reads.{Reads};
 ghost use Rattle.heap_rule.specs.Layout.{MAX};
