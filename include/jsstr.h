@@ -57,7 +57,7 @@ enum jsstr_status {
   JSSTR_TOO_LONG = 6,    /* the sides, `at` and `want` units long, are longer together than the limit */
   JSSTR_NONE = 7,        /* there is no such place */
   JSSTR_NOT_UTF8 = 8,    /* the first `at` bytes are UTF-8, and no more of them are; nothing has changed */
-  JSSTR_BAD_ARGUMENT = 9 /* the condition of the call doesn't hold; nothing has changed */
+  JSSTR_BAD_ARGUMENT = 9 /* the condition of the call doesn't hold; no string and no heap has changed */
 };
 
 /* What isn't told is 0. After a refusal each string is what it was, and what the call had claimed by then
