@@ -13,7 +13,7 @@ import proving
 AT_A_TIME, SECONDS = 4, 600
 # The programs that run cases, and in how many parts, since one takes long. The `args` of each names the files in its `data`; it may tell of
 # each file in a line, and tells at last of all.
-CASES, TOTAL = {"jsstr_cases": 2}, re.compile(r"(\d+) cases, \d+ differ")
+CASES, TOTAL = {"jsstr_cases": 3}, re.compile(r"(\d+) cases, \d+ differ")
 # The files of cases that take too long here: the gate alone runs them.
 LONG = {"jsstr_cases": {"generate.cases", "long.cases"}}
 # A run's crate, whether all of it is well, what it told, how many tests and cases it ran, what rt said, and how long it took.
