@@ -71,6 +71,9 @@ def runs(root):
     for name, parts in CASES.items():
         folder = os.path.join(root, "crates", name)
         files = [it for it in lines_of(folder, "args") if it not in LONG.get(name, ())]
+        # The files with the most cases in different parts.
+        counts = dict(line.rsplit(" ", 1) for line in lines_of(folder, "stdout") if line.endswith(tuple("0123456789")))
+        files.sort(key=lambda it: -int(counts.get(it, 0)))
         for part in range(parts):
             if files[part::parts]:
                 yield run_cases, name, folder, files[part::parts]
