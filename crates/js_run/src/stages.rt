@@ -146,7 +146,7 @@ fn run_made<R: Threads + Sync, O: Sink, E: Sink, G: Gate + Sync>(
 }
 
 // Reads files, and runs them.
-fn run_files<R: Threads + Sync, F: Files, O: Sink, E: Sink, G: Gate + Sync>(
+fn run_named_files<R: Threads + Sync, F: Files, O: Sink, E: Sink, G: Gate + Sync>(
     rt: &R,
     alloc: Global,
     setup: Setup,
@@ -191,7 +191,7 @@ pub(crate) fn run_plan<R: Threads + Sync, F: Files, O: Sink, E: Sink, G: Gate + 
     let setup = setup(plan);
     match &plan.input {
         Input::Files { prelude, scripts } => {
-            run_files(rt, alloc, setup, *prelude, scripts, files, out, err, gate)
+            run_named_files(rt, alloc, setup, *prelude, scripts, files, out, err, gate)
         }
         Input::Generated(number) => run_made(rt, alloc, setup, *number, out, err, gate),
     }

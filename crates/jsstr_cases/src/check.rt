@@ -95,7 +95,7 @@ where
     }
 }
 
-/// Runs the cases of this file, and prints each difference and how many there are.
+/// Runs the cases of this file, prints each difference, and counts them.
 pub(crate) fn check_file<R>(rt: &R, name: &str) -> Result<Tally>
 where
     R: AllocGlobal + Files + Print + Sync + Threads,
@@ -105,6 +105,5 @@ where
     for case in cases.iter_mut() {
         tally = tally.and(check_case(rt, name, case)?);
     }
-    println!(rt; "{name} {}", tally.cases)?;
     Ok(tally)
 }

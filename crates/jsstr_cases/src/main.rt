@@ -3,6 +3,8 @@
 //! wants. It prints one line a file (`slice.cases 41`), one for each difference, and at last
 //! `N cases, M differ`; it ends with 0 where none differs, and else with 1. A file that can't be
 //! read or isn't of the form is told on standard error with its line, and ends the program with 1.
+//! Four threads run the files, each the next that is left; a difference is told once it is found, and
+//! the lines of the files come last, in their order.
 //!
 //! A case file is UTF-8, and its lines end in a line feed. Between cases stand empty lines, and
 //! comments, which begin with `#`.
@@ -100,6 +102,7 @@ mod block;
 mod case;
 mod check;
 mod cut;
+mod files;
 mod gate;
 mod line;
 mod reading;
@@ -109,16 +112,16 @@ mod tally;
 mod telling;
 
 use anyhow::{Result, bail};
-use check::check_file;
+use files::check_files;
 use std::env;
 use std::process::ExitCode;
-use tally::Tally;
 
 fn main(rt: HostRuntime) -> Result<ExitCode> {
-    let mut total = Tally::new();
+    let mut names = Vec::new(rt.alloc());
     for name in env::args(&rt)?.skip(1) {
-        total = total.and(check_file(&rt, name.as_str())?);
+        names.push(name)?;
     }
+    let total = check_files(&rt, names.as_slice())?;
     if total.cases == 0 {
         bail!("no case was run");
     }

@@ -1,9 +1,8 @@
-//! Tests by public calls, where no script shows what they show. Of crates that stand on no heap and no
-//! tree: units and words, forms of strings, files and sinks in memory and of the process, numbers, the
-//! plain store, the URI functions, the order of strings, and the words of the command line. Of reading
-//! and running scripts: lexical and grammatical tokens with their spans, texts made from a number, a run
-//! over the plain store, copies of names, the laws of files that were run on one heap, and what a session
-//! keeps of strings that it read and of strings of one unit. Which texts are
+//! Tests by public calls, where no script shows what they show: units and words, forms of strings, files
+//! and sinks in memory and of the process, numbers, the plain store, the URI functions with the places of
+//! their faults, and the words of the command line; lexical and grammatical tokens with their spans, texts
+//! made from a number, a run of them over the plain store, copies of names, the laws of files that were run
+//! on one heap, and what a session keeps of strings that it read and of strings of one unit. Which texts are
 //! scripts, the kind and place of each fault, and what scripts print are cases of `jsstr_cases`.
 //!
 //! A table is one text, a row a line: what is given, an arrow, and what is wanted; one loop goes through
@@ -32,8 +31,6 @@ mod rows;
 mod singles;
 #[cfg(test)]
 mod store;
-#[cfg(test)]
-mod strings;
 #[cfg(test)]
 mod tokens;
 #[cfg(test)]

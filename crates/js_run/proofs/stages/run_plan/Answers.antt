@@ -6,7 +6,7 @@ use Rattle.js_run.proofs.stages.run_plan.Goals as goal
 
 pub returns-in-Files-clause-becomes : goal.returns-in-Files-clause-becomes
 returns-in-Files-clause-becomes g c =
-    c.run_files.ensures.becomes (request_for c.args.plan.now)
+    c.run_named_files.ensures.becomes (request_for c.args.plan.now)
     (ap asked_for c.in-Files.is ∙ ap (λ l. files (option_map (λ n. n.now) c.in-Files.prelude) (map (λ n. n.now) l)) (sym c.deref.ensures.value))
     c.setup-setup.ensures
 
