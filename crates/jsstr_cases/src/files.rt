@@ -1,24 +1,25 @@
-// Several files at a time.
+// The files that several threads check.
 
 use crate::check::check_file;
 use crate::tally::Tally;
 use anyhow::Result;
 use std::rt::Files;
 use std::sync::atomic::{AtomicU64, Ordering};
-use std::thread::{Threads, map_indices};
+use std::thread::Threads;
 
-// In so many threads.
-const THREADS: usize = 4;
-
-// What became of the file at this place of the list.
+/// What became of the file at this place of the list.
 #[derive(Drop)]
-struct Checked {
+pub(crate) struct Checked {
     place: usize,
     tally: Tally,
 }
 
-// Checks one file after another, each time the first that no thread has taken.
-fn check_those_left<R>(rt: &R, names: &[String], taken: &AtomicU64) -> Result<Vec<Checked>>
+/// Checks one file after another, each time the first that no thread has taken.
+pub(crate) fn check_those_left<R>(
+    rt: &R,
+    names: &[String],
+    taken: &AtomicU64,
+) -> Result<Vec<Checked>>
 where
     R: AllocGlobal + Files + Print + Sync + Threads,
 {
@@ -34,19 +35,13 @@ where
     Ok(checked)
 }
 
-/// Checks the cases of these files, prints how many each has, in their order, and counts them.
-pub(crate) fn check_files<R>(rt: &R, names: &[String]) -> Result<Tally>
+/// Prints how many cases each file has, in their order, and counts them.
+pub(crate) fn count<R>(rt: &R, names: &[String], parts: Vec<Result<Vec<Checked>>>) -> Result<Tally>
 where
-    R: AllocGlobal + Files + Print + Sync + Threads,
+    R: AllocGlobal + Print,
 {
-    let taken = AtomicU64::new(0);
     let mut checked = Vec::new(rt.alloc());
-    for part in map_indices(
-        rt,
-        rt.alloc(),
-        THREADS,
-        &|_| { check_those_left(rt, names, &taken) },
-    )? {
+    for part in parts {
         for file in part? {
             checked.push(file)?;
         }

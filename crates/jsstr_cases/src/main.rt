@@ -112,16 +112,28 @@ mod tally;
 mod telling;
 
 use anyhow::{Result, bail};
-use files::check_files;
+use files::{check_those_left, count};
 use std::env;
 use std::process::ExitCode;
+use std::sync::atomic::AtomicU64;
+use std::thread::map_indices;
+
+// In so many threads.
+const THREADS: usize = 4;
 
 fn main(rt: HostRuntime) -> Result<ExitCode> {
     let mut names = Vec::new(rt.alloc());
     for name in env::args(&rt)?.skip(1) {
         names.push(name)?;
     }
-    let total = check_files(&rt, names.as_slice())?;
+    let taken = AtomicU64::new(0);
+    let parts = map_indices(
+        &rt,
+        rt.alloc(),
+        THREADS,
+        &|_| { check_those_left(&rt, names.as_slice(), &taken) },
+    )?;
+    let total = count(&rt, names.as_slice(), parts)?;
     if total.cases == 0 {
         bail!("no case was run");
     }
