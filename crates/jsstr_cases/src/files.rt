@@ -7,53 +7,61 @@ use std::rt::Files;
 use std::sync::atomic::{AtomicU64, Ordering};
 use std::thread::Threads;
 
-/// What became of the file at this place of the list.
+/// A file of cases, with its tally once it is checked.
 #[derive(Drop)]
-pub(crate) struct Checked {
-    place: usize,
-    tally: Tally,
+pub(crate) struct CaseFile {
+    name: String,
+    cases: AtomicU64,
+    differ: AtomicU64,
+}
+
+impl CaseFile {
+    pub(crate) fn new(name: String) -> Self {
+        CaseFile {
+            name,
+            cases: AtomicU64::new(0),
+            differ: AtomicU64::new(0),
+        }
+    }
+
+    fn put(&self, tally: Tally) {
+        self.cases.store(tally.cases, Ordering::SeqCst);
+        self.differ.store(tally.differ, Ordering::SeqCst);
+    }
+
+    fn tally(&self) -> Tally {
+        Tally {
+            cases: self.cases.load(Ordering::SeqCst),
+            differ: self.differ.load(Ordering::SeqCst),
+        }
+    }
 }
 
 /// Checks one file after another, each time the first that no thread has taken.
-pub(crate) fn check_those_left<R>(
-    rt: &R,
-    names: &[String],
-    taken: &AtomicU64,
-) -> Result<Vec<Checked>>
+pub(crate) fn check_those_left<R>(rt: &R, files: &[CaseFile], taken: &AtomicU64) -> Result<()>
 where
     R: AllocGlobal + Files + Print + Sync + Threads,
 {
-    let mut checked = Vec::new(rt.alloc());
-    for _ in 0..names.len() {
+    for _ in 0..files.len() {
         let place = taken.fetch_add(1, Ordering::SeqCst) as usize;
-        let Some(name) = names.get(place) else {
-            break;
+        let Some(file) = files.get(place) else {
+            return Ok(());
         };
-        let tally = check_file(rt, name.as_str())?;
-        checked.push(Checked { place, tally })?;
+        file.put(check_file(rt, file.name.as_str())?);
     }
-    Ok(checked)
+    Ok(())
 }
 
-/// Prints how many cases each file has, in their order, and counts them.
-pub(crate) fn count<R>(rt: &R, names: &[String], parts: Vec<Result<Vec<Checked>>>) -> Result<Tally>
+/// Prints how many cases each file has, and counts them.
+pub(crate) fn count<R>(rt: &R, files: &[CaseFile]) -> Result<Tally>
 where
-    R: AllocGlobal + Print,
+    R: Print,
 {
-    let mut checked = Vec::new(rt.alloc());
-    for part in parts {
-        for file in part? {
-            checked.push(file)?;
-        }
-    }
     let mut total = Tally::new();
-    for (place, name) in names.iter().enumerate() {
-        for file in &checked {
-            if file.place == place {
-                println!(rt; "{name} {}", file.tally.cases)?;
-                total = total.and(file.tally);
-            }
-        }
+    for file in files {
+        let tally = file.tally();
+        println!(rt; "{} {}", file.name, tally.cases)?;
+        total = total.and(tally);
     }
     Ok(total)
 }

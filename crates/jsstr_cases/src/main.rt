@@ -112,7 +112,7 @@ mod tally;
 mod telling;
 
 use anyhow::{Result, bail};
-use files::{check_those_left, count};
+use files::{CaseFile, check_those_left, count};
 use std::env;
 use std::process::ExitCode;
 use std::sync::atomic::AtomicU64;
@@ -122,18 +122,20 @@ use std::thread::map_indices;
 const THREADS: usize = 4;
 
 fn main(rt: HostRuntime) -> Result<ExitCode> {
-    let mut names = Vec::new(rt.alloc());
+    let mut files = Vec::new(rt.alloc());
     for name in env::args(&rt)?.skip(1) {
-        names.push(name)?;
+        files.push(CaseFile::new(name))?;
     }
     let taken = AtomicU64::new(0);
-    let parts = map_indices(
+    for end in map_indices(
         &rt,
         rt.alloc(),
         THREADS,
-        &|_| { check_those_left(&rt, names.as_slice(), &taken) },
-    )?;
-    let total = count(&rt, names.as_slice(), parts)?;
+        &|_| { check_those_left(&rt, files.as_slice(), &taken) },
+    )? {
+        end?;
+    }
+    let total = count(&rt, files.as_slice())?;
     if total.cases == 0 {
         bail!("no case was run");
     }
