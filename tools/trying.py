@@ -10,7 +10,7 @@ import time
 
 import proving
 
-# Each run has so many seconds, and takes so much memory.
+# Each run has so many seconds, and is reckoned with so much memory.
 SECONDS, MEMORY = 600, 3e9
 # rt starts a check of names beside each run, whose hints nobody reads here. It gets what processor time is left: where Linux groups processes by
 # sessions, rt's session yields to others, and rt runs the program in a session of its own.
