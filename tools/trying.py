@@ -1,4 +1,4 @@
-"""Runs all tests, and all cases, by `rt try`: as the code stands, before any proof."""
+"""Runs all tests, and each case once, by `rt try`: as the code stands, before any proof."""
 
 import collections
 import concurrent.futures
@@ -15,10 +15,11 @@ SECONDS, MEMORY = 600, 3e9
 # rt starts a check of names beside each run, whose hints nobody reads here. It gets what processor time is left: where Linux groups processes by
 # sessions, rt's session yields to others, and rt runs the program in a session of its own.
 YIELDING = ["sh", "-c", 'echo 19 2>/dev/null >/proc/self/autogroup; exec rt try "$@"', "rt"]
-# The programs that run cases. The `args` of each names the files in its `data`; it may tell of each file in a line, and tells at last of all.
-CASES, TOTAL = ["jsstr_cases"], re.compile(r"(\d+) cases, \d+ differ")
-# The files of cases that take too long here: the gate alone runs them.
-LONG = {"jsstr_cases": {"generate.cases", "long.cases"}}
+# The programs that run cases. The `args` of each names the files in its `data`. With the word ONCE it runs each case once, where it else runs
+# some again with other sinks or other numbers; it tells of each file in a line, and at last of all.
+CASES, ONCE = ["jsstr_cases"], "--once"
+# The files whose cases take longest, which are begun first.
+LONG = ["long.cases", "generate.cases", "damaged.cases"]
 # A run's crate, whether all of it is well, what it told, how many tests and cases it ran, what rt said, and how long it took.
 Outcome = collections.namedtuple("Outcome", "name is_well told tests cases log seconds")
 
@@ -65,30 +66,36 @@ def run_tests(name, folder):
     return Outcome(name, is_well, f"{passed} tests passed, {failed} failed", passed + failed, 0, out + err, seconds)
 
 
+def cases_of(*path):
+    """How many cases a file has: blocks from a head to the status, and lines outside of them that are no comments."""
+    count, is_block = 0, False
+    with open(os.path.join(*path), encoding="utf-8", newline="\n") as file:
+        for line in file.read().split("\n"):
+            if is_block:
+                is_block = not re.fullmatch(r"-- status \d+", line)
+            elif line and not line.startswith("#"):
+                count, is_block = count + 1, line.startswith("== ")
+    return count
+
+
 def run_cases(name, folder, files):
     given = [word for it in files for word in ("--data", f"{it}=data/{it}")]
-    out, err, status, seconds = tried(folder, "--seconds", str(SECONDS), *given, "--", *files)
-    *lines, last = out.splitlines() or [""]
-    count = TOTAL.fullmatch(last)
-    is_well = status == 0 and count is not None and set(lines) <= set(lines_of(folder, "stdout"))
-    return Outcome(name, is_well, last or "nothing is printed", 0, int(count[1]) if count else 0, out + err, seconds)
-
-
-def cases_there(name, folder):
-    """How many cases a program's `stdout` tells of, and how many of them take too long; nothing where it tells of none."""
-    *lines, last = lines_of(folder, "stdout") or [""]
-    total, counts = TOTAL.fullmatch(last), dict(line.rsplit(" ", 1) for line in lines if " " in line)
-    return (int(total[1]), sum(int(counts.get(it, 0)) for it in LONG.get(name, ()))) if total else None
+    out, err, status, seconds = tried(folder, "--seconds", str(SECONDS), *given, "--", ONCE, *files)
+    counts = {it: cases_of(folder, "data", it) for it in files}
+    total, wanted = sum(counts.values()), [f"{it} {count}" for it, count in counts.items()]
+    *lines, last = out.splitlines() or ["nothing is printed"]
+    is_well = status == 0 and lines == wanted and last == f"{total} cases, 0 differ"
+    told = last if is_well else f"{last}, and {total} cases are there"
+    differing = [it for it in lines if it not in wanted][:15]
+    return Outcome(name, is_well, told, 0, total, "\n".join([*err.splitlines()[-5:], *differing]), seconds)
 
 
 def runs(root):
     """Each run as a function and its arguments, those that take longest first."""
     for name in CASES:
         folder = os.path.join(root, "crates", name)
-        files = [it for it in lines_of(folder, "args") if it not in LONG.get(name, ())]
-        # The files with the most cases first, since the program has a few files at a time.
-        counts = dict(line.rsplit(" ", 1) for line in lines_of(folder, "stdout") if line.endswith(tuple("0123456789")))
-        files.sort(key=lambda it: -int(counts.get(it, 0)))
+        # The program has a few files at a time.
+        files = sorted(lines_of(folder, "args"), key=lambda it: LONG.index(it) if it in LONG else len(LONG))
         if files:
             yield run_cases, name, folder, files
     for name in reversed(proving.listed(root)):
@@ -113,23 +120,16 @@ def side_by_side():
 
 
 def run_all(root, tell):
-    """Runs them all, tells of each as it ends, and answers how many tests and cases were run, how many cases were left, and the crates where
-    something is wrong."""
-    tests, cases, left, wrong = 0, collections.Counter(), 0, set()
+    """Runs them all, tells of each as it ends, and answers how many tests and cases were run, and the crates where something is wrong."""
+    tests, cases, wrong = 0, 0, set()
     with side_by_side() as pool:
         for done in concurrent.futures.as_completed([pool.submit(*it) for it in runs(root)]):
             it = done.result()
             tests += it.tests
-            cases[it.name] += it.cases
+            cases += it.cases
             if it.is_well:
                 tell(f"{it.name}: {it.told}, in {it.seconds:.0f} s")
             else:
                 wrong.add(it.name)
                 tell("\n".join([f"{it.name}: WRONG: {it.told}", *it.log.splitlines()[-20:]]))
-    for name in CASES:
-        there, long = cases_there(name, os.path.join(root, "crates", name)) or (cases[name], 0)
-        left += long
-        if there - long != cases[name]:
-            wrong.add(name)
-            tell(f"{name}: WRONG: {cases[name]} cases are run, and {there - long} are there")
-    return tests, sum(cases.values()), left, sorted(wrong)
+    return tests, cases, sorted(wrong)

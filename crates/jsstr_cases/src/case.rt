@@ -59,6 +59,28 @@ pub(crate) enum Way {
     Held,
 }
 
+impl Way {
+    /// The way of a case that is run so often.
+    pub(crate) fn with(self, repeats: Repeats) -> Way {
+        match (repeats, self) {
+            (Repeats::None, Way::Cut | Way::Ends) => Way::Once,
+            (Repeats::None, Way::Each { place, last, .. }) => Way::Each {
+                place,
+                first: last,
+                last,
+            },
+            (_, way) => way,
+        }
+    }
+}
+
+/// Which runs behind its first one a case has.
+#[derive(Clone, Copy)]
+pub(crate) enum Repeats {
+    All,
+    None,
+}
+
 /// Files, the words of the command line with the program's name first, and what is wanted.
 #[derive(Drop)]
 pub(crate) struct Case {

@@ -1,6 +1,6 @@
 // Runs the cases of a file, and tells which differ.
 
-use crate::case::{Case, Way};
+use crate::case::{Case, Repeats, Way};
 use crate::cut::check_cut;
 use crate::gate::HoldsFirst;
 use crate::reading::{BadLine, cases_of};
@@ -95,14 +95,15 @@ where
     }
 }
 
-/// Runs the cases of this file, prints each difference, and counts them.
-pub(crate) fn check_file<R>(rt: &R, name: &str) -> Result<Tally>
+/// Runs the cases of this file, prints each difference, and counts the runs.
+pub(crate) fn check_file<R>(rt: &R, name: &str, repeats: Repeats) -> Result<Tally>
 where
     R: AllocGlobal + Files + Print + Sync + Threads,
 {
     let mut cases = read_cases(rt, name)?;
     let mut tally = Tally::new();
     for case in cases.iter_mut() {
+        case.way = case.way.with(repeats);
         tally = tally.and(check_case(rt, name, case)?);
     }
     Ok(tally)

@@ -1,5 +1,6 @@
 // The files that several threads check.
 
+use crate::case::Repeats;
 use crate::check::check_file;
 use crate::tally::Tally;
 use anyhow::Result;
@@ -38,7 +39,12 @@ impl CaseFile {
 }
 
 /// Checks one file after another, each time the first that no thread has taken.
-pub(crate) fn check_those_left<R>(rt: &R, files: &[CaseFile], taken: &AtomicU64) -> Result<()>
+pub(crate) fn check_those_left<R>(
+    rt: &R,
+    files: &[CaseFile],
+    taken: &AtomicU64,
+    repeats: Repeats,
+) -> Result<()>
 where
     R: AllocGlobal + Files + Print + Sync + Threads,
 {
@@ -47,7 +53,7 @@ where
         let Some(file) = files.get(place) else {
             return Ok(());
         };
-        file.put(check_file(rt, file.name.as_str())?);
+        file.put(check_file(rt, file.name.as_str(), repeats)?);
     }
     Ok(())
 }

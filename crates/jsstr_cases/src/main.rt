@@ -1,10 +1,11 @@
-//! The program `jsstr_cases FILE..`: runs each case of the case files that its words name, over
+//! The program `jsstr_cases [--once] FILE..`: runs each case of the case files that its words name, over
 //! files and sinks in memory, and compares the status and what both sinks took with what the case
 //! wants. It prints one line a file (`slice.cases 41`), one for each difference, and at last
 //! `N cases, M differ`; it ends with 0 where none differs, and else with 1. A file that can't be
 //! read or isn't of the form is told on standard error with its line, and ends the program with 1.
 //! Four threads run the files, each the next that is left; a difference is told once it is found, and
-//! the lines of the files come last, in their order.
+//! the lines of the files come last, in their order. With `--once` no case is run again: neither with other
+//! sinks, nor with other numbers than the last one of a word `FIRST..LAST`.
 //!
 //! A case file is UTF-8, and its lines end in a line feed. Between cases stand empty lines, and
 //! comments, which begin with `#`.
@@ -112,6 +113,7 @@ mod tally;
 mod telling;
 
 use anyhow::{Result, bail};
+use case::Repeats;
 use files::{CaseFile, check_those_left, count};
 use std::env;
 use std::process::ExitCode;
@@ -121,17 +123,25 @@ use std::thread::map_indices;
 // In so many threads.
 const THREADS: usize = 4;
 
+// The word that asks for one run of each case.
+const ONCE: &str = "--once";
+
 fn main(rt: HostRuntime) -> Result<ExitCode> {
     let mut files = Vec::new(rt.alloc());
-    for name in env::args(&rt)?.skip(1) {
-        files.push(CaseFile::new(name))?;
+    let mut repeats = Repeats::All;
+    for word in env::args(&rt)?.skip(1) {
+        if word.as_str() == ONCE {
+            repeats = Repeats::None;
+        } else {
+            files.push(CaseFile::new(word))?;
+        }
     }
     let taken = AtomicU64::new(0);
     for end in map_indices(
         &rt,
         rt.alloc(),
         THREADS,
-        &|_| { check_those_left(&rt, files.as_slice(), &taken) },
+        &|_| { check_those_left(&rt, files.as_slice(), &taken, repeats) },
     )? {
         end?;
     }
