@@ -18,8 +18,9 @@ YIELDING = ["sh", "-c", 'echo 19 2>/dev/null >/proc/self/autogroup; exec rt try 
 # The programs that run cases. The `args` of each names the files in its `data`. With the word ONCE it runs each case once, where it else runs
 # some again with other sinks or other numbers; it tells of each file in a line, and at last of all.
 CASES, ONCE = ["jsstr_cases"], "--once"
-# The files whose cases take longest, which are begun first.
-LONG = ["long.cases", "generate.cases", "damaged.cases"]
+# The files whose cases take longest, which are begun first; and one whose cases take too long here, each as long as thousands of others: the gate
+# alone runs it.
+FIRST, LEFT = ["generate.cases", "damaged.cases"], "long.cases"
 # A run's crate, whether all of it is well, what it told, how many tests and cases it ran, what rt said, and how long it took.
 Outcome = collections.namedtuple("Outcome", "name is_well told tests cases log seconds")
 
@@ -95,7 +96,7 @@ def runs(root):
     for name in CASES:
         folder = os.path.join(root, "crates", name)
         # The program has a few files at a time.
-        files = sorted(lines_of(folder, "args"), key=lambda it: LONG.index(it) if it in LONG else len(LONG))
+        files = sorted((it for it in lines_of(folder, "args") if it != LEFT), key=lambda it: FIRST.index(it) if it in FIRST else len(FIRST))
         if files:
             yield run_cases, name, folder, files
     for name in reversed(proving.listed(root)):
@@ -120,8 +121,10 @@ def side_by_side():
 
 
 def run_all(root, tell):
-    """Runs them all, tells of each as it ends, and answers how many tests and cases were run, and the crates where something is wrong."""
+    """Runs them all, tells of each as it ends, and answers how many tests and cases were run, how many cases are left, and the crates where
+    something is wrong."""
     tests, cases, wrong = 0, 0, set()
+    left = [os.path.join(root, "crates", name, "data", LEFT) for name in CASES]
     with side_by_side() as pool:
         for done in concurrent.futures.as_completed([pool.submit(*it) for it in runs(root)]):
             it = done.result()
@@ -132,4 +135,4 @@ def run_all(root, tell):
             else:
                 wrong.add(it.name)
                 tell("\n".join([f"{it.name}: WRONG: {it.told}", *it.log.splitlines()[-20:]]))
-    return tests, cases, sorted(wrong)
+    return tests, cases, sum(cases_of(it) for it in left if os.path.exists(it)), sorted(wrong)
