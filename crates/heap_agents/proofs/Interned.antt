@@ -9,11 +9,11 @@ use Rattle.heap_rule.specs.Paths.{Calls}
 use Rattle.heap_rule.specs.Views.{history}
 use Rattle.heap_rule.proofs.MapLemmas.{has_key}
 use Rattle.heap_table.specs.Known.{KeepsKnown}
-use Rattle.heap_string_table.specs.Answers.{Interns, IsPlan, Plan}
-use Rattle.heap_string_table.specs.Goes as table
+use Rattle.heap_intern.specs.Answers.{Interns, IsPlan, Plan}
+use Rattle.heap_intern.specs.Goes as table
 use Rattle.heap_read.specs.Reads.{Continues}
 use Rattle.heap_agents.specs.Interned.{IsEntered, KeepsCalls}
-use Rattle.heap_string_table.specs.declared.faults.TableFull.{TableFull}
+use Rattle.heap_intern.specs.declared.table.faults.TableFull.{TableFull}
 
 module _ (v w : View) where
   entered : (us : List ℕ) (i : ℕ) → table.Goes v w ((us, i) ∷ []) → Contains (history w) (us, i)

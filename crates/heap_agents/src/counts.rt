@@ -3,15 +3,15 @@ ghost use Rattle.std.specs.Prelude.{◌≡◌, ◌↔◌, IsTrue};
 ghost use Rattle.heap_rule.specs.declared.size.Counter.TheVariants as counter;
 ghost use Rattle.heap_rule.specs.Claims.{loaded_counter};
 ghost use Rattle.heap_rule.specs.Views.{history};
-ghost use Rattle.heap_string_table.specs.Counting.{different};
-ghost use Rattle.heap_string_table.specs.Goes.{Looks};
+ghost use Rattle.heap_intern.specs.Counting.{different};
+ghost use Rattle.heap_intern.specs.Goes.{Looks};
 ghost use Rattle.heap_agents.specs.Held.{IsHeld, KeepsMarks, share_by, view_by};
 ghost use Rattle.heap_agents.specs.Members.{IsSame, IsWhole, share_if, view_if};
 
 use crate::held::Held;
 use crate::member::HeapAgent;
+use heap_intern::count_interned;
 use heap_read::Reader;
-use heap_string_table::count_interned;
 
 pub(crate) fn share(member: &mut HeapAgent) -> u32
     requires whole { IsWhole member.old }

@@ -2,7 +2,7 @@
 //! heap, and with a mark for each string that it may use, so that a call can be tested before it is made.
 //!
 //! A [`Held`] is made by [`Held::make`] and by [`Held::split`]. Its calls are those of `heap_table`,
-//! `heap_text`, `heap_string_table` and `js_search`, and mark each string that they answer.
+//! `heap_text`, the string table of `heap_intern` and `js_search`, and mark each string that they answer.
 #![tactic(auto)]
 
 mod counts;

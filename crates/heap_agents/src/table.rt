@@ -2,7 +2,7 @@
 ghost use Rattle.std.specs.Prelude.{◌≡◌, ℕ, List, Result, IfOk};
 ghost use Rattle.heap_rule.specs.Maps.{Has, HasKey};
 ghost use Rattle.heap_rule.specs.Views.{IsSettled};
-ghost use Rattle.heap_string_table.specs.Answers.{Interns, IsForwarded, IsPlan, Plan};
+ghost use Rattle.heap_intern.specs.Answers.{Interns, IsForwarded, IsPlan, Plan};
 ghost use Rattle.heap_table.specs.Agents.{view_of};
 ghost use Rattle.heap_table.specs.Known.{KeepsKnown};
 ghost use Rattle.heap_agents.specs.Interned.{IsEntered, KeepsCalls};
@@ -12,8 +12,8 @@ ghost use Rattle.heap_agents.specs.Members.{IsSame, IsWhole, view_if};
 
 use crate::held::Held;
 use crate::member::HeapAgent;
+use heap_intern::TableFull;
 use heap_read::Reader;
-use heap_string_table::TableFull;
 
 pub(crate) fn intern(member: &mut HeapAgent, s: u32) -> Result<u32, TableFull>
     requires whole { IsWhole member.old }
@@ -38,7 +38,7 @@ pub(crate) fn intern(member: &mut HeapAgent, s: u32) -> Result<u32, TableFull>
     answer
 }
 
-// The call of `heap_string_table`, with what its `interns` comes to for the string and the calls before.
+// The call of `heap_intern`, with what its `interns` comes to for the string and the calls before.
 fn intern_by(reader: &mut Reader, s: u32) -> Result<u32, TableFull>
     requires known { HasKey (view_of reader.old.agent).units s }
     requires settled { IsSettled (view_of reader.old.agent) s }
@@ -53,7 +53,7 @@ fn intern_by(reader: &mut Reader, s: u32) -> Result<u32, TableFull>
         × Interns (view_of reader.old.agent) (view_of reader.new.agent) us plan result }
     ensures forwards { IfOk result (λ i. IsForwarded (view_of reader.new.agent) s i) }
 {
-    heap_string_table::intern(reader, s)
+    heap_intern::intern(reader, s)
 }
 
 impl Held {

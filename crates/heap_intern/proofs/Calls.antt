@@ -16,14 +16,14 @@ use Rattle.heap_rule.specs.Sound.{IsPossible}
 use Rattle.heap_rule.specs.Views.{IsSettled}
 use Rattle.heap_table.specs.declared.claims.CounterFull.{CounterFull}
 use Rattle.std.specs.FinMap.{get}
-use Rattle.heap_string_table.specs.declared.faults.TableFull.{TableFull}
-use Rattle.heap_string_table.specs.declared.faults.TableFull.TheVariants as table
-use Rattle.heap_string_table.specs.Answers.{HasLeft, IsPlan, IsRefused, Plan}
-use Rattle.heap_string_table.specs.Goes.{Goes}
+use Rattle.heap_intern.specs.declared.table.faults.TableFull.{TableFull}
+use Rattle.heap_intern.specs.declared.table.faults.TableFull.TheVariants as table
+use Rattle.heap_intern.specs.Answers.{HasLeft, IsPlan, IsRefused, Plan}
+use Rattle.heap_intern.specs.Goes.{Goes}
 use Rattle.js_header.specs.declared.form.Form.{Form}
 use Rattle.heap_rule.specs.Forms.{IsLater}
 use Rattle.heap_rule.proofs.Carried.{latest}
-use Rattle.heap_string_table.proofs.Planning.{plan_words}
+use Rattle.heap_intern.proofs.Planning.{plan_words}
 use Rattle.heap_text.specs.declared.faults.JoinFault.{JoinFault}
 use Rattle.heap_text.specs.declared.faults.JoinFault.TheVariants as join
 use Rattle.heap_text.specs.declared.faults.TextFull.{TextFull}

@@ -6,8 +6,8 @@ use Rattle.heap_rule.proofs.MapLemmas.{has_key, key_of}
 use Rattle.heap_table.specs.Known.{KeepsKnown}
 use Rattle.heap_read.specs.Written.{Holds, held_unit}
 use Rattle.heap_read.proofs.Comparison.{unit_held_is}
-use Rattle.heap_string_table.specs.declared.faults.TableFull.{TableFull}
-use Rattle.heap_string_table.specs.Answers.{Interns, Plan}
+use Rattle.heap_intern.specs.declared.table.faults.TableFull.{TableFull}
+use Rattle.heap_intern.specs.Answers.{Interns, Plan}
 use Rattle.heap_intern.specs.declared.kept.KeptWord.{KeptWord}
 use Rattle.heap_intern.specs.Lately.{IsKept}
 

@@ -1,3 +1,14 @@
+pub mod Going
+pub mod Loading
+pub mod Possibly
+pub mod Seeking
+pub mod Planning
+pub mod Bearing
+pub mod Copies
+pub mod Moving
+pub mod Distinct
+pub mod SlotLoads
+pub mod Visiting
 pub mod States
 pub mod Rows
 pub mod Calls

@@ -25,8 +25,8 @@ use Rattle.heap_rule.proofs.MapLemmas.{has_key}
 use Rattle.heap_rule.proofs.SlotTests.{shut_exactly}
 use Rattle.heap_table.specs.Known.{KeepsKnown}
 use Rattle.heap_read.specs.Reads.{Continues, Reads}
-use Rattle.heap_string_table.specs.Goes.{Goes, Looks}
-use Rattle.heap_string_table.proofs.Visiting.{shut_kept}
+use Rattle.heap_intern.specs.Goes.{Goes, Looks}
+use Rattle.heap_intern.proofs.Visiting.{shut_kept}
 use Rattle.heap_intern.specs.Sessions.{state_by}
 use Rattle.heap_intern.specs.Settled.{is_settled}
 

@@ -15,9 +15,9 @@ use Rattle.heap_rule.proofs.MapLemmas.{key_of}
 use Rattle.heap_rule.proofs.SlotTests.{shut_exactly}
 use Rattle.heap_rule.proofs.Steps.{counter_found}
 use Rattle.heap_rule.proofs.Whole.{whole_counter, whole_slot}
-use Rattle.heap_string_table.specs.Counting.{count_below, different}
-use Rattle.heap_string_table.proofs.Counted.{possible_counted}
-use Rattle.heap_string_table.proofs.Distinct.{used_below}
+use Rattle.heap_intern.specs.Counting.{count_below, different}
+use Rattle.heap_intern.proofs.SlotLoads.{possible_counted}
+use Rattle.heap_intern.proofs.Distinct.{used_below}
 use Rattle.heap_intern.specs.Sessions.{state_by}
 use Rattle.heap_intern.specs.Whole.{HasAll}
 

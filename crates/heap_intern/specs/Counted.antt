@@ -5,8 +5,8 @@ use Rattle.js_store.specs.declared.faults.StoreFault.{StoreFault}
 use Rattle.js_store.specs.declared.faults.StoreFault.TheVariants.{Full}
 use Rattle.heap_rule.specs.declared.view.View.{View}
 use Rattle.heap_rule.specs.Views.{IsSettled}
-use Rattle.heap_string_table.specs.declared.faults.TableFull.{TableFull}
-use Rattle.heap_string_table.specs.Answers.{HasLeft, IsOpen, IsPlan, IsRefused, Plan}
+use Rattle.heap_intern.specs.declared.table.faults.TableFull.{TableFull}
+use Rattle.heap_intern.specs.Answers.{HasLeft, IsOpen, IsPlan, IsRefused, Plan}
 use Rattle.heap_intern.specs.Faults.{fault_in_table}
 use Rattle.heap_read.specs.declared.string.JsStr.{JsStr}
 

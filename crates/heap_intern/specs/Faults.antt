@@ -4,8 +4,8 @@ use Rattle.js_store.specs.declared.faults.ConcatFault.TheVariants.{Store, TooLon
 use Rattle.js_store.specs.declared.faults.FullReport.TheVariants as report
 use Rattle.js_store.specs.declared.faults.StoreFault.{StoreFault}
 use Rattle.js_store.specs.declared.faults.StoreFault.TheVariants.{Full}
-use Rattle.heap_string_table.specs.declared.faults.TableFull.{TableFull}
-use Rattle.heap_string_table.specs.declared.faults.TableFull.TheVariants as table
+use Rattle.heap_intern.specs.declared.table.faults.TableFull.{TableFull}
+use Rattle.heap_intern.specs.declared.table.faults.TableFull.TheVariants as table
 use Rattle.heap_text.specs.declared.faults.JoinFault.{JoinFault}
 use Rattle.heap_text.specs.declared.faults.JoinFault.TheVariants as join
 use Rattle.heap_text.specs.declared.faults.TextFull.{TextFull}

@@ -1,3 +1,10 @@
+pub mod Counting
+pub mod Goes
+pub mod Answers
+pub mod Headers
+pub mod SlotLoads
+pub mod Seeking
+pub mod Visits
 pub mod Settled
 pub mod Sessions
 pub mod Faults

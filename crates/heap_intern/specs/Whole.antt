@@ -1,7 +1,7 @@
 -- What holds of a session that has the whole share of its heap, so that no other agent is there.
 use Rattle.std.specs.Prelude.{◌≡◌, ℕ, ◌≤◌, List, IsTrue}
 use Rattle.js_store.specs.State.{State}
-use Rattle.heap_string_table.specs.Counting.{different}
+use Rattle.heap_intern.specs.Counting.{different}
 use Rattle.heap_intern.specs.Sessions.{SessionFrame}
 use Rattle.heap_intern.specs.Shares.{IsWhole}
 

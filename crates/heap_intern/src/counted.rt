@@ -3,15 +3,15 @@ ghost use Rattle.std.specs.Prelude.{◌≡◌, ℕ, [], ◌∷◌, ◌++◌, ◌
 ghost use Rattle.js_store.specs.Faults.{SlotsShut, Step, fault_of};
 ghost use Rattle.js_store.specs.Rows.{intern_words};
 ghost use Rattle.js_store.specs.State.{Has, IsKnown, IsSettled, text};
-ghost use Rattle.heap_string_table.specs.Answers.{IsForwarded};
-ghost use Rattle.heap_string_table.specs.SlotLoads.{LoadsSlots, loads_at};
+ghost use Rattle.heap_intern.specs.Answers.{IsForwarded};
+ghost use Rattle.heap_intern.specs.SlotLoads.{LoadsSlots, loads_at};
 ghost use Rattle.heap_intern.specs.Counted.{FoundFree, GoesByPlan, answered};
 ghost use Rattle.heap_intern.specs.Sessions.{state_in, view_in};
 
 use crate::faults::{table_fault, text_fault};
 use crate::session::Session;
+use crate::table::intern_counted;
 use heap_read::Steps;
-use heap_string_table::intern_counted;
 use heap_text::JsStr;
 use js_store::StoreFault;
 use std::sync::ledger::{Blank, Ledger};

@@ -2,7 +2,7 @@
 ghost use Rattle.std.specs.Prelude.{◌≡◌};
 ghost use Rattle.heap_intern.specs.Faults.{fault_in_join, fault_in_table, fault_in_text};
 
-use heap_string_table::TableFull;
+use crate::table::TableFull;
 use heap_text::{JoinFault, TextFull};
 use js_store::{ConcatFault, FullReport, StoreFault};
 

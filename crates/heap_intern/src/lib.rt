@@ -1,6 +1,6 @@
-//! Sessions: a heap that threads share as a store of strings. Each thread has a [`Session`] of
-//! its own; strings that one has made can be read by each session that is split off it or joined
-//! with it, and equal strings that any sessions of one heap intern have one number.
+//! The string table of a heap that threads share, and sessions: such a heap as a store of strings. Each
+//! thread has a [`Session`] of its own; strings that one has made can be read by each session that is
+//! split off it or joined with it, and equal strings that any sessions of one heap intern have one number.
 //!
 //! A session is bounded, since its heap has so many ids, content words and slots, and never wants
 //! memory: no call takes any. No call takes a lock or waits.
@@ -17,7 +17,9 @@ mod sharing;
 mod short;
 mod singles;
 mod strings;
+mod table;
 mod words;
 
 pub use laws::whole_has_all;
 pub use session::Session;
+pub use table::{TableFull, count_interned, intern, intern_counted};

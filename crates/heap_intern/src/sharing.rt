@@ -5,7 +5,7 @@ ghost use Rattle.js_store.specs.Faults.{Uses};
 ghost use Rattle.js_store.specs.Limits.{limit_units};
 ghost use Rattle.heap_rule.specs.Agents.{joined, left_after_split, right_after_split};
 ghost use Rattle.heap_table.specs.Agents.{Belongs, view_of};
-ghost use Rattle.heap_string_table.specs.Counting.{count_below, different};
+ghost use Rattle.heap_intern.specs.Counting.{count_below, different};
 ghost use Rattle.heap_intern.specs.Sessions.{state_by, state_in, table_of, view_in};
 ghost use Rattle.heap_intern.specs.Shares.{BelongsAs, IsJoined, IsWhole, MayJoin, left_by, right_by, total_by};
 
@@ -13,8 +13,8 @@ use crate::kept::KeptWord;
 use crate::recent::Recent;
 use crate::session::Session;
 use crate::singles::Singles;
+use crate::table::count_interned;
 use heap_read::Reader;
-use heap_string_table::count_interned;
 use heap_table::{Agent, Heap};
 use heap_text::Text;
 use js_store::Limit;

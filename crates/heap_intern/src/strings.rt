@@ -14,8 +14,8 @@ impl<'h> Strings for Session<'h> {
     ghost use Rattle.js_store.specs.Faults.{SlotsShut, Step, fault_of};
     ghost use Rattle.js_store.specs.Rows.{intern_words};
     ghost use Rattle.js_store.specs.State.{Has, IsKnown, IsSettled, text};
-    ghost use Rattle.heap_string_table.specs.Answers.{IsForwarded};
-    ghost use Rattle.heap_string_table.specs.SlotLoads.{loads_at};
+    ghost use Rattle.heap_intern.specs.Answers.{IsForwarded};
+    ghost use Rattle.heap_intern.specs.SlotLoads.{loads_at};
     ghost use Rattle.heap_intern.specs.Counted.{FoundFree, GoesByPlan};
     ghost use Rattle.heap_intern.specs.Sessions.{SessionFrame, state_in, view_in};
     ghost use Rattle.heap_table.specs.Agents.{view_of};

@@ -5,8 +5,8 @@ use Rattle.heap_read.specs.declared.string.JsStr.{JsStr}
 use Rattle.heap_text.specs.declared.faults.TextFull.{TextFull}
 use Rattle.heap_text.specs.Joins.{IsCut}
 use Rattle.heap_text.specs.Settling.{IsNoRoom}
-use Rattle.heap_string_table.specs.declared.faults.TableFull.{TableFull}
-use Rattle.heap_string_table.specs.Answers.{Interns, IsPlan, Plan}
+use Rattle.heap_intern.specs.declared.table.faults.TableFull.{TableFull}
+use Rattle.heap_intern.specs.Answers.{Interns, IsPlan, Plan}
 use Rattle.heap_agents.specs.declared.held.Held.{Held}
 use Rattle.heap_agents.specs.Ready.{Goes, IsReady, Knows, Searches, giver_in, number_in, size_in, view_in}
 use Rattle.jsstr_c.specs.declared.answer.JsAnswer.{JsAnswer}

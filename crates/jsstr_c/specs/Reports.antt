@@ -7,8 +7,8 @@ use Rattle.heap_text.specs.declared.faults.JoinFault.{JoinFault}
 use Rattle.heap_text.specs.declared.faults.JoinFault.TheVariants.{TooLong, Full}
 use Rattle.heap_text.specs.declared.faults.TextFull.{TextFull}
 use Rattle.heap_text.specs.declared.faults.TextFull.TheVariants.{Ids, Words}
-use Rattle.heap_string_table.specs.declared.faults.TableFull.{TableFull}
-use Rattle.heap_string_table.specs.declared.faults.TableFull.TheVariants as table
+use Rattle.heap_intern.specs.declared.table.faults.TableFull.{TableFull}
+use Rattle.heap_intern.specs.declared.table.faults.TableFull.TheVariants as table
 use Rattle.heap_rule.specs.declared.size.HeapSize.{HeapSize}
 use Rattle.jsstr_c.specs.declared.answer.JsAnswer.{JsAnswer}
 use Rattle.jsstr_c.specs.declared.answer.JsPlace.{JsPlace}

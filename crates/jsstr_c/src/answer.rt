@@ -4,7 +4,7 @@ ghost use Rattle.jsstr_c.specs.Reports as reports;
 ghost use Rattle.jsstr_c.specs.Reports.{join_answer, no_words, order_number, place_answer, table_answer, text_answer, words_answer};
 
 use heap_agents::Shown;
-use heap_string_table::TableFull;
+use heap_intern::TableFull;
 use heap_table::CounterFull;
 use heap_text::{JoinFault, JsStr, TextFull};
 use std::cmp::Ordering;

@@ -8,7 +8,7 @@ use Rattle.std.specs.Set.{is_member, unique_keys, distinct_count}
 use Rattle.std.proofs.lemmas.List.Elements.{Contains-append_right}
 use Rattle.std.proofs.lemmas.Map.Made.{length-le_from_is_member, is_member-Decides, IsDistinct-from_count}
 use Rattle.heap_rule.specs.Paths.{Calls}
-use Rattle.heap_string_table.specs.Counting.{different}
+use Rattle.heap_intern.specs.Counting.{different}
 use Rattle.run_program.specs.Fits.{count_different}
 
 false_from : (b : Bool) → (b ≡ true → ⊥) → b ≡ false

@@ -11,7 +11,7 @@ use Rattle.heap_rule.specs.declared.size.HeapSize.{HeapSize}
 use Rattle.heap_rule.specs.declared.view.View.{View}
 use Rattle.heap_table.specs.Agents.{Belongs, size_of, view_of}
 use Rattle.heap_table.specs.declared.heap.Heap.{Heap}
-use Rattle.heap_string_table.specs.Counting.{different}
+use Rattle.heap_intern.specs.Counting.{different}
 use Rattle.heap_intern.specs.Sessions.{SessionFrame, state_by, table_of}
 use Rattle.heap_intern.specs.Shares.{IsWhole, IsOf, total_by}
 use Rattle.heap_intern.specs.Sound.{sound_of}

@@ -17,7 +17,7 @@ use Rattle.js_eval.specs.declared.ending.End.{End}
 use Rattle.js_eval.specs.declared.ending.End.TheVariants.{Done, Threw, Unsupported, Full, Memory}
 use Rattle.js_eval.specs.Evaluates.{end_of}
 use Rattle.js_eval.specs.Script.{Flow, interned, need_words}
-use Rattle.heap_string_table.specs.Counting.{different}
+use Rattle.heap_intern.specs.Counting.{different}
 use Rattle.heap_intern.specs.Sessions.{SessionFrame}
 use Rattle.heap_intern.specs.Whole.{HasAll}
 use Rattle.run_program.specs.Jobs.{Part, Whole, Broken, Ended, fault_in, pairs_of, ids_of, words_of}

@@ -3,7 +3,7 @@ use Rattle.std.specs.Prelude.{◌≡◌, ℕ, ◌+◌, ◌≤◌, List, [], ◌�
 use Rattle.js_store.specs.State.{State, Sizes}
 use Rattle.eval_tree.specs.Tree.{Tree, tree_of}
 use Rattle.js_eval.specs.Script.{Flow}
-use Rattle.heap_string_table.specs.Counting.{different}
+use Rattle.heap_intern.specs.Counting.{different}
 use Rattle.heap_intern.specs.Sessions.{SessionFrame}
 use Rattle.heap_intern.specs.Shares.{IsWhole}
 use Rattle.run_program.specs.declared.job.Job.{Job}

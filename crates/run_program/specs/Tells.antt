@@ -11,7 +11,7 @@ use Rattle.js_eval.specs.declared.ending.End.TheVariants.{Done, Threw, Unsupport
 use Rattle.js_eval.specs.Evaluates.{end_of}
 use Rattle.js_eval.specs.Script.{Flow, interned, texts, need_words}
 use Rattle.heap_rule.specs.Paths.{IsLegal}
-use Rattle.heap_string_table.specs.Counting.{different}
+use Rattle.heap_intern.specs.Counting.{different}
 use Rattle.heap_intern.specs.Sessions.{SessionFrame}
 use Rattle.heap_intern.specs.Shares.{IsWhole}
 use Rattle.run_program.specs.Jobs.{Part}

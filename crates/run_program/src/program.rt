@@ -5,7 +5,7 @@ ghost use Rattle.js_store.specs.Limits.{limit_units};
 ghost use Rattle.heap_rule.specs.Agents.{first_view};
 ghost use Rattle.heap_table.specs.Agents.{Belongs, size_of, view_of};
 ghost use Rattle.heap_table.specs.MayMake.{MayMake};
-ghost use Rattle.heap_string_table.specs.Counting.{different};
+ghost use Rattle.heap_intern.specs.Counting.{different};
 ghost use Rattle.heap_intern.specs.Sessions.{state_by, state_in, table_of};
 ghost use Rattle.heap_intern.specs.Shares.{IsWhole};
 ghost use Rattle.run_program.specs.Jobs.{HasNoLines};

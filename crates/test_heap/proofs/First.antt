@@ -6,7 +6,7 @@ use Rattle.heap_rule.specs.Paths.{place}
 use Rattle.heap_rule.specs.Sound.{IsPossible}
 use Rattle.heap_rule.proofs.Paths.{place_inside}
 use Rattle.heap_rule.proofs.Possible.{possible_inside}
-use Rattle.heap_string_table.specs.SlotLoads.{IsFirst}
+use Rattle.heap_intern.specs.SlotLoads.{IsFirst}
 
 pub first_of : (v : View) → IsPossible v → v.sizes.slots ≡ 1 → (us : List ℕ) (k i : ℕ) → Has v.slots k i → Has v.units i us → IsFirst v us
 first_of v p one us k i h u = let a = possible_inside v p k i h in let b = place_inside us v.sizes.slots 0 (omega arith) in let e : k ≡ place us v.sizes.slots 0 = omega arith in

@@ -2,9 +2,9 @@
 ghost use Rattle.std.specs.Prelude.{◌≡◌, ℕ, ◌+◌, ◌*◌, ◌≤◌, ◌<◌, IfSome, length};
 ghost use Rattle.heap_table.specs.Agents.{Belongs, size_of, view_of};
 
+use heap_intern::{TableFull, intern, intern_counted};
 use heap_read::Steps;
 use heap_rule::{HeapSize, MAX};
-use heap_string_table::{TableFull, intern, intern_counted};
 use heap_table::Heap;
 use heap_text::Text;
 use std::alloc::Global;

@@ -15,9 +15,9 @@ use Rattle.heap_text.proofs.Settled.{ok_then}
 use Rattle.heap_read.specs.Readers.{Moves, view_in}
 use Rattle.heap_read.specs.Reads.{Continues, Reads}
 use Rattle.heap_read.proofs.Loaded.{key_kept, known_refl, known_trans}
-use Rattle.heap_string_table.specs.declared.faults.TableFull.{TableFull}
-use Rattle.heap_string_table.specs.Answers.{Interns, Plan}
-use Rattle.heap_string_table.specs.Goes.{Goes}
+use Rattle.heap_intern.specs.declared.table.faults.TableFull.{TableFull}
+use Rattle.heap_intern.specs.Answers.{Interns, Plan}
+use Rattle.heap_intern.specs.Goes.{Goes}
 use Rattle.heap_rule.specs.Agents.{MayJoin, left_after_split, right_after_split}
 use Rattle.test_strings.specs.Turns.{HasGoneOn, IsPlayed, Turns}
 

@@ -1,5 +1,5 @@
 // The lines of a play: what a step is made of, and what it comes to.
-use heap_string_table::TableFull;
+use heap_intern::TableFull;
 use heap_text::{JoinFault, TextFull};
 use js_header::Form;
 use js_store::{ConcatFault, StoreFault};

@@ -6,8 +6,8 @@ ghost use Rattle.heap_table.specs.Agents.{size_of};
 ghost use Rattle.heap_read.specs.Readers.{Moves, view_in};
 ghost use Rattle.test_strings.specs.Turns.{Turns};
 
+use heap_intern::{TableFull, intern};
 use heap_read::{Reader, Steps};
-use heap_string_table::{TableFull, intern};
 use heap_text::{JoinFault, JsStr, Text, TextFull};
 use js_header::Form;
 use std::sync::ledger::{Blank, Ledger};

@@ -3,8 +3,8 @@ ghost use Rattle.std.specs.Prelude.{◌≡◌};
 ghost use Rattle.heap_rule.specs.declared.size.Counter.TheVariants as counter;
 ghost use Rattle.heap_rule.specs.Claims.{loaded_counter};
 ghost use Rattle.heap_rule.specs.Views.{history};
-ghost use Rattle.heap_string_table.specs.Counting.{different};
-ghost use Rattle.heap_string_table.specs.Goes.{Looks};
+ghost use Rattle.heap_intern.specs.Counting.{different};
+ghost use Rattle.heap_intern.specs.Goes.{Looks};
 ghost use Rattle.heap_agents.specs.Ready.{IsBeside, IsReady, MarksStay, share_in, view_in};
 ghost use Rattle.jsstr_c.specs.Handles.{IsHandle};
 

@@ -2,8 +2,8 @@
 ghost use Rattle.std.specs.Prelude.{◌≡◌, ◌≢◌, ◌↔◌, ℕ, List, Result, IsTrue, Contains};
 ghost use Rattle.heap_rule.specs.Maps.{Has, HasKey};
 ghost use Rattle.heap_rule.specs.Views.{IsSettled, history};
-ghost use Rattle.heap_string_table.specs.declared.faults.TableFull as table_full;
-ghost use Rattle.heap_string_table.specs.Answers.{Interns, IsForwarded, IsPlan, Plan};
+ghost use Rattle.heap_intern.specs.declared.table.faults.TableFull as table_full;
+ghost use Rattle.heap_intern.specs.Answers.{Interns, IsForwarded, IsPlan, Plan};
 ghost use Rattle.heap_table.specs.Known.{KeepsKnown};
 ghost use Rattle.heap_agents.specs.Interned.{IsEntered, KeepsCalls};
 ghost use Rattle.heap_agents.specs.Ready.{HasInterned, IsBeside, IsReady, Knows, MarksStay, view_in};

@@ -1,6 +1,6 @@
 use Rattle.std.proofs.Common.{ℕ, List, Ok, sym, subst}
 use Rattle.heap_rule.specs.Maps.{Has}
-use Rattle.heap_string_table.specs.Answers.{Interns, IsPlan, Plan}
+use Rattle.heap_intern.specs.Answers.{Interns, IsPlan, Plan}
 use Rattle.heap_agents.specs.declared.member.HeapAgent.{HeapAgent}
 use Rattle.heap_agents.specs.Held.{view_by}
 use Rattle.heap_agents.specs.Members.{view_if}

@@ -2,7 +2,7 @@ use Rattle.std.proofs.Common.{◌∙◌, ap, sym, None}
 use Rattle.std.specs.FinMap.{contains_key}
 use Rattle.js_store.specs.Limits.{limit_units}
 use Rattle.heap_rule.specs.declared.size.HeapSize.{HeapSize}
-use Rattle.heap_string_table.specs.Counting.{count_below}
+use Rattle.heap_intern.specs.Counting.{count_below}
 use Rattle.heap_intern.specs.Sessions.{table_of}
 use Rattle.heap_intern.proofs.States.{history_looks, step_looks, uses_at}
 use Rattle.heap_rule.specs.declared.view.View.{View}

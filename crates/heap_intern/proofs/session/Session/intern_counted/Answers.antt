@@ -15,10 +15,10 @@ use Rattle.heap_rule.specs.Views.{history}
 use Rattle.heap_rule.proofs.MapLemmas.{has_key}
 use Rattle.heap_table.specs.Agents.{size_of}
 use Rattle.heap_text.specs.Settling.{IsBitOf, IsNoRoom}
-use Rattle.heap_string_table.specs.declared.faults.TableFull.{TableFull}
-use Rattle.heap_string_table.specs.Answers.{HasLeft, IsPlan, IsRefused, Plan}
-use Rattle.heap_string_table.proofs.Visiting.{left_after, refused_after}
-use Rattle.heap_string_table.proofs.Loading.{slots_few, slots_from, slots_most, slots_none}
+use Rattle.heap_intern.specs.declared.table.faults.TableFull.{TableFull}
+use Rattle.heap_intern.specs.Answers.{HasLeft, IsPlan, IsRefused, Plan}
+use Rattle.heap_intern.proofs.Visiting.{left_after, refused_after}
+use Rattle.heap_intern.proofs.Loading.{slots_few, slots_from, slots_most, slots_none}
 use Rattle.heap_intern.specs.Counted.{FoundFree}
 use Rattle.heap_intern.specs.Faults.{fault_in_table, fault_in_text}
 use Rattle.heap_intern.specs.Sessions.{state_by, table_of}

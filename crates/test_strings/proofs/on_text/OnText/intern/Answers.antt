@@ -1,7 +1,7 @@
 use Rattle.std.proofs.Common.{ℕ, subst, Result}
 use Rattle.std.specs.Prelude.{IfOk}
 use Rattle.heap_rule.specs.Maps.{HasKey}
-use Rattle.heap_string_table.specs.declared.faults.TableFull.{TableFull}
+use Rattle.heap_intern.specs.declared.table.faults.TableFull.{TableFull}
 use Rattle.test_strings.proofs.Turning.{played_put}
 use Rattle.test_strings.proofs.on_text.OnText.intern.Goals as goal
 

@@ -1,0 +1,213 @@
+-- Loads of slots, one by one and along the path.
+use Rattle.std.proofs.Common.{◌≡◌, ◌≢◌, ℕ, zero, suc, ◌+◌, ◌*◌, ◌<◌, ◌≤◌, List, sym, refl, ap, ◌∙◌, subst, arith, Option, Some, nat_eq, if◌then◌else◌, Bool, eq-eqb, ne_eqb}
+use Rattle.std.specs.Prelude.{unwrap_or}
+use mathlib.Core.Logic.{dite}
+use native.Mathlib.Decide.{ℕ_discrete}
+use Rattle.std.specs.FinMap.{FinMap, get, insert}
+use Rattle.std.specs.Ordering.{nat_cmp}
+use Rattle.heap_rule.specs.declared.view.View.{View}
+use Rattle.heap_rule.specs.declared.size.HeapSize.{HeapSize}
+use Rattle.heap_rule.specs.Learning.{learned_all}
+use Rattle.heap_rule.specs.Loads.{added_loads}
+use Rattle.heap_rule.specs.Maps.{Has}
+use Rattle.heap_rule.specs.Paths.{rank}
+use Rattle.heap_rule.specs.Slots.{loaded_slot, took_slot}
+use Rattle.heap_rule.proofs.MapLemmas.{insert_other, insert_same}
+use Rattle.heap_intern.specs.SlotLoads.{LoadsSlots, counted_on, loads_at, sum_below}
+use Rattle.heap_intern.specs.Visits.{LoadsOne}
+
+-- a claim of a slot is no load
+took_by : (v : View) (k i x : ℕ) → (learned_all (took_slot v k i x)).slot_loads ≡ v.slot_loads
+took_by v k i zero = refl
+took_by v k i (suc x) = refl
+
+pub loads_took : (v w : View) (k i x : ℕ) → w ≡ learned_all (took_slot v k i x) → w.slot_loads ≡ v.slot_loads
+loads_took v w k i x e = ap (λ (u : View). u.slot_loads) e ∙ took_by v k i x
+
+-- counts that go on
+on_more : (a m n : ℕ) → counted_on (counted_on a m) n ≡ counted_on a (m + n)
+on_more a m zero = let e : m ≡ m + 0 = omega arith in ap (counted_on a) e
+on_more a m (suc n) = let e : suc (m + n) ≡ m + suc n = omega arith in ap (λ (x : ℕ). added_loads x 1) (on_more a m n) ∙ ap (counted_on a) e
+
+on_most : (a n : ℕ) → counted_on a n ≤ a + n
+on_most a zero = omega arith
+on_most a (suc n) = let h = on_most a n in omega arith
+
+-- steps that load no slot, and one that does
+pub loads_none : (v w : View) (k most before : ℕ) → w.slot_loads ≡ v.slot_loads → LoadsOne v w k most before before
+loads_none v w k most before e = record {
+  times = 0;
+  few = omega arith;
+  here = ap (λ (m : FinMap nat_cmp ℕ). unwrap_or (get m k) 0) e;
+  others = λ j ne. ap (λ (m : FinMap nat_cmp ℕ). unwrap_or (get m j) 0) e;
+  sum = omega arith;
+}
+
+pub loads_once : (v w : View) (k x before after : ℕ) (entry : Option (List ℕ)) → w ≡ learned_all (loaded_slot v k entry x) → after ≡ before + 1 → LoadsOne v w k 1 before after
+loads_once v w k x before after entry e more = let n : ℕ = added_loads (loads_at v k) 1 in let is : w.slot_loads ≡ insert v.slot_loads k n = ap (λ (u : View). u.slot_loads) e in record {
+  times = 1;
+  few = omega arith;
+  here = ap (λ (m : FinMap nat_cmp ℕ). unwrap_or (get m k) 0) is ∙ ap (λ (o : Option ℕ). unwrap_or o 0) (insert_same v.slot_loads k n);
+  others = λ j ne. ap (λ (m : FinMap nat_cmp ℕ). unwrap_or (get m j) 0) is ∙ ap (λ (o : Option ℕ). unwrap_or o 0) (insert_other v.slot_loads k j n ne);
+  sum = more;
+}
+
+pub loads_after : (u v w : View) (k m n most before between after : ℕ) → LoadsOne u v k m before between → LoadsOne v w k n between after → m + n ≤ most → LoadsOne u w k most before after
+loads_after u v w k m n most before between after g h l = let a = g.few in let b = h.few in let c = g.sum in let d = h.sum in record {
+  times = g.times + h.times;
+  few = omega arith;
+  here = h.here ∙ (ap (λ (x : ℕ). counted_on x h.times) g.here ∙ on_more (loads_at u k) g.times h.times);
+  others = λ j ne. h.others j ne ∙ g.others j ne;
+  sum = omega arith;
+}
+
+-- loads of other words before or behind
+pub loads_from : (u v w : View) (k most before after : ℕ) → v.slot_loads ≡ u.slot_loads → LoadsOne v w k most before after → LoadsOne u w k most before after
+loads_from u v w k most before after e h = loads_after u v w k 0 most most before before after (loads_none u v k 0 before e) h (omega arith)
+
+-- the counts of one slot that go on, in a sum
+abbrev with_more : (ℕ → ℕ) → ℕ → ℕ → ℕ → ℕ
+with_more f k n j = f j + (if nat_eq j k then n else 0)
+
+more_here : (f : ℕ → ℕ) (k n j : ℕ) → j ≡ k → with_more f k n j ≡ f j + n
+more_here f k n j e = ap (λ (b : Bool). f j + (if b then n else 0)) (eq-eqb j k e)
+
+more_other : (f : ℕ → ℕ) (k n j : ℕ) → j ≢ k → with_more f k n j ≡ f j
+more_other f k n j ne = let plain : f j + 0 ≡ f j = omega arith in ap (λ (b : Bool). f j + (if b then n else 0)) (ne_eqb j k ne) ∙ plain
+
+sum_same : (f : ℕ → ℕ) (k n m : ℕ) → m ≤ k → sum_below (with_more f k n) m ≡ sum_below f m
+sum_same f k n zero l = refl
+sum_same f k n (suc m) l = let a = sum_same f k n m (omega arith) in let b = more_other f k n m (λ e. omega arith) in omega arith
+
+sum_more : (f : ℕ → ℕ) (k n m : ℕ) → k < m → sum_below (with_more f k n) m ≡ sum_below f m + n
+sum_more f k n zero l = absurd (omega arith)
+sum_more f k n (suc m) l = dite (ℕ_discrete m k)
+    (λ e. let a = sum_same f k n m (omega arith) in let b = more_here f k n m e in omega arith)
+    (λ ne. let a = sum_more f k n m (omega arith) in let b = more_other f k n m ne in omega arith)
+
+sum_most : (f : ℕ → ℕ) (n : ℕ) → ((k : ℕ) → f k ≤ 2) → sum_below f n ≤ 2 * n
+sum_most f zero l = omega arith
+sum_most f (suc n) l = let a = sum_most f n l in let b = l n in omega arith
+
+sum_none : (f : ℕ → ℕ) (n : ℕ) → ((k : ℕ) → f k ≡ 0) → sum_below f n ≡ 0
+sum_none f zero z = refl
+sum_none f (suc n) z = let a = sum_none f n z in let b = z n in omega arith
+
+-- What a walk has loaded when it comes to the slot of rank r: no slot twice, and none of those that lie ahead on the path.
+pub record Walking (a v : View) (us : List ℕ) (r before now : ℕ) : Type 0 where
+  pub times : ℕ → ℕ
+  pub each : (k : ℕ) → loads_at v k ≡ counted_on (loads_at a k) (times k)
+  pub once : (k : ℕ) → times k ≤ 1
+  pub ahead : (k : ℕ) → r ≤ rank us a.sizes.slots k → times k ≡ 0
+  pub inside : (k : ℕ) → 0 < times k → k < a.sizes.slots
+  pub sum : now ≡ before + sum_below times a.sizes.slots
+
+pub walking_none : (a : View) (us : List ℕ) (before : ℕ) → Walking a a us 0 before before
+walking_none a us before = let z = sum_none (λ k. 0) a.sizes.slots (λ k. refl) in record { times = λ k. 0; each = λ k. refl; once = λ k. omega arith; ahead = λ k l. refl; inside = λ k l. absurd (omega arith); sum = omega arith }
+
+-- at the first slot none was loaded so far
+pub walking_first : (a v : View) (us : List ℕ) (r before now : ℕ) → Walking a v us r before now → r ≡ 0 → now ≡ before
+walking_first a v us r before now p e = let s = p.sum in let z = sum_none p.times a.sizes.slots (λ k. p.ahead k (omega arith)) in omega arith
+
+-- the slot of rank r
+module _ (a v w : View) (us : List ℕ) (r before now after k most : ℕ) (p : Walking a v us r before now) (inside : k < a.sizes.slots) (at : rank us a.sizes.slots k ≡ r) (h : LoadsOne v w k most now after) where
+  abbrev loaded : ℕ → ℕ
+  loaded = with_more p.times k h.times
+
+  none_so_far : p.times k ≡ 0
+  none_so_far = p.ahead k (omega arith)
+
+  loaded_each : (j : ℕ) → loads_at w j ≡ counted_on (loads_at a j) (loaded j)
+  loaded_each j = dite (ℕ_discrete j k)
+      (λ e. subst (λ (i : ℕ). loads_at w i ≡ counted_on (loads_at a i) (loaded i)) (sym e)
+      (h.here ∙ (ap (λ (x : ℕ). counted_on x h.times) (p.each k) ∙ (on_more (loads_at a k) (p.times k) h.times ∙ ap (counted_on (loads_at a k)) (sym (more_here p.times k h.times k refl))))))
+      (λ ne. h.others j ne ∙ (p.each j ∙ ap (counted_on (loads_at a j)) (sym (more_other p.times k h.times j ne))))
+
+  loaded_inside : (j : ℕ) → 0 < loaded j → j < a.sizes.slots
+  loaded_inside j l = dite (ℕ_discrete j k)
+      (λ e. subst (λ (i : ℕ). i < a.sizes.slots) (sym e) inside)
+      (λ ne. let m = more_other p.times k h.times j ne in p.inside j (omega arith))
+
+  loaded_sum : after ≡ before + sum_below loaded a.sizes.slots
+  loaded_sum = let c = p.sum in let d = h.sum in let e = sum_more p.times k h.times a.sizes.slots inside in omega arith
+
+  -- it is passed
+  pub walking_next : most ≤ 1 → Walking a w us (r + 1) before after
+  walking_next few = record {
+    times = loaded;
+    each = loaded_each;
+    once = λ j. dite (ℕ_discrete j k)
+        (λ e. let m = more_here p.times k h.times j e in let z = p.once j in let n = none_so_far in let n' : p.times j ≡ 0 = ap p.times e ∙ n in let f = h.few in omega arith)
+        (λ ne. let m = more_other p.times k h.times j ne in let z = p.once j in omega arith);
+    ahead = λ j l. let ne : j ≢ k = (λ e. let same : rank us a.sizes.slots j ≡ rank us a.sizes.slots k = ap (rank us a.sizes.slots) e in omega arith) in
+        more_other p.times k h.times j ne ∙ p.ahead j (omega arith);
+    inside = loaded_inside;
+    sum = loaded_sum;
+  }
+
+  -- the walk ends there
+  pub walked_to : (answer : Option ℕ) → most ≤ 2 → (1 < most → (i : ℕ) × (answer ≡ Some i) × Has w.slots k i) → LoadsSlots a w answer before after
+  walked_to answer few has = record {
+    times = loaded;
+    each = loaded_each;
+    twice = λ j. dite (ℕ_discrete j k)
+        (λ e. let m = more_here p.times k h.times j e in let n' : p.times j ≡ 0 = ap p.times e ∙ none_so_far in let f = h.few in omega arith)
+        (λ ne. let m = more_other p.times k h.times j ne in let z = p.once j in omega arith);
+    entered = λ j l. dite (ℕ_discrete j k)
+        (λ e. let m = more_here p.times k h.times j e in let n' : p.times j ≡ 0 = ap p.times e ∙ none_so_far in let f = h.few in let t = has (omega arith) in
+        (t.0, t.1, subst (λ (i : ℕ). Has w.slots i t.0) (sym e) t.2))
+        (λ ne. let m = more_other p.times k h.times j ne in let z = p.once j in absurd (omega arith));
+    inside = loaded_inside;
+    sum = loaded_sum;
+  }
+
+-- it passed all slots
+pub walked_all : (a v : View) (us : List ℕ) (r before now : ℕ) (answer : Option ℕ) → Walking a v us r before now → LoadsSlots a v answer before now
+walked_all a v us r before now answer p = record {
+  times = p.times;
+  each = p.each;
+  twice = λ k. let z = p.once k in omega arith;
+  entered = λ k l. let z = p.once k in absurd (omega arith);
+  inside = p.inside;
+  sum = p.sum;
+}
+
+-- no slot was loaded
+pub slots_none : (v w : View) (answer : Option ℕ) (before : ℕ) → w.slot_loads ≡ v.slot_loads → LoadsSlots v w answer before before
+slots_none v w answer before e = let z = sum_none (λ k. 0) v.sizes.slots (λ k. refl) in record {
+  times = λ k. 0;
+  each = λ k. ap (λ (m : FinMap nat_cmp ℕ). unwrap_or (get m k) 0) e;
+  twice = λ k. omega arith;
+  entered = λ k l. absurd (omega arith);
+  inside = λ k l. absurd (omega arith);
+  sum = omega arith;
+}
+
+-- loads of other words before the walk
+pub slots_from : (u v w : View) (answer : Option ℕ) (before after : ℕ) → v.slot_loads ≡ u.slot_loads → v.sizes ≡ u.sizes → LoadsSlots v w answer before after → LoadsSlots u w answer before after
+slots_from u v w answer before after e z h = record {
+  times = h.times;
+  each = λ k. h.each k ∙ ap (λ (m : FinMap nat_cmp ℕ). counted_on (unwrap_or (get m k) 0) (h.times k)) e;
+  twice = h.twice;
+  entered = h.entered;
+  inside = λ k l. subst (λ (y : HeapSize). k < y.slots) z (h.inside k l);
+  sum = h.sum ∙ ap (λ (y : HeapSize). before + sum_below h.times y.slots) z;
+}
+
+-- a step after the walk that loads no slot
+pub slots_then : (v w x : View) (answer : Option ℕ) (before after : ℕ) → x.slot_loads ≡ w.slot_loads → ((k i : ℕ) → Has w.slots k i → Has x.slots k i) → LoadsSlots v w answer before after → LoadsSlots v x answer before after
+slots_then v w x answer before after e slots h = record {
+  times = h.times;
+  each = λ k. ap (λ (m : FinMap nat_cmp ℕ). unwrap_or (get m k) 0) e ∙ h.each k;
+  twice = h.twice;
+  entered = λ k l. let t = h.entered k l in (t.0, t.1, slots k t.0 t.2);
+  inside = h.inside;
+  sum = h.sum;
+}
+
+-- no slot more than twice, and all together at most twice their number
+pub slots_few : (v w : View) (answer : Option ℕ) (before after : ℕ) → LoadsSlots v w answer before after → (k : ℕ) → loads_at w k ≤ loads_at v k + 2
+slots_few v w answer before after h k = let a = h.each k in let b = on_most (loads_at v k) (h.times k) in let c = h.twice k in omega arith
+
+pub slots_most : (v w : View) (answer : Option ℕ) (before after : ℕ) → LoadsSlots v w answer before after → after ≤ before + 2 * v.sizes.slots
+slots_most v w answer before after h = let a = h.sum in let b = sum_most h.times v.sizes.slots h.twice in omega arith

@@ -1,6 +1,0 @@
-use Rattle.std.proofs.Common.{◌≡◌, ◌≤◌}
-use Rattle.heap_string_table.specs.Visits.{Counted}
-use Rattle.heap_string_table.proofs.counting.count_interned.Given as goal
-
-abbrev pub invariant-loop-k : goal.invariant-loop-k
-invariant-loop-k l = (l.reader.heap ≡ l.fn.reader.heap) × Counted l.fn.reader.agent.seat.me.0 l.reader.agent.seat.me.0 l.k l.count × (l.count ≤ l.k)

@@ -1,4 +1,0 @@
-use Rattle.heap_string_table.proofs.probing.intern.Given as goal
-
-abbrev pub ghosts-intern_by : goal.ghosts-intern_by
-ghosts-intern_by a = record { name = a.blank.name; parts = a.blank.parts }
