@@ -107,8 +107,8 @@ def cases(path):
                 while not re.fullmatch(r"-- status \d+", lines[number]):
                     number += 1
                 number += 1
-                # (a schedule is no script)
-                if not line.startswith("== play: "):
+                # (neither a schedule nor a call is a script)
+                if not line.startswith(("== play: ", "== call: ")):
                     yield first + 1, block(lines[first + 1:number])
             else:
                 yield first + 1, one_line(line)

@@ -1,6 +1,6 @@
 // A case that is a block of lines.
 
-use crate::case::{Case, Ending, FILE, Fault, PLAYER, RUNNER, SCHEDULE, Way};
+use crate::case::{CALLS, Case, Ending, FILE, Fault, PLAYER, RUNNER, SCHEDULE, Way};
 use crate::line::words;
 use crate::spelling::bytes_of;
 use js_io::MemFiles;
@@ -80,10 +80,12 @@ pub(crate) struct Block {
 }
 
 impl Block {
-    /// The block that begins on this line, of a schedule or of scripts.
-    pub(crate) fn new(alloc: Global, line: usize, is_schedule: bool) -> Result<Self, Fault> {
-        let (program, file) = if is_schedule {
+    /// The block that begins on this line with this head: a schedule, a call or scripts.
+    pub(crate) fn new(alloc: Global, line: usize, head: &str) -> Result<Self, Fault> {
+        let (program, file) = if head.starts_with("== play: ") {
             (PLAYER, SCHEDULE)
+        } else if head.starts_with("== call: ") {
+            (CALLS, FILE)
         } else {
             (RUNNER, FILE)
         };

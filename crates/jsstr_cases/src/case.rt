@@ -13,10 +13,12 @@ pub(crate) const FILE: &str = "a.js";
 
 pub(crate) const SCHEDULE: &str = "a.sched";
 
-/// The programs that have the words.
+/// The programs that have the words, and what has them where a call is told.
 pub(crate) const RUNNER: &str = "jsstr";
 
 pub(crate) const PLAYER: &str = "jssched";
+
+pub(crate) const CALLS: &str = "calls";
 
 /// The status, and what both sinks took.
 #[derive(Drop)]

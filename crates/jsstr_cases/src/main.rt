@@ -75,6 +75,11 @@
 //! A block whose head is `== play: NAME` plays a schedule: its words are those of `jssched` and not of
 //! `jsstr`, and where it has none, `a.sched`.
 //!
+//! A block whose head is `== call: NAME` tells what one call comes to that no script shows. Its words are the
+//! call's name and what it is given: `plan WORD ..`, what these words of the command line ask for; `texts N`,
+//! the first line of the texts that are made from a number, and a hash of all; `prints N`, what these texts
+//! print over the plain store; `laws`, the ids and words that are used of a heap on which nothing was run.
+//!
 //! A word `FIRST..LAST` stands for each number from FIRST to LAST: the case is run once with each,
 //! and counts as so many. Where one of several endings may come, all but the last one end with
 //! `-- status N or`, and `out` and `err` of the next one follow.
@@ -100,6 +105,7 @@
 #![tactic(auto)]
 
 mod block;
+mod calls;
 mod case;
 mod check;
 mod cut;

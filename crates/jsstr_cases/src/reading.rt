@@ -48,7 +48,7 @@ impl Reader {
                 self.open = Some(block);
             }
         } else if text.starts_with("== ") {
-            self.open = Some(Block::new(alloc, line, text.starts_with("== play: "))?);
+            self.open = Some(Block::new(alloc, line, text)?);
         } else if !text.is_empty() && !text.starts_with('#') {
             self.cases.push(case_of(alloc, line, text)?)?;
         }

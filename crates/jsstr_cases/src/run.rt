@@ -1,6 +1,7 @@
 // A run of the program, on a heap and with sinks that suit a case.
 
-use crate::case::{Ending, Fault, PLAYER};
+use crate::calls::told;
+use crate::case::{CALLS, Ending, Fault, PLAYER};
 use heap_schedule::run_schedule;
 use js_io::{FreeGate, Gate, MemFiles, MemSink};
 use js_run::run_words;
@@ -57,10 +58,13 @@ where
     G: Gate + Sync,
 {
     let alloc = rt.alloc();
+    if are_of(words, CALLS) {
+        return called(alloc, words);
+    }
     let most = room.most.max(1);
     let mut out = MemSink::new(alloc, most, room.out)?;
     let mut err = MemSink::new(alloc, most, room.err)?;
-    let status = if are_of_player(words) {
+    let status = if are_of(words, PLAYER) {
         played(alloc, words, files, &mut out, &mut err)
     } else {
         ran(rt, words, files, &mut out, &mut err, gate)
@@ -69,6 +73,15 @@ where
         status,
         out: out.taken().to_vec(alloc)?,
         err: err.taken().to_vec(alloc)?,
+    })
+}
+
+// What a call below the programs comes to.
+fn called(alloc: Global, words: &[String]) -> Result<Ending, Fault> {
+    Ok(Ending {
+        status: 0,
+        out: told(alloc, words)?,
+        err: Vec::new(alloc),
     })
 }
 
@@ -100,10 +113,10 @@ where
     status.code
 }
 
-// Whether the words are those of the player of schedules.
-fn are_of_player(words: &[String]) -> bool {
+// Whether the words are those of this program.
+fn are_of(words: &[String], program: &str) -> bool {
     match words.first() {
-        Some(name) => name.as_str() == PLAYER,
+        Some(name) => name.as_str() == program,
         None => false,
     }
 }
@@ -146,7 +159,7 @@ pub(crate) fn run_on_a_heap<R>(
 where
     R: AllocGlobal + Sync + Threads,
 {
-    if !are_of_player(words) {
+    if !are_of(words, PLAYER) && !are_of(words, CALLS) {
         for sizes in [SMALL, LARGER] {
             let filled = sized(rt.alloc(), &sizes, words)?;
             if filled.len() == words.len() {

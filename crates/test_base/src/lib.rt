@@ -1,9 +1,10 @@
 //! Tests by public calls, where no script shows what they show: units and words, forms of strings, files
 //! and sinks in memory and of the process, numbers, the plain store, the URI functions with the places of
-//! their faults, and the words of the command line; lexical and grammatical tokens with their spans, texts
-//! made from a number, a run of them over the plain store, copies of names, the laws of files that were run
-//! on one heap, and what a session keeps of strings that it read and of strings of one unit. Which texts are
-//! scripts, the kind and place of each fault, and what scripts print are cases of `jsstr_cases`.
+//! their faults; lexical and grammatical tokens with their spans, copies of names, and what a session keeps
+//! of strings that it read and of strings of one unit. Which texts are scripts, the kind and place of each
+//! fault, what scripts print, and what a few calls below the program come to are cases of `jsstr_cases`.
+//! Nothing here reaches the evaluator, the program or the command line, since a crate of tests is checked
+//! with all that it reaches.
 //!
 //! A table is one text, a row a line: what is given, an arrow, and what is wanted; one loop goes through
 //! all of them. Wanted values come from the standard, from node, or from a definition alone.
@@ -12,11 +13,7 @@
 #[cfg(test)]
 mod files;
 #[cfg(test)]
-mod generated;
-#[cfg(test)]
 mod header;
-#[cfg(test)]
-mod laws;
 #[cfg(test)]
 mod lexing;
 #[cfg(test)]
@@ -37,5 +34,3 @@ mod tokens;
 mod units;
 #[cfg(test)]
 mod uri;
-#[cfg(test)]
-mod words;
