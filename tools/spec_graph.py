@@ -76,9 +76,9 @@ def split_names(text):
 
 
 def comment_above(lines, at, mark):
-    """The comment that stands right above a line, without its marks; attributes between them are passed over."""
+    """The comment right above a line, without its marks; attributes between them are passed over, and `mutual` of which it is the first."""
     found, at = [], at - 1
-    while at >= 0 and (lines[at].strip().startswith("#[") or FIXITY.match(lines[at])):
+    while at >= 0 and (lines[at].strip().startswith("#[") or FIXITY.match(lines[at]) or lines[at].strip() in ("mutual", "abbrev mutual")):
         at -= 1
     indent = len(lines[at]) - len(lines[at].lstrip()) if at >= 0 else 0
     while at >= 0 and re.match(r" *(" + mark + r")( |$)", lines[at]) and len(lines[at]) - len(lines[at].lstrip()) == indent:
@@ -301,7 +301,8 @@ class Graph:
     def impl_at(self, source, number, name):
         item = Item(source.crate, source.path, number + 1, name, "impl")
         end = end_of(source.lines, number)
-        item.comment = comment_above(source.lines, number, "///|//")
+        owner = source.names.get(name.rpartition(" ")[2])
+        item.comment = comment_above(source.lines, number, "///|//") or (owner.comment if owner else "")
         lines = source.lines[number:end + 1]
         imports = dict(source.imports(), **imports_in(lines))
         for part in ghost_parts("\n".join(lines)):
