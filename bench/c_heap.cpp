@@ -3,7 +3,7 @@
 // made, joined, cut, interned over 100,000 keys, and read, by the calls that test their condition and by those
 // that don't. Prints times in ns a string, and their ratios to the map's.
 //
-//     c++ -O2 -std=c++17 -pthread -I DIR bench/c_heap.cpp DIR/libjsstr.a -o c_heap && ./c_heap [THREADS [COUNT]]
+//     c++ -O2 -std=c++17 -pthread -I PREFIX/include bench/c_heap.cpp PREFIX/lib/libjsstr.a -o c_heap && ./c_heap [THREADS [COUNT]]
 #include "jsstr.h"
 #include <chrono>
 #include <cstdio>

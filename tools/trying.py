@@ -106,13 +106,15 @@ def runs(root):
 
 
 @contextlib.contextmanager
-def side_by_side():
-    """Threads for the runs. What ends the block early, as an interrupt, ends the runs that are at work; rt removes what they made."""
+def side_by_side(work):
+    """The runs, started in threads. What ends the block early, as an interrupt, ends those that are at work; rt removes what they made."""
     pool = concurrent.futures.ThreadPoolExecutor(at_a_time())
+    started = [pool.submit(*it) for it in work]
     try:
-        yield pool
+        yield started
     except BaseException:
-        pool.shutdown(wait=False, cancel_futures=True)
+        for it in started:
+            it.cancel()
         for it in list(at_work):
             it.terminate()
         raise
@@ -125,8 +127,8 @@ def run_all(root, tell):
     something is wrong."""
     tests, cases, wrong = 0, 0, set()
     left = [os.path.join(root, "crates", name, "data", LEFT) for name in CASES]
-    with side_by_side() as pool:
-        for done in concurrent.futures.as_completed([pool.submit(*it) for it in runs(root)]):
+    with side_by_side(runs(root)) as started:
+        for done in concurrent.futures.as_completed(started):
             it = done.result()
             tests += it.tests
             cases += it.cases

@@ -1,0 +1,156 @@
+"""Puts files below a prefix, where people and programs look for them, and removes them again.
+
+PREFIX/share/jsstr/installed lists what was put there, each file by its path below PREFIX.
+"""
+
+import contextlib
+import os
+
+import built
+import checkout
+import pages
+
+TOOLS = os.path.join(checkout.ROOT, "tools")
+SHARE = os.path.join("share", "jsstr")
+LIST = os.path.join(SHARE, "installed")
+# The parts of jsstr-where, which it looks for in PREFIX/share/jsstr.
+PARTS = ("checking.py", "hints.py", "methods.py", "reading.py", "running.py", "where.py")
+# The player of schedules, where `rt run` has built it from its sources as they stand.
+PLAYER = os.path.join(checkout.crate("jssched"), "out", "jssched")
+
+
+def read(*path):
+    with open(os.path.join(*path), "rb") as file:
+        return file.read()
+
+
+def has_player():
+    return os.access(PLAYER, os.X_OK) and built.is_newer(PLAYER, built.crates("jssched"))
+
+
+def program_files(record):
+    """Each file of the program by its path below the prefix: its bytes, and whether it is run."""
+    version = checkout.version()
+    files = {
+        "bin/jsstr": (read(built.PROGRAM), True),
+        "bin/jsstr-where": (read(TOOLS, "jsstr-where"), True),
+        f"{SHARE}/jsstr.proved": (checkout.spelled(record).encode(), False),
+        f"{SHARE}/VERSION": (f"{version}\n".encode(), False),
+        **{f"{SHARE}/{it}": (read(TOOLS, it), False) for it in PARTS},
+        "share/man/man1/jsstr.1": (pages.jsstr_page(version).encode(), False),
+        "share/man/man1/jsstr-where.1": (pages.where_page(version).encode(), False),
+        "share/bash-completion/completions/jsstr": (pages.bash().encode(), False),
+        "share/zsh/site-functions/_jsstr": (pages.zsh().encode(), False),
+        "share/fish/vendor_completions.d/jsstr.fish": (pages.fish().encode(), False),
+    }
+    if has_player():
+        files["bin/jssched"] = (read(PLAYER), True)
+        files["share/man/man1/jssched.1"] = (pages.sched_page(version).encode(), False)
+    return files
+
+
+def pkg_config(version):
+    """The library's flags. They go by where the file lies, so that the whole may be moved."""
+    return (
+        "prefix=${pcfiledir}/../..\nincludedir=${prefix}/include\nlibdir=${prefix}/lib\n\n"
+        "Name: jsstr\nDescription: A proved heap of strings for a JavaScript engine\n"
+        f"Version: {version}\nCflags: -I${{includedir}}\nLibs: -L${{libdir}} -ljsstr\n"
+    )
+
+
+def library_files(archive, record):
+    """Each file of the library, in the same form."""
+    version, header = checkout.version(), read(checkout.ROOT, "include", "jsstr.h")
+    return {
+        "include/jsstr.h": (header, False),
+        "lib/libjsstr.a": (archive, False),
+        "lib/pkgconfig/jsstr.pc": (pkg_config(version).encode(), False),
+        f"{SHARE}/library.proved": (checkout.spelled(record).encode(), False),
+        "share/man/man3/jsstr.3": (pages.library_page(version, header.decode()).encode(), False),
+    }
+
+
+def listed(prefix):
+    """What was put below the prefix."""
+    with contextlib.suppress(OSError):
+        return read(prefix, LIST).decode().splitlines()
+    return []
+
+
+def write(path, data, is_run):
+    os.makedirs(os.path.dirname(path), exist_ok=True)
+    with open(path, "wb") as file:
+        file.write(data)
+    os.chmod(path, 0o755 if is_run else 0o644)
+
+
+def put(prefix, files):
+    """Puts the files below the prefix, all of them or none."""
+    names = sorted({*listed(prefix), *files, LIST})
+    files = {**files, LIST: ("".join(f"{it}\n" for it in names).encode(), False)}
+    new = {os.path.join(prefix, name): f".new-{os.getpid()}" for name in files}
+    try:
+        for path in filter(os.path.isdir, new):
+            checkout.stop(f"{path} is a folder, and a file can't be put there: remove it, or name another prefix")
+        for name, (data, is_run) in files.items():
+            path = os.path.join(prefix, name)
+            write(path + new[path], data, is_run)
+        for path, ending in new.items():
+            os.replace(path + ending, path)
+    except OSError as error:
+        checkout.stop(f"{error.filename} can't be written ({error.strerror}), so nothing is installed: name a prefix that can")
+    finally:
+        for path in filter(os.path.exists, (path + ending for path, ending in new.items())):
+            os.remove(path)
+
+
+def checked(prefix):
+    """The whole path of a prefix, which holds bin/ and is none."""
+    if not prefix or prefix.startswith("--"):
+        checkout.stop("name the folder below which bin/, share/ and the others are, as in tools/jsstr --install ~/.local")
+    path = os.path.abspath(prefix)
+    if os.path.basename(path) == "bin":
+        checkout.stop(f"name the folder above bin: tools/jsstr --install {os.path.dirname(path)} puts the program into {path}")
+    if os.path.lexists(path) and not os.path.isdir(path):
+        checkout.stop(f"{prefix} is no folder: name another prefix")
+    return path
+
+
+def install(prefix):
+    prefix, record = checked(prefix), built.record()
+    if not record:
+        checkout.stop("there is no program of --build to install: run tools/jsstr --build first")
+    if record["sources"] != built.sources():
+        checkout.tell("the sources have changed since the program was built; it is installed as it is, and tools/jsstr --build builds it anew")
+    files = program_files(record)
+    put(prefix, files)
+    checkout.tell(f"installed {', '.join(os.path.join(prefix, it) for it in files if it.startswith('bin/'))}, with man pages and completions below {os.path.join(prefix, 'share')}")
+    return 0
+
+
+def uninstall(prefix):
+    prefix = checked(prefix)
+    names = listed(prefix)
+    if not names:
+        checkout.stop(f"{prefix} has no {LIST}, so nothing was installed there")
+    try:
+        for name in sorted(names, key=lambda it: it == LIST):
+            removed(prefix, name)
+    except OSError as error:
+        checkout.stop(f"{error.filename} can't be removed ({error.strerror}): the rest is still there")
+    checkout.tell(f"removed {len(names)} files below {prefix}")
+    return 0
+
+
+def removed(prefix, name):
+    """Removes a file below the prefix, and the folders between that are empty then."""
+    path = os.path.normpath(os.path.join(prefix, name))
+    if os.path.isabs(name) or not path.startswith(prefix.rstrip(os.sep) + os.sep):
+        checkout.stop(f"{os.path.join(prefix, LIST)} names {name}, which isn't below the prefix: nothing more is removed")
+    with contextlib.suppress(FileNotFoundError):
+        os.remove(path)
+    folder = os.path.dirname(path)
+    with contextlib.suppress(OSError):
+        while folder != prefix:
+            os.rmdir(folder)
+            folder = os.path.dirname(folder)

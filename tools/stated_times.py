@@ -1,0 +1,16 @@
+"""The times that tools and documents state, in one place: minutes of processor time, with nothing built and nothing kept.
+
+tools/measure-times measures them. tools/check-repository compares what the documents say.
+"""
+
+MINUTES = {
+    "quick run": 1.6,
+    "--test": 9,
+    "--build": 97,
+    "--library": 27,
+    "gate": 153,
+}
+
+
+def stated(what):
+    return f"{MINUTES[what]} minutes of processor time"

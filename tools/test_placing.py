@@ -1,0 +1,173 @@
+"""Tests of what puts files below a prefix, and of tools/release."""
+
+import os
+import re
+import shutil
+import subprocess
+import tarfile
+
+import pages
+from test_house import REPOSITORY, check, read
+
+PROGRAM = ["bin/jsstr", "bin/jsstr-where", "share/bash-completion/completions/jsstr", "share/fish/vendor_completions.d/jsstr.fish"]
+PROGRAM += [f"share/jsstr/{it}" for it in ("VERSION", "checking.py", "hints.py", "installed", "jsstr.proved", "methods.py", "reading.py", "running.py", "where.py")]
+PROGRAM += ["share/man/man1/jsstr-where.1", "share/man/man1/jsstr.1", "share/zsh/site-functions/_jsstr"]
+LIBRARY = ["include/jsstr.h", "lib/libjsstr.a", "lib/pkgconfig/jsstr.pc", "share/jsstr/library.proved", "share/man/man3/jsstr.3"]
+
+
+def below(folder):
+    return sorted(os.path.relpath(os.path.join(at, it), folder) for at, _, names in os.walk(folder) for it in names)
+
+
+def said_in(path):
+    return dict(line.split(": ", 1) for line in read(path).splitlines())
+
+
+def sum_of(path):
+    return subprocess.run(["sha256sum", path], capture_output=True, text=True, check=True).stdout.split()[0]
+
+
+def installs(house):
+    to = house.path_of("out/to")
+    status, _, err = house.call("--install", "out/to")
+    check("the program is installed with all that goes with it", (status, below(to)) == (0, PROGRAM), err + str(below(to)))
+    said = said_in(f"{to}/share/jsstr/jsstr.proved")
+    wanted = (read(REPOSITORY, "VERSION").strip(), house.git("rev-parse", "HEAD"), "clean", "rattle-kit-0", "0123")
+    check("the record names what the program was built from", tuple(said[it] for it in ("version", "commit", "tree", "kit", "logic")) == wanted, str(said))
+    check("and the program's sum", said["sha256"] == sum_of(f"{to}/bin/jsstr") and said["date"].endswith("Z"), str(said))
+    check("the program runs", subprocess.run([f"{to}/bin/jsstr", "x"], capture_output=True, text=True).stdout == "built x\n")
+    ran = subprocess.run([f"{to}/bin/jsstr-where", "--check", "a b.js"], cwd=house.root, capture_output=True, text=True)
+    check("and jsstr-where without the checkout's parts", (ran.returncode, ran.stderr) == (0, ""), ran.stderr)
+    ran = subprocess.run([f"{to}/bin/jsstr-where", "--version"], capture_output=True, text=True)
+    check("which has the version", ran.stdout == f"jsstr-where {wanted[0]}\n", ran.stdout)
+    os.makedirs(f"{to}/share/doc")
+    check("a second time changes nothing", house.call("--install", "out/to")[0] == 0 and below(to) == PROGRAM)
+    house.write("out/to/bin/other", "")
+    status, _, err = house.call("--uninstall", "out/to")
+    check("all of it is removed, and nothing else", status == 0 and below(to) == ["bin/other"] and sorted(os.listdir(f"{to}/share")) == ["doc"], err + str(below(to)))
+    status, _, err = house.call("--uninstall", "out/to")
+    check("where nothing is installed a line says so", (status, err.count("\n")) == (125, 1), err)
+
+
+def refused_prefixes(house):
+    for prefix, part in (("out/x/bin", "the folder above bin"), ("a b.js", "no folder"), ("--help", "name the folder"), ("", "name the folder")):
+        status, _, err = house.call("--install", prefix)
+        check(f"the prefix {prefix!r} is refused", (status, err.count("\n")) == (125, 1) and part in err and not house.has("out/x"), err)
+    os.makedirs(house.path_of("out/odd/bin/jsstr"))
+    status, _, err = house.call("--install", "out/odd")
+    check("all or nothing is installed", status == 125 and below(house.path_of("out/odd")) == [], err + str(below(house.path_of("out/odd"))))
+    house.write("out/evil/share/jsstr/installed", "../../a b.js\n")
+    status, _, err = house.call("--uninstall", "out/evil")
+    check("nothing beside the prefix is removed", status == 125 and house.has("a b.js"), err)
+
+
+def player(house):
+    """The player of schedules is installed where it is built from its sources as they stand."""
+    house.write("crates/jssched/src/main.rt", "// player\n")
+    house.write("crates.txt", read(house.path_of("crates.txt")) + "jssched: low\n")
+    house.write("crates/jssched/out/jssched", "#!/bin/sh\n")
+    os.chmod(house.path_of("crates/jssched/out/jssched"), 0o755)
+    house.call("--install", "out/with")
+    check("it is installed with its page", {"bin/jssched", "share/man/man1/jssched.1"} <= set(below(house.path_of("out/with"))))
+    os.utime(house.path_of("crates/jssched/out/jssched"), (1, 1))
+    house.call("--install", "out/without")
+    check("an older one isn't", below(house.path_of("out/without")) == PROGRAM)
+    shutil.rmtree(house.path_of("crates/jssched"))
+    house.git("checkout", "-q", "crates.txt")
+
+
+def another_program(house):
+    with open(house.path_of("out/jsstr"), "a", encoding="utf-8") as text:
+        text.write("# another\n")
+    check("a program that isn't the recorded one doesn't count as built", house.call("--install", "out/to")[0] == 125 and house.call("a b.js")[0] == 4)
+
+
+def make_kit(house):
+    """The header, and a made-up archive of the toolchain."""
+    house.write("include/jsstr.h", read(REPOSITORY, "include/jsstr.h"))
+    kit = f"{house.room}/kit/c"
+    with open(f"{kit}/malloc.o", "w", encoding="ascii") as file:
+        file.write("malloc\n")
+    subprocess.run(["ar", "rcs", f"{kit}/liblibc_c.a", f"{kit}/malloc.o"], check=True)
+
+
+def libraries(house):
+    make_kit(house)
+    to = house.path_of("out/lib")
+    status, out, err = house.call("--library", "out/lib")
+    check("the library is installed", (status, out, below(to)) == (0, "", sorted([*LIBRARY, "share/jsstr/installed"])), err + str(below(to)))
+    parts = subprocess.run(["ar", "t", f"{to}/lib/libjsstr.a"], capture_output=True, text=True, check=True).stdout.split()
+    check("as one archive", parts == ["heap.o", "malloc.o"], str(parts))
+    said = said_in(f"{to}/share/jsstr/library.proved")
+    check("with its record", said["sha256"] == sum_of(f"{to}/lib/libjsstr.a") and said["kit"] == "rattle-kit-0", str(said))
+    if shutil.which("pkg-config"):
+        env = {**os.environ, "PKG_CONFIG_PATH": f"{to}/lib/pkgconfig"}
+        told = [subprocess.run(["pkg-config", it, "jsstr"], env=env, capture_output=True, text=True).stdout.strip() for it in ("--modversion", "--cflags", "--libs")]
+        check("pkg-config finds it", told[0] == read(REPOSITORY, "VERSION").strip() and "/include" in told[1] and told[2].endswith("-ljsstr"), str(told))
+    house.call("--install", "out/lib")
+    check("program and library go below one prefix", below(to) == sorted(PROGRAM + LIBRARY), str(below(to)))
+    check("and are removed together", house.call("--uninstall", "out/lib")[0] == 0 and not os.listdir(to), str(below(to)))
+    house.write("crates/jsstr_c/src/lib.rt", "// broken\n")
+    shutil.rmtree(house.path_of("crates/jsstr_c/out"))
+    status, out, err = house.call("--library", "out/none")
+    check("a library that isn't proved isn't installed", status == 125 and "error: it is broken" in err and not house.has("out/none"), out + err)
+    house.write("crates/jsstr_c/src/lib.rt", "// jsstr_c\n")
+
+
+def releases(house):
+    """A release, whose program is made to be `cat`."""
+    make_kit(house)
+    for it in ("report.js", "report.out"):
+        house.write(f"demo/{it}", "apple\n")
+    house.commit()
+    house.write("gate.log", "rt: ok\n5 passed, 0 failed, 3 s\nprocessor time: 1 minute\n")
+    house.write("failed.log", "4 passed, 1 failed\n")
+    house.write(".git/info/exclude", "*.log\n")
+    for log, part in (("gate.log", "--build first"), ("failed.log", "passed"), ("no.log", "can't be read")):
+        status, _, err = house.call("out/release", log, tool="release")
+        check(f"nothing is packed with {log}", status == 125 and part in err and not house.has("out/release"), err)
+    status, _, err = house.call("--build", CAT="yes")
+    check("the program is built", status == 0, err)
+    house.write("a b.js", "print(2);\n")
+    status, _, err = house.call("out/release", "gate.log", tool="release")
+    check("nothing is packed with changes since the commit", status == 125 and "changes" in err and not house.has("out/release"), err)
+    house.git("checkout", "-q", "a b.js")
+    status, out, err = house.call("out/release", "gate.log", tool="release")
+    name = f"jsstr-{read(REPOSITORY, 'VERSION').strip()}-{os.uname().machine}-linux"
+    made = below(house.path_of("out/release"))
+    check("a release is an archive, a record and sums", (status, made) == (0, sorted([f"{name}.tar.gz", f"{name.rsplit('-', 2)[0]}.record", "SHA256SUMS"])), err + str(made))
+    check("it was tried", "in an empty folder" in err and (os.geteuid() != 0 or "in an empty root" in err), err)
+    ran = subprocess.run(["sha256sum", "--quiet", "-c", "SHA256SUMS"], cwd=house.path_of("out/release"), capture_output=True, text=True)
+    check("the sums are right", ran.returncode == 0, ran.stdout + ran.stderr)
+    with tarfile.open(house.path_of(f"out/release/{name}.tar.gz")) as archive:
+        names = sorted(os.path.relpath(it, name) for it in archive.getnames())
+    check("it has program and library", set(names) == {*PROGRAM, *LIBRARY, "share/jsstr/record"} - {"share/jsstr/installed"}, str(names))
+    said = said_in(house.path_of(f"out/release/{name.rsplit('-', 2)[0]}.record"))
+    check("the record has commit, kit and the gate's line", (said["commit"], said["kit"], said["gate"]) == (house.git("rev-parse", "HEAD"), "rattle-kit-0", "5 passed, 0 failed, 3 s"), str(said))
+    first = sum_of(house.path_of(f"out/release/{name}.tar.gz"))
+    house.write("demo/report.out", "pear\n")
+    house.commit()
+    check("a program of another commit isn't packed", house.call("out/release", "gate.log", tool="release")[0] == 125)
+    check("what is packed stays", sum_of(house.path_of(f"out/release/{name}.tar.gz")) == first)
+
+
+def man_pages(_house):
+    made = {"jsstr.1": pages.jsstr_page("1"), "jsstr-where.1": pages.where_page("1"), "jssched.1": pages.sched_page("1"), "jsstr.3": pages.library_page("1", read(REPOSITORY, "include/jsstr.h"))}
+    for name, text in made.items():
+        check(f"{name} begins as a page does", text.startswith(".TH ") and "\n.SH NAME\n" in text and "\n.SH SYNOPSIS\n" in text)
+        if shutil.which("groff"):
+            ran = subprocess.run(["groff", "-man", "-ww", "-z", "-Tutf8"], input=text, capture_output=True, text=True)
+            check(f"{name} has no fault", ran.returncode == 0 and not ran.stderr, ran.stderr)
+    calls = re.findall(r"\b(jsstr_\w+)\(", read(REPOSITORY, "include/jsstr.h"))
+    check("the library's page has each call", calls and all(it in made["jsstr.3"] for it in calls))
+
+
+def completions(house):
+    path = f"{house.room}/complete"
+    with open(path, "w", encoding="utf-8") as file:
+        file.write(pages.bash())
+    for words, wanted in ((["--s"], "--slots --summary"), (["--limit", ""], "32 64"), (["--jobs", ""], "")):
+        script = f'. "$0"; COMP_WORDS=(jsstr "$@"); COMP_CWORD={len(words)}; _jsstr; echo "${{COMPREPLY[@]}}"'
+        ran = subprocess.run(["bash", "-c", script, path, *words], capture_output=True, text=True)
+        check(f"bash completes {words}", (ran.stdout.strip(), ran.stderr) == (wanted, ""), ran.stdout + ran.stderr)
+    check("zsh and fish have each option", all(f"--{it}[" in pages.zsh() and f" -l {it} " in pages.fish() for it in ("jobs", "prelude", "summary", "limit")))
