@@ -11,9 +11,11 @@ NAME, GAP = r"[A-Za-z_$][\w$]*", r"(?:\s|//[^\n]*\n|/\*.*?\*/)*"
 OPEN = r"(?:[=(\[,:?+\-<>|&!]|\breturn)\s*"
 BEGIN = rf"(?:^|[;{{}}]){GAP}"
 NAMED = rf"{BEGIN}(?!(?:let|const|print|if|else|for|case|return)\b){NAME}\s*"
-HEADER = rf"\bfor\s*\(\s*let\s+{NAME}\s*=\s*0\s*;\s*{NAME}\s*"
+FOR, IF_OR_FOR = r"(?<![.\w$])for\s*\(", r"(?<![.\w$])(?:if|for)\s*\("
+HEADER = rf"{FOR}\s*let\s+{NAME}\s*=\s*0\s*;\s*{NAME}\s*"
 DECLARED = r"\b(?:let|const)\s+"
 NO_FUNCTIONS = "no functions: write the statements out; a prelude holds what scripts share"
+NO_STATEMENT = "a call alone is no statement: const x = .., or print(..)"
 NO_NUMBERS = "no string is read as a number: charCodeAt(i) - 48 is a digit's value"
 NO_CHANGE = "arrays and objects don't change: keep a list as a string, and split it"
 MEMBER = r"[=(,:?]\s*\{(?:[^{}]*,)?\s*"
@@ -45,11 +47,9 @@ NOT_IN_PROFILE = [
     ("", r"var\b", "no var: let or const"),
     ("", r"(?:typeof|instanceof|new|delete|void|this|super|debugger|with)\b", "this word is left out of the language"),
     ("", r"(?:import|export)\b", "no modules: --prelude FILE runs a script before the others"),
-    (r"\bfor\s*\(\s*(?:let|const)\s+" + NAME + r"\s+", r"(?:of|in)\b", "a for counts: for (let i = 0; i < 1000; i++) { .. }"),
     (rf"{HEADER}<\s*", "", "a bound is a number: take one that is large enough, and test if (i < n) { .. } in the body"),
-    (r"\bfor\s*\(\s*(?:let\s+)?(?:" + NAME + r"\s*=\s*)?", "", "a for counts: for (let i = 0; i < 1000; i++) { .. }"),
-    (r"\bfor\s*\([^{}()]*", "", "a for counts: for (let i = 0; i < 1000; i++) { .. }"),
-    (r"\b(?:if|for)\s*\([^{}]*\)\s*", "", "the body of an if or a for stands in { }"),
+    (rf"{FOR}[^{{}}()]*", "", "a for counts: for (let i = 0; i < 1000; i++) { .. }"),
+    (rf"{IF_OR_FOR}[^{{}}]*\)\s*", "", "the body of an if or a for stands in { }"),
     (r"\bconsole\s*\.\s*", "", "print(a, b) writes a line"),
     (r"\bObject\s*\.\s*", "", "of Object there is keys alone"),
     (r"\bJSON\s*\.\s*", "", "of JSON there is stringify alone"),
@@ -71,7 +71,8 @@ NOT_IN_PROFILE = [
     (BEGIN, r"print\b", "a prelude prints nothing"),
     (r"[\w$)\]'\"]\s*\n\s*", "", "each statement ends with ;"),
     (rf"{OPEN}", r"print\b", "print is a statement, and has no value"),
-    ("", r"[A-Z]\w*\b", "this global is left out of the language"),
+    (BEGIN, r"(?:String|Symbol|JSON|Object|(?:en|de)codeURI\w*)\b", NO_STATEMENT),
+    ("", r"(?!(?:String|Symbol|JSON|Object)\b)[A-Z]\w*\b", "this global is left out of the language"),
 ]
 
 UNEXPECTED = [
@@ -84,10 +85,10 @@ UNEXPECTED = [
     (r"\?", r"\?", "no ??: a === undefined ? b : a"),
     (rf"{HEADER}<\s*", r"[0-9]", "a bound is at most 1000000; a for inside another goes further"),
     (HEADER, r"<=|>|[=!]==", "a for goes on while its name is less than a number: i < 10"),
-    (rf"\bfor\s*\(\s*let\s+{NAME}\s*=\s*", "", "a for counts from 0"),
-    (r"\bfor\s*\([^{}]*;\s*" + NAME + r"\s*", "", "a for goes up by 1: i++"),
-    (r"\bfor\s*\([^{}()]*", "", "a for counts: for (let i = 0; i < 1000; i++) { .. }"),
-    (r"\b(?:if|for)\s*\([^{}]*\)\s*", r"[;'\"(\[!]", "the body of an if or a for stands in { }"),
+    (rf"{FOR}\s*let\s+{NAME}\s*=\s*", "", "a for counts from 0"),
+    (rf"{FOR}[^{{}}]*;\s*{NAME}\s*", "", "a for goes up by 1: i++"),
+    (rf"{FOR}[^{{}}()]*", "", "a for counts: for (let i = 0; i < 1000; i++) { .. }"),
+    (rf"{IF_OR_FOR}[^{{}}]*\)\s*", r"[;'\"(\[!]", "the body of an if or a for stands in { }"),
     ("", r"--", "no --: i = i - 1; and a - -b has a blank"),
     (NAMED, r"\+\+", "++ stands in a for alone: i += 1"),
     ("", r"\+\+", "++ stands behind the name in a for, and nowhere else"),
@@ -96,7 +97,7 @@ UNEXPECTED = [
     (rf"{BEGIN}console\s*", r"\.", "print(a, b) writes a line"),
     (NAMED, rf"\[|\.\s*{NAME}\s*=", NO_CHANGE),
     (NAMED, r"\(", "no functions: print is the one call that is a statement"),
-    (NAMED, r"\.", "a call alone is no statement: const x = .., or print(..)"),
+    (NAMED, r"\.", NO_STATEMENT),
     (BEGIN, r"['\"]use strict", "'use strict' stands first, and once"),
     (BEGIN, r"['\"0-9(!\[+\-]", "an expression alone is no statement: const x = .., or print(..)"),
     (DECLARED, r"[{\[]", "a declaration names one binding: const first = a[0];"),
@@ -106,7 +107,7 @@ UNEXPECTED = [
     (rf"[{{,]\s*(?:{NAME}|'[^']*'|\"[^\"]*\")\s*", r"[,}]", "a member has a value: { key: key }"),
     (r",\s*", r"[)\]}]", "no comma behind the last"),
     (rf"(?:{OPEN}|\()", r"\+", f"no unary +, and {NO_NUMBERS}"),
-    (r"[^;{}\s]\s*", r"\}", "each statement ends with ;"),
+    (r"[\w$)\]'\"]\s*", r"\}", "each statement ends with ;"),
     (r"[^=!<>]", r"=(?!=)", "an assignment is a statement of its own"),
     (r"[^;{}\s]\s*", r"\Z", "the file ends within a statement: a ; or what closes is missing"),
     ("", r"\Z", "the file ends within a block: a } is missing"),
@@ -136,6 +137,7 @@ LITERALS = [
 UNSUPPORTED = [
     (r"(?:at|concat|includes|indexOf|lastIndexOf|slice)\b", f"left out on an array: join it first; and {NO_NUMBERS}"),
     (r"Object\b", "Object.keys takes an object"),
+    (r"String\b", NO_NUMBERS),
     (r"[=!]==", "two arrays, and two objects, aren't compared: join them, or compare their members"),
     (r"[<>]", "a string is compared with a string alone"),
     (r"\+", "a sum is at most 9007199254740991 away from 0"),

@@ -1,6 +1,7 @@
 """Puts files below a prefix, where people and programs look for them, and removes them again.
 
-PREFIX/share/jsstr/installed lists what was put there, each file by its path below PREFIX.
+PREFIX/share/jsstr/installed lists what was put there: each file by its path below PREFIX, and each folder that was made for them, with a / behind
+it.
 """
 
 import contextlib
@@ -70,6 +71,15 @@ def library_files(archive, record):
     }
 
 
+def missing_folders(prefix, names):
+    """The folders that these files need below the prefix and that aren't there, each with a / behind it."""
+    for name in names:
+        folder = os.path.dirname(name)
+        while folder and not os.path.isdir(os.path.join(prefix, folder)):
+            yield f"{folder}/"
+            folder = os.path.dirname(folder)
+
+
 def listed(prefix):
     """What was put below the prefix."""
     with contextlib.suppress(OSError):
@@ -86,7 +96,7 @@ def write(path, data, is_run):
 
 def put(prefix, files):
     """Puts the files below the prefix, all of them or none."""
-    names = sorted({*listed(prefix), *files, LIST})
+    names = sorted({*listed(prefix), *files, LIST, *missing_folders(prefix, [*files, LIST])})
     files = {**files, LIST: ("".join(f"{it}\n" for it in names).encode(), False)}
     new = {os.path.join(prefix, name): f".new-{os.getpid()}" for name in files}
     try:
@@ -134,23 +144,32 @@ def uninstall(prefix):
     if not names:
         checkout.stop(f"{prefix} has no {LIST}, so nothing was installed there")
     try:
-        for name in sorted(names, key=lambda it: it == LIST):
-            removed(prefix, name)
+        for name in sorted(names, key=lambda it: (it == LIST, it)):
+            remove_file(prefix, name)
+        for name in sorted(names, reverse=True):
+            remove_folder(prefix, name)
     except OSError as error:
         checkout.stop(f"{error.filename} can't be removed ({error.strerror}): the rest is still there")
-    checkout.tell(f"removed {len(names)} files below {prefix}")
+    checkout.tell(f"removed {sum(not it.endswith('/') for it in names)} files below {prefix}")
     return 0
 
 
-def removed(prefix, name):
-    """Removes a file below the prefix, and the folders between that are empty then."""
+def path_below(prefix, name):
     path = os.path.normpath(os.path.join(prefix, name))
     if os.path.isabs(name) or not path.startswith(prefix.rstrip(os.sep) + os.sep):
         checkout.stop(f"{os.path.join(prefix, LIST)} names {name}, which isn't below the prefix: nothing more is removed")
-    with contextlib.suppress(FileNotFoundError):
-        os.remove(path)
-    folder = os.path.dirname(path)
-    with contextlib.suppress(OSError):
-        while folder != prefix:
-            os.rmdir(folder)
-            folder = os.path.dirname(folder)
+    return path
+
+
+def remove_file(prefix, name):
+    path = path_below(prefix, name)
+    if not name.endswith("/"):
+        with contextlib.suppress(FileNotFoundError):
+            os.remove(path)
+
+
+def remove_folder(prefix, name):
+    """Removes a folder that was made for the files, if it is empty."""
+    if name.endswith("/"):
+        with contextlib.suppress(OSError):
+            os.rmdir(path_below(prefix, name))

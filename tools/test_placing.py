@@ -29,6 +29,7 @@ def sum_of(path):
 
 def installs(house):
     to = house.path_of("out/to")
+    os.makedirs(f"{to}/share/zsh")
     status, _, err = house.call("--install", "out/to")
     check("the program is installed with all that goes with it", (status, below(to)) == (0, PROGRAM), err + str(below(to)))
     said = said_in(f"{to}/share/jsstr/jsstr.proved")
@@ -40,11 +41,10 @@ def installs(house):
     check("and jsstr-where without the checkout's parts", (ran.returncode, ran.stderr) == (0, ""), ran.stderr)
     ran = subprocess.run([f"{to}/bin/jsstr-where", "--version"], capture_output=True, text=True)
     check("which has the version", ran.stdout == f"jsstr-where {wanted[0]}\n", ran.stdout)
-    os.makedirs(f"{to}/share/doc")
     check("a second time changes nothing", house.call("--install", "out/to")[0] == 0 and below(to) == PROGRAM)
     house.write("out/to/bin/other", "")
     status, _, err = house.call("--uninstall", "out/to")
-    check("all of it is removed, and nothing else", status == 0 and below(to) == ["bin/other"] and sorted(os.listdir(f"{to}/share")) == ["doc"], err + str(below(to)))
+    check("all of it is removed, and nothing else", status == 0 and (below(to), os.listdir(f"{to}/share"), os.listdir(f"{to}/share/zsh")) == (["bin/other"], ["zsh"], []), err + str(below(to)))
     status, _, err = house.call("--uninstall", "out/to")
     check("where nothing is installed a line says so", (status, err.count("\n")) == (125, 1), err)
 
