@@ -60,7 +60,7 @@ def at_a_time():
 
 
 def run_tests(name, folder):
-    out, err, status, seconds = tried(folder, "--test")
+    out, err, status, seconds = tried(folder, "--test", "--seconds", str(SECONDS))
     told = re.search(r"(?m)^test result: \w+\. (\d+) passed; (\d+) failed", f"{out}\n{err}")
     passed, failed = (int(told[1]), int(told[2])) if told else (0, 0)
     is_well = status == 0 and passed > 0 and failed == 0
