@@ -7,6 +7,7 @@ import threading
 
 import arguments
 import case_files
+import stated_times
 from test_house import REPOSITORY, check, read
 
 REFUSED = f"{arguments.REFUSAL}\n"
@@ -61,7 +62,7 @@ def quick_run(house):
     check("the quick run has the program's status and output, and an hour", (status, out) == (4, "3600 seconds\nprint(1);\n"), out + err)
     told = err.splitlines(True)
     check("its lines have the names as they were given, and nothing of rt's", told[1:] == [f"a b.js{ERROR}", "nothing.js: cannot be read\n"], err)
-    check("one line says that nothing is proved", "NOTHING IS PROVED" in told[0] and "--build" in told[0], err)
+    check("one line says what it takes, and that nothing is proved", all(it in told[0] for it in (stated_times.stated("quick run"), "NOTHING IS PROVED", "--build")), err)
     house.write("-x", "print(2);\n")
     status, out, err = house.call("a b.js", "--", "-x", "a b.js")
     check("behind two hyphens each argument is a name", out == "3600 seconds\nprint(1);\nword --\nprint(2);\nprint(1);\n", out + err)
@@ -80,6 +81,16 @@ def quick_run(house):
     check("a write that fails has the program's status", status == 7)
     check("a quick run leaves nothing", not house.has("out") and not house.has("crates/jsstr/out") and os.listdir(f"{house.room}/tmp") == [])
     house.ends_in_order(f"{house.trace}/jsstr at work", "a b.js", SLOW="60")
+
+
+def measured_times(house):
+    house.write("demo/report.js", "print(1);\n")
+    status, out, err = house.call("quick-run", tool="measure-times")
+    wanted = rf"quick run: 0\.\d minutes of processor time, status 4; {stated_times.MINUTES['quick run']} are stated\n"
+    check("a stated time is measured", status == 4 and re.fullmatch(wanted, out), out + err)
+    status, out, err = house.call("demo", tool="measure-times")
+    check("and no other", (status, out, err.count("\n")) == (125, "", 1), err)
+    os.remove(house.path_of("demo/report.js"))
 
 
 def piped_files(house):
