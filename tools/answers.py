@@ -12,7 +12,7 @@ import stated_times
 # Each call of the tool beside its own help, with what it does.
 CALLS = {
     "tools/jsstr ARGUMENT..": "runs the built program with these arguments; where none is built, the quick run",
-    "tools/jsstr --where ARGUMENT..": "the same, with the line and column of each fault in place of its byte offset, the source line, and what to write instead; "
+    "tools/jsstr --where ARGUMENT..": "the same, with the line and column (in characters) of each fault in place of its byte offset, the source line, and what to write instead; "
     "so also without --where where standard error is a terminal",
     "tools/jsstr --check [--prelude FILE] FILE..": "says of each file whether it is a script, with the same lines, and runs nothing; a second, without a build; "
     "ends with 0, with 4 where one is none, and with 3 where one can't be read",

@@ -145,7 +145,7 @@ def bash():
 
 def zsh():
     what = {"FILE": "FILE:_files", "L": "L:(32 64)", "N": "N:"}
-    lines = [f"  '{it.name}[{quoted(it.about)}]{':' + what[it.value] if it.value else ''}' \\" for it in arguments.OPTIONS.values()]
+    lines = [f"  '{it.name}{'=' if it.value else ''}[{quoted(it.about)}]{':' + what[it.value] if it.value else ''}' \\" for it in arguments.OPTIONS.values()]
     return "#compdef jsstr\n_arguments \\\n" + "\n".join(lines) + "\n  '*:FILE:_files'\n"
 
 
