@@ -14,11 +14,13 @@ literal_offset (literal.CodePointTooLarge at) = at
 literal_offset (literal.LegacyOctal at) = at
 literal_offset literal.Memory = 0
 
+-- the byte offset of the number's first character
 abbrev pub number_offset : NumberFault → ℕ
 number_offset (number.Fraction at) = at
 number_offset (number.OtherForm at) = at
 number_offset (number.TooLarge at) = at
 
+-- the words in which the fault of a string literal is told
 abbrev pub literal_words : LiteralFault → List ℕ
 literal_words (literal.Unclosed at) = codes "unclosed string"
 literal_words (literal.RawLineEnd at) = codes "line end in string"
@@ -27,6 +29,7 @@ literal_words (literal.CodePointTooLarge at) = codes "code point too large"
 literal_words (literal.LegacyOctal at) = codes "legacy octal"
 literal_words literal.Memory = codes "out of memory"
 
+-- the words in which the fault of a number literal is told
 abbrev pub number_words : NumberFault → List ℕ
 number_words (number.Fraction at) = codes "fraction"
 number_words (number.OtherForm at) = codes "number form"

@@ -1,6 +1,7 @@
--- String literals in strict code, on characters (ECMA-262, "String Literals"): what may stand between two quotes, what
--- it stands for, and what is refused where.
-use Rattle.std.specs.Prelude.{◌≡◌, ℕ, ◌+◌, ◌-◌, ◌*◌, ◌<◌, ◌≤◌, List, [], ◌∷◌, ◌++◌, Bool, true, false, Option, Some, None, nat_le, ◌==◌, ◌&&◌, ◌||◌, if◌then◌else◌, option_and_then, length, slice_index}
+-- String literals in strict code, on characters (ECMA-262, "String Literals"): what may stand between two
+-- quotes, what it stands for, and what is refused where.
+use Rattle.std.specs.Prelude.{◌≡◌, ℕ, ◌+◌, ◌-◌, ◌*◌, ◌<◌, ◌≤◌, List, [], ◌∷◌, ◌++◌, Bool, true, false, Option,
+    Some, None, nat_le, ◌==◌, ◌&&◌, ◌||◌, if◌then◌else◌, option_and_then, length, slice_index}
 use Rattle.js_units.specs.Text.{utf16_of}
 use Rattle.js_literal.specs.Place.{StandsAt}
 use Rattle.js_literal.specs.declared.fault.LiteralFault.{LiteralFault}
@@ -10,6 +11,7 @@ use Rattle.js_literal.specs.declared.fault.LiteralFault.TheVariants as faults
 abbrev pub is_quote : ℕ → Bool
 is_quote c = c == 34 || c == 39
 
+-- a digit, 0 to 9 ("DecimalDigit")
 abbrev pub is_digit : ℕ → Bool
 is_digit c = nat_le 48 c && nat_le c 57
 
@@ -29,21 +31,25 @@ abbrev pub letter_unit : ℕ → Option ℕ
 letter_unit c = if c == 98 then Some 8 else (if c == 116 then Some 9 else (if c == 110 then Some 10 else
     (if c == 118 then Some 11 else (if c == 102 then Some 12 else (if c == 114 then Some 13 else None)))))
 
+-- a digit is the first of the characters
 abbrev pub begins_digit : List ℕ → Bool
 begins_digit [] = false
 begins_digit (c ∷ cs) = is_digit c
 
+-- a line feed is the first of the characters
 abbrev pub begins_line_feed : List ℕ → Bool
 begins_line_feed [] = false
 begins_line_feed (c ∷ cs) = c == 10
 
 -- a character that stands for itself in a string in these quotes: any but the quote, the backslash, LF and CR
 abbrev pub is_plain : ℕ → ℕ → Bool
-is_plain q c = if c == q then false else (if c == 92 then false else (if c == 10 then false else (if c == 13 then false else true)))
+is_plain q c = if c == q then false
+    else (if c == 92 then false else (if c == 10 then false else (if c == 13 then false else true)))
 
 -- stands for itself after a backslash
 abbrev pub is_itself : ℕ → Bool
-is_itself c = if is_digit c || c == 120 || c == 117 then false else (if c == 10 || c == 13 || c == 0x2028 || c == 0x2029 then false else true)
+is_itself c = if is_digit c || c == 120 || c == 117 then false
+    else (if c == 10 || c == 13 || c == 0x2028 || c == 0x2029 then false else true)
 
 -- what stands before rest, and its units: a character for itself, or a row of the table of escapes
 -- ("SingleStringCharacter", "EscapeSequence", "LineContinuation", "static semantics: SV")
@@ -51,13 +57,18 @@ pub data Piece (q : ℕ) : List ℕ → List ℕ → List ℕ → Type 0 where
   plain : (c : ℕ) (rest : List ℕ) → is_plain q c ≡ true → Piece q (c ∷ rest) (utf16_of c) rest
   letter : (c u : ℕ) (rest : List ℕ) → letter_unit c ≡ Some u → Piece q (92 ∷ c ∷ rest) (u ∷ []) rest
   null : (rest : List ℕ) → begins_digit rest ≡ false → Piece q (92 ∷ 48 ∷ rest) (0 ∷ []) rest
-  two : (a b v : ℕ) (rest : List ℕ) → hex_number 0 (a ∷ b ∷ []) ≡ Some v → Piece q (92 ∷ 120 ∷ a ∷ b ∷ rest) (v ∷ []) rest
-  four : (a b c d v : ℕ) (rest : List ℕ) → hex_number 0 (a ∷ b ∷ c ∷ d ∷ []) ≡ Some v → Piece q (92 ∷ 117 ∷ a ∷ b ∷ c ∷ d ∷ rest) (v ∷ []) rest
-  braces : (d : ℕ) (ds : List ℕ) (v : ℕ) (rest : List ℕ) → hex_number 0 (d ∷ ds) ≡ Some v → v ≤ 0x10FFFF → Piece q (92 ∷ 117 ∷ 123 ∷ d ∷ (ds ++ 125 ∷ rest)) (utf16_of v) rest
+  two : (a b v : ℕ) (rest : List ℕ) → hex_number 0 (a ∷ b ∷ []) ≡ Some v
+      → Piece q (92 ∷ 120 ∷ a ∷ b ∷ rest) (v ∷ []) rest
+  four : (a b c d v : ℕ) (rest : List ℕ) → hex_number 0 (a ∷ b ∷ c ∷ d ∷ []) ≡ Some v
+      → Piece q (92 ∷ 117 ∷ a ∷ b ∷ c ∷ d ∷ rest) (v ∷ []) rest
+  braces : (d : ℕ) (ds : List ℕ) (v : ℕ) (rest : List ℕ) → hex_number 0 (d ∷ ds) ≡ Some v → v ≤ 0x10FFFF
+      → Piece q (92 ∷ 117 ∷ 123 ∷ d ∷ (ds ++ 125 ∷ rest)) (utf16_of v) rest
   both_ends : (rest : List ℕ) → Piece q (92 ∷ 13 ∷ 10 ∷ rest) [] rest
   return : (rest : List ℕ) → begins_line_feed rest ≡ false → Piece q (92 ∷ 13 ∷ rest) [] rest
-  line_end : (c : ℕ) (rest : List ℕ) → (c == 10 || c == 0x2028 || c == 0x2029) ≡ true → Piece q (92 ∷ c ∷ rest) [] rest
-  itself : (c : ℕ) (rest : List ℕ) → letter_unit c ≡ None → is_itself c ≡ true → Piece q (92 ∷ c ∷ rest) (utf16_of c) rest
+  line_end : (c : ℕ) (rest : List ℕ) → (c == 10 || c == 0x2028 || c == 0x2029) ≡ true
+      → Piece q (92 ∷ c ∷ rest) [] rest
+  itself : (c : ℕ) (rest : List ℕ) → letter_unit c ≡ None → is_itself c ≡ true
+      → Piece q (92 ∷ c ∷ rest) (utf16_of c) rest
 
 -- pieces up to the closing quote: the characters, their units, and the rest behind the quote
 pub data Closed (q : ℕ) : List ℕ → List ℕ → List ℕ → Type 0 where
@@ -70,7 +81,8 @@ pub data Kind : Type 0 where
 
 -- u{, digits with a value over 10FFFF, and }
 pub data IsTooLarge : List ℕ → Type 0 where
-  large : (d : ℕ) (ds : List ℕ) (v : ℕ) (rest : List ℕ) → hex_number 0 (d ∷ ds) ≡ Some v → 0x10FFFF < v → IsTooLarge (117 ∷ 123 ∷ d ∷ (ds ++ 125 ∷ rest))
+  large : (d : ℕ) (ds : List ℕ) (v : ℕ) (rest : List ℕ) → hex_number 0 (d ∷ ds) ≡ Some v → 0x10FFFF < v
+      → IsTooLarge (117 ∷ 123 ∷ d ∷ (ds ++ 125 ∷ rest))
 
 -- what is refused at the front of what is left
 pub data Breaks (q : ℕ) : List ℕ → Kind → Type 0 where
@@ -81,7 +93,9 @@ pub data Breaks (q : ℕ) : List ℕ → Kind → Type 0 where
   octal_zero : (rest : List ℕ) → begins_digit rest ≡ true → Breaks q (92 ∷ 48 ∷ rest) LegacyOctal
   too_large : (s : List ℕ) → IsTooLarge s → Breaks q (92 ∷ s) CodePointTooLarge
   -- x or u, and neither a row of the table nor too large
-  bad : (c : ℕ) (rest : List ℕ) → (c == 120 || c == 117) ≡ true → ((us after : List ℕ) → Piece q (92 ∷ c ∷ rest) us after → ⊥) → (IsTooLarge (c ∷ rest) → ⊥) → Breaks q (92 ∷ c ∷ rest) BadEscape
+  bad : (c : ℕ) (rest : List ℕ) → (c == 120 || c == 117) ≡ true
+      → ((us after : List ℕ) → Piece q (92 ∷ c ∷ rest) us after → ⊥) → (IsTooLarge (c ∷ rest) → ⊥)
+      → Breaks q (92 ∷ c ∷ rest) BadEscape
 
 -- the first fault, and what is left where it shows
 pub data IsBroken (q : ℕ) : List ℕ → Kind → List ℕ → Type 0 where

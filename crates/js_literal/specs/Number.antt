@@ -1,6 +1,8 @@
--- Number literals, on characters: decimal integers without a leading zero, up to 2^53 - 1 (ECMA-262, "Numeric Literals",
--- "DecimalIntegerLiteral"). Every other form of the standard is refused, by the first rule that applies.
-use Rattle.std.specs.Prelude.{◌≡◌, ℕ, ◌+◌, ◌-◌, ◌*◌, ◌<◌, List, [], ◌∷◌, Bool, true, false, nat_lt, nat_le, ◌==◌, ◌&&◌, ◌||◌, if◌then◌else◌, length, slice_index, Result, Ok, Err}
+-- Number literals, on characters: decimal integers without a leading zero, up to 2^53 - 1 (ECMA-262, "Numeric
+-- Literals", "DecimalIntegerLiteral"). Every other form of the standard is refused, by the first rule that
+-- applies.
+use Rattle.std.specs.Prelude.{◌≡◌, ℕ, ◌+◌, ◌-◌, ◌*◌, ◌<◌, List, [], ◌∷◌, Bool, true, false, nat_lt, nat_le,
+    ◌==◌, ◌&&◌, ◌||◌, if◌then◌else◌, length, slice_index, Result, Ok, Err}
 use Rattle.js_literal.specs.Place.{StandsAt}
 use Rattle.js_literal.specs.Literal.{is_digit, begins_digit}
 use Rattle.js_literal.specs.declared.fault.NumberFault.{NumberFault}
@@ -11,6 +13,7 @@ abbrev pub digits_of : List ℕ → List ℕ
 digits_of [] = []
 digits_of (c ∷ cs) = if is_digit c then c ∷ digits_of cs else []
 
+-- what follows the longest run of digits in front
 abbrev pub after_digits : List ℕ → List ℕ
 after_digits [] = []
 after_digits (c ∷ cs) = if is_digit c then after_digits cs else c ∷ cs
@@ -67,6 +70,7 @@ pub record NumberOf (text : List ℕ) (at value end : ℕ) : Type 0 where
   pub reads : number_at s ≡ Ok (value, rest)
   pub ends : StandsAt text end rest
 
+-- the fault of this kind, where the number literal at this byte offset has it
 abbrev pub number_fault : NumberKind → ℕ → NumberFault
 number_fault Fraction at = faults.Fraction at
 number_fault OtherForm at = faults.OtherForm at
@@ -83,4 +87,5 @@ pub record NumberFaultOf (text : List ℕ) (at : ℕ) (fault : NumberFault) : Ty
 
 -- a digit stands at byte at, or a point and a digit
 abbrev pub BeginsNumber : List ℕ → ℕ → Type 0
-BeginsNumber text at = (at < length text) × ((is_digit (slice_index text at) || (slice_index text at == 46 && is_digit (slice_index text (at + 1)))) ≡ true)
+BeginsNumber text at = (at < length text) × ((is_digit (slice_index text at)
+    || (slice_index text at == 46 && is_digit (slice_index text (at + 1)))) ≡ true)

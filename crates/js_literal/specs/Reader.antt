@@ -1,8 +1,11 @@
--- What the code reads at the front of a string literal's inside, for the contracts of private functions. No public contract cites this file.
-use Rattle.std.specs.Prelude.{ℕ, ◌+◌, ◌*◌, List, [], ◌∷◌, Option, Some, None, Bool, nat_le, ◌==◌, not, ◌&&◌, ◌||◌, if◌then◌else◌}
+-- What the code reads at the front of a string literal's inside, for the contracts of private functions. No
+-- public contract cites this file.
+use Rattle.std.specs.Prelude.{ℕ, ◌+◌, ◌*◌, List, [], ◌∷◌, Option, Some, None, Bool, nat_le, ◌==◌, not, ◌&&◌,
+    ◌||◌, if◌then◌else◌}
 use Rattle.std.specs.Str.{chars}
 use Rattle.js_units.specs.Text.{utf16_of}
-use Rattle.js_literal.specs.Literal.{hex_value, letter_unit, begins_digit, Kind, Unclosed, RawLineEnd, BadEscape, CodePointTooLarge, LegacyOctal}
+use Rattle.js_literal.specs.Literal.{hex_value, letter_unit, begins_digit, Kind, Unclosed, RawLineEnd,
+    BadEscape, CodePointTooLarge, LegacyOctal}
 use Rattle.js_literal.specs.declared.front.LiteralFront.{LiteralFront}
 use Rattle.js_literal.specs.declared.front.LiteralFront.TheVariants as code
 use Rattle.js_literal.specs.declared.front.PieceUnits.{PieceUnits}
@@ -51,7 +54,8 @@ one_unit (Some p) = Take (p.0 ∷ []) p.1
 
 abbrev pub close_braces : ℕ → List ℕ → Reading
 close_braces v [] = Break BadEscape
-close_braces v (c ∷ rest) = if c == 125 then (if nat_le v 0x10FFFF then Take (utf16_of v) rest else Break CodePointTooLarge) else Break BadEscape
+close_braces v (c ∷ rest) = if c == 125
+    then (if nat_le v 0x10FFFF then Take (utf16_of v) rest else Break CodePointTooLarge) else Break BadEscape
 
 abbrev pub run_braces : Option (ℕ × List ℕ) → Reading
 run_braces None = Break BadEscape
@@ -88,7 +92,8 @@ escape_of (c ∷ rest) = chosen_escape (letter_unit c) c rest
 
 unfoldable pub reading : ℕ → List ℕ → Reading
 reading q [] = Break Unclosed
-reading q (c ∷ rest) = if c == q then Shut rest else (if c == 92 then escape_of rest else (if c == 10 || c == 13 then Break RawLineEnd else Take (utf16_of c) rest))
+reading q (c ∷ rest) = if c == q then Shut rest else (if c == 92 then escape_of rest
+    else (if c == 10 || c == 13 then Break RawLineEnd else Take (utf16_of c) rest))
 
 -- a printable character of ASCII that stands for itself: neither the quote nor a backslash
 abbrev pub is_plain : ℕ → ℕ → Bool

@@ -1,4 +1,5 @@
--- Why the inside of a string literal isn't read, for the contracts of private functions. No public contract cites this file.
+-- Why the inside of a string literal isn't read, for the contracts of private functions. No public contract
+-- cites this file.
 use Rattle.std.specs.Prelude.{◌≡◌, ℕ, List, length, encode_utf8_all}
 use Rattle.js_literal.specs.Literal.{IsBroken}
 use Rattle.js_literal.specs.Reader.{kind_of}
@@ -6,5 +7,6 @@ use Rattle.js_literal.specs.declared.string.StringStop.{StringStop}
 use Rattle.js_literal.specs.declared.string.StringStop.TheVariants as stops
 
 abbrev pub IsStop : ℕ → List ℕ → StringStop → Type 0
-IsStop q s (stops.Broken t left) = (rest : List ℕ) × IsBroken q s (kind_of t) rest × (length (encode_utf8_all rest) ≡ left)
+IsStop q s (stops.Broken t left) =
+    (rest : List ℕ) × IsBroken q s (kind_of t) rest × (length (encode_utf8_all rest) ≡ left)
 IsStop q s stops.Memory = Unit {0}
