@@ -13,6 +13,7 @@ lexical_offset (lexical.Literal f) = literal_offset f
 lexical_offset (lexical.Number f) = number_offset f
 lexical_offset lexical.Memory = 0
 
+-- the words in which a lexical fault is told
 abbrev pub lexical_words : LexFault → List ℕ
 lexical_words (lexical.NotUtf8 at) = codes "not utf-8"
 lexical_words (lexical.BadCharacter at) = codes "bad character"

@@ -1,8 +1,12 @@
--- How the code finds the longest mark, for the contracts of private functions. No public contract cites this file.
-use Rattle.std.specs.Prelude.{ℕ, List, [], ◌∷◌, Option, Some, None, ◌==◌, Bool, ◌&&◌, ◌||◌, if◌then◌else◌, option_map}
+-- How the code finds the longest mark, for the contracts of private functions. No public contract cites this
+-- file.
+use Rattle.std.specs.Prelude.{ℕ, List, [], ◌∷◌, Option, Some, None, ◌==◌, Bool, ◌&&◌, ◌||◌,
+    if◌then◌else◌, option_map}
 use Rattle.std.specs.Str.{chars}
 use Rattle.js_lex.specs.declared.token.Mark.{Mark}
-use Rattle.js_lex.specs.declared.token.Mark.TheVariants.{StrictEqual, StrictUnequal, AtMost, AtLeast, And, Or, AddAssign, Increment, Decrement, OpenBrace, CloseBrace, OpenParen, CloseParen, OpenBracket, CloseBracket, Point, Semicolon, Comma, Less, Greater, Plus, Minus, Not, Question, Colon, Assign}
+use Rattle.js_lex.specs.declared.token.Mark.TheVariants.{StrictEqual, StrictUnequal, AtMost, AtLeast, And, Or,
+    AddAssign, Increment, Decrement, OpenBrace, CloseBrace, OpenParen, CloseParen, OpenBracket, CloseBracket,
+    Point, Semicolon, Comma, Less, Greater, Plus, Minus, Not, Question, Colon, Assign}
 
 abbrev pub one_mark : ℕ → Option Mark
 one_mark a =
@@ -30,7 +34,8 @@ three_mark a b c =
 
 -- a mark that begins no longer one
 abbrev pub is_alone : ℕ → Bool
-is_alone a = a == 123 || a == 125 || a == 40 || a == 41 || a == 91 || a == 93 || a == 46 || a == 59 || a == 44 || a == 63 || a == 58
+is_alone a = a == 123 || a == 125 || a == 40 || a == 41 || a == 91 || a == 93 || a == 46 || a == 59 || a == 44
+    || a == 63 || a == 58
 
 abbrev pub with_rest : List ℕ → Option Mark → Option (Mark × List ℕ)
 with_rest s found = option_map (λ m. (m, s)) found

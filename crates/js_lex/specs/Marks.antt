@@ -1,8 +1,12 @@
--- The marks and their spelling (ECMA-262, "Punctuators"); of those that stand in front the longest is the token.
+-- The marks and their spelling (ECMA-262, "Punctuators"); of those that stand in front the longest is the
+-- token.
 use Rattle.std.specs.Prelude.{◌≡◌, ℕ, ◌≤◌, List, ◌++◌, codes, length}
 use Rattle.js_lex.specs.declared.token.Mark.{Mark}
-use Rattle.js_lex.specs.declared.token.Mark.TheVariants.{StrictEqual, StrictUnequal, AtMost, AtLeast, And, Or, AddAssign, Increment, Decrement, OpenBrace, CloseBrace, OpenParen, CloseParen, OpenBracket, CloseBracket, Point, Semicolon, Comma, Less, Greater, Plus, Minus, Not, Question, Colon, Assign}
+use Rattle.js_lex.specs.declared.token.Mark.TheVariants.{StrictEqual, StrictUnequal, AtMost, AtLeast, And, Or,
+    AddAssign, Increment, Decrement, OpenBrace, CloseBrace, OpenParen, CloseParen, OpenBracket, CloseBracket,
+    Point, Semicolon, Comma, Less, Greater, Plus, Minus, Not, Question, Colon, Assign}
 
+-- the characters of a mark
 abbrev pub spelling : Mark → List ℕ
 spelling StrictEqual = codes "==="
 spelling StrictUnequal = codes "!=="
@@ -34,7 +38,8 @@ spelling Assign = codes "="
 -- the mark stands in front, rest follows it, and no longer one stands there
 pub record IsLongest (s : List ℕ) (m : Mark) (rest : List ℕ) : Type 0 where
   pub stands : s ≡ spelling m ++ rest
-  pub longest : (n : Mark) (other : List ℕ) → s ≡ spelling n ++ other → length (spelling n) ≤ length (spelling m)
+  pub longest : (n : Mark) (other : List ℕ) → s ≡ spelling n ++ other
+      → length (spelling n) ≤ length (spelling m)
 
 -- no mark stands in front
 abbrev pub HasNoMark : List ℕ → Type 0

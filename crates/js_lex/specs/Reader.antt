@@ -1,4 +1,5 @@
--- What the code reads at the front of a text, for the contracts of private functions. No public contract cites this file.
+-- What the code reads at the front of a text, for the contracts of private functions. No public contract
+-- cites this file.
 use Rattle.std.specs.Prelude.{ℕ, List, [], ◌∷◌, Option, Some, None, ◌==◌, if◌then◌else◌}
 use Rattle.std.specs.Str.{chars}
 use Rattle.js_literal.specs.Literal.{is_quote}
@@ -21,7 +22,8 @@ block_ahead (Some rest) = Skip rest
 
 abbrev pub comment : List ℕ → Lookahead
 comment [] = Bad
-comment (c ∷ s) = if c == 47 then Skip (after_line s) else (if c == 42 then block_ahead (after_block s) else Bad)
+comment (c ∷ s) = if c == 47 then Skip (after_line s)
+    else (if c == 42 then block_ahead (after_block s) else Bad)
 
 abbrev pub mark_ahead : Option (Mark × List ℕ) → Lookahead
 mark_ahead None = Bad

@@ -1,5 +1,6 @@
 -- What a token's span holds: spans lie in order, and each token's text is its slice of the source.
-use Rattle.std.specs.Prelude.{◌≡◌, ℕ, ◌-◌, ◌<◌, ◌≤◌, List, [], ◌∷◌, ◌++◌, Bool, true, false, ◌&&◌, length, take, drop}
+use Rattle.std.specs.Prelude.{◌≡◌, ℕ, ◌-◌, ◌<◌, ◌≤◌, List, [], ◌∷◌, ◌++◌, Bool, true, false, ◌&&◌,
+    length, take, drop}
 use Rattle.std.specs.List.{list_all}
 use Rattle.js_literal.specs.Place.{StandsAt}
 use Rattle.js_literal.specs.Literal.{LiteralOf}
@@ -11,7 +12,8 @@ use Rattle.js_lex.specs.declared.token.Token.{Token}
 use Rattle.js_lex.specs.declared.token.TokenKind.{TokenKind}
 use Rattle.js_lex.specs.declared.token.TokenKind.TheVariants as kinds
 
--- each span has a byte at least, begins at byte at or where the one before ends or later, and ends within the text
+-- each span has a byte at least, begins at byte at or where the one before ends or later, and ends within the
+-- text
 abbrev pub InOrder : List ℕ → ℕ → List Token → Type 0
 InOrder text at [] = Unit {0}
 InOrder text at (t ∷ ts) = (at ≤ t.from) × (t.from < t.to) × (t.to ≤ length text) × InOrder text t.to ts

@@ -1,5 +1,5 @@
--- The tokens of a text and its first lexical fault (ECMA-262, "Lexical Grammar": from the left, each element as long as
--- possible).
+-- The tokens of a text and its first lexical fault (ECMA-262, "Lexical Grammar": from the left, each element
+-- as long as possible).
 use Rattle.std.specs.Prelude.{◌≡◌, ℕ, List, [], ◌∷◌, true, false, Some, None, ◌==◌, ◌&&◌, IsUtf8}
 use Rattle.std.specs.Str.Lossy.{utf8_valid_len}
 use Rattle.js_literal.specs.Place.{StandsAt}
@@ -25,26 +25,37 @@ pub data Element : Type 0 where
 
 -- neither a blank, nor a comment, nor what a token begins with
 abbrev pub IsBad : ℕ → List ℕ → Type 0
-IsBad c s = (is_blank c ≡ false) × (is_word_start c ≡ false) × (is_quote c ≡ false) × (begins_number (c ∷ s) ≡ false)
+IsBad c s =
+    (is_blank c ≡ false) × (is_word_start c ≡ false) × (is_quote c ≡ false) × (begins_number (c ∷ s) ≡ false)
     × ((c == 47 && begins_comment s) ≡ false) × HasNoMark (c ∷ s)
 
+-- what stands at byte at of the text ("InputElementDiv", and the faults)
 pub data ElementAt (text : List ℕ) (at : ℕ) : Element → Type 0 where
   ended : StandsAt text at [] → ElementAt text at End
-  blank : (c : ℕ) (s : List ℕ) (end : ℕ) → StandsAt text at (c ∷ s) → is_blank c ≡ true → StandsAt text end s → ElementAt text at (Skip end)
+  blank : (c : ℕ) (s : List ℕ) (end : ℕ) → StandsAt text at (c ∷ s) → is_blank c ≡ true → StandsAt text end s
+      → ElementAt text at (Skip end)
   -- from // up to the next line end, which is a blank, or up to the end
-  line : (s : List ℕ) (end : ℕ) → StandsAt text at (47 ∷ 47 ∷ s) → StandsAt text end (after_line s) → ElementAt text at (Skip end)
+  line : (s : List ℕ) (end : ℕ) → StandsAt text at (47 ∷ 47 ∷ s) → StandsAt text end (after_line s)
+      → ElementAt text at (Skip end)
   -- from /* to the next */ behind it
-  block : (s rest : List ℕ) (end : ℕ) → StandsAt text at (47 ∷ 42 ∷ s) → after_block s ≡ Some rest → StandsAt text end rest → ElementAt text at (Skip end)
-  open_block : (s : List ℕ) → StandsAt text at (47 ∷ 42 ∷ s) → after_block s ≡ None → ElementAt text at (Fault (faults.OpenComment at))
-  word : (c : ℕ) (s : List ℕ) (end : ℕ) → StandsAt text at (c ∷ s) → is_word_start c ≡ true → StandsAt text end (after_word s) → ElementAt text at (TokenOf kinds.Word end)
-  string : (us : List ℕ) (end : ℕ) → LiteralOf text at us end → ElementAt text at (TokenOf (kinds.Text us) end)
+  block : (s rest : List ℕ) (end : ℕ) → StandsAt text at (47 ∷ 42 ∷ s) → after_block s ≡ Some rest
+      → StandsAt text end rest → ElementAt text at (Skip end)
+  open_block : (s : List ℕ) → StandsAt text at (47 ∷ 42 ∷ s) → after_block s ≡ None
+      → ElementAt text at (Fault (faults.OpenComment at))
+  word : (c : ℕ) (s : List ℕ) (end : ℕ) → StandsAt text at (c ∷ s) → is_word_start c ≡ true
+      → StandsAt text end (after_word s) → ElementAt text at (TokenOf kinds.Word end)
+  string : (us : List ℕ) (end : ℕ) → LiteralOf text at us end
+      → ElementAt text at (TokenOf (kinds.Text us) end)
   string_fault : (f : LiteralFault) → LiteralFaultOf text at f → ElementAt text at (Fault (faults.Literal f))
   number : (value end : ℕ) → NumberOf text at value end → ElementAt text at (TokenOf (kinds.Number value) end)
   number_fault : (f : NumberFault) → NumberFaultOf text at f → ElementAt text at (Fault (faults.Number f))
   -- a point that a digit follows begins a number
-  mark : (s : List ℕ) (m : Mark) (rest : List ℕ) (end : ℕ) → StandsAt text at s → begins_number s ≡ false → IsLongest s m rest → StandsAt text end rest → ElementAt text at (TokenOf (kinds.Mark m) end)
-  bad : (c : ℕ) (s : List ℕ) → StandsAt text at (c ∷ s) → IsBad c s → ElementAt text at (Fault (faults.BadCharacter at))
+  mark : (s : List ℕ) (m : Mark) (rest : List ℕ) (end : ℕ) → StandsAt text at s → begins_number s ≡ false
+      → IsLongest s m rest → StandsAt text end rest → ElementAt text at (TokenOf (kinds.Mark m) end)
+  bad : (c : ℕ) (s : List ℕ) → StandsAt text at (c ∷ s) → IsBad c s
+      → ElementAt text at (Fault (faults.BadCharacter at))
 
+-- a token of this kind from one place up to another
 abbrev pub token_at : TokenKind → ℕ → ℕ → Token
 token_at k at end = record { kind = k; from = at; to = end }
 
@@ -52,13 +63,15 @@ token_at k at end = record { kind = k; from = at; to = end }
 pub data Lexes (text : List ℕ) : ℕ → List Token → Type 0 where
   done : (at : ℕ) → ElementAt text at End → Lexes text at []
   skip : (at mid : ℕ) (ts : List Token) → ElementAt text at (Skip mid) → Lexes text mid ts → Lexes text at ts
-  token : (at mid : ℕ) (k : TokenKind) (ts : List Token) → ElementAt text at (TokenOf k mid) → Lexes text mid ts → Lexes text at (token_at k at mid ∷ ts)
+  token : (at mid : ℕ) (k : TokenKind) (ts : List Token) → ElementAt text at (TokenOf k mid)
+      → Lexes text mid ts → Lexes text at (token_at k at mid ∷ ts)
 
 -- from a place on, this is the first fault
 pub data Fails (text : List ℕ) : ℕ → LexFault → Type 0 where
   fault : (at : ℕ) (f : LexFault) → ElementAt text at (Fault f) → Fails text at f
   skip_on : (at mid : ℕ) (f : LexFault) → ElementAt text at (Skip mid) → Fails text mid f → Fails text at f
-  token_on : (at mid : ℕ) (k : TokenKind) (f : LexFault) → ElementAt text at (TokenOf k mid) → Fails text mid f → Fails text at f
+  token_on : (at mid : ℕ) (k : TokenKind) (f : LexFault) → ElementAt text at (TokenOf k mid)
+      → Fails text mid f → Fails text at f
 
 -- the bytes are a text with these tokens
 pub record TokensOf (bytes : List ℕ) (ts : List Token) : Type 0 where
