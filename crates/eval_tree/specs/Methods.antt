@@ -56,7 +56,8 @@ building_method letters =
 
 -- the method with this name
 abbrev pub method_of : List ℕ → Option Method
-method_of letters = first_there (unit_method letters) (first_there (search_method letters) (first_there (part_method letters) (building_method letters)))
+method_of letters = first_there (unit_method letters)
+    (first_there (search_method letters) (first_there (part_method letters) (building_method letters)))
 
 -- how many of n arguments a method takes at most
 abbrev pub most_taken : Method → ℕ → ℕ

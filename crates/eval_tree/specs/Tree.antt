@@ -1,5 +1,5 @@
--- The tree of a script, with lists in the place of vectors and without boxes. Each kind of list in the tree is a type
--- of its own, since a data type can't hold a list of itself.
+-- The tree of a script, with lists in the place of vectors and without boxes. Each kind of list in the tree
+-- is a type of its own, since a data type can't hold a list of itself.
 use Rattle.std.specs.Prelude.{ℕ, Bool, List, [], ◌∷◌, map, Option, Some, None}
 use Rattle.eval_tree.specs.declared.tree.Op.{Op}
 use Rattle.eval_tree.specs.declared.tree.Method.{Method}
@@ -15,6 +15,8 @@ use Rattle.eval_tree.specs.declared.tree.Stmt.TheOpen.{Stmt-F, Arm-F, Block-F}
 use Rattle.eval_tree.specs.declared.tree.Script.{Script}
 
 mutual
+  -- an expression: a literal by its number among the script's literals, a value, a variable, an operator's
+  -- expression, or an operand with steps
   pub data ExprTree : Type 0 where
     literal : (number : ℕ) → ExprTree
     number : (value : ℕ) → ExprTree
@@ -31,10 +33,12 @@ mutual
     builtin : (at : ℕ) (which : Builtin) (args : Exprs) → ExprTree
     object : (at : ℕ) (members : Entries) → ExprTree
 
+  -- the operators of one level with their right sides, from left to right
   pub data Links : Type 0 where
     no_links : Links
     link : (at : ℕ) (op : Op) (right : ExprTree) (rest : Links) → Links
 
+  -- what stands behind an operand, from left to right: reads of properties, calls of methods, and indexes
   pub data Steps : Type 0 where
     no_steps : Steps
     length_step : (rest : Steps) → Steps
@@ -43,6 +47,7 @@ mutual
     index_step : (at : ℕ) (index : ExprTree) (rest : Steps) → Steps
     property_step : (at : ℕ) (key : List ℕ) (rest : Steps) → Steps
 
+  -- a list of expressions, as the arguments of a call
   pub data Exprs : Type 0 where
     no_exprs : Exprs
     expr : (first : ExprTree) (rest : Exprs) → Exprs
@@ -58,6 +63,8 @@ pub record LinkTree : Type 0 where
   pub op : Op
   pub right : ExprTree
 
+-- a step as a plain value: a read of length or description, a call of a method, an index, or a read of
+-- another property
 pub data StepTree : Type 0 where
   of_length : StepTree
   of_description : StepTree
@@ -65,10 +72,12 @@ pub data StepTree : Type 0 where
   of_index : (at : ℕ) (index : ExprTree) → StepTree
   of_property : (at : ℕ) (key : List ℕ) → StepTree
 
+-- the operators in the order of the list
 abbrev pub links : List LinkTree → Links
 links [] = no_links
 links (l ∷ ls) = link l.at l.op l.right (links ls)
 
+-- one step before others
 abbrev pub with_step : StepTree → Steps → Steps
 with_step of_length rest = length_step rest
 with_step of_description rest = description_step rest
@@ -76,14 +85,17 @@ with_step (of_call at method args) rest = call_step at method args rest
 with_step (of_index at index) rest = index_step at index rest
 with_step (of_property at key) rest = property_step at key rest
 
+-- the steps in the order of the list
 abbrev pub steps : List StepTree → Steps
 steps [] = no_steps
 steps (s ∷ ss) = with_step s (steps ss)
 
+-- the expressions in the order of the list
 abbrev pub exprs : List ExprTree → Exprs
 exprs [] = no_exprs
 exprs (t ∷ ts) = expr t (exprs ts)
 
+-- the members of an object literal in the order of the list
 abbrev pub entries : List (List ℕ × ExprTree) → Entries
 entries [] = no_entries
 entries (m ∷ ms) = entry m.0 m.1 (entries ms)
@@ -147,6 +159,7 @@ init_tree (Some e) = Some (expr_tree e)
 -- statements
 
 mutual
+  -- a statement, with the offset of each name that it declares or assigns
   pub data StmtTree : Type 0 where
     block : (inner : BlockTree) → StmtTree
     let_line : (at : ℕ) (name : List ℕ) (init : Option ExprTree) → StmtTree
@@ -161,10 +174,12 @@ mutual
   pub data BlockTree : Type 0 where
     block_of : (names : List (List ℕ)) (body : Stmts) → BlockTree
 
+  -- the statements of a block or of a script, in the order of the text
   pub data Stmts : Type 0 where
     no_stmts : Stmts
     stmt : (first : StmtTree) (rest : Stmts) → Stmts
 
+  -- the conditions of an if statement in the order of the text, each with the block that it guards
   pub data Arms : Type 0 where
     no_arms : Arms
     arm : (test : ExprTree) (body : BlockTree) (rest : Arms) → Arms
@@ -174,10 +189,12 @@ pub record ArmTree : Type 0 where
   pub test : ExprTree
   pub body : BlockTree
 
+-- the statements in the order of the list
 abbrev pub stmts : List StmtTree → Stmts
 stmts [] = no_stmts
 stmts (s ∷ ss) = stmt s (stmts ss)
 
+-- the arms in the order of the list
 abbrev pub arms : List ArmTree → Arms
 arms [] = no_arms
 arms (a ∷ more) = arm a.test a.body (arms more)
