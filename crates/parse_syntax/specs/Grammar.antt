@@ -1,30 +1,43 @@
 -- The grammar of scripts, one line a production.
-use Rattle.std.specs.Prelude.{ℕ, zero, suc, Bool, true, false, List, [], ◌∷◌, ◌++◌, Option, Some, None, get_or}
-use Rattle.parse_syntax.specs.Lang.{Lang, One, Then, Bind, Mapped, Nothing, Either, Many, Never, if_room, ◌▸◌, ◌◂◌}
+use Rattle.std.specs.Prelude.{ℕ, zero, suc, Bool, true, false, List, [], ◌∷◌, ◌++◌, Option,
+    Some, None, get_or}
+use Rattle.parse_syntax.specs.Lang.{Lang, One, Then, Bind, Mapped, Nothing, Either, Many, Never,
+    if_room, ◌▸◌, ◌◂◌}
 use Rattle.parse_syntax.specs.declared.token.GrammarToken.{GrammarToken}
 use Rattle.eval_tree.specs.declared.tree.Op.{Op}
 use Rattle.eval_tree.specs.declared.tree.Method.{Method}
 use Rattle.eval_tree.specs.declared.tree.Builtin.{Builtin}
 use Rattle.eval_tree.specs.declared.tree.Builtin.TheVariants as builtin
-use Rattle.parse_syntax.specs.Terminals.{Ident, directive, let_word, const_word, print_word, if_word, else_word, for_word, string_word, symbol_word, json_word, object_word, uri_function, name, the_name, member_word, property_word, method, key, from_word, symbol_function, stringify_word, keys_word, opening, closing, open_bracket, close_bracket, open_brace, open_literal, close_brace, comma, point, semicolon, question, colon, less, assign_mark, assign_op, increment, sign, or_op, and_op, equal_op, compare_op, sum_op, nought, bound_number, simple}
+use Rattle.parse_syntax.specs.Terminals.{Ident, directive, let_word, const_word, print_word, if_word,
+    else_word, for_word, string_word, symbol_word, json_word, object_word, uri_function, name, the_name,
+    member_word, property_word, method, key, from_word, symbol_function, stringify_word, keys_word, opening,
+    closing, open_bracket, close_bracket, open_brace, open_literal, close_brace, comma, point, semicolon,
+    question, colon, less, assign_mark, assign_op, increment, sign, or_op, and_op, equal_op, compare_op,
+    sum_op, nought, bound_number, simple}
 use Rattle.parse_syntax.specs.Tables.{Tables}
 use Rattle.eval_tree.specs.Tree as tree
-use Rattle.eval_tree.specs.Tree.{ExprTree, LinkTree, StepTree, links, steps, exprs, StmtTree, BlockTree, block_of, ArmTree, arms, stmts}
+use Rattle.eval_tree.specs.Tree.{ExprTree, LinkTree, StepTree, links, steps, exprs, StmtTree, BlockTree,
+    block_of, ArmTree, arms, stmts}
 
 -- the trees of expressions
 
+-- a first value and those behind it, as one list
 abbrev pub list_of : {A : Type 0} → A → List A → List A
 list_of x xs = x ∷ xs
 
+-- no values, whatever the tokens spell
 abbrev pub none_of : {A B : Type 0} → A → List B
 none_of x = []
 
+-- a value as a list of one
 abbrev pub single_of : {A : Type 0} → A → List A
 single_of x = x ∷ []
 
+-- two values as a pair
 abbrev pub pair_of : {A B : Type 0} → A → B → A × B
 pair_of x y = (x, y)
 
+-- the step [ t ], with the offset of its bracket
 abbrev pub index_of : ℕ → ExprTree → StepTree
 index_of at t = tree.of_index at t
 
@@ -54,9 +67,11 @@ abbrev pub post_of : ExprTree → List StepTree → ExprTree
 post_of t [] = t
 post_of t (s ∷ ss) = tree.post t (steps (s ∷ ss))
 
+-- a sign, with its offset and whether it is a minus, before an operand
 abbrev pub unary_of : ℕ × Bool → ExprTree → ExprTree
 unary_of s t = tree.unary s.0 s.1 t
 
+-- an operator, with its offset, and the operand on its right
 abbrev pub link_of : ℕ × Op → ExprTree → LinkTree
 link_of o t = record { at = o.0; op = o.1; right = t }
 
@@ -65,6 +80,7 @@ abbrev pub chain_of : ExprTree → List LinkTree → ExprTree
 chain_of t [] = t
 chain_of t (l ∷ ls) = tree.chain t (links (l ∷ ls))
 
+-- the two branches of a conditional expression
 abbrev pub branches_of : ExprTree → ExprTree → Option (ExprTree × ExprTree)
 branches_of y n = Some (y, n)
 
@@ -75,6 +91,7 @@ cond_of t (Some b) = tree.conditional t b.0 b.1
 
 -- the trees of statements
 
+-- the name that a statement declares, if it is a let or const ("BoundNames" of "LexicalDeclaration")
 abbrev pub own_name : StmtTree → List (List ℕ)
 own_name (tree.let_line at name init) = name ∷ []
 own_name (tree.const_line at name init) = name ∷ []
@@ -85,6 +102,7 @@ abbrev pub own_names : List StmtTree → List (List ℕ)
 own_names [] = []
 own_names (s ∷ ss) = own_name s ++ own_names ss
 
+-- a block of these statements, with the names that they declare directly ("LexicallyDeclaredNames")
 abbrev pub inside_of : List StmtTree → BlockTree
 inside_of ss = block_of (own_names ss) (stmts ss)
 
@@ -92,18 +110,23 @@ inside_of ss = block_of (own_names ss) (stmts ss)
 abbrev pub no_inside : BlockTree
 no_inside = block_of [] tree.no_stmts
 
+-- a call of print with these arguments
 abbrev pub print_of : List ExprTree → StmtTree
 print_of ts = tree.print (exprs ts)
 
+-- a condition, and the block that it guards
 abbrev pub arm_of : ExprTree → BlockTree → ArmTree
 arm_of e b = record { test = e; body = b }
 
+-- the arms of each else if, and the block of the last else
 abbrev pub more_of : List ArmTree → BlockTree → List ArmTree × BlockTree
 more_of others rest = (others, rest)
 
+-- an if statement: its first arm, and the other arms with the last block
 abbrev pub if_of : ArmTree → List ArmTree × BlockTree → StmtTree
 if_of a p = tree.if_line (arms (a ∷ p.0)) p.1
 
+-- the name of a loop and its bound
 abbrev pub header_of : Ident → ℕ → Ident × ℕ
 header_of x bound = (x, bound)
 
@@ -112,19 +135,24 @@ module _ (tables : Tables) where
   abbrev pub letters : Ident → List ℕ
   letters x = get_or tables.names x.number []
 
+  -- a let of this name, with its initializer if it has one
   abbrev pub let_of : Ident → Option ExprTree → StmtTree
   let_of x init = tree.let_line x.at (letters x) init
 
+  -- a const of this name, with its initializer
   abbrev pub const_of : Ident → ExprTree → StmtTree
   const_of x init = tree.const_line x.at (letters x) init
 
+  -- an assignment to this name; where += stands at an offset, an append of the value
   abbrev pub assigned : Ident → Option ℕ → ExprTree → StmtTree
   assigned x None e = tree.assign x.at (letters x) e
   assigned x (Some at) e = tree.append at x.at (letters x) e
 
+  -- an assignment to this name: the offset of +=, or none for =, and the value
   abbrev pub assign_of : Ident → Option ℕ × ExprTree → StmtTree
   assign_of x p = assigned x p.0 p.1
 
+  -- a loop over a body, from its name and its bound
   abbrev pub for_of : Ident × ℕ → BlockTree → StmtTree
   for_of h b = tree.for_line (letters h.0) h.1 b
 
@@ -144,7 +172,8 @@ args E = One opening ▸ Either (Mapped none_of (One closing)) (items E ◂ One 
 
 -- String Args | String . fromCharCode Args | String . fromCodePoint Args
 abbrev pub string_call : Lang GrammarToken ExprTree → Lang GrammarToken ExprTree
-string_call E = Then builtin_of (One string_word) (Either (One point ▸ Then pair_of (One from_word) (args E)) (Mapped plain_string (args E)))
+string_call E = Then builtin_of (One string_word)
+    (Either (One point ▸ Then pair_of (One from_word) (args E)) (Mapped plain_string (args E)))
 
 -- Symbol . for Args | Symbol . keyFor Args
 abbrev pub symbol_call : Lang GrammarToken ExprTree → Lang GrammarToken ExprTree
@@ -152,7 +181,8 @@ symbol_call E = Then builtin_of (One symbol_word) (One point ▸ Then pair_of (O
 
 -- JSON . stringify ( E )
 abbrev pub json_call : Lang GrammarToken ExprTree → Lang GrammarToken ExprTree
-json_call E = Then builtin_of (One json_word) (One point ▸ Then pair_of (One stringify_word) (Mapped single_of (parens E)))
+json_call E = Then builtin_of (One json_word)
+    (One point ▸ Then pair_of (One stringify_word) (Mapped single_of (parens E)))
 
 -- encodeURI Args | encodeURIComponent Args | decodeURI Args | decodeURIComponent Args
 abbrev pub uri_call : Lang GrammarToken ExprTree → Lang GrammarToken ExprTree
@@ -172,8 +202,10 @@ entries tables E = Then list_of (entry tables E) (Many (One comma ▸ entry tabl
 
 -- { [ Key : E { , Key : E } ] }
 abbrev pub object_literal : Tables → Lang GrammarToken ExprTree → Lang GrammarToken ExprTree
-object_literal tables E = Then object_of (One open_literal) (Either (Mapped none_of (One close_brace)) (entries tables E ◂ One close_brace))
+object_literal tables E = Then object_of (One open_literal)
+    (Either (Mapped none_of (One close_brace)) (entries tables E ◂ One close_brace))
 
+-- Simple | ( E ) | a call of a built-in function | an object literal ("PrimaryExpression", "CallExpression")
 abbrev pub primary : Tables → Bool → Lang GrammarToken ExprTree → Lang GrammarToken ExprTree
 primary tables room E =
     Either (One (simple tables))
@@ -191,12 +223,14 @@ method_args room E = Either (if_room room (Mapped Some (args E))) (Nothing None)
 
 -- . Member | . Method Args | . Property, where a method without arguments is a property
 abbrev pub member : Tables → Bool → Lang GrammarToken ExprTree → Lang GrammarToken StepTree
-member tables room E = One point ▸ Either (One member_word) (Either (One (property_word tables)) (Then method_of (One (method tables)) (method_args room E)))
+member tables room E = One point ▸ Either (One member_word)
+    (Either (One (property_word tables)) (Then method_of (One (method tables)) (method_args room E)))
 
 -- [ E ]
 abbrev pub index : Lang GrammarToken ExprTree → Lang GrammarToken StepTree
 index E = Then index_of (One open_bracket) (E ◂ One close_bracket)
 
+-- Member | [ E ], a step behind an expression
 abbrev pub step : Tables → Bool → Lang GrammarToken ExprTree → Lang GrammarToken StepTree
 step tables room E = Either (member tables room E) (if_room room (index E))
 
@@ -205,26 +239,37 @@ abbrev pub post : Tables → Bool → Lang GrammarToken ExprTree → Lang Gramma
 post tables room E = Then post_of (primary tables room E) (Many (step tables room E))
 
 -- ( - | ! ) U | Post
-abbrev pub unary : Tables → Bool → Lang GrammarToken ExprTree → Lang GrammarToken ExprTree → Lang GrammarToken ExprTree
+abbrev pub unary : Tables → Bool → Lang GrammarToken ExprTree → Lang GrammarToken ExprTree
+    → Lang GrammarToken ExprTree
 unary tables room E U = Either (if_room room (Then unary_of (One sign) U)) (post tables room E)
 
 -- L { o L }
 abbrev pub chain : (GrammarToken → Option (ℕ × Op)) → Lang GrammarToken ExprTree → Lang GrammarToken ExprTree
 chain o L = Then chain_of L (Many (Then link_of (One o) L))
 
-abbrev pub sum : Tables → Bool → Lang GrammarToken ExprTree → Lang GrammarToken ExprTree → Lang GrammarToken ExprTree
+-- Unary { ( + | - ) Unary } ("AdditiveExpression")
+abbrev pub sum : Tables → Bool → Lang GrammarToken ExprTree → Lang GrammarToken ExprTree
+    → Lang GrammarToken ExprTree
 sum tables room E U = chain sum_op (unary tables room E U)
 
-abbrev pub comparison : Tables → Bool → Lang GrammarToken ExprTree → Lang GrammarToken ExprTree → Lang GrammarToken ExprTree
+-- Sum { ( < | > | <= | >= ) Sum } ("RelationalExpression")
+abbrev pub comparison : Tables → Bool → Lang GrammarToken ExprTree → Lang GrammarToken ExprTree
+    → Lang GrammarToken ExprTree
 comparison tables room E U = chain compare_op (sum tables room E U)
 
-abbrev pub equality : Tables → Bool → Lang GrammarToken ExprTree → Lang GrammarToken ExprTree → Lang GrammarToken ExprTree
+-- Comparison { ( === | !== ) Comparison } ("EqualityExpression")
+abbrev pub equality : Tables → Bool → Lang GrammarToken ExprTree → Lang GrammarToken ExprTree
+    → Lang GrammarToken ExprTree
 equality tables room E U = chain equal_op (comparison tables room E U)
 
-abbrev pub conjunction : Tables → Bool → Lang GrammarToken ExprTree → Lang GrammarToken ExprTree → Lang GrammarToken ExprTree
+-- Equality { && Equality } ("LogicalANDExpression")
+abbrev pub conjunction : Tables → Bool → Lang GrammarToken ExprTree → Lang GrammarToken ExprTree
+    → Lang GrammarToken ExprTree
 conjunction tables room E U = chain and_op (equality tables room E U)
 
-abbrev pub disjunction : Tables → Bool → Lang GrammarToken ExprTree → Lang GrammarToken ExprTree → Lang GrammarToken ExprTree
+-- Conjunction { || Conjunction } ("LogicalORExpression")
+abbrev pub disjunction : Tables → Bool → Lang GrammarToken ExprTree → Lang GrammarToken ExprTree
+    → Lang GrammarToken ExprTree
 disjunction tables room E U = chain or_op (conjunction tables room E U)
 
 -- ? E : E
@@ -232,13 +277,16 @@ abbrev pub branches : Lang GrammarToken ExprTree → Lang GrammarToken (Option (
 branches E = One question ▸ Then branches_of E (One colon ▸ E)
 
 -- Or [ ? E : E ]
-abbrev pub conditional : Tables → Bool → Lang GrammarToken ExprTree → Lang GrammarToken ExprTree → Lang GrammarToken ExprTree
-conditional tables room E U = Then cond_of (disjunction tables room E U) (Either (if_room room (branches E)) (Nothing None))
+abbrev pub conditional : Tables → Bool → Lang GrammarToken ExprTree → Lang GrammarToken ExprTree
+    → Lang GrammarToken ExprTree
+conditional tables room E U =
+    Then cond_of (disjunction tables room E U) (Either (if_room room (branches E)) (Nothing None))
 
 -- an expression, and the operand of a sign
 pub data Which : Type 0 where
   Whole Operand : Which
 
+-- an expression, or the operand of a sign, where I says what each is with one more open
 abbrev pub level : Tables → Bool → (Which → Lang GrammarToken ExprTree) → Which → Lang GrammarToken ExprTree
 level tables room I Whole = conditional tables room (I Whole) (I Operand)
 level tables room I Operand = unary tables room (I Whole) (I Operand)
@@ -248,24 +296,31 @@ abbrev pub within_room : Tables → ℕ → Which → Lang GrammarToken ExprTree
 within_room tables zero = level tables false (λ w. Never)
 within_room tables (suc n) = level tables true (within_room tables n)
 
+-- an expression in which at most so many are open ("ConditionalExpression")
 abbrev pub Expression : Tables → ℕ → Lang GrammarToken ExprTree
 Expression tables n = within_room tables n Whole
 
--- statements, over an expression E at this level, and what an expression I and a statement S are where one more is open
+-- statements, over an expression E at this level, and what an expression I and a statement S are where one
+-- more is open
 
 -- { { Statement } }
 abbrev pub block_part : Lang GrammarToken StmtTree → Lang GrammarToken BlockTree
 block_part S = One open_brace ▸ Mapped inside_of (Many S ◂ One close_brace)
 
+-- let Name [ = E ] ; ("LexicalDeclaration")
 abbrev pub let_line : Tables → Lang GrammarToken ExprTree → Lang GrammarToken StmtTree
-let_line tables E = One let_word ▸ Then (let_of tables) (One name) (Either (Mapped Some (One assign_mark ▸ E)) (Nothing None)) ◂ One semicolon
+let_line tables E = One let_word ▸ Then (let_of tables) (One name)
+    (Either (Mapped Some (One assign_mark ▸ E)) (Nothing None)) ◂ One semicolon
 
+-- const Name = E ; ("LexicalDeclaration")
 abbrev pub const_line : Tables → Lang GrammarToken ExprTree → Lang GrammarToken StmtTree
 const_line tables E = One const_word ▸ Then (const_of tables) (One name) (One assign_mark ▸ E ◂ One semicolon)
 
+-- Name ( = | += ) E ; ("AssignmentExpression" as an "ExpressionStatement")
 abbrev pub assign_line : Tables → Lang GrammarToken ExprTree → Lang GrammarToken StmtTree
 assign_line tables E = Then (assign_of tables) (One name) (Then pair_of (One assign_op) (E ◂ One semicolon))
 
+-- print Args ; which prints a line
 abbrev pub print_line : Lang GrammarToken ExprTree → Lang GrammarToken StmtTree
 print_line I = One print_word ▸ Mapped print_of (args I ◂ One semicolon)
 
@@ -275,21 +330,25 @@ if_arm I S = One if_word ▸ Then arm_of (parens I) (block_part S)
 
 -- if ( I ) B { else if ( I ) B } [ else B ]
 abbrev pub if_statement : Lang GrammarToken ExprTree → Lang GrammarToken StmtTree → Lang GrammarToken StmtTree
-if_statement I S = Then if_of (if_arm I S) (Then more_of (Many (One else_word ▸ if_arm I S)) (Either (One else_word ▸ block_part S) (Nothing no_inside)))
+if_statement I S = Then if_of (if_arm I S) (Then more_of (Many (One else_word ▸ if_arm I S))
+    (Either (One else_word ▸ block_part S) (Nothing no_inside)))
 
 -- = 0 ; x < Bound ; x ++ ), where x is the name before it
 abbrev pub turns : Ident → Lang GrammarToken ℕ
-turns x = One assign_mark ▸ One nought ▸ One semicolon ▸ One (the_name x.number) ▸ One less ▸ One bound_number ◂ One semicolon ▸ One (the_name x.number) ▸ One increment ▸ One closing
+turns x = One assign_mark ▸ One nought ▸ One semicolon ▸ One (the_name x.number) ▸ One less ▸ One bound_number
+    ◂ One semicolon ▸ One (the_name x.number) ▸ One increment ▸ One closing
 
 -- for ( let x = 0 ; x < Bound ; x ++ )
 abbrev pub for_header : Lang GrammarToken (Ident × ℕ)
 for_header = One for_word ▸ One opening ▸ One let_word ▸ Bind header_of (One name) turns
 
+-- for ( let x = 0 ; x < Bound ; x ++ ) B ("ForStatement")
 abbrev pub for_statement : Tables → Lang GrammarToken StmtTree → Lang GrammarToken StmtTree
 for_statement tables S = Then (for_of tables) for_header (block_part S)
 
 -- with prints, or without
-abbrev pub statement : Tables → Bool → Bool → Lang GrammarToken ExprTree → Lang GrammarToken ExprTree → Lang GrammarToken StmtTree → Lang GrammarToken StmtTree
+abbrev pub statement : Tables → Bool → Bool → Lang GrammarToken ExprTree → Lang GrammarToken ExprTree
+    → Lang GrammarToken StmtTree → Lang GrammarToken StmtTree
 statement tables prints room E I S =
     Either (if_room room (Mapped tree.block (block_part S)))
     (Either (let_line tables E)
@@ -302,7 +361,8 @@ statement tables prints room E I S =
 -- with room for so many that are open
 abbrev pub Statement : Tables → Bool → ℕ → Lang GrammarToken StmtTree
 Statement tables prints zero = statement tables prints false (Expression tables 0) Never Never
-Statement tables prints (suc n) = statement tables prints true (Expression tables (suc n)) (Expression tables n) (Statement tables prints n)
+Statement tables prints (suc n) =
+    statement tables prints true (Expression tables (suc n)) (Expression tables n) (Statement tables prints n)
 
 -- [ Directive ]
 abbrev pub strict : Lang GrammarToken (Unit {0})

@@ -5,9 +5,11 @@ use Rattle.std.specs.Prelude.{◌≡◌, List, [], ◌∷◌, ◌++◌, Option, 
 abbrev pub Lang : Type 0 → Type 0 → Type 1
 Lang T A = List T → A → Type 0
 
+-- of two values the first
 abbrev pub first_of : {A B : Type 0} → A → B → A
 first_of x y = x
 
+-- of two values the second
 abbrev pub second_of : {A B : Type 0} → A → B → B
 second_of x y = y
 

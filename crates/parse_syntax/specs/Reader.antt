@@ -1,5 +1,6 @@
 -- Readers: what reading from the front gives.
-use Rattle.std.specs.Prelude.{ℕ, zero, suc, List, [], ◌∷◌, ◌++◌, length, Bool, true, false, cond, Option, Some, None}
+use Rattle.std.specs.Prelude.{ℕ, zero, suc, List, [], ◌∷◌, ◌++◌, length, Bool, true, false, cond,
+    Option, Some, None}
 use Rattle.parse_syntax.specs.Lang.{first_of}
 
 -- what is wrong at a token: it can't stand there, or it could but for the limit on nesting
@@ -19,6 +20,7 @@ abbrev pub ◌>>=◌ : {T A B : Type 0} → Answer T A → (A → List T → Ans
 (Got x rest) >>= f = f x rest
 (Bad k rest) >>= f = Bad k rest
 
+-- there is a value
 abbrev pub is_some : {A : Type 0} → Option A → Bool
 is_some None = false
 is_some (Some x) = true
@@ -60,7 +62,8 @@ module _ {T : Type 0} where
   -- as long as one starts, at most so many
   abbrev pub loop : {A : Type 0} → (List T → Bool) → Reader T A → ℕ → Reader T (List A)
   loop starts r zero s = Got [] s
-  loop starts r (suc n) s = cond (starts s) (r s >>= λ x rest. loop starts r n rest >>= λ xs rest'. Got (x ∷ xs) rest') (Got [] s)
+  loop starts r (suc n) s =
+      cond (starts s) (r s >>= λ x rest. loop starts r n rest >>= λ xs rest'. Got (x ∷ xs) rest') (Got [] s)
 
   abbrev pub all_of : {A : Type 0} → (List T → Bool) → Reader T A → Reader T (List A)
   all_of starts r s = loop starts r (length s) s

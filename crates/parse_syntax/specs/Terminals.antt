@@ -1,6 +1,7 @@
--- What each token is to the grammar. A terminal is a function from a token to an optional value; so one word may be
--- a name at one place and a property at another.
-use Rattle.std.specs.Prelude.{ℕ, Bool, true, false, nat_eq, nat_lt, decimal, List, [], Option, Some, None, get_or}
+-- What each token is to the grammar. A terminal is a function from a token to an optional value; so one word
+-- may be a name at one place and a property at another.
+use Rattle.std.specs.Prelude.{ℕ, Bool, true, false, nat_eq, nat_lt, decimal, List, [], Option,
+    Some, None, get_or}
 use Rattle.js_lex.specs.declared.token.Mark.TheVariants as mark
 use Rattle.parse_syntax.specs.declared.token.GrammarToken.{GrammarToken}
 use Rattle.parse_syntax.specs.declared.token.GrammarToken.TheVariants as token
@@ -22,36 +23,44 @@ pub record Ident : Type 0 where
   pub at : ℕ
   pub number : ℕ
 
+-- the value where the condition holds, else none
 abbrev pub when : {A : Type 0} → Bool → A → Option A
 when true x = Some x
 when false x = None
 
 -- words
 
+-- the directive 'use strict' ("Directive Prologues and the Use Strict Directive")
 abbrev pub directive : GrammarToken → Option (Unit {0})
 directive (token.Directive at) = Some tt
 directive _ = None
 
+-- the word let
 abbrev pub let_word : GrammarToken → Option (Unit {0})
 let_word (token.Word at word.Let number) = Some tt
 let_word _ = None
 
+-- the word const
 abbrev pub const_word : GrammarToken → Option (Unit {0})
 const_word (token.Word at word.Const number) = Some tt
 const_word _ = None
 
+-- the word print
 abbrev pub print_word : GrammarToken → Option (Unit {0})
 print_word (token.Word at word.Print number) = Some tt
 print_word _ = None
 
+-- the word if
 abbrev pub if_word : GrammarToken → Option (Unit {0})
 if_word (token.Word at word.If number) = Some tt
 if_word _ = None
 
+-- the word else
 abbrev pub else_word : GrammarToken → Option (Unit {0})
 else_word (token.Word at word.Else number) = Some tt
 else_word _ = None
 
+-- the word for
 abbrev pub for_word : GrammarToken → Option (Unit {0})
 for_word (token.Word at word.For number) = Some tt
 for_word _ = None
@@ -61,14 +70,17 @@ abbrev pub string_word : GrammarToken → Option ℕ
 string_word (token.Word at word.String number) = Some at
 string_word _ = None
 
+-- the word Symbol: its offset
 abbrev pub symbol_word : GrammarToken → Option ℕ
 symbol_word (token.Word at word.Symbol number) = Some at
 symbol_word _ = None
 
+-- the word JSON: its offset
 abbrev pub json_word : GrammarToken → Option ℕ
 json_word (token.Word at word.Json number) = Some at
 json_word _ = None
 
+-- the word Object: its offset
 abbrev pub object_word : GrammarToken → Option ℕ
 object_word (token.Word at word.Object number) = Some at
 object_word _ = None
@@ -83,6 +95,7 @@ uri_function _ = None
 
 -- names
 
+-- a name that a script may declare: its offset, and the number of its letters ("BindingIdentifier")
 abbrev pub name : GrammarToken → Option Ident
 name (token.Name at n p) = Some (record { at = at; number = n })
 name _ = None
@@ -94,11 +107,13 @@ the_name m _ = None
 
 -- what stands behind a point
 
+-- the read that length or description is behind any value; none for other words
 abbrev pub member_of : Property → Option StepTree
 member_of property.Length = Some tree.of_length
 member_of property.Description = Some tree.of_description
 member_of _ = None
 
+-- the word length or description behind a point: the read that it is
 abbrev pub member_word : GrammarToken → Option StepTree
 member_word (token.Name at n p) = member_of p
 member_word _ = None
@@ -108,6 +123,7 @@ abbrev pub method_at : ℕ → List ℕ → Property → Option ((ℕ × Method)
 method_at at letters (property.Method m) = Some ((at, m), letters)
 method_at at letters _ = None
 
+-- a word that is the name of a method: its offset, the method and its letters
 abbrev pub method : Tables → GrammarToken → Option ((ℕ × Method) × List ℕ)
 method tables (token.Name at n p) = method_at at (get_or tables.names n []) p
 method tables _ = None
@@ -119,47 +135,58 @@ property_at at letters property.Description = None
 property_at at letters (property.Method m) = None
 property_at at letters _ = Some (tree.of_property at letters)
 
+-- a word behind a point that is neither length nor description nor the name of a method: the read of the
+-- property of that name ("EvaluatePropertyAccessWithIdentifierKey")
 abbrev pub property_word : Tables → GrammarToken → Option StepTree
 property_word tables (token.Name at n p) = property_at at (get_or tables.names n []) p
 property_word tables (token.Word at w number) = Some (tree.of_property at (get_or tables.names number []))
 property_word tables _ = None
 
+-- fromCharCode and fromCodePoint, as functions of String; none for other words
 abbrev pub from_of : Property → Option Builtin
 from_of property.FromCharCode = Some builtin.FromCharCode
 from_of property.FromCodePoint = Some builtin.FromCodePoint
 from_of _ = None
 
+-- the word fromCharCode or fromCodePoint behind String and a point: the function ("Properties of the String
+-- Constructor")
 abbrev pub from_word : GrammarToken → Option Builtin
 from_word (token.Name at n p) = from_of p
 from_word _ = None
 
+-- keyFor, as a function of Symbol; none for other words
 abbrev pub key_of : Property → Option Builtin
 key_of property.KeyFor = Some builtin.KeyFor
 key_of _ = None
 
+-- the word for or keyFor behind Symbol and a point: the function ("Properties of the Symbol Constructor")
 abbrev pub symbol_function : GrammarToken → Option Builtin
 symbol_function (token.Word at word.For number) = Some builtin.SymbolFor
 symbol_function (token.Name at n p) = key_of p
 symbol_function _ = None
 
+-- stringify, as a function of JSON; none for other words
 abbrev pub stringify_of : Property → Option Builtin
 stringify_of property.Stringify = Some builtin.Stringify
 stringify_of _ = None
 
+-- the word stringify behind JSON and a point: the function ("JSON.stringify")
 abbrev pub stringify_word : GrammarToken → Option Builtin
 stringify_word (token.Name at n p) = stringify_of p
 stringify_word _ = None
 
+-- keys, as a function of Object; none for other words
 abbrev pub keys_of : Property → Option Builtin
 keys_of property.Keys = Some builtin.Keys
 keys_of _ = None
 
+-- the word keys behind Object and a point: the function ("Object.keys")
 abbrev pub keys_word : GrammarToken → Option Builtin
 keys_word (token.Name at n p) = keys_of p
 keys_word _ = None
 
--- the key of a member of an object literal (ECMA-262, "LiteralPropertyName"): the letters of any word, the units of a
--- string, or the decimal text of a number
+-- the key of a member of an object literal (ECMA-262, "LiteralPropertyName"): the letters of any word, the
+-- units of a string, or the decimal text of a number
 abbrev pub key : Tables → GrammarToken → Option (List ℕ)
 key tables (token.Text at n k) = Some (get_or tables.keys n [])
 key tables (token.Number at n) = Some (decimal n)
@@ -169,10 +196,12 @@ key tables _ = None
 
 -- marks
 
+-- the mark (
 abbrev pub opening : GrammarToken → Option (Unit {0})
 opening (token.Mark at mark.OpenParen l) = Some tt
 opening _ = None
 
+-- the mark )
 abbrev pub closing : GrammarToken → Option (Unit {0})
 closing (token.Mark at mark.CloseParen l) = Some tt
 closing _ = None
@@ -182,10 +211,12 @@ abbrev pub open_bracket : GrammarToken → Option ℕ
 open_bracket (token.Mark at mark.OpenBracket l) = Some at
 open_bracket _ = None
 
+-- the mark ]
 abbrev pub close_bracket : GrammarToken → Option (Unit {0})
 close_bracket (token.Mark at mark.CloseBracket l) = Some tt
 close_bracket _ = None
 
+-- the mark {, which begins a block
 abbrev pub open_brace : GrammarToken → Option (Unit {0})
 open_brace (token.Mark at mark.OpenBrace l) = Some tt
 open_brace _ = None
@@ -195,34 +226,42 @@ abbrev pub open_literal : GrammarToken → Option ℕ
 open_literal (token.Mark at mark.OpenBrace l) = Some at
 open_literal _ = None
 
+-- the mark }
 abbrev pub close_brace : GrammarToken → Option (Unit {0})
 close_brace (token.Mark at mark.CloseBrace l) = Some tt
 close_brace _ = None
 
+-- the mark ,
 abbrev pub comma : GrammarToken → Option (Unit {0})
 comma (token.Mark at mark.Comma l) = Some tt
 comma _ = None
 
+-- the mark .
 abbrev pub point : GrammarToken → Option (Unit {0})
 point (token.Mark at mark.Point l) = Some tt
 point _ = None
 
+-- the mark ;
 abbrev pub semicolon : GrammarToken → Option (Unit {0})
 semicolon (token.Mark at mark.Semicolon l) = Some tt
 semicolon _ = None
 
+-- the mark ?
 abbrev pub question : GrammarToken → Option (Unit {0})
 question (token.Mark at mark.Question l) = Some tt
 question _ = None
 
+-- the mark :
 abbrev pub colon : GrammarToken → Option (Unit {0})
 colon (token.Mark at mark.Colon l) = Some tt
 colon _ = None
 
+-- the mark <
 abbrev pub less : GrammarToken → Option (Unit {0})
 less (token.Mark at mark.Less l) = Some tt
 less _ = None
 
+-- the mark =
 abbrev pub assign_mark : GrammarToken → Option (Unit {0})
 assign_mark (token.Mark at mark.Assign l) = Some tt
 assign_mark _ = None
@@ -247,19 +286,23 @@ sign _ = None
 
 -- the operators of each level, with their offset
 
+-- the operator || ("LogicalORExpression")
 abbrev pub or_op : GrammarToken → Option (ℕ × Op)
 or_op (token.Mark at mark.Or l) = Some (at, op.Or)
 or_op _ = None
 
+-- the operator && ("LogicalANDExpression")
 abbrev pub and_op : GrammarToken → Option (ℕ × Op)
 and_op (token.Mark at mark.And l) = Some (at, op.And)
 and_op _ = None
 
+-- the operators === and !== ("EqualityExpression")
 abbrev pub equal_op : GrammarToken → Option (ℕ × Op)
 equal_op (token.Mark at mark.StrictEqual l) = Some (at, op.Same)
 equal_op (token.Mark at mark.StrictUnequal l) = Some (at, op.NotSame)
 equal_op _ = None
 
+-- the operators <, >, <= and >= ("RelationalExpression")
 abbrev pub compare_op : GrammarToken → Option (ℕ × Op)
 compare_op (token.Mark at mark.Less l) = Some (at, op.Less)
 compare_op (token.Mark at mark.Greater l) = Some (at, op.Greater)
@@ -267,6 +310,7 @@ compare_op (token.Mark at mark.AtMost l) = Some (at, op.LessEq)
 compare_op (token.Mark at mark.AtLeast l) = Some (at, op.GreaterEq)
 compare_op _ = None
 
+-- the operators + and - ("AdditiveExpression")
 abbrev pub sum_op : GrammarToken → Option (ℕ × Op)
 sum_op (token.Mark at mark.Plus l) = Some (at, op.Plus)
 sum_op (token.Mark at mark.Minus l) = Some (at, op.Minus)
@@ -294,8 +338,8 @@ constant word.NaN = Some tree.nan
 constant word.Infinity = Some tree.infinity
 constant _ = None
 
--- a token that is an expression alone. So is each string: whether it is a key shows only at the token behind it, and in
--- a whole script a key stands before the colon of a member alone
+-- a token that is an expression alone. So is each string: whether it is a key shows only at the token behind
+-- it, and in a whole script a key stands before the colon of a member alone
 abbrev pub simple : Tables → GrammarToken → Option ExprTree
 simple tables (token.Text at n k) = Some (tree.literal n)
 simple tables (token.Number at n) = Some (tree.number n)
