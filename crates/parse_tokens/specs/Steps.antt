@@ -21,11 +21,13 @@ is_empty (x ∷ xs) = false
 
 -- what stands before a place, behind these tokens
 abbrev pub before_at : List GrammarToken → List (List ℕ) → List (List ℕ) → List (List ℕ) → ℕ → Before
-before_at tokens texts names keys end = record { first = is_empty tokens; end = end; names = names; texts = texts; keys = keys }
+before_at tokens texts names keys end =
+    record { first = is_empty tokens; end = end; names = names; texts = texts; keys = keys }
 
 -- the same behind what was read so far
 abbrev pub before_of : ScriptTokens → ℕ → Before
-before_of script end = before_at script.tokens.items script.literals.items script.names.items script.keys.items end
+before_of script end =
+    before_at script.tokens.items script.literals.items script.names.items script.keys.items end
 
 -- the text has these tokens, and this is what stands before its end
 pub record Whole (text : List ℕ) (tokens : List GrammarToken) (last : Before) : Type 0 where
@@ -36,10 +38,12 @@ pub record Whole (text : List ℕ) (tokens : List GrammarToken) (last : Before) 
 
 -- what completes the rest completes the whole, where { or a comma stands before the rest or not
 abbrev pub Goes : List ℕ → ℕ → List GrammarToken → Bool → Before → Type 0
-Goes text at done opened before = (ts : List Lexed) → Lexes text at ts → Whole text (done ++ tokens_from text opened before ts) (after_all text opened before ts)
+Goes text at done opened before = (ts : List Lexed) → Lexes text at ts
+    → Whole text (done ++ tokens_from text opened before ts) (after_all text opened before ts)
 
 -- the text's tokens, literals, names and keys
-pub record Scanned (text : List ℕ) (tokens : List GrammarToken) (texts names keys : List (List ℕ)) : Type 0 where
+pub record Scanned (text : List ℕ) (tokens : List GrammarToken)
+    (texts names keys : List (List ℕ)) : Type 0 where
   pub lexed : List Lexed
   pub lexes : Lexes text 0 lexed
   pub tokens_are : tokens ≡ tokens_from text false nothing lexed
@@ -49,12 +53,16 @@ pub record Scanned (text : List ℕ) (tokens : List GrammarToken) (texts names k
 
 -- the text's tokens, literals, names and keys are these
 abbrev pub ScannedTo : List ℕ → ScriptTokens → Type 0
-ScannedTo text script = Scanned text script.tokens.items script.literals.items script.names.items script.keys.items
+ScannedTo text script =
+    Scanned text script.tokens.items script.literals.items script.names.items script.keys.items
 
 -- these tokens, texts, names and keys
-abbrev pub IsScriptTokens : ScriptTokens → List GrammarToken → List (List ℕ) → List (List ℕ) → List (List ℕ) → Type 0
-IsScriptTokens script tokens texts names keys = (script.tokens.items ≡ tokens) × (script.literals.items ≡ texts) × (script.names.items ≡ names) × (script.keys.items ≡ keys)
+abbrev pub IsScriptTokens : ScriptTokens → List GrammarToken → List (List ℕ) → List (List ℕ)
+    → List (List ℕ) → Type 0
+IsScriptTokens script tokens texts names keys = (script.tokens.items ≡ tokens)
+    × (script.literals.items ≡ texts) × (script.names.items ≡ names) × (script.keys.items ≡ keys)
 
 -- whether the token is a key, whatever tokens the text has behind it
 abbrev pub TellsKey : List ℕ → Bool → Lexed → Bool → Type 0
-TellsKey text opened token key = (ts : List Lexed) → Lexes text token.to ts → key ≡ is_key opened token.kind ts
+TellsKey text opened token key = (ts : List Lexed) → Lexes text token.to ts
+    → key ≡ is_key opened token.kind ts

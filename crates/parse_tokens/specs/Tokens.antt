@@ -1,5 +1,6 @@
 -- The tokens of the grammar, and how they come from those of the text.
-use Rattle.std.specs.Prelude.{◌≡◌, ℕ, List, [], ◌∷◌, ◌++◌, length, codes, nat_lt, Bool, true, false, Option, Some, None, if◌then◌else◌}
+use Rattle.std.specs.Prelude.{◌≡◌, ℕ, List, [], ◌∷◌, ◌++◌, length, codes, nat_lt, Bool, true, false, Option,
+    Some, None, if◌then◌else◌}
 use Rattle.std.specs.Str.{bytes_eq, chars}
 use Rattle.std.specs.List.{position_or_len, list_any}
 use Rattle.js_lex.specs.declared.token.Token.{Token as Lexed}
@@ -22,7 +23,8 @@ place_in names letters = position_or_len (bytes_eq letters) names
 
 -- the table with the letters, at its end where they weren't in it
 abbrev pub with_name : List (List ℕ) → List ℕ → List (List ℕ)
-with_name names letters = if nat_lt (place_in names letters) (length names) then names else names ++ letters ∷ []
+with_name names letters = if nat_lt (place_in names letters) (length names) then names
+    else names ++ letters ∷ []
 
 -- what stands before a token
 pub record Before : Type 0 where
@@ -35,6 +37,7 @@ pub record Before : Type 0 where
   pub texts : List (List ℕ)
   pub keys : List (List ℕ)
 
+-- what stands before the first token
 abbrev pub nothing : Before
 nothing = record { first = true; end = 0; names = []; texts = []; keys = [] }
 
@@ -42,48 +45,60 @@ nothing = record { first = true; end = 0; names = []; texts = []; keys = [] }
 abbrev pub has_line_end : List ℕ → Bool
 has_line_end bytes = list_any is_line_end (chars bytes)
 
--- the spellings of the directive; there is none with an escape (ECMA-262, "Directive Prologues and the Use Strict Directive")
+-- the spellings of the directive; there is none with an escape (ECMA-262, "Directive Prologues and the Use
+-- Strict Directive")
 abbrev pub is_use_strict : List ℕ → Bool
 is_use_strict source = is_in source (codes "'use strict'" ∷ codes "\"use strict\"" ∷ [])
 
--- A string is the key of a member exactly where { or a comma stands before it and a colon behind it: no statement has a
--- label, and in a conditional a question mark stands before the operand that a colon follows.
+-- A string is the key of a member exactly where { or a comma stands before it and a colon behind it: no
+-- statement has a label, and in a conditional a question mark stands before the operand that a colon follows.
 
+-- the token is { or a comma
 abbrev pub opens_member : TokenKind → Bool
 opens_member (kinds.Mark mark.OpenBrace) = true
 opens_member (kinds.Mark mark.Comma) = true
 opens_member _ = false
 
+-- the token is a colon
 abbrev pub is_colon : TokenKind → Bool
 is_colon (kinds.Mark mark.Colon) = true
 is_colon _ = false
 
+-- the first of the tokens is a colon
 abbrev pub begins_colon : List Lexed → Bool
 begins_colon [] = false
 begins_colon (t ∷ ts) = is_colon t.kind
 
--- whether the token is a string that is a key, where { or a comma stands before it or not, and these tokens behind it
+-- whether the token is a string that is a key, where { or a comma stands before it or not, and these tokens
+-- behind it
 abbrev pub is_key : Bool → TokenKind → List Lexed → Bool
 is_key opened (kinds.Text units) ts = if opened then begins_colon ts else false
 is_key opened _ ts = false
 
 -- a string that is no key, after so many texts
 abbrev pub text_token : Bool → List (List ℕ) → List ℕ → ℕ → GrammarToken
-text_token first texts source at = if first then (if is_use_strict source then token.Directive at else token.Text at (length texts) false) else token.Text at (length texts) false
+text_token first texts source at = if first then (if is_use_strict source then token.Directive at
+    else token.Text at (length texts) false) else token.Text at (length texts) false
 
+-- the texts behind a string that is no key: its units come last, but the directive is left out
 abbrev pub texts_after : Bool → List (List ℕ) → List ℕ → List ℕ → List (List ℕ)
-texts_after first texts source units = if first then (if is_use_strict source then texts else texts ++ units ∷ []) else texts ++ units ∷ []
+texts_after first texts source units =
+    if first then (if is_use_strict source then texts else texts ++ units ∷ []) else texts ++ units ∷ []
 
 -- a string, which is a key or not, after so many texts and keys
 abbrev pub string_token : Bool → Bool → List (List ℕ) → List (List ℕ) → List ℕ → ℕ → GrammarToken
-string_token key first texts keys source at = if key then token.Text at (length keys) true else text_token first texts source at
+string_token key first texts keys source at = if key then token.Text at (length keys) true
+    else text_token first texts source at
 
+-- the texts behind a string, which is a key or not
 abbrev pub texts_with : Bool → Bool → List (List ℕ) → List ℕ → List ℕ → List (List ℕ)
 texts_with key first texts source units = if key then texts else texts_after first texts source units
 
+-- the keys behind a string: its units come last where it is a key
 abbrev pub keys_with : Bool → List (List ℕ) → List ℕ → List (List ℕ)
 keys_with key keys units = if key then keys ++ units ∷ [] else keys
 
+-- a word at an offset: one that is no name, or a name with what it means behind a point
 abbrev pub word_token : Option Word → List (List ℕ) → List ℕ → ℕ → GrammarToken
 word_token (Some w) names letters at = token.Word at w (place_in names letters)
 word_token None names letters at = token.Name at (place_in names letters) (property_of letters)
@@ -91,31 +106,38 @@ word_token None names letters at = token.Name at (place_in names letters) (prope
 -- a token of this source text and kind, at an offset, which is a key or not
 abbrev pub token_of : Before → List ℕ → ℕ → Bool → Bool → TokenKind → GrammarToken
 token_of before source at after_line key kinds.Word = word_token (word_of source) before.names source at
-token_of before source at after_line key (kinds.Text units) = string_token key before.first before.texts before.keys source at
+token_of before source at after_line key (kinds.Text units) =
+    string_token key before.first before.texts before.keys source at
 token_of before source at after_line key (kinds.Number value) = token.Number at value
 token_of before source at after_line key (kinds.Mark mark) = token.Mark at mark after_line
 
+-- the table of names behind a token: a word is in it
 abbrev pub table_after : Before → List ℕ → TokenKind → List (List ℕ)
 table_after before source kinds.Word = with_name before.names source
 table_after before source (kinds.Text units) = before.names
 table_after before source (kinds.Number value) = before.names
 table_after before source (kinds.Mark mark) = before.names
 
+-- the texts behind a token, which is a key or not
 abbrev pub literals_after : Bool → Before → List ℕ → TokenKind → List (List ℕ)
 literals_after key before source kinds.Word = before.texts
 literals_after key before source (kinds.Text units) = texts_with key before.first before.texts source units
 literals_after key before source (kinds.Number value) = before.texts
 literals_after key before source (kinds.Mark mark) = before.texts
 
+-- the keys behind a token, which is a key or not
 abbrev pub keys_after : Bool → Before → TokenKind → List (List ℕ)
 keys_after key before kinds.Word = before.keys
 keys_after key before (kinds.Text units) = keys_with key before.keys units
 keys_after key before (kinds.Number value) = before.keys
 keys_after key before (kinds.Mark mark) = before.keys
 
+-- the grammar's token for a token of the text, which is a key or not, where this stands before it
 abbrev pub token_at : List ℕ → Before → Bool → Lexed → GrammarToken
-token_at bytes before key t = token_of before (slice bytes t.from t.to) t.from (has_line_end (slice bytes before.end t.from)) key t.kind
+token_at bytes before key t =
+    token_of before (slice bytes t.from t.to) t.from (has_line_end (slice bytes before.end t.from)) key t.kind
 
+-- what stands before the token that follows this one
 abbrev pub after : List ℕ → Before → Bool → Lexed → Before
 after bytes before key t = record {
   first = false;
@@ -128,14 +150,18 @@ after bytes before key t = record {
 -- the tokens, where { or a comma stands before them or not
 abbrev pub tokens_from : List ℕ → Bool → Before → List Lexed → List GrammarToken
 tokens_from bytes opened before [] = []
-tokens_from bytes opened before (t ∷ ts) = token_at bytes before (is_key opened t.kind ts) t ∷ tokens_from bytes (opens_member t.kind) (after bytes before (is_key opened t.kind ts) t) ts
+tokens_from bytes opened before (t ∷ ts) = token_at bytes before (is_key opened t.kind ts) t ∷
+    tokens_from bytes (opens_member t.kind) (after bytes before (is_key opened t.kind ts) t) ts
 
+-- what stands behind all these tokens, where { or a comma stands before them or not
 abbrev pub after_all : List ℕ → Bool → Before → List Lexed → Before
 after_all bytes opened before [] = before
-after_all bytes opened before (t ∷ ts) = after_all bytes (opens_member t.kind) (after bytes before (is_key opened t.kind ts) t) ts
+after_all bytes opened before (t ∷ ts) =
+    after_all bytes (opens_member t.kind) (after bytes before (is_key opened t.kind ts) t) ts
 
 -- the bytes have these tokens, literals, names and keys
-pub record Reads (bytes : List ℕ) (tokens : List GrammarToken) (literals names keys : List (List ℕ)) : Type 0 where
+pub record Reads (bytes : List ℕ) (tokens : List GrammarToken)
+    (literals names keys : List (List ℕ)) : Type 0 where
   pub lexed : List Lexed
   pub lexes : TokensOf bytes lexed
   pub tokens_are : tokens ≡ tokens_from bytes false nothing lexed

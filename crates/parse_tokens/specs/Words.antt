@@ -24,7 +24,8 @@ reserved_words =
 abbrev pub kept_words : List (List ℕ)
 kept_words =
     codes "await" ∷ codes "print" ∷ codes "String" ∷ codes "Symbol" ∷ codes "JSON" ∷ codes "undefined" ∷
-    codes "NaN" ∷ codes "Infinity" ∷ codes "eval" ∷ codes "arguments" ∷ codes "globalThis" ∷ codes "isFinite" ∷
+    codes "NaN" ∷ codes "Infinity" ∷ codes "eval" ∷ codes "arguments" ∷ codes "globalThis" ∷
+    codes "isFinite" ∷
     codes "isNaN" ∷ codes "parseFloat" ∷ codes "parseInt" ∷ codes "decodeURI" ∷ codes "decodeURIComponent" ∷
     codes "encodeURI" ∷ codes "encodeURIComponent" ∷ codes "escape" ∷ codes "unescape" ∷
     codes "AggregateError" ∷ codes "Array" ∷ codes "ArrayBuffer" ∷ codes "Atomics" ∷ codes "BigInt" ∷
@@ -40,6 +41,7 @@ kept_words =
     codes "valueOf" ∷ codes "__proto__" ∷ codes "__defineGetter__" ∷ codes "__defineSetter__" ∷
     codes "__lookupGetter__" ∷ codes "__lookupSetter__" ∷ []
 
+-- the letters are one of these words
 abbrev pub is_in : List ℕ → List (List ℕ) → Bool
 is_in letters [] = false
 is_in letters (w ∷ ws) = if bytes_eq letters w then true else is_in letters ws
@@ -88,6 +90,8 @@ word_or (Some w) reserved = Some w
 word_or None true = Some word.Reserved
 word_or None false = None
 
+-- what a word is where it can't be a name: the word itself if it has a meaning here, else Reserved; None for
+-- a name
 abbrev pub word_of : List ℕ → Option Word
 word_of letters = word_or (keyword_of letters) (is_reserved letters)
 
@@ -103,6 +107,7 @@ other_property letters =
     else if bytes_eq letters (codes "keys") then Some property.Keys
     else None
 
+-- what a name means behind a point: a property, else a method, else nothing of its own
 abbrev property_or : Option Property → Option Method → Property
 property_or (Some p) m = p
 property_or None (Some m) = property.Method m
