@@ -12,7 +12,8 @@ Fails (fault.Wrong rest) answer = answer ≡ Bad Wrong rest.now
 Fails (fault.TooDeep rest) answer = answer ≡ Bad TooDeep rest.now
 
 -- what was returned, seen by view and rest, is the answer, unless memory ran out
-abbrev pub Gives : {X A : Type 0} → (X → A) → (X → List GrammarToken) → Result X Fault → Answer GrammarToken A → Type 0
+abbrev pub Gives : {X A : Type 0} → (X → A) → (X → List GrammarToken) → Result X Fault
+    → Answer GrammarToken A → Type 0
 Gives view rest (Ok x) answer = answer ≡ Got (view x) (rest x)
 Gives view rest (Err e) answer = Fails e answer
 
