@@ -1,15 +1,21 @@
 -- The readers with room for so many that are open, as the parser's functions give them.
 use Rattle.std.specs.Prelude.{ℕ, zero, suc, Bool, true, false, List, Option, None}
 use Rattle.parse_syntax.specs.Lang.{second_of}
-use Rattle.parse_syntax.specs.Reader.{Reader, ◌>>=◌, Got, wrong, and_then, map_by, one_of, choose, all_of, opens, heads, heads_two, succeed}
+use Rattle.parse_syntax.specs.Reader.{Reader, ◌>>=◌, Got, wrong, and_then, map_by, one_of, choose, all_of,
+    opens, heads, heads_two, succeed}
 use Rattle.parse_syntax.specs.declared.token.GrammarToken.{GrammarToken}
 use Rattle.parse_syntax.specs.Tables.{Tables}
 use Rattle.eval_tree.specs.declared.tree.Builtin.{Builtin}
 use Rattle.eval_tree.specs.declared.tree.Builtin.TheVariants as builtin
 use Rattle.eval_tree.specs.Tree.{ExprTree, StepTree, StmtTree, BlockTree, ArmTree}
-use Rattle.parse_syntax.specs.Terminals.{else_word, if_word, string_word, symbol_word, json_word, uri_function, question}
+use Rattle.parse_syntax.specs.Terminals.{else_word, if_word, string_word, symbol_word, json_word,
+    uri_function, question}
 use Rattle.parse_syntax.specs.Grammar.{Which, Whole, Operand, single_of, cond_of}
-use Rattle.parse_syntax.specs.Reading.{read_within, read_parens, read_args, read_string, read_symbol, read_json, read_uri, read_object_call, read_entry, read_members, read_literal, read_primary, read_word, read_branches, read_step, read_post, read_unary, read_sum, read_comparison, read_equality, read_conjunction, read_disjunction, read_conditional, goes_on, read_block, read_init, read_let, read_const, read_assign, read_print, read_arm, read_rest, read_if, read_for, read_statement, read_at}
+use Rattle.parse_syntax.specs.Reading.{read_within, read_parens, read_args, read_string, read_symbol,
+    read_json, read_uri, read_object_call, read_entry, read_members, read_literal, read_primary, read_word,
+    read_branches, read_step, read_post, read_unary, read_sum, read_comparison, read_equality,
+    read_conjunction, read_disjunction, read_conditional, goes_on, read_block, read_init, read_let,
+    read_const, read_assign, read_print, read_arm, read_rest, read_if, read_for, read_statement, read_at}
 use Rattle.parse_look.specs.declared.look.Level.{Level}
 use Rattle.parse_look.specs.declared.look.Level.TheVariants as level
 
@@ -35,7 +41,10 @@ module _ (tables : Tables) where
   given_at n _ = read_args (inner n Whole)
 
   unfoldable pub builtin_at : ℕ → Reader GrammarToken ExprTree
-  builtin_at n = choose (heads string_word) (read_string (inner n Whole)) (choose (heads symbol_word) (read_symbol (inner n Whole)) (choose (heads json_word) (read_json (inner n Whole)) (choose (heads uri_function) (read_uri (inner n Whole)) (read_object_call (inner n Whole)))))
+  builtin_at n = choose (heads string_word) (read_string (inner n Whole))
+      (choose (heads symbol_word) (read_symbol (inner n Whole))
+      (choose (heads json_word) (read_json (inner n Whole))
+      (choose (heads uri_function) (read_uri (inner n Whole)) (read_object_call (inner n Whole)))))
 
   -- Key : E, what stands behind the { of an object literal, and the literal
   unfoldable pub entry_at : ℕ → Reader GrammarToken (List ℕ × ExprTree)
@@ -80,7 +89,9 @@ module _ (tables : Tables) where
 
   -- [ ? E : E ], behind a test
   unfoldable pub branches_at : ℕ → ExprTree → Reader GrammarToken ExprTree
-  branches_at n t s = choose (heads question) (opens (has_room n) (heads question) (read_branches (inner n Whole))) (succeed None) s >>= λ b r. Got (cond_of t b) r
+  branches_at n t s =
+      choose (heads question) (opens (has_room n) (heads question) (read_branches (inner n Whole)))
+      (succeed None) s >>= λ b r. Got (cond_of t b) r
 
   unfoldable pub expression_at : ℕ → Reader GrammarToken ExprTree
   expression_at n = read_conditional tables (has_room n) (inner n Whole) (inner n Operand)
@@ -108,7 +119,8 @@ module _ (tables : Tables) where
     inner_statement (suc n) = read_at tables prints n
 
     unfoldable pub statement_at : ℕ → Reader GrammarToken StmtTree
-    statement_at n = read_statement tables prints (has_room n) (expression_at n) (inner n Whole) (inner_statement n)
+    statement_at n =
+        read_statement tables prints (has_room n) (expression_at n) (inner n Whole) (inner_statement n)
 
     unfoldable pub statements_at : ℕ → Reader GrammarToken (List StmtTree)
     statements_at n = all_of goes_on (statement_at n)
