@@ -14,6 +14,7 @@ fault_offset (fault.Duplicate at) = at
 fault_offset (fault.LoopName at) = at
 fault_offset fault.Memory = 0
 
+-- the words in which the fault of a text that is no script is told
 abbrev pub fault_words : ParseFault → List ℕ
 fault_words (fault.Lex f) = lexical_words f
 fault_words (fault.Unexpected at) = codes "unexpected"

@@ -15,12 +15,14 @@ rank (LoopName at) = 3 * at + 1
 rank (ProtoKey at) = 3 * at + 2
 
 -- after a prelude that declares the outer names, the script with these tokens and this tree has the fault
-pub data HasNameFault (outer : List (List ℕ)) (tables : Tables) (tokens : List GrammarToken) (t : Tree) : NameFault → Type 0 where
+pub data HasNameFault (outer : List (List ℕ)) (tables : Tables) (tokens : List GrammarToken)
+    (t : Tree) : NameFault → Type 0 where
   of_name : (f : NameFault) → HasFault outer t f → HasNameFault outer tables tokens t f
   of_key : (at : ℕ) → HasProtoKey tables tokens at → HasNameFault outer tables tokens t (ProtoKey at)
 
 -- it has this fault, and none before it
-pub record IsFirstFault (outer : List (List ℕ)) (tables : Tables) (tokens : List GrammarToken) (t : Tree) (f : NameFault) : Type 0 where
+pub record IsFirstFault (outer : List (List ℕ)) (tables : Tables) (tokens : List GrammarToken) (t : Tree)
+    (f : NameFault) : Type 0 where
   pub has : HasNameFault outer tables tokens t f
   pub first : (g : NameFault) → HasNameFault outer tables tokens t g → rank f ≤ rank g
 

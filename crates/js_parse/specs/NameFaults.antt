@@ -1,5 +1,6 @@
 -- All faults of names in the order of the text, as they are read. No public contract cites this file.
-use Rattle.std.specs.Prelude.{ℕ, List, [], ◌∷◌, ◌++◌, Bool, true, false, Option, Some, None, if◌then◌else◌, nat_lt}
+use Rattle.std.specs.Prelude.{ℕ, List, [], ◌∷◌, ◌++◌, Bool, true, false, Option, Some, None,
+    if◌then◌else◌, nat_lt}
 use Rattle.std.specs.List.{list_any}
 use Rattle.std.specs.Str.{bytes_eq}
 use Rattle.eval_tree.specs.Tree as tree
@@ -71,7 +72,8 @@ abbrev mutual
 
   pub faults_among : Stmts → NameTest → NameTest → List NameFault
   faults_among tree.no_stmts loops before = []
-  faults_among (tree.stmt s rest) loops before = declared_again s before ++ (faults_in s loops ++ faults_among rest loops (with_own s before))
+  faults_among (tree.stmt s rest) loops before =
+      declared_again s before ++ (faults_in s loops ++ faults_among rest loops (with_own s before))
 
 -- those of a script after a prelude that declares the outer names
 abbrev pub faults_of : List (List ℕ) → Tree → List NameFault

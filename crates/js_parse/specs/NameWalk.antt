@@ -26,7 +26,9 @@ letters_of refs = map (λ k. k.now) refs
 abbrev pub found_of : Option Told → Option NameFault
 found_of first = option_map fault_of first
 
--- a walk over these faults: the names of loops are again as they were, and what was found is the first of it all
-pub record Walks (old new : NameTest) (first : Option Told) (faults : List NameFault) (found : Option Told) : Type 0 where
+-- a walk over these faults: the names of loops are again as they were, and what was found is the first of it
+-- all
+pub record Walks (old new : NameTest) (first : Option Told) (faults : List NameFault)
+    (found : Option Told) : Type 0 where
   pub kept : new ≡ old
   pub finds : found_of found ≡ offers (found_of first) faults

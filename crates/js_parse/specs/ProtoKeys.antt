@@ -23,5 +23,7 @@ is_proto tables _ = false
 
 -- among the tokens such a key stands at this place
 pub data HasProtoKey (tables : Tables) : List GrammarToken → ℕ → Type 0 where
-  here : (b k c : GrammarToken) (ts : List GrammarToken) → opens_entry b ≡ true → is_proto tables k ≡ true → is_some (colon c) ≡ true → HasProtoKey tables (b ∷ k ∷ c ∷ ts) (place k)
-  later : (t : GrammarToken) (ts : List GrammarToken) (at : ℕ) → HasProtoKey tables ts at → HasProtoKey tables (t ∷ ts) at
+  here : (b k c : GrammarToken) (ts : List GrammarToken) → opens_entry b ≡ true → is_proto tables k ≡ true
+      → is_some (colon c) ≡ true → HasProtoKey tables (b ∷ k ∷ c ∷ ts) (place k)
+  later : (t : GrammarToken) (ts : List GrammarToken) (at : ℕ) → HasProtoKey tables ts at
+      → HasProtoKey tables (t ∷ ts) at

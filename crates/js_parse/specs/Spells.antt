@@ -1,5 +1,6 @@
 -- Which bytes spell which script, and which are refused.
-use Rattle.std.specs.Prelude.{◌≡◌, ℕ, ◌-◌, List, [], ◌∷◌, length, take, drop, Bool, true, false, if◌then◌else◌, Option, Some, None, Result, Ok, Err}
+use Rattle.std.specs.Prelude.{◌≡◌, ℕ, ◌-◌, List, [], ◌∷◌, length, take, drop, Bool, true, false,
+    if◌then◌else◌, Option, Some, None, Result, Ok, Err}
 use Rattle.js_lex.specs.declared.token.LexFault.{LexFault}
 use Rattle.js_lex.specs.Tokens.{LexFaultOf}
 use Rattle.parse_syntax.specs.Reader.{Kind, Wrong, TooDeep, is_some}
@@ -62,17 +63,22 @@ misplaced Wrong front (t ∷ rest) end = misplaced_at (called front t) t
 misplaced TooDeep front [] end = fault.TooDeep end
 misplaced TooDeep front (t ∷ rest) end = fault.TooDeep (place t)
 
+-- how a fault of a name or key is told; a key that is __proto__ isn't in the profile
 abbrev pub misnamed : NameFault → ParseFault
 misnamed (Duplicate at) = fault.Duplicate at
 misnamed (LoopName at) = fault.LoopName at
 misnamed (ProtoKey at) = fault.NotInProfile at
 
--- the bytes spell no script, for this reason: the first lexical fault; where there is none, the place from which on the
--- tokens begin no script; where they are one, the first fault of its names and keys
+-- the bytes spell no script, for this reason: the first lexical fault; where there is none, the place from
+-- which on the tokens begin no script; where they are one, the first fault of its names and keys
 pub data Refused (r : Role) (outer : List (List ℕ)) (bytes : List ℕ) : ParseFault → Type 0 where
   lexical : (f : LexFault) → LexFaultOf bytes f → Refused r outer bytes (fault.Lex f)
-  grammatical : (tokens : List GrammarToken) (literals : List (List ℕ)) (tables : Tables) (kind : Kind) (rest : List GrammarToken) → Reads bytes tokens literals tables.names tables.keys → IsRefused (Statements tables (prints r)) most tokens kind rest → Refused r outer bytes (misplaced kind (front_of tokens rest) rest (length bytes))
-  of_names : (script : Tree) (f : NameFault) (p : Parses r bytes script) → IsFirstFault outer p.tables p.tokens script f → Refused r outer bytes (misnamed f)
+  grammatical : (tokens : List GrammarToken) (literals : List (List ℕ)) (tables : Tables) (kind : Kind)
+      (rest : List GrammarToken) → Reads bytes tokens literals tables.names tables.keys
+      → IsRefused (Statements tables (prints r)) most tokens kind rest
+      → Refused r outer bytes (misplaced kind (front_of tokens rest) rest (length bytes))
+  of_names : (script : Tree) (f : NameFault) (p : Parses r bytes script)
+      → IsFirstFault outer p.tables p.tokens script f → Refused r outer bytes (misnamed f)
 
 -- x, or out of memory
 abbrev pub IsOrMemory : {X A : Type 0} → (X → A) → Result X ParseFault → A → Type 0

@@ -21,7 +21,8 @@ lex_fault f = fault.Lex f
 abbrev pub grammar_fault : Fault → List GrammarToken → ℕ → ParseFault
 grammar_fault grammatical.Memory tokens end = fault.Memory
 grammar_fault (grammatical.Wrong rest) tokens end = misplaced Wrong (front_of tokens rest.now) rest.now end
-grammar_fault (grammatical.TooDeep rest) tokens end = misplaced TooDeep (front_of tokens rest.now) rest.now end
+grammar_fault (grammatical.TooDeep rest) tokens end =
+    misplaced TooDeep (front_of tokens rest.now) rest.now end
 
 -- the bytes are of the grammar and give this tree, and this is the first key that is __proto__
 pub record ParsesWith (role : Role) (bytes : List ℕ) (script : Tree) (found : Option NameFault) : Type 0 where
