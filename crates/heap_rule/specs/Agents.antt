@@ -10,6 +10,7 @@ use Rattle.heap_rule.specs.Paths.{StartsWith}
 use Rattle.heap_rule.specs.Views.{history}
 use Rattle.heap_rule.specs.Loads.{added_loads}
 
+-- no id and no content word was claimed
 abbrev pub nothing_used : Counters
 nothing_used = record { ids = 0; words = 0 }
 
@@ -41,24 +42,30 @@ fresh z agents live share = record {
 abbrev pub first_view : HeapSize → ℕ → View
 first_view z agents = fresh z agents true agents
 
+-- the view of an agent that was joined: it knows nothing, has no share, and isn't live
 abbrev pub spent : View
 spent = fresh (record { ids = 0; words = 0; slots = 0 }) 0 false 0
 
--- splitting: the giver keeps the rest of its share; the new agent knows the same, has used nothing, and its history is the giver's
+-- splitting: the giver keeps the rest of its share; the new agent knows the same, has used nothing, and its
+-- history is the giver's
 abbrev pub left_after_split : View → ℕ → View
 left_after_split v give = record v { share = v.share - give; giving = 0 }
 
+-- the view of the agent that was split off
 abbrev pub right_after_split : View → ℕ → View
-right_after_split v give = record v { share = give; seen = history v; mine = []; used = nothing_used; own_ids = empty; own_words = empty; form_loads = 0; slot_loads = empty; giving = 0 }
+right_after_split v give = record v { share = give; seen = history v; mine = []; used = nothing_used;
+    own_ids = empty; own_words = empty; form_loads = 0; slot_loads = empty; giving = 0 }
 
 -- the share that a running split is about to give: a note of the agent's own, of which the rule says nothing
 abbrev pub noted : View → ℕ → View
 noted v give = record v { giving = give }
 
+-- how often a slot was loaded by both agents
 abbrev pub sum_of_loads : Option ℕ → ℕ → ℕ
 sum_of_loads lower n = added_loads (unwrap_or lower 0) n
 
--- joining b into v: b was split off with calls that v knows by now, and among which are those that v was split off with, so that no call stands in the history twice
+-- joining b into v: b was split off with calls that v knows by now, and among which are those that v was
+-- split off with, so that no call stands in the history twice
 abbrev pub MayJoin : View → View → Type 0
 MayJoin v b = (b.live ≡ true) × StartsWith b.seen v.seen × StartsWith (history v) b.seen
 

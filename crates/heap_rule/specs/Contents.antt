@@ -1,5 +1,6 @@
 -- The code units of each string of a heap, by its words alone (ECMA-262, "The String Type").
-use Rattle.std.specs.Prelude.{ℕ, zero, suc, ◌+◌, ◌/◌, ◌%◌, Bool, true, ◌&&◌, nat_lt, if◌then◌else◌, List, [], ◌∷◌, ◌++◌, take, drop, Option, Some, None}
+use Rattle.std.specs.Prelude.{ℕ, zero, suc, ◌+◌, ◌/◌, ◌%◌, Bool, true, ◌&&◌, nat_lt, if◌then◌else◌, List, [],
+    ◌∷◌, ◌++◌, take, drop, Option, Some, None}
 use Rattle.js_units.specs.Lanes.{lane_count, lane_of}
 use Rattle.js_header.specs.Form.{form_of}
 use Rattle.js_header.specs.declared.form.Form.{Form}
@@ -7,7 +8,8 @@ use Rattle.js_header.specs.declared.form.Form.TheVariants.{Unborn, Flat, Cons, S
 use Rattle.heap_rule.specs.declared.size.HeapSize.{HeapSize}
 use Rattle.heap_rule.specs.Layout.{form, length_word, content}
 
--- lane o, counted from content word `start`; `words` gives each content word, as a heap has it or as a view knows it
+-- lane o, counted from content word `start`; `words` gives each content word, as a heap has it or as a view
+-- knows it
 unfoldable pub lane_in : (ℕ → ℕ) → Bool → ℕ → ℕ → ℕ
 lane_in words wide start o = lane_of wide (words (start + o / lane_count wide)) (o % lane_count wide)
 
@@ -28,6 +30,7 @@ module _ (z : HeapSize) (W : List ℕ) where
   flat_by i (Some (Flat wide start true)) = span (content z W) wide start 0 (length_word z W i)
   flat_by i _ = []
 
+  -- the units that the form word of i shows as a fixed Flat; none where it is another form
   abbrev pub flat : ℕ → List ℕ
   flat i = flat_by i (form_of (form z W i))
 
@@ -37,6 +40,7 @@ module _ (z : HeapSize) (W : List ℕ) where
   solid_by i (Some (Thin target)) = flat target
   solid_by i _ = []
 
+  -- the units that the form word of i shows as a Flat or a Thin; none where it is another form
   abbrev pub solid : ℕ → List ℕ
   solid i = solid_by i (form_of (form z W i))
 
@@ -46,12 +50,16 @@ module _ (z : HeapSize) (W : List ℕ) where
   shape_by i (Some Unborn) = blank
   shape_by i (Some (Flat wide start fixed)) = whole (span (content z W) wide start 0 (length_word z W i))
   shape_by i (Some (Thin target)) = whole (flat target)
-  shape_by i (Some (Sliced wide parent offset)) = whole (take (length_word z W i) (drop offset (solid parent)))
-  shape_by i (Some (Cons wide left right)) = if nat_lt left i && nat_lt right i then joins left right else blank
+  shape_by i (Some (Sliced wide parent offset)) =
+      whole (take (length_word z W i) (drop offset (solid parent)))
+  shape_by i (Some (Cons wide left right)) =
+      if nat_lt left i && nat_lt right i then joins left right else blank
 
+  -- what the header of i says of its string
   unfoldable pub shape : ℕ → Shape
   shape i = shape_by i (form_of (form z W i))
 
+-- the units of a string by its shape, where `below` gives those of strings with smaller ids
 abbrev pub units_by : (ℕ → List ℕ) → Shape → List ℕ
 units_by below blank = []
 units_by below (whole us) = us
@@ -62,6 +70,8 @@ unfoldable pub units_within : (ℕ → Shape) → ℕ → ℕ → List ℕ
 units_within shapes zero i = []
 units_within shapes (suc n) i = units_by (λ j. units_within shapes n j) (shapes i)
 
+-- the units of the string i by all shapes; each part of a Cons has a smaller id, so a rope on i is at most i
+-- deep
 unfoldable pub units_in : (ℕ → Shape) → ℕ → List ℕ
 units_in shapes i = units_within shapes (suc i) i
 

@@ -3,10 +3,12 @@ use Rattle.std.specs.Prelude.{ℕ, ◌<◌, Bool, true, false, IsTrue, if◌then
 use Rattle.js_header.specs.declared.form.Form.{Form}
 use Rattle.js_header.specs.declared.form.Form.TheVariants.{Flat, Cons, Sliced, Thin}
 
+-- the form is a Cons (V8's ConsString)
 abbrev pub IsCons : Form → Type 0
 IsCons (Cons wide left right) = Unit {0}
 IsCons _ = ⊥
 
+-- the form is a Sliced (V8's SlicedString)
 abbrev pub IsSliced : Form → Type 0
 IsSliced (Sliced wide parent offset) = Unit {0}
 IsSliced _ = ⊥
@@ -17,6 +19,7 @@ IsSolid (Flat wide start fixed) = Unit {0}
 IsSolid (Thin target) = Unit {0}
 IsSolid _ = ⊥
 
+-- there is a form, and it is a Flat or a Thin
 abbrev pub IsSolidForm : Option Form → Type 0
 IsSolidForm None = ⊥
 IsSolidForm (Some f) = IsSolid f
@@ -33,6 +36,7 @@ is_later (Flat wide start false) (Thin target) = true
 is_later (Sliced wide parent offset) (Thin target) = true
 is_later _ _ = false
 
+-- the form g may come to stand after the form f
 abbrev pub IsLater : Form → Form → Type 0
 IsLater f g = IsTrue (is_later f g)
 

@@ -1,13 +1,16 @@
--- The kinds of step that an agent makes on one word of the heap: where each may come, which word it is on, what that word becomes, and what the agent's
--- view becomes. Here x is the word found. (Making, splitting and joining are no steps on a word: their conditions and views are in `Agents`.)
-use Rattle.std.specs.Prelude.{◌≡◌, ℕ, ◌+◌, ◌<◌, ◌≤◌, ◌==◌, Bool, true, false, if◌then◌else◌, List, [], ◌∷◌, ◌++◌, slice_index, slice_set, replicate, Option}
+-- The kinds of step that an agent makes on one word of the heap: where each may come, which word it is on,
+-- what that word becomes, and what the agent's view becomes. Here x is the word found. (Making, splitting and
+-- joining are no steps on a word: their conditions and views are in `Agents`.)
+use Rattle.std.specs.Prelude.{◌≡◌, ℕ, ◌+◌, ◌<◌, ◌≤◌, ◌==◌, Bool, true, false, if◌then◌else◌, List, [], ◌∷◌,
+    ◌++◌, slice_index, slice_set, replicate, Option}
 use Rattle.js_header.specs.Form.{word_of}
 use Rattle.js_header.specs.declared.form.Form.{Form}
 use Rattle.js_header.specs.declared.form.Form.TheVariants.{Thin}
 use Rattle.heap_rule.specs.declared.view.View.{View}
 use Rattle.heap_rule.specs.declared.size.HeapSize.{HeapSize}
 use Rattle.heap_rule.specs.declared.size.Counter.{Counter}
-use Rattle.heap_rule.specs.Layout.{IsLawful, counter_at, slot_at, form_at, length_at, content_at, word_count, IsBorn}
+use Rattle.heap_rule.specs.Layout.{IsLawful, counter_at, slot_at, form_at, length_at, content_at,
+    word_count, IsBorn}
 use Rattle.heap_rule.specs.Contents.{units_of}
 use Rattle.heap_rule.specs.Maps.{HasKey}
 use Rattle.heap_rule.specs.Views.{IsKnown}
@@ -20,6 +23,8 @@ use Rattle.heap_rule.specs.Slots.{MayEnter, loaded_slot, MayTakeSlot, took_slot}
 use Rattle.heap_rule.specs.Agents.{first_view, spent, left_after_split, right_after_split, MayJoin, joined}
 use Rattle.heap_rule.specs.Sound.{At, IsSound, AreLegal}
 
+-- a step on one word, with what it is called with: the counter, id, content word or slot, and what is stored,
+-- expected or looked for
 pub data Kind : Type 0 where
   load_counter : Counter → Kind
   claim : Counter → ℕ → ℕ → Kind
@@ -64,12 +69,14 @@ place_of z (thin i old t) = form_at z i
 place_of z (load_slot k entry) = slot_at z k
 place_of z (take_slot k i) = slot_at z k
 
--- how it goes to the word: a load, a plain store of a number, or a compare-exchange from one number to another
+-- how it goes to the word: a load, a plain store of a number, or a compare-exchange from one number to
+-- another
 pub data Access : Type 0 where
   loads : Access
   stores : ℕ → Access
   exchanges : ℕ → ℕ → Access
 
+-- how a step of this kind goes to its word
 abbrev pub access_of : Kind → Access
 access_of (claim k at want) = exchanges at (at + want)
 access_of (store_word c n) = stores n
@@ -116,24 +123,31 @@ view_on_heap v e x = if learns e then learned_all (view_after v e x) else view_a
 
 -- the rule holds of the new words and views, and every born id stays born and keeps its units
 abbrev pub Keeps : HeapSize → ℕ → List ℕ → List ℕ → List View → Type 0
-Keeps z agents W W' vs' = IsSound z agents W' vs' × ((i : ℕ) → IsBorn z W i → IsBorn z W' i × (units_of z W' i ≡ units_of z W i))
+Keeps z agents W W' vs' =
+    IsSound z agents W' vs' × ((i : ℕ) → IsBorn z W i → IsBorn z W' i × (units_of z W' i ≡ units_of z W i))
 
 -- each of these kinds keeps the rule and the units, whatever is learned with it
 abbrev pub KindsKeep : Type 0
-KindsKeep = (z : HeapSize) (agents : ℕ) (W : List ℕ) (vs : List View) (j : ℕ) (v : View) (e : Kind) (names : List ℕ) → IsSound z agents W vs → At vs j v → v.live ≡ true → MayCome v e
-    → Keeps z agents W (slice_set W (place_of z e) (left_by (access_of e) (slice_index W (place_of z e)))) (slice_set vs j (learned (view_after v e (slice_index W (place_of z e))) names))
+KindsKeep = (z : HeapSize) (agents : ℕ) (W : List ℕ) (vs : List View) (j : ℕ) (v : View) (e : Kind)
+    (names : List ℕ) → IsSound z agents W vs → At vs j v → v.live ≡ true → MayCome v e
+    → Keeps z agents W (slice_set W (place_of z e) (left_by (access_of e) (slice_index W (place_of z e))))
+        (slice_set vs j (learned (view_after v e (slice_index W (place_of z e))) names))
 
 -- the heap is made, all words 0, with one agent that has the whole share
 abbrev pub MakingKeeps : Type 0
-MakingKeeps = (z : HeapSize) (agents : ℕ) → IsLawful z → 1 ≤ agents → IsSound z agents (replicate (word_count z) 0) (first_view z agents ∷ [])
+MakingKeeps = (z : HeapSize) (agents : ℕ) → IsLawful z → 1 ≤ agents
+    → IsSound z agents (replicate (word_count z) 0) (first_view z agents ∷ [])
 
 -- so do the steps that change no word: an agent is split off, and one is joined
 abbrev pub SplittingKeeps : Type 0
-SplittingKeeps = (z : HeapSize) (agents : ℕ) (W : List ℕ) (vs : List View) (j : ℕ) (v : View) (give : ℕ) → IsSound z agents W vs → At vs j v → v.live ≡ true → 1 ≤ give → give < v.share
+SplittingKeeps = (z : HeapSize) (agents : ℕ) (W : List ℕ) (vs : List View) (j : ℕ) (v : View) (give : ℕ)
+    → IsSound z agents W vs → At vs j v → v.live ≡ true → 1 ≤ give → give < v.share
     → IsSound z agents W (slice_set vs j (left_after_split v give) ++ right_after_split v give ∷ [])
 
+-- joining an agent that was split off, under the condition of a join, keeps the rule
 abbrev pub JoiningKeeps : Type 0
-JoiningKeeps = (z : HeapSize) (agents : ℕ) (W : List ℕ) (vs : List View) (j o : ℕ) (v b : View) → IsSound z agents W vs → (j ≡ o → ⊥) → At vs j v → v.live ≡ true → At vs o b → MayJoin v b
+JoiningKeeps = (z : HeapSize) (agents : ℕ) (W : List ℕ) (vs : List View) (j o : ℕ) (v b : View)
+    → IsSound z agents W vs → (j ≡ o → ⊥) → At vs j v → v.live ≡ true → At vs o b → MayJoin v b
     → IsSound z agents W (slice_set (slice_set vs j (joined v b)) o spent)
 
 -- where the rule holds, all histories together give each list of units one id and each id one list

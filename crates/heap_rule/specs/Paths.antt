@@ -1,4 +1,5 @@
--- The string table: the path on which a list of units is looked for in it, and what the calls that intern may have answered.
+-- The string table: the path on which a list of units is looked for in it, and what the calls that intern may
+-- have answered.
 use Rattle.std.specs.Prelude.{◌≡◌, ℕ, zero, suc, ◌+◌, ◌-◌, ◌%◌, List, [], ◌∷◌, ◌++◌, Contains}
 use Rattle.js_units.specs.Lanes.{hash_of}
 
@@ -23,12 +24,14 @@ place u slots r = (hash_of u % slots + r) % slots
 abbrev pub Calls : Type 0
 Calls = List (List ℕ × ℕ)
 
+-- the calls of `front` are the first ones of `whole`
 abbrev pub StartsWith : Calls → Calls → Type 0
 StartsWith whole front = (rest : Calls) × (whole ≡ front ++ rest)
 
 -- two lists of calls give equal units one id and other units another
 abbrev pub Agree : Calls → Calls → Type 0
-Agree a b = (u w : List ℕ) (i k : ℕ) → Contains a (u, i) → Contains b (w, k) → (u ≡ w → i ≡ k) × (i ≡ k → u ≡ w)
+Agree a b = (u w : List ℕ) (i k : ℕ) → Contains a (u, i) → Contains b (w, k)
+    → (u ≡ w → i ≡ k) × (i ≡ k → u ≡ w)
 
 -- no id has two lists of units, and no list of units two ids
 abbrev pub IsLegal : Calls → Type 0

@@ -13,6 +13,7 @@ use Rattle.heap_rule.specs.Paths.{Calls}
 abbrev pub history : View → Calls
 history v = v.seen ++ v.mine
 
+-- the view may use the string i: it has its units, or has met its id
 abbrev pub IsKnown : View → ℕ → Type 0
 IsKnown v i = HasKey v.units i ⊎ HasKey v.met i
 
@@ -20,18 +21,22 @@ IsKnown v i = HasKey v.units i ⊎ HasKey v.met i
 abbrev pub IsSettled : View → ℕ → Type 0
 IsSettled v i = (f : Form) × Has v.forms i f × (IsCons f → ⊥)
 
--- The view leads from the string s to the string i, the units of s being those of i from `offset` on: s is i, or forwards to it;
--- or s is a part of i, or of a string that forwards to i.
+-- The view leads from the string s to the string i, the units of s being those of i from `offset` on: s is i,
+-- or forwards to it; or s is a part of i, or of a string that forwards to i.
 abbrev pub LeadsTo : View → ℕ → ℕ → ℕ → Type 0
 LeadsTo v s i offset = (((s ≡ i) ⊎ Has v.forms s (Thin i)) × (offset ≡ 0))
-    ⊎ ((wide : Bool) × (parent : ℕ) × Has v.forms s (Sliced wide parent offset) × ((parent ≡ i) ⊎ Has v.forms parent (Thin i)))
+    ⊎ ((wide : Bool) × (parent : ℕ) × Has v.forms s (Sliced wide parent offset)
+        × ((parent ≡ i) ⊎ Has v.forms parent (Thin i)))
 
--- a length by which the units of i are known to be there: its own, or where a Sliced of i ends, or one of a string that forwards to i
+-- a length by which the units of i are known to be there: its own, or where a Sliced of i ends, or one of a
+-- string that forwards to i
 abbrev pub HasLength : View → ℕ → ℕ → Type 0
 HasLength v i n = Has v.lengths i n ⊎ ((j : ℕ) × (wide : Bool) × (parent : ℕ) × (offset : ℕ) × (len : ℕ)
-    × Has v.forms j (Sliced wide parent offset) × Has v.lengths j len × (n ≡ offset + len) × ((parent ≡ i) ⊎ Has v.forms parent (Thin i)))
+    × Has v.forms j (Sliced wide parent offset) × Has v.lengths j len × (n ≡ offset + len)
+    × ((parent ≡ i) ⊎ Has v.forms parent (Thin i)))
 
--- known to be frozen: the view has the content word as frozen, or it lies in the span of a Flat by a length that the view has
+-- known to be frozen: the view has the content word as frozen, or it lies in the span of a Flat by a length
+-- that the view has
 abbrev pub IsFrozen : View → ℕ → Type 0
 IsFrozen v c = HasKey v.frozen c ⊎ ((i : ℕ) × (wide : Bool) × (start : ℕ) × (fixed : Bool) × (n : ℕ)
     × Has v.forms i (Flat wide start fixed) × HasLength v i n × (start ≤ c) × (c < start + words_over wide n))
