@@ -1,4 +1,5 @@
--- What a load or a compare-exchange of a header found, as a step of the machine has it at hand before it changes the view.
+-- What a load or a compare-exchange of a header found, as a step of the machine has it at hand before it
+-- changes the view.
 use Rattle.std.specs.Prelude.{◌≡◌, ℕ, ◌+◌, ◌-◌, ◌*◌, ◌⊎◌, ◌<◌, ◌≤◌, ◌^◌, Bool, Some}
 use Rattle.std.specs.FinMap.{insert}
 use Rattle.js_header.specs.declared.form.Form.{Form}
@@ -29,13 +30,17 @@ IsRun _ = Unit {0}
 abbrev pub met_by : View → Form → View
 met_by v f = record v { met = met_ids v.met f }
 
--- the lanes of every Flat whose length is known can be counted by a machine's numbers, as in every state that meets the rule
+-- the lanes of every Flat whose length is known can be counted by a machine's numbers, as in every state that
+-- meets the rule
 abbrev pub HasRoom : View → Type 0
-HasRoom v = (i : ℕ) (wide : Bool) (start : ℕ) (fixed : Bool) (n : ℕ) → Has v.forms i (Flat wide start fixed) → Has v.lengths i n → 1 ≤ n → start + n < 2 ^ 32
+HasRoom v = (i : ℕ) (wide : Bool) (start : ℕ) (fixed : Bool) (n : ℕ) → Has v.forms i (Flat wide start fixed)
+    → Has v.lengths i n → 1 ≤ n → start + n < 2 ^ 32
 
--- a string whose Flat has the word c, by a length that the view has, which is more than all lanes before that word
+-- a string whose Flat has the word c, by a length that the view has, which is more than all lanes before that
+-- word
 abbrev pub Spans : View → ℕ → ℕ → Form → Type 0
-Spans v c i (Flat wide start fixed) = (start ≤ c) × ((m : ℕ) × HasLength v i m × ((c - start) * lane_count wide < m))
+Spans v c i (Flat wide start fixed) =
+    (start ≤ c) × ((m : ℕ) × HasLength v i m × ((c - start) * lane_count wide < m))
 Spans v c i _ = ⊥
 
 abbrev pub IsSpanned : View → ℕ → Type 0
@@ -43,5 +48,6 @@ IsSpanned v c = (i : ℕ) × (f : Form) × Has v.forms i f × Spans v c i f
 
 -- a Sliced of the string i, or of one that forwards to it, that ends past n
 abbrev pub EndsPast : View → ℕ → ℕ → ℕ → Form → Type 0
-EndsPast v i n j (Sliced wide parent offset) = ((parent ≡ i) ⊎ Has v.forms parent (Thin i)) × ((len : ℕ) × Has v.lengths j len × (n < offset + len))
+EndsPast v i n j (Sliced wide parent offset) =
+    ((parent ≡ i) ⊎ Has v.forms parent (Thin i)) × ((len : ℕ) × Has v.lengths j len × (n < offset + len))
 EndsPast v i n j _ = ⊥

@@ -25,18 +25,21 @@ IsHeader v i = (wide : Bool) × (start : ℕ) × Has v.forms i (Flat wide start 
 
 -- each slot before slot k on the path of us has a string that differs
 abbrev pub IsBehind : View → List ℕ → ℕ → Type 0
-IsBehind v us k = (j : ℕ) → j < v.sizes.slots → rank us v.sizes.slots j < rank us v.sizes.slots k → IsShutAt v us j
+IsBehind v us k = (j : ℕ) → j < v.sizes.slots
+    → rank us v.sizes.slots j < rank us v.sizes.slots k → IsShutAt v us j
 
 -- two parts of a load of slot k: the call enters the history, and the load is counted
 abbrev pub with_entry : View → ℕ → Option (List ℕ) → View
 with_entry v k entry = record v { mine = entered v k entry }
 
 abbrev pub with_load : View → ℕ → View
-with_load v k = record v { slot_loads = insert v.slot_loads k (added_loads (unwrap_or (get v.slot_loads k) 0) 1) }
+with_load v k =
+    record v { slot_loads = insert v.slot_loads k (added_loads (unwrap_or (get v.slot_loads k) 0) 1) }
 
 -- loading a slot, and claiming one, each with what is learned; x is the word that stands there
 abbrev pub MayLoad : View → ℕ → Option (List ℕ) → List ℕ → ℕ → Type 0
-MayLoad v k entry names x = (k < v.sizes.slots) × MayEnter v k entry × MayLearn (loaded_slot v k entry x) names
+MayLoad v k entry names x =
+    (k < v.sizes.slots) × MayEnter v k entry × MayLearn (loaded_slot v k entry x) names
 
 abbrev pub MayTake : View → ℕ → ℕ → List ℕ → ℕ → Type 0
 MayTake v k i names x = MayTakeSlot v k i × MayLearn (took_slot v k i x) names
