@@ -12,8 +12,10 @@ use Rattle.heap_rule.specs.Births.{shown_part}
 
 -- the words of a Flat from `start` on are own, show the units, and are 0 past them
 abbrev pub Spells : View → List ℕ → Bool → ℕ → Type 0
-Spells v us wide start = (start < 2 ^ 29) × ((c : ℕ) → start ≤ c → c < start + words_over wide (length us) → HasKey v.own_words c)
-    × ((o : ℕ) → length us ≤ o → o < words_over wide (length us) * lane_count wide → lane_in (shown v) wide start o ≡ 0)
+Spells v us wide start =
+    (start < 2 ^ 29) × ((c : ℕ) → start ≤ c → c < start + words_over wide (length us) → HasKey v.own_words c)
+    × ((o : ℕ) → length us ≤ o → o < words_over wide (length us) * lane_count wide
+        → lane_in (shown v) wide start o ≡ 0)
     × (span (shown v) wide start 0 (length us) ≡ us)
 
 abbrev pub SpellsUnits : View → ℕ → Bool → ℕ → Type 0
@@ -24,7 +26,8 @@ abbrev pub Join : List ℕ → List ℕ → ℕ → Bool → Type 0
 Join a b n wide = (1 ≤ length a) × (1 ≤ length b) × (length a + length b ≡ n) × IsNarrow wide (a ++ b)
 
 abbrev pub HasJoin : View → ℕ → ℕ → ℕ → Bool → Type 0
-HasJoin v left right n wide = (a : List ℕ) × (b : List ℕ) × Has v.units left a × Has v.units right b × Join a b n wide
+HasJoin v left right n wide =
+    (a : List ℕ) × (b : List ℕ) × Has v.units left a × Has v.units right b × Join a b n wide
 
 -- seen with another form than Cons and Sliced
 abbrev pub IsWhole : View → ℕ → Type 0
