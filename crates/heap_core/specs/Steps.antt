@@ -1,10 +1,15 @@
--- Which kind of step on a word each event is: an event does to the machine what its kind does to the word and to the agent's view.
-use Rattle.std.specs.Prelude.{◌≡◌, ℕ, true, false, if◌then◌else◌, List, [], slice_index, slice_set, Option, Some, None, IfSome}
+-- Which kind of step on a word each event is: an event does to the machine what its kind does to the word and
+-- to the agent's view.
+use Rattle.std.specs.Prelude.{◌≡◌, ℕ, true, false, if◌then◌else◌, List, [], slice_index, slice_set, Option,
+    Some, None, IfSome}
 use Rattle.heap_rule.specs.declared.view.View.{View}
 use Rattle.heap_rule.specs.Learning.{learned}
-use Rattle.heap_rule.specs.Kinds.{Kind, load_counter, claim, store_word, store_length, birth, load_form, load_length, load_word, flatten, thin, load_slot, take_slot, MayCome, place_of, access_of, left_by, view_after, learns}
+use Rattle.heap_rule.specs.Kinds.{Kind, load_counter, claim, store_word, store_length, birth, load_form,
+    load_length, load_word, flatten, thin, load_slot, take_slot, MayCome, place_of, access_of, left_by,
+    view_after, learns}
 use Rattle.heap_core.specs.declared.event.Event.{Event}
-use Rattle.heap_core.specs.declared.event.Event.TheVariants.{Make, Split, Join, LoadCounter, Claim, StoreWord, StoreLength, Birth, LoadHeader, LoadWord, Flatten, Thin, LoadSlot, TakeSlot}
+use Rattle.heap_core.specs.declared.event.Event.TheVariants.{Make, Split, Join, LoadCounter, Claim, StoreWord,
+    StoreLength, Birth, LoadHeader, LoadWord, Flatten, Thin, LoadSlot, TakeSlot}
 use Rattle.heap_core.specs.Core.{Core, core}
 use Rattle.heap_core.specs.Events.{LiveAt, Enabled, after}
 
@@ -41,6 +46,7 @@ agent_of (LoadSlot j k entry names) = j
 agent_of (TakeSlot j k i names) = j
 agent_of (Make z agents) = 0
 
+-- the ids of which an event learns the units
 abbrev pub names_of : Event → List ℕ
 names_of (LoadHeader j i len names) = names.items
 names_of (LoadWord j c names) = names.items
@@ -52,8 +58,13 @@ names_of _ = []
 
 -- a step of this kind by the view j, which learns the units of the named ids where its kind learns
 abbrev pub stepped : Core → ℕ → View → Kind → List ℕ → Core
-stepped s j v k names = core s.size s.agents (slice_set s.words (place_of s.size k) (left_by (access_of k) (slice_index s.words (place_of s.size k))))
-    (slice_set s.views j (if learns k then learned (view_after v k (slice_index s.words (place_of s.size k))) names else view_after v k (slice_index s.words (place_of s.size k))))
+stepped s j v k names = core s.size s.agents
+    (slice_set s.words (place_of s.size k) (left_by (access_of k) (slice_index s.words (place_of s.size k))))
+    (slice_set s.views j
+        (if learns k then learned (view_after v k (slice_index s.words (place_of s.size k))) names
+        else view_after v k (slice_index s.words (place_of s.size k))))
 
+-- each enabled event on a word is a step of its kind by a live view, at which the kind may come
 abbrev pub EventsAreSteps : Type 0
-EventsAreSteps = (s : Core) (e : Event) → Enabled s e → IfSome (kind_of e) (λ k. LiveAt s (agent_of e) (λ v. MayCome v k × (after s e ≡ stepped s (agent_of e) v k (names_of e))))
+EventsAreSteps = (s : Core) (e : Event) → Enabled s e → IfSome (kind_of e)
+    (λ k. LiveAt s (agent_of e) (λ v. MayCome v k × (after s e ≡ stepped s (agent_of e) v k (names_of e))))
