@@ -9,14 +9,15 @@ abbrev pub Tells : Option (List ℕ) → List ℕ → Type 0
 Tells None bytes = ⊤
 Tells (Some held) bytes = bytes ≡ held
 
--- the file is too large: by its bytes where they are told, and then nothing is counted; or else one more such file was
--- counted
+-- the file is too large: by its bytes where they are told, and then nothing is counted; or else one more such
+-- file was counted
 abbrev pub IsTooLarge : Option (List ℕ) → ℕ → ℕ → Type 0
 IsTooLarge None before after = after ≡ next_count before
 IsTooLarge (Some held) before after = (FILE_MAX < length held) × (after ≡ before)
 
 -- a source of files at one moment: the bytes of each name where they are told, how many reads failed,
--- how many files of untold bytes were too large, and the name of the last read that failed or found too large a file
+-- how many files of untold bytes were too large, and the name of the last read that failed or found too large
+-- a file
 pub record FilesState : Type 0 where
   pub held : List ℕ → Option (List ℕ)
   pub faults : ℕ
@@ -25,4 +26,5 @@ pub record FilesState : Type 0 where
 
 -- a source that tells no bytes
 abbrev pub untold_files : ℕ → ℕ → List ℕ → FilesState
-untold_files faults oversize blamed = record { held = λ name. None; faults = faults; oversize = oversize; blamed = blamed }
+untold_files faults oversize blamed =
+    record { held = λ name. None; faults = faults; oversize = oversize; blamed = blamed }

@@ -12,7 +12,8 @@ use Rattle.js_io.specs.declared.mem_files.MemFiles.{MemFiles}
 -- the bytes of the newest file of this name
 abbrev pub found : List MemFile → List ℕ → Option (List ℕ)
 found [] name = None
-found (file ∷ files) name = if pointwise nat_eq (string_bytes file.name) name then Some file.bytes.items else found files name
+found (file ∷ files) name = if pointwise nat_eq (string_bytes file.name) name then Some file.bytes.items
+    else found files name
 
 -- a source that tells the bytes of its files
 abbrev pub told_files : List MemFile → ℕ → List ℕ → FilesState
