@@ -1,5 +1,6 @@
 -- The fields of a line: words and numbers, with one space between two of them.
-use Rattle.std.specs.Prelude.{◌≡◌, ⊤, ℕ, ◌^◌, Bool, not, ◌&&◌, ◌==◌, nat_lt, if◌then◌else◌, List, [], ◌∷◌, Option, None, Some, Result, Ok, Err, codes, decimal, option_map, bytes_eq}
+use Rattle.std.specs.Prelude.{◌≡◌, ⊤, ℕ, ◌^◌, Bool, not, ◌&&◌, ◌==◌, nat_lt, if◌then◌else◌, List, [], ◌∷◌,
+    Option, None, Some, Result, Ok, Err, codes, decimal, option_map, bytes_eq}
 use Rattle.std.proofs.Common.{Vec, Global}
 use Rattle.std.specs.Str.Parse.{digits_value}
 use Rattle.heap_schedule.specs.declared.field.Keyword.{Keyword}
@@ -16,7 +17,8 @@ onto_first c (p ∷ ps) = (c ∷ p) ∷ ps
 
 abbrev pub pieces : ℕ → List ℕ → List (List ℕ)
 pieces separator [] = [] ∷ []
-pieces separator (c ∷ cs) = if c == separator then [] ∷ pieces separator cs else onto_first c (pieces separator cs)
+pieces separator (c ∷ cs) = if c == separator then [] ∷ pieces separator cs
+    else onto_first c (pieces separator cs)
 
 abbrev pub differs : ℕ → ℕ → Bool
 differs separator c = not (c == separator)
@@ -59,7 +61,8 @@ keyword_of bs = first_keyword (shared_keyword bs) (first_keyword (own_keyword bs
 
 -- A number below 2^64, by its decimal text: no sign, no zero in front, and nothing else.
 abbrev pub number_of : List ℕ → Option ℕ
-number_of bs = if nat_lt (digits_value 10 bs) (2 ^ 64) && bytes_eq bs (decimal (digits_value 10 bs)) then Some (digits_value 10 bs) else None
+number_of bs = if nat_lt (digits_value 10 bs) (2 ^ 64) && bytes_eq bs (decimal (digits_value 10 bs))
+    then Some (digits_value 10 bs) else None
 
 abbrev pub field_by : Option Keyword → Option ℕ → Option Field
 field_by (Some word) number = Some (field.Keyword word)

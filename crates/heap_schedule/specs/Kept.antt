@@ -1,4 +1,5 @@
--- What every play keeps: a string's units from its birth on, and that all agents agree on which string is which.
+-- What every play keeps: a string's units from its birth on, and that all agents agree on which string is
+-- which.
 use Rattle.std.specs.Prelude.{◌≡◌, ℕ, ◌+◌, ◌<◌, ◌≤◌, List, take}
 use Rattle.js_header.specs.declared.form.Form.{Form}
 use Rattle.heap_rule.specs.Layout.{IsBorn}

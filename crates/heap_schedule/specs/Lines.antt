@@ -1,5 +1,6 @@
 -- The lines of a schedule, by their fields. A line names an event of the machine, as plain data.
-use Rattle.std.specs.Prelude.{◌≡◌, ⊤, ℕ, ◌+◌, ◌-◌, ◌^◌, min, Bool, true, false, ◌&&◌, ◌==◌, nat_le, nat_lt, if◌then◌else◌, List, [], ◌∷◌, drop, length, slice_index_or, Option, None, Some, Result, option_map}
+use Rattle.std.specs.Prelude.{◌≡◌, ⊤, ℕ, ◌+◌, ◌-◌, ◌^◌, min, Bool, true, false, ◌&&◌, ◌==◌, nat_le, nat_lt,
+    if◌then◌else◌, List, [], ◌∷◌, drop, length, slice_index_or, Option, None, Some, Result, option_map}
 use Rattle.std.proofs.Common.{Vec, Global}
 use Rattle.js_header.specs.Form.{form_of}
 use Rattle.js_header.specs.declared.form.Form.{Form}
@@ -49,8 +50,8 @@ abbrev pub number_in : Field → Option ℕ
 number_in (field.Number n) = Some n
 number_in (field.Keyword w) = None
 
--- The number of a view, an id, a content word or a slot, or a count of such. All of these are below 2^32 - 1, so a greater
--- number, which names nothing, is taken as that one.
+-- The number of a view, an id, a content word or a slot, or a count of such. All of these are below 2^32 - 1,
+-- so a greater number, which names nothing, is taken as that one.
 abbrev pub place_in : Field → Option ℕ
 place_in (field.Number n) = Some (if nat_lt n 4294967295 then n else 4294967295)
 place_in (field.Keyword w) = None
@@ -118,7 +119,8 @@ abbrev pub of_three : {A B C R : Type 0} → (A → B → C → R) → Option A 
 of_three f (Some a) (Some b) (Some c) = Some (f a b c)
 of_three f _ _ _ = None
 
-abbrev pub of_four : {A B C D R : Type 0} → (A → B → C → D → R) → Option A → Option B → Option C → Option D → Option R
+abbrev pub of_four : {A B C D R : Type 0} → (A → B → C → D → R) → Option A → Option B → Option C
+    → Option D → Option R
 of_four f (Some a) (Some b) (Some c) (Some d) = Some (f a b c d)
 of_four f _ _ _ _ = None
 
@@ -162,50 +164,61 @@ module _ (fs : List Field) where
 
   -- `claim V ids AT WANT, claim V words AT WANT`
   abbrev pub claim_line_of : Option Turn
-  claim_line_of = exactly 5 (of_four (λ j k at want. plain (event.Claim j k at want)) (place_at 1) (counter_at 2) (place_at 3) (place_at 4))
+  claim_line_of = exactly 5 (of_four (λ j k at want. plain (event.Claim j k at want)) (place_at 1)
+      (counter_at 2) (place_at 3) (place_at 4))
 
   -- `store V C WORD`
   abbrev pub store_line_of : Option Turn
-  store_line_of = exactly 4 (of_three (λ j c n. plain (event.StoreWord j c n)) (place_at 1) (place_at 2) (number_in (field_at fs 3)))
+  store_line_of = exactly 4 (of_three (λ j c n. plain (event.StoreWord j c n)) (place_at 1) (place_at 2)
+      (number_in (field_at fs 3)))
 
   -- `length V I N`
   abbrev pub length_line_of : Option Turn
-  length_line_of = exactly 4 (of_three (λ j i n. plain (event.StoreLength j i n)) (place_at 1) (place_at 2) (place_at 3))
+  length_line_of =
+      exactly 4 (of_three (λ j i n. plain (event.StoreLength j i n)) (place_at 1) (place_at 2) (place_at 3))
 
   -- `birth V I FORM`
   abbrev pub birth_line_of : Option Turn
-  birth_line_of = exactly 4 (of_three (λ j i f. plain (event.Birth j i f)) (place_at 1) (place_at 2) (form_at 3))
+  birth_line_of =
+      exactly 4 (of_three (λ j i f. plain (event.Birth j i f)) (place_at 1) (place_at 2) (form_at 3))
 
   -- `form V I`
   abbrev pub form_line_of : Option Turn
-  form_line_of = at_least 3 (of_three (λ j i names. loads_header j i false names) (place_at 1) (place_at 2) (names_from 3))
+  form_line_of = at_least 3
+      (of_three (λ j i names. loads_header j i false names) (place_at 1) (place_at 2) (names_from 3))
 
   -- `len V I`
   abbrev pub len_line_of : Option Turn
-  len_line_of = at_least 3 (of_three (λ j i names. loads_header j i true names) (place_at 1) (place_at 2) (names_from 3))
+  len_line_of = at_least 3
+      (of_three (λ j i names. loads_header j i true names) (place_at 1) (place_at 2) (names_from 3))
 
   -- `word V C`
   abbrev pub word_line_of : Option Turn
-  word_line_of = at_least 3 (of_three (λ j c names. loads_word j c names) (place_at 1) (place_at 2) (names_from 3))
+  word_line_of =
+      at_least 3 (of_three (λ j c names. loads_word j c names) (place_at 1) (place_at 2) (names_from 3))
 
   -- `flatten V I OLD NEW`
   abbrev pub flatten_line_of : Option Turn
-  flatten_line_of = at_least 5 (of_five (λ j i old new names. flattens j i old new names) (place_at 1) (place_at 2) (form_at 3) (form_at 4) (names_from 5))
+  flatten_line_of = at_least 5 (of_five (λ j i old new names. flattens j i old new names) (place_at 1)
+      (place_at 2) (form_at 3) (form_at 4) (names_from 5))
 
   -- `thin V I OLD TARGET`
   abbrev pub thin_line_of : Option Turn
-  thin_line_of = at_least 5 (of_five (λ j i old t names. thins j i old t names) (place_at 1) (place_at 2) (form_at 3) (place_at 4) (names_from 5))
+  thin_line_of = at_least 5 (of_five (λ j i old t names. thins j i old t names) (place_at 1) (place_at 2)
+      (form_at 3) (place_at 4) (names_from 5))
 
   -- `take V K I`
   abbrev pub take_line_of : Option Turn
-  take_line_of = at_least 4 (of_four (λ j k i names. takes_slot j k i names) (place_at 1) (place_at 2) (place_at 3) (names_from 4))
+  take_line_of = at_least 4
+      (of_four (λ j k i names. takes_slot j k i names) (place_at 1) (place_at 2) (place_at 3) (names_from 4))
 
   abbrev pub is_enter : Bool
   is_enter = nat_le 4 (length fs) && is_entering (field_at fs 3)
 
   -- `slot V K`, `slot V K enter`
   abbrev pub slot_line_of : Option Turn
-  slot_line_of = at_least 3 (if is_enter then of_three (λ j k names. enters j k names) (place_at 1) (place_at 2) (names_from 4)
+  slot_line_of = at_least 3 (if is_enter
+      then of_three (λ j k names. enters j k names) (place_at 1) (place_at 2) (names_from 4)
       else of_three (λ j k names. loads_slot j k None names) (place_at 1) (place_at 2) (names_from 3))
 
 abbrev pub line_by : Keyword → List Field → Option Turn
@@ -237,7 +250,8 @@ line_of (f ∷ fs) = line_after f (f ∷ fs)
 -- ---- the first line
 
 abbrev pub is_lawful : HeapSize → Bool
-is_lawful z = (nat_le 1 z.ids && nat_le 1 z.words) && (nat_le 1 z.slots && nat_le (z.ids + z.words + z.slots) 16384)
+is_lawful z =
+    (nat_le 1 z.ids && nat_le 1 z.words) && (nat_le 1 z.slots && nat_le (z.ids + z.words + z.slots) 16384)
 
 -- a heap with at most 16,384 ids, content words and slots together, for 1 to 64 agents
 abbrev pub is_small : Making → Bool
@@ -253,7 +267,8 @@ checked (Some m) = if_small m
 -- `heap I W S A`
 abbrev pub making_of : List Field → Option Making
 making_of fs = if (length fs == 5) && is_heap (field_at fs 0)
-    then checked (of_four (λ ids words slots agents. record { size = record { ids = ids; words = words; slots = slots }; agents = agents })
+    then checked (of_four (λ ids words slots agents. record
+        { size = record { ids = ids; words = words; slots = slots }; agents = agents })
     (place_at fs 1) (place_at fs 2) (place_at fs 3) (place_at fs 4))
     else None
 

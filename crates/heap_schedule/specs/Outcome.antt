@@ -1,5 +1,6 @@
 -- How a call ends: why, with which status, and what each sink took.
-use Rattle.std.specs.Prelude.{◌≡◌, ◌⊎◌, ℕ, ◌+◌, ◌≤◌, ◌==◌, not, if◌then◌else◌, List, [], ◌∷◌, ◌++◌, codes, decimal, length, slice_index, take, Option, None, Some}
+use Rattle.std.specs.Prelude.{◌≡◌, ◌⊎◌, ℕ, ◌+◌, ◌≤◌, ◌==◌, not, if◌then◌else◌, List, [], ◌∷◌, ◌++◌, codes,
+    decimal, length, slice_index, take, Option, None, Some}
 use Rattle.js_io.specs.Counts.{next_count}
 use Rattle.js_io.specs.declared.files.TheConstants.{FILE_MAX}
 use Rattle.js_io.specs.FilesState.{FilesState, IsTooLarge, Tells}
@@ -43,10 +44,13 @@ WasRead words old new text = (name : List ℕ) × (file_in words ≡ Some name) 
 
 abbrev pub HasCause : List (List ℕ) → FilesState → FilesState → Verdict → Type 0
 HasCause words old new bad_words = (file_in words ≡ None) × IsQuiet old new
-HasCause words old new (not_read name) = (file_in words ≡ Some name) × (new.faults ≡ next_count old.faults) × (new.blamed ≡ name)
-HasCause words old new (too_large name) = (file_in words ≡ Some name) × IsTooLarge (old.held name) old.oversize new.oversize
+HasCause words old new (not_read name) =
+    (file_in words ≡ Some name) × (new.faults ≡ next_count old.faults) × (new.blamed ≡ name)
+HasCause words old new (too_large name) =
+    (file_in words ≡ Some name) × IsTooLarge (old.held name) old.oversize new.oversize
     × (new.faults ≡ old.faults) × (new.blamed ≡ name)
-HasCause words old new (not_of_form k) = (text : List ℕ) × WasRead words old new text × (schedule_of text ≡ refuses k)
+HasCause words old new (not_of_form k) =
+    (text : List ℕ) × WasRead words old new text × (schedule_of text ≡ refuses k)
 HasCause words old new no_memory = (name : List ℕ) × (file_in words ≡ Some name) × IsQuiet old new
 HasCause words old new (was_played m ts n) = (text : List ℕ) × WasRead words old new text
     × (schedule_of text ≡ reads m ts) × WasPlayed ts (made m) n
@@ -120,7 +124,8 @@ IsEnd (printed status written told) code old new = IsWhole status written told c
     ⊎ (IsCutAtOut written code old new ⊎ IsCutAtErr written told code old new)
 
 -- a call came to a verdict for a cause of its kind, and what was written is what is reported of it
-pub record Outcome (words : List (List ℕ)) (old_files new_files : FilesState) (code : ℕ) (old new : Sinks) : Type 0 where
+pub record Outcome (words : List (List ℕ)) (old_files new_files : FilesState) (code : ℕ)
+    (old new : Sinks) : Type 0 where
   pub verdict : Verdict
   pub cause : HasCause words old_files new_files verdict
   pub ending : IsEnd (report_of verdict) code old new
@@ -139,20 +144,25 @@ pub record TextOutcome (text : List ℕ) (code : ℕ) (old new : Sinks) : Type 0
 
 -- of a file of this name
 abbrev pub CauseBy : List ℕ → FilesState → FilesState → Verdict → Type 0
-CauseBy name old new (not_read blamed) = (blamed ≡ name) × (new.faults ≡ next_count old.faults) × (new.blamed ≡ name)
-CauseBy name old new (too_large blamed) = (blamed ≡ name) × IsTooLarge (old.held name) old.oversize new.oversize
+CauseBy name old new (not_read blamed) =
+    (blamed ≡ name) × (new.faults ≡ next_count old.faults) × (new.blamed ≡ name)
+CauseBy name old new (too_large blamed) =
+    (blamed ≡ name) × IsTooLarge (old.held name) old.oversize new.oversize
     × (new.faults ≡ old.faults) × (new.blamed ≡ name)
-CauseBy name old new (not_of_form k) = (text : List ℕ) × IsHeld name old new text × (schedule_of text ≡ refuses k)
+CauseBy name old new (not_of_form k) =
+    (text : List ℕ) × IsHeld name old new text × (schedule_of text ≡ refuses k)
 CauseBy name old new no_memory = IsQuiet old new
 CauseBy name old new (was_played m ts n) = (text : List ℕ) × IsHeld name old new text
     × (schedule_of text ≡ reads m ts) × WasPlayed ts (made m) n
 CauseBy name old new bad_words = ⊥
 
-pub record FileOutcome (name : List ℕ) (old_files new_files : FilesState) (code : ℕ) (old new : Sinks) : Type 0 where
+pub record FileOutcome (name : List ℕ) (old_files new_files : FilesState) (code : ℕ)
+    (old new : Sinks) : Type 0 where
   pub verdict : Verdict
   pub cause : CauseBy name old_files new_files verdict
   pub ending : IsEnd (report_of verdict) code old new
 
 -- what a play came to: what is shown of it, and how many lines were played
 abbrev pub IsShown : Making → List Turn → List ℕ → ℕ → Type 0
-IsShown m ts bytes n = WasPlayed ts (made m) n × (bytes ≡ shown (all_played (take n ts) (made m)) (words_for (take n ts) (made m)))
+IsShown m ts bytes n = WasPlayed ts (made m) n
+    × (bytes ≡ shown (all_played (take n ts) (made m)) (words_for (take n ts) (made m)))

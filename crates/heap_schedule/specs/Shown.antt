@@ -1,5 +1,6 @@
 -- What is shown of a play: a line for each word that was found, and then a line for each string.
-use Rattle.std.specs.Prelude.{ℕ, zero, suc, ◌+◌, ◌/◌, ◌%◌, ◌==◌, nat_lt, if◌then◌else◌, List, [], ◌∷◌, ◌++◌, codes, decimal, length, slice_index}
+use Rattle.std.specs.Prelude.{ℕ, zero, suc, ◌+◌, ◌/◌, ◌%◌, ◌==◌, nat_lt, if◌then◌else◌, List, [], ◌∷◌, ◌++◌,
+    codes, decimal, length, slice_index}
 use Rattle.heap_rule.specs.Layout.{form}
 use Rattle.heap_rule.specs.Contents.{units_of}
 use Rattle.heap_core.specs.Core.{Core}
@@ -18,7 +19,8 @@ abbrev pub hex_digit : ℕ → ℕ
 hex_digit n = if nat_lt n 10 then 48 + n else 87 + n
 
 abbrev pub unit_text : ℕ → List ℕ
-unit_text u = 32 ∷ hex_digit (u / 4096) ∷ hex_digit (u / 256 % 16) ∷ hex_digit (u / 16 % 16) ∷ hex_digit (u % 16) ∷ []
+unit_text u =
+    32 ∷ hex_digit (u / 4096) ∷ hex_digit (u / 256 % 16) ∷ hex_digit (u / 16 % 16) ∷ hex_digit (u % 16) ∷ []
 
 abbrev pub unit_texts : List ℕ → List ℕ
 unit_texts [] = []
