@@ -5,7 +5,8 @@ use Rattle.eval_scopes.specs.Index.{names_in, IsIndex}
 use Rattle.eval_scopes.specs.Mask.{MarksTo}
 
 -- of all bindings the first so many are in use, and have this index and this mask
-pub record IsBindingList {T : Type 0} (all : List (Binding T)) (used : ℕ) (first : List (ℕ × ℕ)) (mask : ℕ) : Type 0 where
+pub record IsBindingList {T : Type 0} (all : List (Binding T)) (used : ℕ) (first : List (ℕ × ℕ))
+    (mask : ℕ) : Type 0 where
   pub within : used ≤ length all
   pub index : IsIndex first (names_in (take used all))
   pub marks : MarksTo mask (names_in (take used all)) used

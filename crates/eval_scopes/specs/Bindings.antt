@@ -1,6 +1,7 @@
--- The scope: a list of blocks, the innermost first, over the top (ECMA-262, "Declarative Environment Records"). V is the type
--- of the values.
-use Rattle.std.specs.Prelude.{ℕ, Bool, true, false, List, [], ◌∷◌, ◌++◌, Option, Some, None, is_some, bytes_eq, if◌then◌else◌}
+-- The scope: a list of blocks, the innermost first, over the top (ECMA-262, "Declarative Environment
+-- Records"). V is the type of the values.
+use Rattle.std.specs.Prelude.{ℕ, Bool, true, false, List, [], ◌∷◌, ◌++◌, Option, Some, None, is_some,
+    bytes_eq, if◌then◌else◌}
 
 -- a name that was declared and evaluated, whether by `const`, and its value
 pub record Bound (V : Type 0) : Type 0 where
@@ -8,8 +9,8 @@ pub record Bound (V : Type 0) : Type 0 where
   pub constant : Bool
   pub value : V
 
--- a block that was entered: the names that it declares, and those that were evaluated. A name that was not evaluated yet
--- hides one further out.
+-- a block that was entered: the names that it declares, and those that were evaluated. A name that was not
+-- evaluated yet hides one further out.
 pub record Frame (V : Type 0) : Type 0 where
   pub names : List (List ℕ)
   pub bound : List (Bound V)
@@ -19,10 +20,12 @@ pub record Bindings (V : Type 0) : Type 0 where
   pub blocks : List (Frame V)
   pub top : List (Bound V)
 
+-- the first binding with this name, if there is one
 abbrev pub bound_in : {V : Type 0} → List (Bound V) → List ℕ → Option (Bound V)
 bound_in [] x = None
 bound_in (b ∷ bs) x = if bytes_eq b.name x then Some b else bound_in bs x
 
+-- the name is one of these
 abbrev pub is_among : List (List ℕ) → List ℕ → Bool
 is_among [] x = false
 is_among (n ∷ ns) x = if bytes_eq n x then true else is_among ns x
@@ -45,16 +48,21 @@ meant bs x = look bs.blocks bs.top x
 abbrev pub with_value : {V : Type 0} → Bound V → V → Bound V
 with_value b v = record { name = b.name; constant = b.constant; value = v }
 
+-- another value for the first binding with this name
 abbrev pub changed : {V : Type 0} → List (Bound V) → List ℕ → V → List (Bound V)
 changed [] x v = []
 changed (b ∷ bs) x v = if bytes_eq b.name x then with_value b v ∷ bs else b ∷ changed bs x v
 
+-- the block with other bindings in the place of its own
 abbrev pub with_bound : {V : Type 0} → Frame V → List (Bound V) → Frame V
 with_bound f bs = record { names = f.names; bound = bs }
 
+-- a block before the others, as the innermost
 abbrev pub inside : {V : Type 0} → Frame V → Bindings V → Bindings V
 inside f bs = record { blocks = f ∷ bs.blocks; top = bs.top }
 
+-- another value where the name is first bound, from the innermost block to the top; no change where it isn't
+-- bound
 abbrev pub write : {V : Type 0} → List (Frame V) → List (Bound V) → List ℕ → V → Bindings V
 write [] top x v = record { blocks = []; top = changed top x v }
 write (f ∷ fs) top x v =
@@ -66,6 +74,7 @@ write (f ∷ fs) top x v =
 abbrev pub written : {V : Type 0} → Bindings V → List ℕ → V → Bindings V
 written bs x v = write bs.blocks bs.top x v
 
+-- one more binding, behind the others of the innermost block, or of the top where no block is entered
 abbrev pub declare : {V : Type 0} → List (Frame V) → List (Bound V) → Bound V → Bindings V
 declare [] top b = record { blocks = []; top = top ++ b ∷ [] }
 declare (f ∷ fs) top b = record { blocks = with_bound f (f.bound ++ b ∷ []) ∷ fs; top = top }
@@ -80,8 +89,10 @@ entered names bs = inside (record { names = names; bound = [] }) bs
 
 -- a turn of a `for` is entered, with its name bound ("CreatePerIterationEnvironment")
 abbrev pub turned : {V : Type 0} → List ℕ → V → Bindings V → Bindings V
-turned x v bs = inside (record { names = []; bound = record { name = x; constant = false; value = v } ∷ [] }) bs
+turned x v bs =
+    inside (record { names = []; bound = record { name = x; constant = false; value = v } ∷ [] }) bs
 
+-- the blocks but for the innermost
 abbrev pub all_but_first : {V : Type 0} → List (Frame V) → List (Frame V)
 all_but_first [] = []
 all_but_first (f ∷ fs) = fs

@@ -1,5 +1,6 @@
 -- Where the names of each key begin, by which a name is found among many without a look at all of them.
-use Rattle.std.specs.Prelude.{◌≡◌, ℕ, ◌<◌, ◌≤◌, List, length, map, slice_get, Option, Some, None, bytes_eq, false}
+use Rattle.std.specs.Prelude.{◌≡◌, ℕ, ◌<◌, ◌≤◌, List, length, map, slice_get, Option, Some,
+    None, bytes_eq, false}
 use Rattle.std.specs.Ordering.{nat_cmp}
 use Rattle.std.specs.Map.{lookup}
 use Rattle.std.specs.BTreeMap.{is_at}
@@ -17,7 +18,8 @@ few = 8
 abbrev pub NoneBefore : List (List ℕ) → ℕ → ℕ → Type 0
 NoneBefore ns k i = (j : ℕ) (n : List ℕ) → few ≤ j → j < i → slice_get ns j ≡ Some n → key_of n ≡ k → ⊥
 
--- of the names before place m, those of a key stand from this place on, or there is none; the first few are left out
+-- of the names before place m, those of a key stand from this place on, or there is none; the first few are
+-- left out
 abbrev pub StandFrom : List (List ℕ) → ℕ → ℕ → Option ℕ → Type 0
 StandFrom ns k m (Some i) = (i ≤ length ns) × NoneBefore ns k i
 StandFrom ns k m None = NoneBefore ns k m

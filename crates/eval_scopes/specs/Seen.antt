@@ -1,12 +1,14 @@
 -- What the scope of the code stands for.
-use Rattle.std.specs.Prelude.{◌≡◌, ℕ, zero, suc, ◌<◌, length, List, [], ◌∷◌, false, map, reverse, Option, slice_get, option_and_then, unwrap_or}
+use Rattle.std.specs.Prelude.{◌≡◌, ℕ, zero, suc, ◌<◌, length, List, [], ◌∷◌, false, map, reverse, Option,
+    slice_get, option_and_then, unwrap_or}
 use Rattle.eval_scopes.specs.declared.binding_list.Binding.{Binding}
 use Rattle.eval_scopes.specs.declared.frames.Frame.{Frame as CodeFrame}
 use Rattle.eval_scopes.specs.declared.blocks.Blocks.{Blocks}
 use Rattle.eval_scopes.specs.declared.scope.Scope.{Scope}
 use Rattle.eval_scopes.specs.declared.scope.Place.{Place}
 use Rattle.eval_scopes.specs.declared.scope.Place.TheVariants.{Top, Block}
-use Rattle.eval_scopes.specs.Bindings.{Bound, Frame, Bindings, bound_in, changed, with_value, with_bound, meant, written}
+use Rattle.eval_scopes.specs.Bindings.{Bound, Frame, Bindings, bound_in, changed, with_value,
+    with_bound, meant, written}
 
 abbrev pub bound_of : {T : Type 0} → Binding T → Bound T
 bound_of b = record { name = b.name; constant = b.constant; value = b.value }
@@ -78,7 +80,8 @@ put_in (f ∷ fs) (suc k) i v = f ∷ put_in fs k i v
 
 -- the blocks with another value at a place of a frame
 abbrev pub put_in_frame : {T : Type 0} → Blocks T → ℕ → ℕ → T → List (Frame T)
-put_in_frame b k i v = hollows b.hollow (with_hollows (outsides_of b.frames) (reverse (put_in (map frame_of b.frames) k i v)))
+put_in_frame b k i v =
+    hollows b.hollow (with_hollows (outsides_of b.frames) (reverse (put_in (map frame_of b.frames) k i v)))
 
 abbrev pub got : {T : Type 0} → Option (Frame T) → ℕ → Option (Bound T)
 got f i = option_and_then (λ g. slice_get g.bound i) f
