@@ -10,13 +10,18 @@ use Rattle.heap_table.specs.declared.heap.Heap.{Heap}
 abbrev pub view_of : Agent → View
 view_of a = a.seat.me.0
 
+-- how many agents this one may become, itself counted
 abbrev pub share_of : Agent → ℕ
 share_of a = a.share
 
+-- the sizes of the heap
 abbrev pub size_of : Heap → HeapSize
 size_of h = h.size
 
--- An agent of this heap: it steps in the heap's table, its view is live and has the heap's sizes and its own share, and some sound state of a
--- heap has that view. The last is all that the rule says of a view alone, and what a step asks rests on it.
+-- An agent of this heap: it steps in the heap's table, its view is live and has the heap's sizes and its own
+-- share, and some sound state of a heap has that view. The last is all that the rule says of a view alone,
+-- and what a step asks rests on it.
 abbrev pub Belongs : Agent → Heap → Type 0
-Belongs a h = (a.seat.table_id ≡ h.table.shared.table_id) × ((view_of a).sizes ≡ size_of h) × ((view_of a).live ≡ true) × (a.seat.me.1 ≡ []) × ((view_of a).share ≡ share_of a) × IsPossible (view_of a)
+Belongs a h = (a.seat.table_id ≡ h.table.shared.table_id) × ((view_of a).sizes ≡ size_of h)
+    × ((view_of a).live ≡ true) × (a.seat.me.1 ≡ []) × ((view_of a).share ≡ share_of a)
+    × IsPossible (view_of a)

@@ -2,5 +2,6 @@
 use Rattle.std.specs.Prelude.{◌≡◌, ℕ, ◌+◌, ◌<◌}
 use Rattle.heap_table.specs.declared.claims.CounterFull.{CounterFull}
 
+-- the report has the want and the end of the counter, and the number read leaves no room for the want
 abbrev pub IsFull : CounterFull → ℕ → ℕ → Type 0
 IsFull f want end = (f.want ≡ want) × (f.end ≡ end) × (end < f.at + want)

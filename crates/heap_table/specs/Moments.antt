@@ -8,10 +8,13 @@ use Rattle.heap_rule.specs.Sound.{IsSound, AreLegal}
 use Rattle.heap_table.specs.declared.rule.HeapKey.{HeapKey}
 use Rattle.heap_table.specs.Plays.{Sat}
 
--- a rule of the table, by which the rule holds of the words and the views whenever no step is under way, and all histories together are legal
+-- a rule of the table, by which the rule holds of the words and the views whenever no step is under way, and
+-- all histories together are legal
 abbrev pub IsSoundTable : (HeapKey → State (Unit {0}) View → Type 0) → Type 0
-IsSoundTable holds = (k : HeapKey) (s : State (Unit {0}) View) → holds k s → IsSound k.size k.agents s.words s.views
+IsSoundTable holds = (k : HeapKey) (s : State (Unit {0}) View) → holds k s
+    → IsSound k.size k.agents s.words s.views
 
+-- a rule of the table, by which all histories together are legal whenever no step is under way
 abbrev pub IsLegalTable : (HeapKey → State (Unit {0}) View → Type 0) → Type 0
 IsLegalTable holds = (k : HeapKey) (s : State (Unit {0}) View) → holds k s → AreLegal s.views
 
@@ -21,15 +24,18 @@ first_of loads = 0
 first_of (stores n) = n
 first_of (exchanges old new) = old
 
+-- the second operand: what a compare-exchange puts in the place of what it expects
 abbrev pub second_of : Access → ℕ
 second_of (exchanges old new) = new
 second_of _ = 0
 
--- what a play tells of a step on the word of a kind, with the operands of that kind: the view becomes what the kind makes of it by the word found;
--- the kind may go by the view
+-- what a play tells of a step on the word of a kind, with the operands of that kind: the view becomes what
+-- the kind makes of it by the word found; the kind may go by the view
 abbrev pub IsOfKindBy : (Step (Unit {0}) → Sat → ℕ → Sat → Type 0) → (View → Kind) → Type 0
 IsOfKindBy tells e = (slots : ℕ) (me me' : Sat) (x : ℕ)
-    → tells (step slots (place_of me.0.sizes (e me.0)) (first_of (access_of (e me.0))) (second_of (access_of (e me.0))) none) me x me' → me'.0 ≡ view_on_heap me.0 (e me.0) x
+    → tells (step slots (place_of me.0.sizes (e me.0)) (first_of (access_of (e me.0)))
+        (second_of (access_of (e me.0))) none) me x me' → me'.0 ≡ view_on_heap me.0 (e me.0) x
 
+-- the same for one kind, whatever the view is
 abbrev pub IsOfKind : (Step (Unit {0}) → Sat → ℕ → Sat → Type 0) → Kind → Type 0
 IsOfKind tells e = IsOfKindBy tells (λ v. e)

@@ -6,7 +6,8 @@ use Rattle.heap_rule.specs.Slots.{entry_in}
 use Rattle.heap_table.specs.declared.stores.Step.{Step}
 use Rattle.heap_table.specs.declared.stores.Step.TheVariants.{Won, Lost}
 
--- the entry of a load: what the view knows of the string that it saw in the slot, where the call is to enter it in the history
+-- the entry of a load: what the view knows of the string that it saw in the slot, where the call is to enter
+-- it in the history
 abbrev pub entry_if : Bool → View → ℕ → Option (List ℕ)
 entry_if true v k = entry_in v k
 entry_if false v k = None
@@ -21,6 +22,7 @@ abbrev pub word_found : Step → ℕ
 word_found Won = 0
 word_found (Lost word) = word
 
+-- a claim that was lost found a slot that isn't free
 abbrev pub IsTaken : Step → Type 0
 IsTaken Won = Unit {0}
 IsTaken (Lost word) = word ≢ 0
