@@ -1,4 +1,5 @@
--- What an evaluation of a whole script promises: how it ended, and what stands in the store, the lines and the bindings.
+-- What an evaluation of a whole script promises: how it ended, and what stands in the store, the lines and
+-- the bindings.
 use Rattle.std.specs.Prelude.{◌≡◌, ℕ, ◌+◌, ◌≤◌, List, ◌++◌, Contains, Some}
 use Rattle.std.specs.List.{concat}
 use Rattle.js_store.specs.State.{State, Has}
@@ -22,9 +23,11 @@ end_of (gave x l) = Done
 end_of (ended (threw k) l) = Threw k
 end_of (ended (unsupported at) l) = Unsupported at
 
--- the script ran to its end: the end, the lines and the bindings of the top are those that are meant, the history grew by what is
--- meant to be interned, every string that an expression gave is known, and what was used is at most the need
-pub record Finished {F : Type 0} (a b : State F) (x y : List ℕ) (after : List (Bound Val)) (end : End) (m : Flow) : Type 0 where
+-- the script ran to its end: the end, the lines and the bindings of the top are those that are meant, the
+-- history grew by what is meant to be interned, every string that an expression gave is known, and what was
+-- used is at most the need
+pub record Finished {F : Type 0} (a b : State F) (x y : List ℕ) (after : List (Bound Val)) (end : End)
+    (m : Flow) : Type 0 where
   pub end_is : end ≡ end_of m.out
   pub lines : y ≡ x ++ concat m.lines
   pub bindings : after ≡ m.bindings.top
@@ -33,9 +36,9 @@ pub record Finished {F : Type 0} (a b : State F) (x y : List ℕ) (after : List 
   pub within_ids : b.used_ids ≤ a.used_ids + need_ids m
   pub within_words : b.used_words ≤ a.used_words + need_words m
 
--- the store was full or memory was wanting: a full store's report is true, the first ones of the lines were written whole,
--- the history grew by the first ones of what is meant to be interned (on a full string table the next one is shut), and what
--- was used, with what a Full wanted besides, is at most the need
+-- the store was full or memory was wanting: a full store's report is true, the first ones of the lines were
+-- written whole, the history grew by the first ones of what is meant to be interned (on a full string table
+-- the next one is shut), and what was used, with what a Full wanted besides, is at most the need
 pub record Interrupted {F : Type 0} (a b : State F) (x y : List ℕ) (f : StoreFault) (m : Flow) : Type 0 where
   pub honest : Honest b (full_only f)
   pub lines : WroteSome x y m.lines
@@ -43,7 +46,10 @@ pub record Interrupted {F : Type 0} (a b : State F) (x y : List ℕ) (f : StoreF
   pub within_ids : b.used_ids + ids_wanted (Some f) ≤ a.used_ids + need_ids m
   pub within_words : b.used_words + words_wanted (Some f) ≤ a.used_words + need_words m
 
-abbrev pub Evaluates : {F : Type 0} → State F → State F → List ℕ → List ℕ → List (Bound Val) → End → Flow → Type 0
+-- from the state a to the state b the script came to this end: Done, Threw and Unsupported are ends by its
+-- meaning, and with Full and Memory the store or a lack of memory stopped it
+abbrev pub Evaluates : {F : Type 0} → State F → State F → List ℕ → List ℕ → List (Bound Val)
+    → End → Flow → Type 0
 Evaluates a b x y after Done m = Finished a b x y after Done m
 Evaluates a b x y after (Threw k) m = Finished a b x y after (Threw k) m
 Evaluates a b x y after (Unsupported at) m = Finished a b x y after (Unsupported at) m

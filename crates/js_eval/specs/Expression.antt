@@ -1,11 +1,15 @@
 -- What an expression means in a scope, by recursion over its tree.
-use Rattle.std.specs.Prelude.{ℕ, List, [], ◌∷◌, slice_get, Bool, false, not, if◌then◌else◌, Option, Some, None}
+use Rattle.std.specs.Prelude.{ℕ, List, [], ◌∷◌, slice_get, Bool, false, not, if◌then◌else◌,
+    Option, Some, None}
 use Rattle.js_number.specs.declared.Num.TheVariants.{NaN, PosInf}
 use Rattle.eval_tree.specs.declared.tree.Op.{Op}
-use Rattle.eval_tree.specs.declared.tree.Op.TheVariants.{Or, And, Same, NotSame, Less, Greater, LessEq, GreaterEq, Plus, Minus}
+use Rattle.eval_tree.specs.declared.tree.Op.TheVariants.{Or, And, Same, NotSame, Less, Greater, LessEq,
+    GreaterEq, Plus, Minus}
 use Rattle.eval_tree.specs.declared.tree.Method.{Method}
 use Rattle.eval_tree.specs.Tree as tree
-use Rattle.eval_tree.specs.Tree.{ExprTree, Links, no_links, link, Steps, no_steps, length_step, description_step, call_step, index_step, property_step, Exprs, no_exprs, expr, Entries, no_entries, entry, LinkTree, StepTree, of_length, of_description, of_call, of_index, of_property}
+use Rattle.eval_tree.specs.Tree.{ExprTree, Links, no_links, link, Steps, no_steps, length_step,
+    description_step, call_step, index_step, property_step, Exprs, no_exprs, expr, Entries, no_entries, entry,
+    LinkTree, StepTree, of_length, of_description, of_call, of_index, of_property}
 use Rattle.eval_scopes.specs.Bindings.{Bound, Bindings, meant}
 use Rattle.eval_values.specs.declared.value.Kind.TheVariants.{ReferenceError}
 use Rattle.js_item.specs.Seen.{Val}
@@ -33,12 +37,14 @@ abbrev pub read_out : Option (Bound Val) → Out Val
 read_out (Some b) = needing nothing b.value
 read_out None = throwing nothing ReferenceError
 
--- whether the left side of an operator is its value, so that the right side isn't evaluated ("Binary Logical Operators")
+-- whether the left side of an operator is its value, so that the right side isn't evaluated ("Binary Logical
+-- Operators")
 abbrev pub decides : Op → Val → Bool
 decides Or v = to_boolean v
 decides And v = not (to_boolean v)
 decides _ v = false
 
+-- the boolean that a test gives of an outcome's value
 abbrev pub truth_of : {A : Type 0} → (A → Bool) → Out A → Out Val
 truth_of holds o = bind o (λ x. gave (bool (holds x)) free)
 
@@ -60,6 +66,8 @@ abbrev pub linked : Op → ℕ → ℕ → Val → Out Val → Out Val
 linked op at limit v right = if decides op v then gave v free else bind right (λ w. operated op at limit v w)
 
 abbrev mutual
+  -- what an expression comes to in a scope ("Evaluation" of "Expression"): its value or its end, with what it
+  -- needs
   pub expr_out : ExprTree → Scope → Out Val
   expr_out (tree.literal n) s = needing nothing (maybe_text (slice_get s.literals n))
   expr_out (tree.number n) s = needing nothing (number_of n)
@@ -71,29 +79,38 @@ abbrev mutual
   expr_out tree.infinity s = needing nothing (number PosInf)
   expr_out (tree.unary at minus of) s = bind (expr_out of s) (λ v. unary_out minus at v)
   expr_out (tree.chain first rest) s = bind (expr_out first s) (λ v. links_out rest s v)
-  expr_out (tree.conditional test first second) s = bind (expr_out test s) (λ v. if to_boolean v then expr_out first s else expr_out second s)
+  expr_out (tree.conditional test first second) s =
+      bind (expr_out test s) (λ v. if to_boolean v then expr_out first s else expr_out second s)
   expr_out (tree.post of steps) s = bind (expr_out of s) (λ v. steps_out steps s v)
   expr_out (tree.builtin at which args) s = bind (exprs_out args s) (λ vs. built which at s.limit vs)
-  expr_out (tree.object at members) s = after (literal_cost members) (bind (entries_out members s no_fields) (λ fs. object_out at fs))
+  expr_out (tree.object at members) s =
+      after (literal_cost members) (bind (entries_out members s no_fields) (λ fs. object_out at fs))
 
   -- the links of a chain, from the value on their left
   pub links_out : Links → Scope → Val → Out Val
   links_out no_links s v = gave v free
-  links_out (link at op right rest) s v = bind (linked op at s.limit v (expr_out right s)) (λ x. links_out rest s x)
+  links_out (link at op right rest) s v =
+      bind (linked op at s.limit v (expr_out right s)) (λ x. links_out rest s x)
 
   -- the steps behind a value
   pub steps_out : Steps → Scope → Val → Out Val
   steps_out no_steps s v = gave v free
   steps_out (length_step rest) s v = bind (length_of v) (λ x. steps_out rest s x)
   steps_out (description_step rest) s v = bind (description_of v) (λ x. steps_out rest s x)
-  steps_out (call_step at method args rest) s v = bind (bind (present v) (λ _. bind (exprs_out args s) (λ ws. called method at s.limit v ws))) (λ x. steps_out rest s x)
-  steps_out (index_step at index rest) s v = bind (bind (expr_out index s) (λ i. indexed at s.limit v i)) (λ x. steps_out rest s x)
+  steps_out (call_step at method args rest) s v =
+      bind (bind (present v) (λ _. bind (exprs_out args s) (λ ws. called method at s.limit v ws)))
+      (λ x. steps_out rest s x)
+  steps_out (index_step at index rest) s v =
+      bind (bind (expr_out index s) (λ i. indexed at s.limit v i)) (λ x. steps_out rest s x)
   steps_out (property_step at key rest) s v = bind (property_of at s.limit key v) (λ x. steps_out rest s x)
 
-  -- the members of an object literal from left to right, behind those of an object ("PropertyDefinitionEvaluation")
+  -- the members of an object literal from left to right, behind those of an object
+  -- ("PropertyDefinitionEvaluation")
   pub entries_out : Entries → Scope → Fields (List ℕ) → Out (Fields (List ℕ))
   entries_out no_entries s fs = gave fs free
-  entries_out (entry key value rest) s fs = bind (key_interned s.limit key) (λ k. bind (expr_out value s) (λ v. entries_out rest s (with_property k v fs)))
+  entries_out (entry key value rest) s fs =
+      bind (key_interned s.limit key)
+      (λ k. bind (expr_out value s) (λ v. entries_out rest s (with_property k v fs)))
 
   -- expressions from left to right
   pub exprs_out : Exprs → Scope → Out (List Val)
@@ -104,12 +121,17 @@ abbrev mutual
 abbrev pub link_out : LinkTree → Scope → Val → Out Val
 link_out l s v = linked l.op l.at s.limit v (expr_out l.right s)
 
+-- a call of a method on a value: TypeError on undefined and null, then the arguments from left to right, then
+-- the method
 abbrev pub call_out : ℕ → Method → Exprs → Scope → Val → Out Val
-call_out at method args s v = bind (present v) (λ _. bind (exprs_out args s) (λ ws. called method at s.limit v ws))
+call_out at method args s v =
+    bind (present v) (λ _. bind (exprs_out args s) (λ ws. called method at s.limit v ws))
 
+-- an index behind a value: the expression in the brackets, then the element or property that it names
 abbrev pub index_out : ℕ → ExprTree → Scope → Val → Out Val
 index_out at index s v = bind (expr_out index s) (λ i. indexed at s.limit v i)
 
+-- one step behind a value
 abbrev pub step_out : StepTree → Scope → Val → Out Val
 step_out of_length s v = length_of v
 step_out of_description s v = description_of v

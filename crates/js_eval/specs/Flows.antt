@@ -32,7 +32,8 @@ Leaves (Err (Unsupported at)) after meant = after ≡ meant
 Leaves (Err (Store f)) after meant = Unit {0}
 
 -- what statements did, printed and left is what is meant
-pub record Went {F : Type 0} (a b : State F) (x y : List ℕ) (r : Result (Unit {0}) Stop) (bindings : Bindings Val) (f : Flow) : Type 0 where
+pub record Went {F : Type 0} (a b : State F) (x y : List ℕ) (r : Result (Unit {0}) Stop)
+    (bindings : Bindings Val) (f : Flow) : Type 0 where
   pub did : Did a b (λ s v. v) (λ s v. Unit {0}) r f.out
   pub wrote : Wrote x y r f.lines
   pub leaves : Leaves r bindings f.bindings
@@ -44,7 +45,8 @@ LeavesTop (Err (Threw k)) after meant = after ≡ meant
 LeavesTop (Err (Unsupported at)) after meant = after ≡ meant
 LeavesTop (Err (Store f)) after meant = Unit {0}
 
-pub record WentTop {F : Type 0} (a b : State F) (x y : List ℕ) (r : Result (Unit {0}) Stop) (top : List (Bound Val)) (f : Flow) : Type 0 where
+pub record WentTop {F : Type 0} (a b : State F) (x y : List ℕ) (r : Result (Unit {0}) Stop)
+    (top : List (Bound Val)) (f : Flow) : Type 0 where
   pub did : Did a b (λ s v. v) (λ s v. Unit {0}) r f.out
   pub wrote : Wrote x y r f.lines
   pub leaves : LeavesTop r top f.bindings.top

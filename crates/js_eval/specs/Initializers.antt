@@ -14,6 +14,7 @@ abbrev pub members_in : Entries → ℕ
 members_in no_entries = 0
 members_in (entry key value rest) = members_in rest + 1
 
+-- how many units the keys of a literal have together
 abbrev pub key_units : Entries → ℕ
 key_units no_entries = 0
 key_units (entry key value rest) = length key + key_units rest
@@ -29,10 +30,12 @@ key_interned limit key =
     then gave key (record { interned = key ∷ []; texts = []; ids = 0; words = 0 })
     else ended (threw RangeError) free
 
--- a property of the object gets a value, in its place where there is one of this key ("CreateDataPropertyOrThrow")
+-- a property of the object gets a value, in its place where there is one of this key
+-- ("CreateDataPropertyOrThrow")
 abbrev pub with_property : List ℕ → Val → Fields (List ℕ) → Fields (List ℕ)
 with_property key value fs = put_by (λ k. bytes_eq k key) key value fs
 
 -- the object, where it is nested at most 200 deep and has at most 65,536 members in all its levels
 abbrev pub object_out : ℕ → Fields (List ℕ) → Out Val
-object_out at fs = if nat_le (suc (depth fs)) 200 && nat_le (count fs) 65536 then gave (object fs) free else refuses at
+object_out at fs =
+    if nat_le (suc (depth fs)) 200 && nat_le (count fs) 65536 then gave (object fs) free else refuses at

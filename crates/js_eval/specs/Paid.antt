@@ -1,5 +1,6 @@
--- The members of an object literal where each takes its share of what the literal needs. The sum of these shares is at most the
--- row of the literal, so an evaluation of the members in this form is one in the form of the meaning (`proofs/Paying.antt`).
+-- The members of an object literal where each takes its share of what the literal needs. The sum of these
+-- shares is at most the row of the literal, so an evaluation of the members in this form is one in the form
+-- of the meaning (`proofs/Paying.antt`).
 use Rattle.std.specs.Prelude.{ℕ, ◌+◌, ◌*◌, List, [], ◌∷◌, length, nat_le, if◌then◌else◌, Result}
 use Rattle.js_store.specs.State.{State, text as units_of}
 use Rattle.eval_tree.specs.Tree.{ExprTree, Entries, no_entries, entry}
@@ -21,7 +22,8 @@ key_paid limit key =
 
 -- a member behind those of an object
 abbrev pub entry_paid : List ℕ → ExprTree → Scope → Fields (List ℕ) → Out (Fields (List ℕ))
-entry_paid key value s fs = bind (key_paid s.limit key) (λ k. bind (expr_out value s) (λ v. gave (with_property k v fs) free))
+entry_paid key value s fs =
+    bind (key_paid s.limit key) (λ k. bind (expr_out value s) (λ v. gave (with_property k v fs) free))
 
 abbrev pub entries_paid : Entries → Scope → Fields (List ℕ) → Out (Fields (List ℕ))
 entries_paid no_entries s fs = gave fs free
@@ -31,5 +33,7 @@ entries_paid (entry key value rest) s fs = bind (entry_paid key value s fs) (λ 
 abbrev pub GivesKey : {F R : Type 0} → (R → ℕ) → State F → State F → Result R Stop → Out (List ℕ) → Type 0
 GivesKey name a b r o = Did a b (λ s v. units_of s (name v)) (λ s v. KeyFine (strings_of s) (name v)) r o
 
-abbrev pub Makes : {F R : Type 0} → (R → ℕ) → State F → State F → Result (Fields R) Stop → Out (Fields (List ℕ)) → Type 0
-Makes name a b r o = Did a b (λ s fs. fields_mapped (says s name) fs) (λ s fs. FineFields (strings_of s) name fs) r o
+abbrev pub Makes : {F R : Type 0} → (R → ℕ) → State F → State F → Result (Fields R) Stop
+    → Out (Fields (List ℕ)) → Type 0
+Makes name a b r o =
+    Did a b (λ s fs. fields_mapped (says s name) fs) (λ s fs. FineFields (strings_of s) name fs) r o

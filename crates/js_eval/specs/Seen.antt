@@ -20,7 +20,8 @@ abbrev pub frame_seen : {F R : Type 0} → State F → (R → ℕ) → Frame (It
 frame_seen s name f = record { names = f.names; bound = bounds_seen s name f.bound }
 
 abbrev pub bindings_seen : {F R : Type 0} → State F → (R → ℕ) → Bindings (Item R) → Bindings Val
-bindings_seen s name bs = record { blocks = map (λ f. frame_seen s name f) bs.blocks; top = bounds_seen s name bs.top }
+bindings_seen s name bs =
+    record { blocks = map (λ f. frame_seen s name f) bs.blocks; top = bounds_seen s name bs.top }
 
 abbrev pub BoundsFine : {F R : Type 0} → State F → (R → ℕ) → List (Bound (Item R)) → Type 0
 BoundsFine s name bs = Every (λ b. IsFine s name b.value) bs
