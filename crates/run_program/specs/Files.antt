@@ -11,27 +11,31 @@ use Rattle.run_program.specs.declared.job.Job.{Job}
 use Rattle.run_program.specs.declared.job.Outcome.{Outcome}
 use Rattle.run_program.specs.Jobs.{Part, Ended, fault_in, pairs_of, ids_of, words_of}
 
--- a file that was run: what it means, how it ended, the bytes of the lines that it printed, and what it did to the heap
+-- a file that was run: what it means, how it ended, the bytes of the lines that it printed, and what it did
+-- to the heap
 pub record RunFile : Type 0 where
   pub mean : Flow
   pub end : End
   pub lines : List ℕ
   pub part : Part
 
+-- what the files mean, in their order
 abbrev pub means_of : List RunFile → List Flow
 means_of files = map (λ f. f.mean) files
 
+-- what the files did to the heap, in their order
 abbrev pub parts_of : List RunFile → List Part
 parts_of files = map (λ f. f.part) files
 
--- What came of a file, said of the heap at any moment afterwards. What it used, with what a full heap was asked for besides, is at most its need.
+-- What came of a file, said of the heap at any moment afterwards. What it used, with what a full heap was
+-- asked for besides, is at most its need.
 pub record Came {F : Type 0} (s : State F) (f : RunFile) : Type 0 where
   pub ended : Ended s f.mean f.lines f.end f.part
   pub within_ids : f.part.ids + ids_wanted (fault_in f.end) ≤ need_ids f.mean
   pub within_words : f.part.words + words_wanted (fault_in f.end) ≤ need_words f.mean
 
--- On a heap of these sizes these files were run, and nothing else was done: the history is what they interned, in their order, and what was
--- used is what they used.
+-- On a heap of these sizes these files were run, and nothing else was done: the history is what they
+-- interned, in their order, and what was used is what they used.
 pub record AreRun {F : Type 0} (z : Sizes) (s : State F) (files : List RunFile) : Type 0 where
   pub sizes : s.sizes ≡ z
   pub each : Every (Came s) files
@@ -40,7 +44,8 @@ pub record AreRun {F : Type 0} (z : Sizes) (s : State F) (files : List RunFile) 
   pub used_words : s.used_words ≡ words_of (parts_of files)
 
 -- files that are these jobs, in their order
-pub record AreJobs (mean : Job → Flow) (jobs : List Job) (outcomes : List Outcome) (files : List RunFile) : Type 0 where
+pub record AreJobs (mean : Job → Flow) (jobs : List Job) (outcomes : List Outcome)
+    (files : List RunFile) : Type 0 where
   pub means : means_of files ≡ map mean jobs
   pub ends : map (λ f. f.end) files ≡ map (λ o. o.end) outcomes
   pub lines : map (λ f. f.lines) files ≡ map (λ o. o.lines) outcomes
@@ -65,7 +70,8 @@ AfterPrelude (Unsupported at) scripts files = files ≡ []
 AfterPrelude (Full report) scripts files = files ≡ []
 AfterPrelude Memory scripts files = files ≡ []
 
--- The files that were run are the prelude with its meaning, if there is one, and then the scripts with theirs, in their order.
+-- The files that were run are the prelude with its meaning, if there is one, and then the scripts with
+-- theirs, in their order.
 abbrev pub AreFilesOf : Option Flow → List Flow → List RunFile → Type 0
 AreFilesOf None scripts files = means_of files ≡ scripts
 AreFilesOf (Some prelude) scripts [] = ⊥

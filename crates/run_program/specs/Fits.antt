@@ -6,11 +6,14 @@ use Rattle.js_store.specs.State.{Sizes}
 use Rattle.eval_values.specs.Outcome.{Out, gave, ended}
 use Rattle.js_eval.specs.Script.{Flow, interned, need_ids, need_words}
 
--- What is meant by a prelude, if there is one, and by scripts. Where the prelude doesn't come to the end of its statements, no script is run.
+-- What is meant by a prelude, if there is one, and by scripts. Where the prelude doesn't come to the end of
+-- its statements, no script is run.
 abbrev pub after_prelude : Out (Unit {0}) → List Flow → List Flow
 after_prelude (gave x l) scripts = scripts
 after_prelude (ended e l) scripts = []
 
+-- what all files mean that are meant to be run: the prelude, and behind one that is meant to end Done the
+-- scripts
 abbrev pub all_meant : Option Flow → List Flow → List Flow
 all_meant None scripts = scripts
 all_meant (Some prelude) scripts = prelude ∷ after_prelude prelude.out scripts
@@ -20,6 +23,7 @@ abbrev pub ids_needed : List Flow → ℕ
 ids_needed [] = 0
 ids_needed (m ∷ ms) = need_ids m + ids_needed ms
 
+-- how many content words all files need together
 abbrev pub words_needed : List Flow → ℕ
 words_needed [] = 0
 words_needed (m ∷ ms) = need_words m + words_needed ms
@@ -28,15 +32,19 @@ words_needed (m ∷ ms) = need_words m + words_needed ms
 abbrev pub lists_interned : List Flow → List (List ℕ)
 lists_interned means = flat_map interned means
 
+-- how many different lists of units there are among these
 unfoldable pub count_different : List (List ℕ) → ℕ
 count_different lists = distinct_count (pointwise nat_eq) lists
 
+-- the heap has as many ids as all files need together
 abbrev pub FitsIds : Sizes → List Flow → Type 0
 FitsIds z means = ids_needed means ≤ z.ids
 
+-- the heap has as many content words as all files need together
 abbrev pub FitsWords : Sizes → List Flow → Type 0
 FitsWords z means = words_needed means ≤ z.words
 
+-- the string table has a slot for each different list of units that the files intern
 abbrev pub FitsSlots : Sizes → List Flow → Type 0
 FitsSlots z means = count_different (lists_interned means) ≤ z.slots
 

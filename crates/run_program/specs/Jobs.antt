@@ -1,5 +1,6 @@
 -- What jobs leave that were run on one heap: each outcome in its job's place, and what all did together.
-use Rattle.std.specs.Prelude.{◌≡◌, ℕ, ◌+◌, ◌<◌, ◌≤◌, List, [], ◌∷◌, ◌++◌, length, map, max, All, Contains, Option, Some, None, IsSome, IsTrue}
+use Rattle.std.specs.Prelude.{◌≡◌, ℕ, ◌+◌, ◌<◌, ◌≤◌, List, [], ◌∷◌, ◌++◌, length, map, max, All, Contains,
+    Option, Some, None, IsSome, IsTrue}
 use Rattle.std.specs.List.{concat}
 use Rattle.js_store.specs.State.{State, Has, Grows}
 use Rattle.js_store.specs.Faults.{ids_wanted, words_wanted}
@@ -31,7 +32,8 @@ number s = s.id
 abbrev pub means : {F : Type 0} → State F → List (Binding (Item JsStr)) → Job → Flow
 means s env job = meaning (tree_of job.script) (bounds_seen s number (bounds_of env)) s.limit
 
--- what one job did to the store: the pairs that it added to the history, and the ids and content words that it used
+-- what one job did to the store: the pairs that it added to the history, and the ids and content words that
+-- it used
 pub record Part : Type 0 where
   pub pairs : List (List ℕ × ℕ)
   pub ids : ℕ
@@ -45,25 +47,29 @@ fault_in (Unsupported at) = None
 fault_in (Full report) = Some (store.Full report)
 fault_in Memory = Some store.Memory
 
--- what a report says of a store at the moment when it came and at every later one: what was wanted passes the end of the counter from a
--- value that it had, and the end is the store's
+-- what a report says of a store at the moment when it came and at every later one: what was wanted passes the
+-- end of the counter from a value that it had, and the end is the store's
 abbrev pub Reports : {F : Type 0} → State F → StoreFault → Type 0
-Reports s (store.Full (Ids at want end)) = (end < at + want) × (end ≡ s.sizes.ids) × (at ≤ s.low_ids) × (want ≡ 1)
+Reports s (store.Full (Ids at want end)) =
+    (end < at + want) × (end ≡ s.sizes.ids) × (at ≤ s.low_ids) × (want ≡ 1)
 Reports s (store.Full (Words at want end)) = (end < at + want) × (end ≡ s.sizes.words) × (at ≤ s.low_words)
 Reports s (store.Full (Slots slots)) = slots ≡ s.sizes.slots
 Reports s store.Memory = Unit {0}
 
--- A job that came to its own end: the end and the lines are those that are meant, it interned what is meant, and every string that an
--- expression gave is known.
-pub record Whole {F : Type 0} (s : State F) (m : Flow) (lines : List ℕ) (end : End) (part : Part) : Type 0 where
+-- A job that came to its own end: the end and the lines are those that are meant, it interned what is meant,
+-- and every string that an expression gave is known.
+pub record Whole {F : Type 0} (s : State F) (m : Flow) (lines : List ℕ) (end : End)
+    (part : Part) : Type 0 where
   pub end_is : end ≡ end_of m.out
   pub lines_are : lines ≡ concat m.lines
   pub interned : map (λ p. p.0) part.pairs ≡ meant.interned m
   pub texts : (u : List ℕ) → Contains (meant.texts m) u → (n : ℕ) × Has s n u
 
--- A job that a full store or lack of memory ended: the report is true, the first ones of the lines are there, each of them whole, and the
--- first ones of what is meant were interned. Where the string table was full the next one is shut.
-pub record Broken {F : Type 0} (s : State F) (m : Flow) (lines : List ℕ) (fault : StoreFault) (part : Part) : Type 0 where
+-- A job that a full store or lack of memory ended: the report is true, the first ones of the lines are there,
+-- each of them whole, and the first ones of what is meant were interned. Where the string table was full the
+-- next one is shut.
+pub record Broken {F : Type 0} (s : State F) (m : Flow) (lines : List ℕ) (fault : StoreFault)
+    (part : Part) : Type 0 where
   pub reports : Reports s fault
   pub lines_done : List (List ℕ)
   pub lines_left : List (List ℕ)
@@ -73,6 +79,7 @@ pub record Broken {F : Type 0} (s : State F) (m : Flow) (lines : List ℕ) (faul
   pub interned : meant.interned m ≡ map (λ p. p.0) part.pairs ++ left
   pub next : NextShut s fault left
 
+-- a job came to this end: its own, or that of a full store or lack of memory
 abbrev pub Ended : {F : Type 0} → State F → Flow → List ℕ → End → Part → Type 0
 Ended s m lines Done part = Whole s m lines Done part
 Ended s m lines (Threw kind) part = Whole s m lines (Threw kind) part
@@ -80,9 +87,10 @@ Ended s m lines (Unsupported at) part = Whole s m lines (Unsupported at) part
 Ended s m lines (Full report) part = Broken s m lines (store.Full report) part
 Ended s m lines Memory part = Broken s m lines store.Memory part
 
--- a job and what came of it, said of the store at any moment afterwards: what it used, with what a full store was asked for besides, is at
--- most its need
-pub record CameOf {F : Type 0} (s : State F) (m : Flow) (job : Job) (outcome : Outcome) (part : Part) : Type 0 where
+-- a job and what came of it, said of the store at any moment afterwards: what it used, with what a full store
+-- was asked for besides, is at most its need
+pub record CameOf {F : Type 0} (s : State F) (m : Flow) (job : Job) (outcome : Outcome)
+    (part : Part) : Type 0 where
   pub index : outcome.index ≡ job.index
   pub ended : Ended s m outcome.lines outcome.end part
   pub within_ids : part.ids + ids_wanted (fault_in outcome.end) ≤ need_ids m
@@ -102,18 +110,22 @@ abbrev pub pairs_of : List Part → List (List ℕ × ℕ)
 pairs_of [] = []
 pairs_of (p ∷ ps) = p.pairs ++ pairs_of ps
 
+-- how many ids the parts used together
 abbrev pub ids_of : List Part → ℕ
 ids_of [] = 0
 ids_of (p ∷ ps) = p.ids + ids_of ps
 
+-- how many content words the parts used together
 abbrev pub words_of : List Part → ℕ
 words_of [] = 0
 words_of (p ∷ ps) = p.words + words_of ps
 
--- Between two moments these jobs were run and nothing else. Each outcome stands in its job's place. What stays of the store stays: its
--- heap, share, sizes and limit, the history at its split, and all that is known. The history is the one before, followed by what the jobs
--- added, in their order, and what was used is what they used.
-pub record RanJobs {F : Type 0} (mean : Job → Flow) (before after : State F) (jobs : List Job) (outcomes : List Outcome) : Type 0 where
+-- Between two moments these jobs were run and nothing else. Each outcome stands in its job's place. What
+-- stays of the store stays: its heap, share, sizes and limit, the history at its split, and all that is
+-- known. The history is the one before, followed by what the jobs added, in their order, and what was used is
+-- what they used.
+pub record RanJobs {F : Type 0} (mean : Job → Flow) (before after : State F) (jobs : List Job)
+    (outcomes : List Outcome) : Type 0 where
   pub grows : Grows before after
   pub parts : List Part
   pub each : AtEach (λ job. CameOf after (mean job) job) jobs outcomes parts
@@ -122,7 +134,8 @@ pub record RanJobs {F : Type 0} (mean : Job → Flow) (before after : State F) (
   pub used_words : after.used_words ≡ before.used_words + words_of parts
 
 -- every job began with these bindings
-abbrev pub Runs : {F : Type 0} → State F → State F → List (Binding (Item JsStr)) → List Job → List Outcome → Type 0
+abbrev pub Runs : {F : Type 0} → State F → State F → List (Binding (Item JsStr)) → List Job
+    → List Outcome → Type 0
 Runs before after env jobs outcomes = RanJobs (means before env) before after jobs outcomes
 
 -- what the jobs need together, and the greatest want that a report of theirs tells
@@ -145,9 +158,10 @@ most_words_wanted (o ∷ os) = max (words_wanted (fault_in o.end)) (most_words_w
 abbrev pub HasNoLines : Outcome → Type 0
 HasNoLines o = o.lines ≡ []
 
--- Jobs may be run in so many groups: the session has a share for each, and its history begins with that at its split. No public contract
--- cites this.
-pub record MayRun (s : State SessionFrame) (groups : ℕ) (env : List (Binding (Item JsStr))) (jobs : List Job) (outcomes : List Outcome) : Type 0 where
+-- Jobs may be run in so many groups: the session has a share for each, and its history begins with that at
+-- its split. No public contract cites this.
+pub record MayRun (s : State SessionFrame) (groups : ℕ) (env : List (Binding (Item JsStr))) (jobs : List Job)
+    (outcomes : List Outcome) : Type 0 where
   pub some : 1 ≤ groups
   pub share : groups ≤ s.frame.share
   pub lengths : length outcomes ≡ length jobs
@@ -155,7 +169,8 @@ pub record MayRun (s : State SessionFrame) (groups : ℕ) (env : List (Binding (
   pub fine : BoundsFine s number (bounds_of env)
   pub begins : StartsWith s.history s.frame.seen
 
--- What a later moment keeps of a session, also where it was split or joined in between. No public contract cites this.
+-- What a later moment keeps of a session, also where it was split or joined in between. No public contract
+-- cites this.
 pub record Later {F : Type 0} (b c : State F) : Type 0 where
   pub known : (n : ℕ) → IsSome (b.known n) → c.known n ≡ b.known n
   pub shut : (u : List ℕ) → IsTrue (b.shut u) → IsTrue (c.shut u)

@@ -30,17 +30,22 @@ abbrev pub ScriptRun : Type 0
 ScriptRun = (z : Sizes) (s t : State SessionFrame) (files : List RunFile)
     (script : Script) (top after : List (Bound Val)) (lines : List ℕ) (end : End)
     → AreRun z s files → Grows s t → Evaluates s t [] lines after end (meaning (tree_of script) top s.limit)
-    → (part : Part) × AreRun z t (files ++ (record { mean = meaning (tree_of script) top s.limit; end = end; lines = lines; part = part } ∷ []))
+    → (part : Part) × AreRun z t (files
+    ++ (record { mean = meaning (tree_of script) top s.limit; end = end; lines = lines; part = part } ∷ []))
 
 -- after some files jobs were run
 abbrev pub JobsRun : Type 0
-JobsRun = (z : Sizes) (s t : State SessionFrame) (files : List RunFile) (mean : Job → Flow) (jobs : List Job) (outcomes : List Outcome)
-    → AreRun z s files → RanJobs mean s t jobs outcomes → (more : List RunFile) × AreJobs mean jobs outcomes more × AreRun z t (files ++ more)
+JobsRun = (z : Sizes) (s t : State SessionFrame) (files : List RunFile) (mean : Job → Flow) (jobs : List Job)
+    (outcomes : List Outcome)
+    → AreRun z s files → RanJobs mean s t jobs outcomes
+    → (more : List RunFile) × AreJobs mean jobs outcomes more × AreRun z t (files ++ more)
 
 -- a call that uses nothing and interns nothing, and the reading of both counters, leave what was run
 abbrev pub StaysRun : Type 0
-StaysRun = (z : Sizes) (s t : State SessionFrame) (files : List RunFile) → AreRun z s files → Step s t None 0 0 → t.history ≡ s.history
+StaysRun = (z : Sizes) (s t : State SessionFrame) (files : List RunFile) → AreRun z s files
+    → Step s t None 0 0 → t.history ≡ s.history
     → AreRun z t files
 
 abbrev pub TotalsRun : Type 0
-TotalsRun = (z : Sizes) (s : State SessionFrame) (files : List RunFile) → HasAll s → AreRun z s files → AreRun z (total_by s) files
+TotalsRun = (z : Sizes) (s : State SessionFrame) (files : List RunFile) → HasAll s → AreRun z s files
+    → AreRun z (total_by s) files

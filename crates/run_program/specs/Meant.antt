@@ -1,4 +1,5 @@
--- What is meant by a prelude, if there is one, and by scripts that begin with the bindings which the prelude is meant to leave.
+-- What is meant by a prelude, if there is one, and by scripts that begin with the bindings which the prelude
+-- is meant to leave.
 use Rattle.std.specs.Prelude.{ℕ, List, [], map, Option, Some, None}
 use Rattle.eval_tree.specs.Tree.{Tree}
 use Rattle.eval_scopes.specs.Bindings.{Bound}
@@ -17,4 +18,5 @@ left_by (Some flow) = flow.bindings.top
 
 -- each script by itself, from those bindings
 abbrev pub scripts_meant : ℕ → Option Tree → List Tree → List Flow
-scripts_meant limit prelude scripts = map (λ tree. meaning tree (left_by (prelude_meant limit prelude)) limit) scripts
+scripts_meant limit prelude scripts =
+    map (λ tree. meaning tree (left_by (prelude_meant limit prelude)) limit) scripts

@@ -38,17 +38,21 @@ trees_of scripts = map tree_of scripts
 abbrev pub prelude_by : Setup → Option Tree → Option Flow
 prelude_by setup prelude = prelude_meant (limit_units setup.limit) prelude
 
+-- what is meant by each of the scripts after the prelude
 abbrev pub scripts_by : Setup → Option Tree → List Tree → List Flow
 scripts_by setup prelude scripts = scripts_meant (limit_units setup.limit) prelude scripts
 
+-- what is meant by all files that are meant to be run
 abbrev pub all_by : Setup → Option Tree → List Tree → List Flow
 all_by setup prelude scripts = all_meant (prelude_by setup prelude) (scripts_by setup prelude scripts)
 
--- the outcomes of all files that were run: that of the prelude, if there is one, and then those of the scripts
+-- the outcomes of all files that were run: that of the prelude, if there is one, and then those of the
+-- scripts
 abbrev pub all_outcomes : Option Outcome → List Outcome → List Outcome
 all_outcomes None scripts = scripts
 all_outcomes (Some prelude) scripts = prelude ∷ scripts
 
+-- the outcomes of all files that were run, the prelude first
 abbrev pub outcomes_in : Ran → List Outcome
 outcomes_in ran = all_outcomes ran.prelude ran.scripts.items
 
@@ -69,9 +73,9 @@ abbrev pub counted : Bool → ℕ → Option ℕ
 counted true n = Some n
 counted false n = None
 
--- Files with these meanings were run on the kept heap, which was made with these sizes, and nothing else was done there: the prelude first,
--- from no bindings, and where it ended Done each of the scripts, from the bindings that the prelude is meant to leave. What they tell of the
--- heap is said in `Tells`.
+-- Files with these meanings were run on the kept heap, which was made with these sizes, and nothing else was
+-- done there: the prelude first, from no bindings, and where it ended Done each of the scripts, from the
+-- bindings that the prelude is meant to leave. What they tell of the heap is said in `Tells`.
 pub record IsRan (setup : Setup) (prelude : Option Tree) (scripts : List Tree) (ran : Ran) : Type 0 where
   pub files : List RunFile
   pub are : AreFilesOf (prelude_by setup prelude) (scripts_by setup prelude scripts) files
@@ -83,7 +87,8 @@ pub record IsRan (setup : Setup) (prelude : Option Tree) (scripts : List Tree) (
   -- what the agent says of the heap
   pub run : AreRun (sizes_by setup) (state_kept setup ran.kept) files
   pub tells : Tells (sizes_by setup) (state_kept setup ran.kept) (all_by setup prelude scripts) files
-  -- the heap of these sizes, and the agent with the whole share, which has seen both counters where they stand
+  -- the heap of these sizes, and the agent with the whole share, which has seen both counters where they
+  -- stand
   pub sizes : size_of ran.kept.heap ≡ setup.size
   pub belongs : Belongs ran.kept.agent ran.kept.heap
   pub agents : (view_of ran.kept.agent).agents ≡ setup.jobs

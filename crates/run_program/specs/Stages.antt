@@ -11,7 +11,8 @@ use Rattle.run_program.specs.declared.job.Outcome.{Outcome}
 use Rattle.run_program.specs.Files.{RunFile, AreRun, AreFilesOf}
 use Rattle.run_program.specs.Meant.{prelude_meant, scripts_meant}
 use Rattle.run_program.specs.declared.ran.Setup.{Setup}
-use Rattle.run_program.specs.Ran.{all_outcomes, counted, HasOutcome, AreInPlaces, prelude_by, scripts_by, sizes_by}
+use Rattle.run_program.specs.Ran.{all_outcomes, counted, HasOutcome, AreInPlaces, prelude_by,
+    scripts_by, sizes_by}
 
 abbrev pub job_trees : List Job → List Tree
 job_trees jobs = map (λ job. tree_of job.script) jobs
@@ -26,7 +27,8 @@ abbrev pub IsUnused : State SessionFrame → Type 0
 IsUnused s = AreRun s.sizes s []
 
 -- files with these meanings were run, and these are their outcomes
-pub record HaveRun (z : Sizes) (s : State SessionFrame) (prelude : Option Flow) (scripts : List Flow) (first : Option Outcome) (outcomes : List Outcome) : Type 0 where
+pub record HaveRun (z : Sizes) (s : State SessionFrame) (prelude : Option Flow) (scripts : List Flow)
+    (first : Option Outcome) (outcomes : List Outcome) : Type 0 where
   pub files : List RunFile
   pub are : AreFilesOf prelude scripts files
   pub ends : map (λ f. f.end) files ≡ map (λ o. o.end) (all_outcomes first outcomes)
@@ -36,12 +38,16 @@ pub record HaveRun (z : Sizes) (s : State SessionFrame) (prelude : Option Flow) 
   pub run : AreRun z s files
 
 -- between two moments, on a heap where no file was run before
-abbrev pub HaveRunFrom : State SessionFrame → State SessionFrame → Option Tree → List Tree → Option Outcome → List Outcome → Type 0
-HaveRunFrom a b prelude scripts first outcomes = HaveRun a.sizes b (prelude_meant a.limit prelude) (scripts_meant a.limit prelude scripts) first outcomes
+abbrev pub HaveRunFrom : State SessionFrame → State SessionFrame → Option Tree → List Tree → Option Outcome
+    → List Outcome → Type 0
+HaveRunFrom a b prelude scripts first outcomes =
+    HaveRun a.sizes b (prelude_meant a.limit prelude) (scripts_meant a.limit prelude scripts) first outcomes
 
 -- the same on a heap that was made for it, by the agent with the whole share, and what is told of the heap
-pub record IsTold (setup : Setup) (s : State SessionFrame) (prelude : Option Tree) (scripts : List Tree) (first : Option Outcome) (outcomes : List Outcome) (interned : Option ℕ) : Type 0 where
-  pub have : HaveRun (sizes_by setup) s (prelude_by setup prelude) (scripts_by setup prelude scripts) first outcomes
+pub record IsTold (setup : Setup) (s : State SessionFrame) (prelude : Option Tree) (scripts : List Tree)
+    (first : Option Outcome) (outcomes : List Outcome) (interned : Option ℕ) : Type 0 where
+  pub have : HaveRun (sizes_by setup) s (prelude_by setup prelude)
+      (scripts_by setup prelude scripts) first outcomes
   pub agents : s.frame.agents ≡ setup.jobs
   pub whole : IsWhole s
   pub seen_ids : s.used_ids ≤ s.low_ids

@@ -15,7 +15,8 @@ use Rattle.heap_intern.specs.Counting.{different}
 use Rattle.heap_intern.specs.Sessions.{SessionFrame}
 use Rattle.heap_intern.specs.Shares.{IsWhole}
 use Rattle.run_program.specs.Jobs.{Part}
-use Rattle.run_program.specs.Fits.{FitsIds, FitsWords, FitsSlots, Fits, count_different, all_meant, ids_needed, words_needed, lists_interned}
+use Rattle.run_program.specs.Fits.{FitsIds, FitsWords, FitsSlots, Fits, count_different, all_meant,
+    ids_needed, words_needed, lists_interned}
 use Rattle.run_program.specs.Files.{RunFile, AreRun, AreFilesOf, IsAsMeant, IsOwnEnd, means_of}
 
 -- A file ended Full for ids: all ids of the heap are claimed, and the files need more.
@@ -23,14 +24,16 @@ pub record IdsRanOut {F : Type 0} (z : Sizes) (s : State F) (means : List Flow) 
   pub claimed : s.used_ids ≡ z.ids
   pub unfit : FitsIds z means → ⊥
 
--- Full for words: what is claimed and the need of that file pass the heap's end, and the files need more words.
+-- Full for words: what is claimed and the need of that file pass the heap's end, and the files need more
+-- words.
 pub record WordsRanOut {F : Type 0} (z : Sizes) (s : State F) (means : List Flow) (m : Flow) : Type 0 where
   pub past : z.words < s.used_words + need_words m
   pub unfit : FitsWords z means → ⊥
 
--- Full for slots: the history holds as many different lists as there are slots, and the next list that the file was to intern is not among
--- them. The files intern more different lists.
-pub record SlotsRanOut {F : Type 0} (z : Sizes) (s : State F) (means : List Flow) (m : Flow) (part : Part) : Type 0 where
+-- Full for slots: the history holds as many different lists as there are slots, and the next list that the
+-- file was to intern is not among them. The files intern more different lists.
+pub record SlotsRanOut {F : Type 0} (z : Sizes) (s : State F) (means : List Flow) (m : Flow)
+    (part : Part) : Type 0 where
   pub held : different s.history ≡ z.slots
   pub next : List ℕ
   pub left : List (List ℕ)
@@ -38,6 +41,7 @@ pub record SlotsRanOut {F : Type 0} (z : Sizes) (s : State F) (means : List Flow
   pub missing : (n : ℕ) → Interned s next n → ⊥
   pub unfit : FitsSlots z means → ⊥
 
+-- what a file ran out of, by the report with which it ended
 abbrev pub RanOut : {F : Type 0} → Sizes → State F → List Flow → Flow → Part → FullReport → Type 0
 RanOut z s means m part (Ids at want end) = IdsRanOut z s means
 RanOut z s means m part (Words at want end) = WordsRanOut z s means m
@@ -63,7 +67,8 @@ pub record FirstLists (lists meant : List (List ℕ)) : Type 0 where
   pub left : List (List ℕ)
   pub split : meant ≡ lists ++ left
 
--- What one file tells. Its lines, and its lists in the history, are those of the meaning where its end is, and else the first ones of them.
+-- What one file tells. Its lines, and its lists in the history, are those of the meaning where its end is,
+-- and else the first ones of them.
 -- Where it ended neither Full nor out of memory, every string that one of its expressions gave is known.
 pub record FileTells {F : Type 0} (z : Sizes) (s : State F) (means : List Flow) (f : RunFile) : Type 0 where
   pub end : EndTells z s means f.mean f.part f.end
@@ -73,11 +78,13 @@ pub record FileTells {F : Type 0} (z : Sizes) (s : State F) (means : List Flow) 
   pub first_lists : FirstLists (keys_of f.part.pairs) (interned f.mean)
   pub texts_known : IsOwnEnd f.end → (u : List ℕ) → Contains (texts f.mean) u → (n : ℕ) × Has s n u
 
+-- the end is the meaning's, or out of memory
 abbrev pub IsMeantOrMemory : RunFile → Type 0
 IsMeantOrMemory f = IsAsMeant f ⊎ (f.end ≡ Memory)
 
 -- What files tell that were run on a heap of these sizes, of all those with these meanings.
-pub record Tells {F : Type 0} (z : Sizes) (s : State F) (means : List Flow) (files : List RunFile) : Type 0 where
+pub record Tells {F : Type 0} (z : Sizes) (s : State F) (means : List Flow)
+    (files : List RunFile) : Type 0 where
   pub each : Every (FileTells z s means) files
   -- where the sizes are enough every end is the meaning's, or out of memory
   pub fits : Fits z means → Every IsMeantOrMemory files
