@@ -21,16 +21,19 @@ use Rattle.run_sources.specs.Spelling.{FirstAmong, FirstRefused}
 
 -- the names of a prelude or none and of scripts
 abbrev pub names_for : Option (Bor (List ℕ)) → List (Bor (List ℕ)) → Program Name
-names_for prelude scripts = record { prelude = option_map (λ n. n.now) prelude; scripts = map (λ n. n.now) scripts }
+names_for prelude scripts =
+    record { prelude = option_map (λ n. n.now) prelude; scripts = map (λ n. n.now) scripts }
 
 abbrev pub source_for : SourceText → Named
 source_for source = record { name = source.name.now; text = source.bytes.items }
 
 abbrev pub sources_for : Sources → Program Named
-sources_for sources = record { prelude = option_map source_for sources.prelude; scripts = map source_for sources.scripts.items }
+sources_for sources =
+    record { prelude = option_map source_for sources.prelude; scripts = map source_for sources.scripts.items }
 
 abbrev pub trees_for : Scripts → Program Tree
-trees_for scripts = record { prelude = option_map tree_of scripts.prelude; scripts = map tree_of scripts.scripts.items }
+trees_for scripts =
+    record { prelude = option_map tree_of scripts.prelude; scripts = map tree_of scripts.scripts.items }
 
 -- a text that isn't too long to be parsed
 abbrev pub IsShort : Named → Type 0
@@ -61,8 +64,10 @@ RefusesScript sources _ = ⊥
 
 -- this read failed or found too large a file, and no other did; or memory was wanting
 abbrev pub RefusesRead : FilesState → FilesState → Name → ScriptsFault → Type 0
-RefusesRead old new name (stop.NotRead blamed) = (blamed.now ≡ name) × (new.faults ≡ next_count old.faults) × (new.oversize ≡ old.oversize) × (new.blamed ≡ name)
-RefusesRead old new name (stop.TooLarge blamed) = (blamed.now ≡ name) × (new.faults ≡ old.faults) × IsTooLarge (old.held name) old.oversize new.oversize × (new.blamed ≡ name)
+RefusesRead old new name (stop.NotRead blamed) = (blamed.now ≡ name) × (new.faults ≡ next_count old.faults)
+    × (new.oversize ≡ old.oversize) × (new.blamed ≡ name)
+RefusesRead old new name (stop.TooLarge blamed) = (blamed.now ≡ name) × (new.faults ≡ old.faults)
+    × IsTooLarge (old.held name) old.oversize new.oversize × (new.blamed ≡ name)
 RefusesRead old new name stop.NoMemory = IsQuiet old new
 RefusesRead old new name _ = ⊥
 
@@ -73,7 +78,8 @@ RefusesPrelude old new (Some name) s = RefusesRead old new name s
 
 -- the text is no script, for this fault; or memory was wanting
 abbrev pub RefusesText : Role → List (List ℕ) → Named → ScriptsFault → Type 0
-RefusesText r outer source (stop.Refused refused fault) = (refused.now ≡ source.name) × script.Refused r outer source.text fault
+RefusesText r outer source (stop.Refused refused fault) =
+    (refused.now ≡ source.name) × script.Refused r outer source.text fault
 RefusesText r outer source stop.NoMemory = ⊤
 RefusesText r outer source _ = ⊥
 

@@ -1,4 +1,5 @@
--- Numbers that are drawn one after the other. A state is a number below 2^32; each draw goes to the next state, whose upper half gives the number.
+-- Numbers that are drawn one after the other. A state is a number below 2^32; each draw goes to the next
+-- state, whose upper half gives the number.
 use Rattle.std.specs.Prelude.{◌+◌, ◌*◌, ◌/◌, ◌%◌, ◌^◌, ℕ, zero, suc, List, [], ◌∷◌, ◌++◌}
 
 -- the state after this one

@@ -7,6 +7,7 @@ use Rattle.eval_tree.specs.Tree.{Tree}
 abbrev pub Name : Type 0
 Name = List ℕ
 
+-- a prelude or none, and scripts in the order of the arguments
 pub record Program (T : Type 0) : Type 0 where
   pub prelude : Option T
   pub scripts : List T
@@ -16,6 +17,7 @@ abbrev pub with_prelude : {T : Type 0} → Option T → List T → List T
 with_prelude None scripts = scripts
 with_prelude (Some prelude) scripts = prelude ∷ scripts
 
+-- the prelude, if there is one, and then the scripts
 abbrev pub in_order : {T : Type 0} → Program T → List T
 in_order program = with_prelude program.prelude program.scripts
 

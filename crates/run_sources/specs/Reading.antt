@@ -1,5 +1,5 @@
--- Which files were read, and which one was not. With every answer but that a file can't be read or is too large, no read
--- failed or found too large a file.
+-- Which files were read, and which one was not. With every answer but that a file can't be read or is too
+-- large, no read failed or found too large a file.
 use Rattle.std.specs.Prelude.{◌≡◌, ◌≤◌, ⊤, ℕ, List, [], ◌∷◌, ◌++◌, length, Option, None, Some}
 use Rattle.run_sources.specs.Texts.{Named}
 use Rattle.js_io.specs.Counts.{next_count}
@@ -19,8 +19,8 @@ pub record IsQuiet (old new : FilesState) : Type 0 where
   pub not_large : new.oversize ≡ old.oversize
   pub unblamed : new.blamed ≡ old.blamed
 
--- the file of this name has this text, as far as files are told. It is not too large: this is what keeps a told file that is
--- too large from being taken for one that was read.
+-- the file of this name has this text, as far as files are told. It is not too large: this is what keeps a
+-- told file that is too large from being taken for one that was read.
 pub record IsRead (held : Name → Option (List ℕ)) (name : Name) (source : Named) : Type 0 where
   pub named : source.name ≡ name
   pub tells : Tells (held name) source.text
@@ -40,7 +40,8 @@ IsPreludeRead held (Some name) None = ⊥
 IsPreludeRead held (Some name) (Some source) = IsRead held name source
 
 -- all files
-pub record AreRead (held : Name → Option (List ℕ)) (names : Program Name) (sources : Program Named) : Type 0 where
+pub record AreRead (held : Name → Option (List ℕ)) (names : Program Name)
+    (sources : Program Named) : Type 0 where
   pub prelude : IsPreludeRead held names.prelude sources.prelude
   pub scripts : Read held names.scripts sources.scripts
 
@@ -52,7 +53,8 @@ pub record ReadUpTo (held : Name → Option (List ℕ)) (names : List Name) (nam
   pub split : names ≡ before ++ name ∷ after
   pub read : Read held before sources
 
--- one read failed, that of the file of this name, and none found too large a file; all files before it were read
+-- one read failed, that of the file of this name, and none found too large a file; all files before it were
+-- read
 pub record IsUnread (old new : FilesState) (names : List Name) (name : Name) : Type 0 where
   pub up_to : ReadUpTo old.held names name
   pub once : new.faults ≡ next_count old.faults

@@ -1,4 +1,5 @@
--- The texts that are made from a number: a prelude and 32 scripts. All that is drawn is drawn in the order of the text, from the number as the first state.
+-- The texts that are made from a number: a prelude and 32 scripts. All that is drawn is drawn in the order of
+-- the text, from the number as the first state.
 use Rattle.std.specs.Prelude.{◌+◌, ◌*◌, ◌≤◌, ◌++◌, ℕ, zero, suc, List, [], ◌∷◌, codes, length}
 use Rattle.std.specs.String.{string_bytes}
 use Rattle.run_sources.specs.Draws.{after, draw, each, listed, next}
@@ -9,9 +10,11 @@ use Rattle.run_sources.specs.declared.texts.GeneratedText.{GeneratedText}
 abbrev pub word_length : ℕ → ℕ
 word_length x = 6 + draw x 20
 
+-- letter number j, a to z, drawn from state x on
 abbrev pub letter : ℕ → ℕ → List ℕ
 letter x j = (97 + draw (after j x) 26) ∷ []
 
+-- the word that is drawn from state x on: first its length, and then its letters
 abbrev pub word : ℕ → List ℕ
 word x = each (letter (next x)) (word_length x)
 
@@ -20,22 +23,26 @@ unfoldable pub before : ℕ → ℕ → ℕ
 before n zero = n
 before n (suc i) = after (word_length (before n i)) (next (before n i))
 
+-- the prelude that is made from the number n: 16 words, and all of them with commas between them
 abbrev pub prelude : ℕ → List ℕ
 prelude n = each (λ i. word_line i (word (before n i))) 16 ++ all_line
 
--- a line of a script, drawn from state x on: its kind and three numbers, all of which are drawn for every line
+-- a line of a script, drawn from state x on: its kind and three numbers, all of which are drawn for every
+-- line
 abbrev pub drawn_line : ℕ → List ℕ
 drawn_line x = line (draw x 6) (draw (after 1 x) 16) (draw (after 2 x) 16) (draw (after 3 x) 8)
 
 -- script j, drawn from state x on
 abbrev pub script : ℕ → ℕ → List ℕ
-script j x = codes "let acc = '';\nlet n = 0;\n" ++ (each (λ l. drawn_line (after (4 * l) x)) 32 ++ print_line j)
+script j x =
+    codes "let acc = '';\nlet n = 0;\n" ++ (each (λ l. drawn_line (after (4 * l) x)) 32 ++ print_line j)
 
 -- a text with its name
 pub record Named : Type 0 where
   pub name : List ℕ
   pub text : List ℕ
 
+-- script j that is made from the number n, drawn behind the words of the prelude and the scripts before it
 abbrev pub named_script : ℕ → ℕ → Named
 named_script n j = record { name = codes "gen-" ++ digits j; text = script j (after (128 * j) (before n 16)) }
 
