@@ -25,15 +25,22 @@ flag_rule name = record (option_rule name) { action = Some SetTrue }
 abbrev pub file_rule : Rule
 file_rule = record (new_rule (codes "FILE")) { action = Some Append }
 
+-- `--prelude FILE`, and `--jobs N`, which is 4 by default
 abbrev pub job_rules : List Rule
 job_rules = option_rule (codes "prelude") ∷ defaulted_rule (codes "jobs") (codes "4") ∷ []
 
+-- `--ids N`, `--heap-words N` and `--slots N`, with their defaults
 abbrev pub size_rules : List Rule
-size_rules = defaulted_rule (codes "ids") (codes "262144") ∷ defaulted_rule (codes "heap-words") (codes "4194304") ∷ defaulted_rule (codes "slots") (codes "65536") ∷ []
+size_rules = defaulted_rule (codes "ids") (codes "262144") ∷
+    defaulted_rule (codes "heap-words") (codes "4194304") ∷
+    defaulted_rule (codes "slots") (codes "65536") ∷ []
 
+-- `--summary`, `--generate N`, and `--limit N`, which is 64 by default
 abbrev pub other_rules : List Rule
-other_rules = flag_rule (codes "summary") ∷ number_rule (codes "generate") ∷ defaulted_rule (codes "limit") (codes "64") ∷ []
+other_rules = flag_rule (codes "summary") ∷ number_rule (codes "generate") ∷
+    defaulted_rule (codes "limit") (codes "64") ∷ []
 
+-- all arguments of the command
 abbrev pub rules : List Rule
 rules = job_rules ++ size_rules ++ other_rules ++ (file_rule ∷ [])
 
@@ -41,6 +48,7 @@ rules = job_rules ++ size_rules ++ other_rules ++ (file_rule ∷ [])
 abbrev pub command : App
 command = fold with_rule (new_app (codes "jsstr")) rules
 
--- the command gives matches for the words, of which the first is the program's name: it refuses none, and none asks for help
+-- the command gives matches for the words, of which the first is the program's name: it refuses none, and
+-- none asks for help
 abbrev pub gives_matches : List Text → Bool
 gives_matches words = is_empty (fault_of command words)

@@ -1,5 +1,7 @@
 -- What the words of the command line ask for.
-use Rattle.std.specs.Prelude.{◌≡◌, ◌==◌, ◌&&◌, ◌||◌, not, is_some, ◌+◌, ◌^◌, ◌<◌, ◌≤◌, ⊤, ℕ, Bool, false, List, [], ◌∷◌, Option, None, Some, codes, if◌then◌else◌, length, map, nat_le, pos, option_and_then, option_map, unwrap_or}
+use Rattle.std.specs.Prelude.{◌≡◌, ◌==◌, ◌&&◌, ◌||◌, not, is_some, ◌+◌, ◌^◌, ◌<◌, ◌≤◌, ⊤, ℕ, Bool, false,
+    List, [], ◌∷◌, Option, None, Some, codes, if◌then◌else◌, length, map, nat_le, pos, option_and_then,
+    option_map, unwrap_or}
 use Rattle.std.specs.Option.{option_map_or}
 use Rattle.std.specs.Str.{bytes_eq}
 use Rattle.std.specs.Str.Parse.{digits_value, without_leading_sign}
@@ -20,7 +22,8 @@ use Rattle.run_command.specs.declared.plan.WordsFault.TheVariants.{Refused, Memo
 abbrev pub Name : Type 0
 Name = List ℕ
 
--- what is run: a prelude or none and the scripts, by the names of their files, or the texts that are made from a number
+-- what is run: a prelude or none and the scripts, by the names of their files, or the texts that are made
+-- from a number
 pub data Asked : Type 0 where
   files : Option Name → List Name → Asked
   made_from : ℕ → Asked
@@ -35,14 +38,17 @@ pub record Request : Type 0 where
 
 -- ---- values of options
 
--- the number that a text spells, where it is in the range: decimal digits, behind a sign or none, as the command takes them
+-- the number that a text spells, where it is in the range: decimal digits, behind a sign or none, as the
+-- command takes them
 abbrev pub number_in : ℕ → ℕ → Text → Option ℕ
-number_in least most text = if is_signed_in (pos least) (pos most) text then Some (digits_value 10 (without_leading_sign text)) else None
+number_in least most text = if is_signed_in (pos least) (pos most) text
+    then Some (digits_value 10 (without_leading_sign text)) else None
 
 -- the number of an option
 abbrev pub number_of : ℕ → ℕ → Text → List Row → Option ℕ
 number_of least most id rows = option_and_then (number_in least most) (first_of id rows)
 
+-- the most jobs that may be requested
 abbrev pub most_jobs : ℕ
 most_jobs = 64
 
@@ -50,24 +56,31 @@ most_jobs = 64
 abbrev pub most_size : ℕ
 most_size = 536870911
 
+-- the most that the three sizes of a heap may add up to, 2^29
 abbrev pub most_together : ℕ
 most_together = 536870912
 
+-- the three sizes, where each has a number and they are not too much together
 abbrev pub sizes_by : Option ℕ → Option ℕ → Option ℕ → Option Sizes
 sizes_by (Some ids) (Some heap_words) (Some slots) =
-    if nat_le (ids + heap_words + slots) most_together then Some (record { ids = ids; heap_words = heap_words; slots = slots }) else None
+    if nat_le (ids + heap_words + slots) most_together
+    then Some (record { ids = ids; heap_words = heap_words; slots = slots }) else None
 sizes_by _ _ _ = None
 
+-- the sizes that the options give, each in its range
 abbrev pub sizes_in : List Row → Option Sizes
-sizes_in rows = sizes_by (number_of 1 most_size (codes "ids") rows) (number_of 1 most_size (codes "heap-words") rows) (number_of 1 most_size (codes "slots") rows)
+sizes_in rows = sizes_by (number_of 1 most_size (codes "ids") rows)
+    (number_of 1 most_size (codes "heap-words") rows) (number_of 1 most_size (codes "slots") rows)
 
 -- `--limit`: 32 or 64
 abbrev pub limit_by : ℕ → Option Limit
 limit_by bits = if bits == 32 then Some Bits32 else (if bits == 64 then Some Bits64 else None)
 
+-- the limit of the length of strings, as `--limit` gives it
 abbrev pub limit_in : List Row → Option Limit
 limit_in rows = option_and_then limit_by (number_of 32 64 (codes "limit") rows)
 
+-- the number of `--jobs`, 1 to 64
 abbrev pub jobs_in : List Row → Option ℕ
 jobs_in rows = number_of 1 most_jobs (codes "jobs") rows
 
@@ -81,15 +94,18 @@ summary_in rows = option_map_or (λ text. bytes_eq text (codes "true")) (one_of 
 abbrev pub files_in : List Row → List Name
 files_in rows = unwrap_or (all_of (codes "FILE") rows) []
 
+-- the most files that may be named, a prelude not counted
 abbrev pub most_files : ℕ
 most_files = 4096
 
+-- these are some files, and not too many
 abbrev pub is_some_files : List Name → Bool
 is_some_files scripts = nat_le 1 (length scripts) && nat_le (length scripts) most_files
 
 -- files, one or more, but not too many, and a prelude or none
 abbrev pub named_in : List Row → Option Asked
-named_in rows = if is_some_files (files_in rows) then Some (files (first_of (codes "prelude") rows) (files_in rows)) else None
+named_in rows = if is_some_files (files_in rows)
+    then Some (files (first_of (codes "prelude") rows) (files_in rows)) else None
 
 -- the number of `--generate`, and neither a prelude nor a file
 abbrev pub generated_in : List Row → Option Asked
@@ -103,26 +119,31 @@ asked_in rows = if is_some (first_of (codes "generate") rows) then generated_in 
 
 -- ---- the whole
 
+-- the request of these parts; none where a number is wanting
 abbrev pub request_by : Asked → Option ℕ → Option Sizes → Option Limit → Bool → Option Request
 request_by asked (Some jobs) (Some sizes) (Some limit) summary =
     Some (record { asked = asked; jobs = jobs; sizes = sizes; summary = summary; limit = limit })
 request_by asked _ _ _ summary = None
 
+-- the request of what is to be run and of the options
 abbrev pub request_with : Asked → List Row → Option Request
 request_with asked rows = request_by asked (jobs_in rows) (sizes_in rows) (limit_in rows) (summary_in rows)
 
+-- the request of the command's matches
 abbrev pub request_in : List Row → Option Request
 request_in rows = option_and_then (λ asked. request_with asked rows) (asked_in rows)
 
--- lawful words: the command gives matches for them, each number is in its range, the limit is 32 or 64, the three sizes are not too much together,
--- and either files are named, one or more but not too many, or there is a number that texts are made from, with neither a file nor a prelude
+-- lawful words: the command gives matches for them, each number is in its range, the limit is 32 or 64, the
+-- three sizes are not too much together, and either files are named, one or more but not too many, or there
+-- is a number that texts are made from, with neither a file nor a prelude
 abbrev pub request_of : List Text → Option Request
 request_of words = if gives_matches words then request_in (matches_of command words) else None
 
 -- ---- what the code answers
 
 abbrev pub asked_for : Input → Asked
-asked_for (input.Files prelude scripts) = files (option_map (λ n. n.now) prelude) (map (λ n. n.now) scripts.items)
+asked_for (input.Files prelude scripts) =
+    files (option_map (λ n. n.now) prelude) (map (λ n. n.now) scripts.items)
 asked_for (input.Generated number) = made_from number
 
 -- the request that a plan is
