@@ -9,7 +9,8 @@ use Rattle.run_sources.specs.declared.stop.ScriptsFault.{ScriptsFault}
 use Rattle.run_sources.specs.declared.stop.ScriptsFault.TheVariants as stop
 use Rattle.run_sources.specs.Program.{Name}
 use Rattle.js_run.specs.Moment.{Sinks, Ended}
-use Rattle.js_run.specs.Verdict.{Verdict, Report, Refusal, report_of, kept_of, unread_line, large_line, refused_line, memory_line}
+use Rattle.js_run.specs.Verdict.{Verdict, Report, Refusal, report_of, kept_of, unread_line, large_line,
+    refused_line, memory_line}
 use Rattle.js_run.specs.Ending.{IsEnd}
 
 abbrev pub stop_report : ScriptsFault → Report
@@ -36,7 +37,8 @@ pub record HasNames (sources : Sources) (ran : Ran) : Type 0 where
   pub prelude : SamePrelude sources.prelude ran.prelude
   pub scripts : length ran.scripts.items ≤ length sources.scripts.items
 
--- a call came to a verdict of this kind, what was written is what is reported of it, and what is kept is what is there
+-- a call came to a verdict of this kind, what was written is what is reported of it, and what is kept is what
+-- is there
 pub record Becomes (Why : Verdict → Type 0) (ended : Ended) (old new : Sinks) : Type 0 where
   pub verdict : Verdict
   pub cause : Why verdict

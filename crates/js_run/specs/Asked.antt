@@ -13,9 +13,11 @@ abbrev pub names_of : Asked → Program Name
 names_of (files prelude scripts) = record { prelude = prelude; scripts = scripts }
 names_of (made_from number) = record { prelude = None; scripts = [] }
 
--- The texts are those of the files, as far as files are told, and none is too large; or those that are made from the number.
+-- The texts are those of the files, as far as files are told, and none is too large; or those that are made
+-- from the number.
 abbrev pub AreTexts : Asked → (Name → Option (List ℕ)) → Program Named → Type 0
-AreTexts (files prelude scripts) held sources = AreRead held (record { prelude = prelude; scripts = scripts }) sources
+AreTexts (files prelude scripts) held sources =
+    AreRead held (record { prelude = prelude; scripts = scripts }) sources
 AreTexts (made_from number) held sources = sources ≡ program_from (generated number)
 
 -- texts that are made from a number count as `--summary`
@@ -23,6 +25,7 @@ abbrev pub is_counted : Asked → Bool → Bool
 is_counted (files prelude scripts) summary = summary
 is_counted (made_from number) summary = true
 
+-- the sizes of a heap, as a request has them
 abbrev pub size_by : Sizes → HeapSize
 size_by sizes = record { ids = sizes.ids; words = sizes.heap_words; slots = sizes.slots }
 

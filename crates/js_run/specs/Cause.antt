@@ -1,5 +1,5 @@
--- Why a call has its verdict. With every verdict but that a file can't be read or is too large, no read failed or found
--- too large a file.
+-- Why a call has its verdict. With every verdict but that a file can't be read or is too large, no read
+-- failed or found too large a file.
 use Rattle.std.specs.Prelude.{◌≡◌, ℕ, List, Option, None, Some, map, option_map}
 use Rattle.js_io.specs.FilesState.{FilesState}
 use Rattle.run_sources.specs.Texts.{Named}
@@ -14,8 +14,10 @@ use Rattle.run_program.specs.Ran.{IsRan}
 use Rattle.js_run.specs.Asked.{AreTexts, names_of, setup_of}
 use Rattle.js_run.specs.Verdict.{Verdict, BadWords, NotRead, TooLarge, Refused, NoMemory, WasRun}
 
+-- the names of these texts
 abbrev pub names_in : Program Named → Program Name
-names_in sources = record { prelude = option_map (λ s. s.name) sources.prelude; scripts = map (λ s. s.name) sources.scripts }
+names_in sources =
+    record { prelude = option_map (λ s. s.name) sources.prelude; scripts = map (λ s. s.name) sources.scripts }
 
 -- files of these names are what the texts spell, and were run so
 pub record IsRun (setup : Setup) (sources : Program Named) (names : Program Name) (ran : Ran) : Type 0 where
@@ -58,9 +60,11 @@ IsBadWords old new (TooLarge name) = ⊥
 IsBadWords old new (Refused name fault) = ⊥
 IsBadWords old new (WasRun names ran) = ⊥
 
+-- the verdict has its cause, by the request or because there is none
 abbrev pub HasCauseBy : Option Request → FilesState → FilesState → Verdict → Type 0
 HasCauseBy None old new verdict = IsBadWords old new verdict
 HasCauseBy (Some request) old new verdict = HasCauseIn old new request verdict
 
+-- the verdict has its cause, by the words of the command line and by what the reads of files found
 abbrev pub HasCause : List (List ℕ) → FilesState → FilesState → Verdict → Type 0
 HasCause words old new verdict = HasCauseBy (request_of words) old new verdict

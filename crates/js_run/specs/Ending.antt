@@ -40,6 +40,9 @@ pub record IsCutAtErr (written told : List ℕ) (code : ℕ) (old new : Sinks) :
   pub out : TakesAll old.out new.out written
   pub err : TakesUntil old.err new.err told
 
+-- the status and the sinks are those of the report; where a write failed, what was written ends there, and
+-- the status of a run is 7
 abbrev pub IsEnd : Report → ℕ → Sinks → Sinks → Type 0
 IsEnd (Refusal status line) code old new = IsTold status line code old new
-IsEnd (Printed status written told) code old new = IsWhole status written told code old new ⊎ (IsCutAtOut written code old new ⊎ IsCutAtErr written told code old new)
+IsEnd (Printed status written told) code old new = IsWhole status written told code old new
+    ⊎ (IsCutAtOut written code old new ⊎ IsCutAtErr written told code old new)

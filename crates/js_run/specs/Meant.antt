@@ -1,4 +1,5 @@
--- What is meant to be reported: every file ends and prints as ECMA-262 says of it, each script after the prelude.
+-- What is meant to be reported: every file ends and prints as ECMA-262 says of it, each script after the
+-- prelude.
 use Rattle.std.specs.Prelude.{ℕ, List, [], ◌∷◌, ◌++◌, map, Option, None, Some}
 use Rattle.std.specs.List.{concat}
 use Rattle.eval_tree.specs.Tree.{Tree}
@@ -21,8 +22,10 @@ abbrev pub run_after : Option Flow → List Flow → List Flow
 run_after None scripts = scripts
 run_after (Some prelude) scripts = after_prelude prelude.out scripts
 
+-- what each script means that is meant to be run
 abbrev pub script_flows : Request → Program Tree → List Flow
-script_flows request trees = run_after (prelude_by (setup_of request) trees.prelude) (scripts_by (setup_of request) trees.prelude trees.scripts)
+script_flows request trees = run_after (prelude_by (setup_of request) trees.prelude)
+    (scripts_by (setup_of request) trees.prelude trees.scripts)
 
 -- how files are meant to end
 abbrev pub ends_meant : List Flow → List End
@@ -33,6 +36,7 @@ abbrev pub printed_meant : List Flow → List ℕ
 printed_meant [] = []
 printed_meant (m ∷ ms) = concat m.lines ++ printed_meant ms
 
+-- the status that is meant: 0 where all files are meant to end Done, else 1
 abbrev pub status_meant : Request → Program Tree → ℕ
 status_meant request trees = status_of (ends_meant (all_flows request trees))
 
@@ -40,8 +44,11 @@ status_meant request trees = status_of (ends_meant (all_flows request trees))
 abbrev pub out_meant : Request → Program Tree → Option ℕ → List ℕ
 out_meant request trees interned = printed_meant (script_flows request trees) ++ count_line interned
 
+-- the lines that are meant for err: one for each file that isn't meant to end Done
 abbrev pub err_meant : Request → Program Name → Program Tree → List ℕ
 err_meant request names trees = end_lines (in_order names) (ends_meant (all_flows request trees))
 
+-- the report that is meant, with the number that was counted, if there is one
 abbrev pub report_meant : Request → Program Name → Program Tree → Option ℕ → Report
-report_meant request names trees interned = Printed (status_meant request trees) (out_meant request trees interned) (err_meant request names trees)
+report_meant request names trees interned =
+    Printed (status_meant request trees) (out_meant request trees interned) (err_meant request names trees)

@@ -5,6 +5,7 @@ use Rattle.js_io.specs.SinkState.{SinkState}
 use Rattle.run_program.specs.declared.ran.Kept.{Kept}
 use Rattle.js_run.specs.declared.status.Status.{Status}
 
+-- what both sinks have taken, and how many of their writes failed
 pub record Sinks : Type 0 where
   pub out : SinkState
   pub err : SinkState
@@ -12,10 +13,12 @@ pub record Sinks : Type 0 where
 abbrev pub sinks : SinkState → SinkState → Sinks
 sinks out err = record { out = out; err = err }
 
+-- the files and the sinks before a call, or after it
 pub record Moment : Type 0 where
   pub files : FilesState
   pub sinks : Sinks
 
+-- a moment of these files and sinks
 abbrev pub moment : FilesState → SinkState → SinkState → Moment
 moment files out err = record { files = files; sinks = sinks out err }
 
@@ -24,5 +27,6 @@ pub record Ended : Type 0 where
   pub code : ℕ
   pub kept : Option Kept
 
+-- how the call ended: its status and what is kept
 abbrev pub ended : Status → Ended
 ended status = record { code = status.code; kept = status.kept }

@@ -1,5 +1,7 @@
--- Each status by itself: when it comes, what was written then, and what is kept. All of it follows from the outcome.
-use Rattle.std.specs.Prelude.{◌≡◌, ◌⊎◌, ℕ, ◌-◌, ◌^◌, ◌≤◌, ◌<◌, List, [], ◌∷◌, ◌++◌, length, Option, None, Some}
+-- Each status by itself: when it comes, what was written then, and what is kept. All of it follows from the
+-- outcome.
+use Rattle.std.specs.Prelude.{◌≡◌, ◌⊎◌, ℕ, ◌-◌, ◌^◌, ◌≤◌, ◌<◌, List, [], ◌∷◌, ◌++◌, length,
+    Option, None, Some}
 use Rattle.run_sources.specs.Texts.{Named}
 use Rattle.js_io.specs.FilesState.{FilesState}
 use Rattle.js_io.specs.declared.files.TheConstants.{FILE_MAX}
@@ -21,7 +23,8 @@ use Rattle.run_program.specs.declared.ran.Ran.{Ran}
 use Rattle.run_program.specs.Ran.{IsRan, sizes_by, state_kept}
 use Rattle.js_run.specs.Asked.{AreTexts, names_of, setup_of}
 use Rattle.js_run.specs.Meant.{all_flows, status_meant, out_meant, report_meant}
-use Rattle.js_run.specs.Verdict.{WasRun, Refused, report_of, status_of, ends_of, out_of, err_of, words_line, unread_line, large_line, refused_line, memory_line}
+use Rattle.js_run.specs.Verdict.{WasRun, Refused, report_of, status_of, ends_of, out_of, err_of, words_line,
+    unread_line, large_line, refused_line, memory_line}
 use Rattle.js_run.specs.Moment.{Moment, Ended}
 use Rattle.js_run.specs.Cause.{OfTexts, names_in}
 use Rattle.js_run.specs.Ending.{TakesAll, IsTold, IsCutAtOut, IsCutAtErr, IsEnd}
@@ -53,7 +56,8 @@ AreTold held names = Every (λ name. (bytes : List ℕ) × (held name ≡ Some b
 pub record IsFileFault (words : List (List ℕ)) (old new : FilesState) : Type 0 where
   pub request : Request
   pub lawful : request_of words ≡ Some request
-  pub why : IsUnread old new (in_order (names_of request.asked)) new.blamed ⊎ IsLarge old new (in_order (names_of request.asked)) new.blamed
+  pub why : IsUnread old new (in_order (names_of request.asked)) new.blamed
+      ⊎ IsLarge old new (in_order (names_of request.asked)) new.blamed
 
 -- no read failed, and the first file that isn't told to have at most so many bytes is told to have more
 pub record IsToldLarge (words : List (List ℕ)) (old new : FilesState) : Type 0 where
@@ -81,7 +85,8 @@ pub record IsNoScript (words : List (List ℕ)) (old new : FilesState) : Type 0 
   pub fault : ParseFault
   pub refused : OfTexts request old new (Refused name fault)
 
--- no read failed, all files are told and not too large, and one of the texts is the first that spells no script
+-- no read failed, all files are told and not too large, and one of the texts is the first that spells no
+-- script
 pub record IsToldRefused (words : List (List ℕ)) (old new : FilesState) : Type 0 where
   pub request : Request
   pub lawful : request_of words ≡ Some request
@@ -98,11 +103,14 @@ pub record IsToldRefused (words : List (List ℕ)) (old new : FilesState) : Type
 -- the line of a refusal, by its status
 pub data IsLine (words : List (List ℕ)) (code : ℕ) (old new : FilesState) : List ℕ → Type 0 where
   bad_words : code ≡ 2 → IsLine words code old new words_line
-  unread : code ≡ 3 → (request : Request) → request_of words ≡ Some request → IsUnread old new (in_order (names_of request.asked)) new.blamed
+  unread : code ≡ 3 → (request : Request) → request_of words ≡ Some request
+      → IsUnread old new (in_order (names_of request.asked)) new.blamed
       → IsLine words code old new (unread_line new.blamed)
-  large : code ≡ 3 → (request : Request) → request_of words ≡ Some request → IsLarge old new (in_order (names_of request.asked)) new.blamed
+  large : code ≡ 3 → (request : Request) → request_of words ≡ Some request
+      → IsLarge old new (in_order (names_of request.asked)) new.blamed
       → IsLine words code old new (large_line new.blamed)
-  refused : code ≡ 4 → (request : Request) → request_of words ≡ Some request → (name : Name) (fault : ParseFault) → OfTexts request old new (Refused name fault)
+  refused : code ≡ 4 → (request : Request) → request_of words ≡ Some request
+      → (name : Name) (fault : ParseFault) → OfTexts request old new (Refused name fault)
       → IsLine words code old new (refused_line name fault)
 
 -- the statuses of what isn't run, unless memory runs out
@@ -128,8 +136,9 @@ pub record AreRun (words : List (List ℕ)) (old new : FilesState) : Type 0 wher
   pub trees : Program Tree
   pub spell : Spell sources trees
 
--- The program was run on the heap that is kept, the status is that of the first file that didn't end Done, and all was written: out took
--- exactly what the scripts printed, with the line `interned N` where it is asked for, and err the lines of the files that didn't end Done.
+-- The program was run on the heap that is kept, the status is that of the first file that didn't end Done,
+-- and all was written: out took exactly what the scripts printed, with the line `interned N` where it is
+-- asked for, and err the lines of the files that didn't end Done.
 -- What each file's end and lines are by its meaning, and what the heap holds, stands in `program`.
 pub record Prints (words : List (List ℕ)) (status : ℕ) (ended : Ended) (old new : Moment) : Type 0 where
   pub run : AreRun words old.files new.files
@@ -144,16 +153,19 @@ pub record Prints (words : List (List ℕ)) (status : ℕ) (ended : Ended) (old 
 pub record PrintsAll (words : List (List ℕ)) (ended : Ended) (old new : Moment) : Type 0 where
   pub prints : Prints words 0 ended old new
   pub meant : status_meant prints.run.request prints.run.trees ≡ 0
-  pub out : TakesAll old.sinks.out new.sinks.out (out_meant prints.run.request prints.run.trees prints.ran.interned)
+  pub out : TakesAll old.sinks.out new.sinks.out
+      (out_meant prints.run.request prints.run.trees prints.ran.interned)
   pub err : TakesAll old.sinks.err new.sinks.err []
 
--- the same where the first file that didn't end Done threw or is unsupported: it is also the first that isn't meant to end Done
+-- the same where the first file that didn't end Done threw or is unsupported: it is also the first that isn't
+-- meant to end Done
 pub record PrintsEarly (words : List (List ℕ)) (ended : Ended) (old new : Moment) : Type 0 where
   pub prints : Prints words 1 ended old new
   pub meant : status_meant prints.run.request prints.run.trees ≡ 1
 
 -- the first of some files that didn't end Done ended Full, where what it reports had run out
-pub record FirstFull {F : Type 0} (z : Sizes) (s : State F) (means : List Flow) (files : List RunFile) : Type 0 where
+pub record FirstFull {F : Type 0} (z : Sizes) (s : State F) (means : List Flow)
+    (files : List RunFile) : Type 0 where
   pub before : List RunFile
   pub file : RunFile
   pub after : List RunFile
@@ -163,22 +175,26 @@ pub record FirstFull {F : Type 0} (z : Sizes) (s : State F) (means : List Flow) 
   pub full : file.end ≡ Full report
   pub ran_out : RanOut z s means file.mean file.part report
 
--- the same where the first file that didn't end Done ended Full: the heap was full, and the stated needs didn't fit
+-- the same where the first file that didn't end Done ended Full: the heap was full, and the stated needs
+-- didn't fit
 pub record PrintsFull (words : List (List ℕ)) (ended : Ended) (old new : Moment) : Type 0 where
   pub prints : Prints words 5 ended old new
-  pub full : FirstFull (sizes_by (setup_of prints.run.request)) (state_kept (setup_of prints.run.request) prints.ran.kept)
+  pub full : FirstFull (sizes_by (setup_of prints.run.request))
+      (state_kept (setup_of prints.run.request) prints.ran.kept)
       (all_flows prints.run.request prints.run.trees) prints.program.files
 
 -- memory was wanting: before a file was run, or while the first one ran that didn't end Done
 abbrev pub IsMemory : List (List ℕ) → Ended → Moment → Moment → Type 0
 IsMemory words ended old new = IsWant ended old new ⊎ Prints words 6 ended old new
 
--- the program was run, and a write failed: one to out after a prefix of what it prints, and err took nothing; or one to err
+-- the program was run, and a write failed: one to out after a prefix of what it prints, and err took nothing;
+-- or one to err
 pub record IsCut (words : List (List ℕ)) (ended : Ended) (old new : Moment) : Type 0 where
   pub run : AreRun words old.files new.files
   pub ran : Ran
   pub program : IsRan (setup_of run.request) run.trees.prelude run.trees.scripts ran
-  pub cut : IsCutAtOut (out_of ran) ended.code old.sinks new.sinks ⊎ IsCutAtErr (out_of ran) (err_of (names_in run.sources) ran) ended.code old.sinks new.sinks
+  pub cut : IsCutAtOut (out_of ran) ended.code old.sinks new.sinks
+      ⊎ IsCutAtErr (out_of ran) (err_of (names_in run.sources) ran) ended.code old.sinks new.sinks
   pub kept : ended.kept ≡ Some ran.kept
 
 -- ---- honest files
@@ -194,16 +210,20 @@ pub record IsHonest (words : List (List ℕ)) (old new : FilesState) : Type 0 wh
   pub spell : Spell sources trees
   pub calm : NoFault old.faults new.faults
 
--- The program was run, and all was written, or a write failed. Where the stated needs fit the heap and memory was wanting for no file, what
--- is reported is what is meant.
-pub record IsRanTo (request : Request) (names : Program Name) (trees : Program Tree) (ended : Ended) (old new : Moment) : Type 0 where
+-- The program was run, and all was written, or a write failed. Where the stated needs fit the heap and memory
+-- was wanting for no file, what is reported is what is meant.
+pub record IsRanTo (request : Request) (names : Program Name) (trees : Program Tree) (ended : Ended)
+    (old new : Moment) : Type 0 where
   pub ran : Ran
   pub program : IsRan (setup_of request) trees.prelude trees.scripts ran
   pub end : IsEnd (report_of (WasRun names ran)) ended.code old.sinks new.sinks
   pub kept : ended.kept ≡ Some ran.kept
-  pub complete : Fits (sizes_by (setup_of request)) (all_flows request trees) → Every (λ e. e ≡ Memory → ⊥) (ends_of ran)
+  pub complete : Fits (sizes_by (setup_of request)) (all_flows request trees)
+      → Every (λ e. e ≡ Memory → ⊥) (ends_of ran)
       → report_of (WasRun names ran) ≡ report_meant request names trees ran.interned
 
 -- the program was run; or memory was wanting before that
-abbrev pub IsDone : (words : List (List ℕ)) (ended : Ended) (old new : Moment) → IsHonest words old.files new.files → Type 0
-IsDone words ended old new honest = IsRanTo honest.request (names_in honest.sources) honest.trees ended old new ⊎ IsWant ended old new
+abbrev pub IsDone : (words : List (List ℕ)) (ended : Ended) (old new : Moment)
+    → IsHonest words old.files new.files → Type 0
+IsDone words ended old new honest =
+    IsRanTo honest.request (names_in honest.sources) honest.trees ended old new ⊎ IsWant ended old new

@@ -14,6 +14,8 @@ use Rattle.run_program.specs.declared.ran.Ran.{Ran}
 use Rattle.run_program.specs.Ran.{outcomes_in}
 use Rattle.js_parse.specs.Faults.{fault_offset, fault_words}
 
+-- what becomes of a call: the words are refused, a file can't be read or is too large, a text is refused,
+-- memory is wanting, or files were run
 pub data Verdict : Type 0 where
   BadWords : Verdict
   NotRead : Name → Verdict
@@ -39,22 +41,26 @@ abbrev pub count_line : Option ℕ → List ℕ
 count_line None = []
 count_line (Some count) = codes "interned " ++ (decimal count ++ 10 ∷ [])
 
+-- the bytes for out: what the scripts printed, and the line of the number of different strings
 abbrev pub out_of : Ran → List ℕ
 out_of ran = printed_by ran.scripts.items ++ count_line ran.interned
 
 -- ---- the line of a file that didn't end Done
 
+-- what is told of an error that nothing caught
 abbrev pub kind_text : Kind → List ℕ
 kind_text RangeError = codes ": uncaught RangeError\n"
 kind_text TypeError = codes ": uncaught TypeError\n"
 kind_text ReferenceError = codes ": uncaught ReferenceError\n"
 kind_text UriError = codes ": uncaught URIError\n"
 
+-- what is told of what had run out on the heap
 abbrev pub full_text : FullReport → List ℕ
 full_text (Ids at want end) = codes ": heap full: ids\n"
 full_text (Words at want end) = codes ": heap full: words\n"
 full_text (Slots slots) = codes ": heap full: slots\n"
 
+-- the line of a file that ended so; none where it ended Done
 abbrev pub end_line : Name → End → List ℕ
 end_line name Done = []
 end_line name (Threw kind) = name ++ kind_text kind
@@ -68,11 +74,13 @@ end_lines [] ends = []
 end_lines (name ∷ names) [] = []
 end_lines (name ∷ names) (e ∷ es) = end_line name e ++ end_lines names es
 
+-- the bytes for err: a line for each file that didn't end Done
 abbrev pub err_of : Program Name → Ran → List ℕ
 err_of names ran = end_lines (in_order names) (ends_of ran)
 
 -- ---- the status of the first file that didn't end Done, or 0
 
+-- the status of a file that ended so, or that of later files where it ended Done
 abbrev pub status_or : End → ℕ → ℕ
 status_or Done later = later
 status_or (Threw kind) later = 1
@@ -80,36 +88,44 @@ status_or (Unsupported at) later = 1
 status_or (Full report) later = 5
 status_or Memory later = 6
 
+-- the status by the ends of all files in their order
 abbrev pub status_of : List End → ℕ
 status_of [] = 0
 status_of (e ∷ es) = status_or e (status_of es)
 
 -- ---- the lines of refusals
 
+-- the line of refused words
 abbrev pub words_line : List ℕ
 words_line = codes "jsstr: the words are refused\n"
 
+-- the line of a file that can't be read
 abbrev pub unread_line : Name → List ℕ
 unread_line name = name ++ codes ": cannot be read\n"
 
+-- the line of a file that is too large
 abbrev pub large_line : Name → List ℕ
 large_line name = name ++ codes ": larger than 1048576 bytes\n"
 
 -- the byte offset of the fault, and its words
 abbrev pub refused_line : Name → ParseFault → List ℕ
-refused_line name fault = (name ++ (58 ∷ [] ++ (decimal (fault_offset fault) ++ codes ": refused: "))) ++ (fault_words fault ++ 10 ∷ [])
+refused_line name fault = (name ++ (58 ∷ [] ++ (decimal (fault_offset fault) ++ codes ": refused: ")))
+    ++ (fault_words fault ++ 10 ∷ [])
 
+-- the line of memory that was wanting before anything was run
 abbrev pub memory_line : List ℕ
 memory_line = codes "jsstr: out of memory\n"
 
 -- ---- what is reported, and what is kept
 
+-- what is reported of a call
 pub data Report : Type 0 where
   -- nothing was run: a status, and a line for err
   Refusal : (status : ℕ) (line : List ℕ) → Report
   -- a status, the bytes for out and those for err
   Printed : (status : ℕ) (written : List ℕ) (told : List ℕ) → Report
 
+-- what is reported of a verdict
 abbrev pub report_of : Verdict → Report
 report_of BadWords = Refusal 2 words_line
 report_of (NotRead name) = Refusal 3 (unread_line name)
