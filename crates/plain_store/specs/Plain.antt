@@ -1,5 +1,6 @@
 -- What a store of plain lists means, and what its parts owe one another.
-use Rattle.std.specs.Prelude.{◌≡◌, ℕ, ◌<◌, ◌≤◌, true, false, List, [], length, map, All, Some, slice_get, slice_index, unwrap_or}
+use Rattle.std.specs.Prelude.{◌≡◌, ℕ, ◌<◌, ◌≤◌, true, false, List, [], length, map, All, Some, slice_get,
+    slice_index, unwrap_or}
 use Rattle.std.specs.Ordering.{nat_cmp}
 use Rattle.std.specs.Cmp.Lexicographic.{slice_cmp}
 use Rattle.std.specs.FinMap.{FinMap, get}
@@ -33,10 +34,13 @@ plain_state strings answers limit = record {
   frame = tt;
 }
 
--- each list is short enough for a string, a unit is 16 bits wide and a number 32; the table names strings by their units, and each number answered is the one that the table has for its units
-pub record IsConsistent (strings : List (List ℕ)) (answers : List ℕ) (table : FinMap (slice_cmp nat_cmp) ℕ) : Type 0 where
+-- each list is short enough for a string, a unit is 16 bits wide and a number 32; the table names strings by
+-- their units, and each number answered is the one that the table has for its units
+pub record IsConsistent (strings : List (List ℕ)) (answers : List ℕ)
+    (table : FinMap (slice_cmp nat_cmp) ℕ) : Type 0 where
   pub lengths : (n : ℕ) → length (units_at strings n) ≤ 536870888
   pub ranges : (n : ℕ) → All (λ x. x < 65536) (units_at strings n)
   pub count : length strings ≤ 4294967295
   pub found : (u : List ℕ) (n : ℕ) → get table u ≡ Some n → slice_get strings n ≡ Some u
-  pub answered : (k : ℕ) → k < length answers → get table (units_at strings (slice_index answers k)) ≡ Some (slice_index answers k)
+  pub answered : (k : ℕ) → k < length answers
+      → get table (units_at strings (slice_index answers k)) ≡ Some (slice_index answers k)

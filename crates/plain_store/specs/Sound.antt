@@ -1,5 +1,6 @@
 -- Each plain store is sound.
-use Rattle.std.specs.Prelude.{◌≡◌, ℕ, zero, suc, ◌<◌, ◌≤◌, List, [], ◌∷◌, length, All, Some, slice_get, slice_index, unwrap_or, Contains}
+use Rattle.std.specs.Prelude.{◌≡◌, ℕ, zero, suc, ◌<◌, ◌≤◌, List, [], ◌∷◌, length, All, Some, slice_get,
+    slice_index, unwrap_or, Contains}
 use Rattle.std.proofs.Common.{arith, ap, sym, subst, ◌∙◌, get_or}
 use Rattle.std.proofs.lemmas.List.{get_or-map, length-map}
 use Rattle.std.specs.Ordering.{nat_cmp}
@@ -21,7 +22,8 @@ pub record Answer (strings : List (List ℕ)) (answers : List ℕ) (u : List ℕ
   pub units : units_at strings n ≡ u
 
 -- a pair of the history is one of the answers
-pub answer_of : (strings : List (List ℕ)) (answers : List ℕ) (u : List ℕ) (n : ℕ) → Contains (history_of strings answers) (u, n) → Answer strings answers u n
+pub answer_of : (strings : List (List ℕ)) (answers : List ℕ) (u : List ℕ) (n : ℕ)
+    → Contains (history_of strings answers) (u, n) → Answer strings answers u n
 answer_of strings answers u n h =
     let f : ℕ → List ℕ × ℕ = λ m. (units_at strings m, m) in
     let l : h.0 < length answers = subst (λ (x : ℕ). h.0 < x) (length-map answers f) h.1 in
@@ -33,12 +35,14 @@ pub some_same : (m n : ℕ) → Some m ≡ Some n → m ≡ n
 some_same m n e = ap (λ o. unwrap_or o m) e
 
 -- the table has the number of each list interned
-in_table : (strings : List (List ℕ)) (answers : List ℕ) (t : Numbers) → IsConsistent strings answers t → (u : List ℕ) (n : ℕ) → Contains (history_of strings answers) (u, n) → get t u ≡ Some n
+in_table : (strings : List (List ℕ)) (answers : List ℕ) (t : Numbers) → IsConsistent strings answers t
+    → (u : List ℕ) (n : ℕ) → Contains (history_of strings answers) (u, n) → get t u ≡ Some n
 in_table strings answers t k u n h =
     let a = answer_of strings answers u n h in
     ap (get t) (sym a.units ∙ ap (units_at strings) (sym a.number)) ∙ k.answered a.k a.here ∙ ap Some a.number
 
-get_within : (strings : List (List ℕ)) (n : ℕ) (u : List ℕ) → slice_get strings n ≡ Some u → n < length strings
+get_within : (strings : List (List ℕ)) (n : ℕ) (u : List ℕ) → slice_get strings n ≡ Some u
+    → n < length strings
 get_within [] n u h = absurd (cc)
 get_within (x ∷ xs) zero u h = omega arith
 get_within (x ∷ xs) (suc n) u h = omega (arith, get_within xs n u h)
@@ -51,10 +55,13 @@ high : (l : Limit) → limit_units l ≤ 536870888
 high Bits32 = omega arith
 high Bits64 = omega arith
 
-pub sound_of : (strings : List (List ℕ)) (answers : List ℕ) (l : Limit) (t : Numbers) → IsConsistent strings answers t → Sound (plain_state strings answers l)
+pub sound_of : (strings : List (List ℕ)) (answers : List ℕ) (l : Limit) (t : Numbers)
+    → IsConsistent strings answers t → Sound (plain_state strings answers l)
 sound_of strings answers l t k = record {
-  one_number = λ u m n p q. some_same m n (sym (in_table strings answers t k u m p) ∙ in_table strings answers t k u n q);
-  one_list = λ u v n p q. sym (answer_of strings answers u n p).units ∙ (answer_of strings answers v n q).units;
+  one_number = λ u m n p q. some_same m n
+      (sym (in_table strings answers t k u m p) ∙ in_table strings answers t k u n q);
+  one_list =
+      λ u v n p q. sym (answer_of strings answers u n p).units ∙ (answer_of strings answers v n q).units;
   agrees = λ u v n p h. sym (answer_of strings answers u n p).units ∙ ap (λ o. unwrap_or o []) h;
   shut_apart = λ u n h p. cc;
   numbers = λ n u h. omega (arith, get_within strings n u h, k.count);
