@@ -16,64 +16,82 @@ use Rattle.jsstr_c.specs.declared.answer.JsSize.{JsSize}
 use Rattle.jsstr_c.specs.declared.answer.JsWords.{JsWords}
 use Rattle.heap_agents.specs.declared.words.Shown.{Shown}
 
+-- the call is done
 abbrev pub DONE : ℕ
 DONE = 0
 
+-- memory is wanting
 abbrev pub NO_MEMORY : ℕ
 NO_MEMORY = 1
 
+-- a size, the number of agents or the limit is out of its range
 abbrev pub BAD_SIZE : ℕ
 BAD_SIZE = 2
 
+-- the ids don't suffice
 abbrev pub NO_IDS : ℕ
 NO_IDS = 3
 
+-- the content words don't suffice
 abbrev pub NO_WORDS : ℕ
 NO_WORDS = 4
 
+-- every slot of the string table is used
 abbrev pub NO_SLOTS : ℕ
 NO_SLOTS = 5
 
+-- two strings are longer together than the limit
 abbrev pub TOO_LONG : ℕ
 TOO_LONG = 6
 
+-- there is no such place
 abbrev pub NONE : ℕ
 NONE = 7
 
+-- the bytes are no UTF-8
 abbrev pub NOT_UTF8 : ℕ
 NOT_UTF8 = 8
 
+-- the condition of the call doesn't hold
 abbrev pub BAD_ARGUMENT : ℕ
 BAD_ARGUMENT = 9
 
+-- the call is done, with this string
 abbrev pub done : ℕ → JsAnswer
 done id = record { status = DONE; id = id; at = 0; want = 0; end = 0 }
 
+-- a counter was full: its number, what was wanted and its end
 abbrev pub text_report : TextFull → JsAnswer
 text_report (Ids f) = record { status = NO_IDS; id = 0; at = f.at; want = f.want; end = f.end }
 text_report (Words f) = record { status = NO_WORDS; id = 0; at = f.at; want = f.want; end = f.end }
 
+-- the lengths of two strings that are too long together, or a full counter
 abbrev pub join_report : JoinFault → JsAnswer
 join_report (TooLong left right) = record { status = TOO_LONG; id = 0; at = left; want = right; end = 0 }
 join_report (Full f) = text_report f
 
+-- the string, or the full counter
 abbrev pub text_answer : Result JsStr TextFull → JsAnswer
 text_answer (Ok s) = done s.id
 text_answer (Err f) = text_report f
 
+-- the string, or why two strings weren't joined
 abbrev pub join_answer : Result JsStr JoinFault → JsAnswer
 join_answer (Ok s) = done s.id
 join_answer (Err f) = join_report f
 
+-- a full counter, or a string table that is full: the number of its slots
 abbrev pub table_report : TableFull → JsAnswer
 table_report (table.Ids f) = record { status = NO_IDS; id = 0; at = f.at; want = f.want; end = f.end }
 table_report (table.Words f) = record { status = NO_WORDS; id = 0; at = f.at; want = f.want; end = f.end }
 table_report (table.Slots n) = record { status = NO_SLOTS; id = 0; at = 0; want = 0; end = n }
 
+-- the interned string, or what was full
 abbrev pub table_answer : Result ℕ TableFull → JsAnswer
 table_answer (Ok i) = done i
 table_answer (Err f) = table_report f
 
+-- memory is wanting, and nothing else is told
 abbrev pub no_memory : JsAnswer
 no_memory = record { status = NO_MEMORY; id = 0; at = 0; want = 0; end = 0 }
 
@@ -89,11 +107,13 @@ size_for z = record { ids = z.ids; words = z.words; slots = z.slots }
 abbrev pub bad_argument : JsAnswer
 bad_argument = record { status = BAD_ARGUMENT; id = 0; at = 0; want = 0; end = 0 }
 
+-- the order as C has it: -1, 0 or 1
 abbrev pub order_number : Ordering → ℤ
 order_number Less = negsuc 0
 order_number Equal = pos 0
 order_number Greater = pos 1
 
+-- the place, or that there is none
 abbrev pub place_answer : Option ℕ → JsPlace
 place_answer (Some k) = record { status = DONE; at = k }
 place_answer None = record { status = NONE; at = 0 }
@@ -102,8 +122,10 @@ place_answer None = record { status = NONE; at = 0 }
 abbrev pub words_answer : Shown → JsWords
 words_answer r = record { status = DONE; wide = r.wide; lane = r.lane; len = r.len; count = r.count }
 
+-- what an answer tells of the words of a string
 abbrev pub shown_by : JsWords → Shown
 shown_by r = record { wide = r.wide; lane = r.lane; len = r.len; count = r.count }
 
+-- a refusal, with nothing shown
 abbrev pub no_words : ℕ → JsWords
 no_words status = record { status = status; wide = false; lane = 0; len = 0; count = 0 }
