@@ -331,7 +331,7 @@ class Graph:
             self.link_record(item, source, names, inherited)
             return
         for text in self.equations(item):
-            head, equals, body = text.partition(" = ")
+            head, equals = re.match(r"(?s)(.*?)( =(?=\s)|\Z)", text).groups()
             bound = set(inherited) | binders(text)
             if equals and not re.match(r"\s*(?:(?:abbrev|unfoldable|pub|mutual)\s+)+", text) and not is_signature(text):
                 bound |= {it for it in re.findall(rf"(?<![\w'.]){IDENT}(?![\w.])", head) if not self.is_made(it, names, source) and it != item.name}
