@@ -95,7 +95,8 @@ uri_function _ = None
 
 -- names
 
--- a name that a script may declare: its offset, and the number of its letters ("BindingIdentifier")
+-- a name, as a declaration or an expression has it: its offset, and the number of its letters
+-- ("BindingIdentifier", "IdentifierReference")
 abbrev pub name : GrammarToken → Option Ident
 name (token.Name at n p) = Some (record { at = at; number = n })
 name _ = None
