@@ -16,6 +16,7 @@
      of a process that was forked while it had threads.
    - A pointer to a handle, units or bytes is valid, aligned and not null, even where there are no units. Two
      handles of one call are distinct.
+
    Each call writes its handle, reads too: keep handles of different threads in different cache lines.
 
    KNOWN. An agent knows the strings that its calls answered, what the agent that it was split off from
