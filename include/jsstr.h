@@ -1,23 +1,27 @@
 /* The string heap of jsstr, for C and C++.
 
-   A heap is one array of words that threads share; it takes no lock. An agent is one user of a heap, and
-   makes its calls from one thread at a time. A string is a number of 32 bits. Each call is proved.
+   A heap is one array of words that threads share, without a lock. An agent is one user of a heap, and
+   makes its calls from one thread at a time. A string is a number below 2^29; the first one of a heap is
+   0. docs/EMBEDDING.md says what is proved of the calls, and what to do when a heap is full.
 
    TWO FORMS. jsstr_x tests its condition, and where it fails answers JSSTR_BAD_ARGUMENT and has done
-   nothing. jsstr_x_unchecked, at the end, leaves the condition to the caller, and saves the test; where it
-   is broken, anything may happen, as with a wrong index in C. Both may be used with one handle.
+   nothing. jsstr_x_unchecked, at the end, leaves the condition to the caller; where it is broken, anything
+   may happen, as with a wrong index in C. Both serve one handle.
 
    WHAT C STILL OWES to both forms:
-   - A handle is zero, or was written by this library, and by nothing else. There are no copies of it.
-   - One call at a time on a handle. It may go to another thread by what orders memory: the start or the
-     join of a thread, a lock, a sequentially consistent atomic. No call from a signal handler, or from
-     the child of a process that was forked while it had threads.
-   - A pointer to a handle, to units or to bytes is valid and aligned, and isn't null, also where there are
-     no units. Two handles of a call are two.
+   - A handle is zero, or was written by this library, and by nothing else. Never copy a handle; to move
+     one, copy its bytes and zero the old place before the next call.
+   - One call at a time on a handle. It goes to another thread by what orders memory: the start or the join
+     of a thread, a lock, a sequentially consistent atomic. No call from a signal handler, or from the child
+     of a process that was forked while it had threads.
+   - A pointer to a handle, units or bytes is valid, aligned and not null, even where there are no units. Two
+     handles of one call are distinct.
 
-   KNOWN. An agent knows the strings that its calls answered, what was known to the agent that it was split
-   off from by then, and what was known to those that it took over. A string goes from one running thread to
-   another by jsstr_intern alone: the other thread interns equal units and gets that number.
+   Each call writes its handle, reads too: keep handles of different threads in different cache lines.
+
+   KNOWN. An agent knows the strings that its calls answered, what the agent that it was split off from
+   knew by then, and what those knew that it joined. A string goes from one running thread to another by
+   jsstr_intern alone: the other thread interns equal units and gets that number.
 
    SETTLED. A string that was made of units, and a slice, is settled. What jsstr_concat answers may be a
    rope; the calls that need a settled string settle it first, once for all agents, and may then be refused
@@ -39,9 +43,10 @@ typedef struct jsstr_agent { void *at; uint32_t live; } jsstr_agent;
 /* A string. */
 typedef uint32_t jsstr_id;
 
-/* What a heap has for all its life; nothing is given back. Each is 1 to 2^29 - 1, and together they are
-   at most 2^29: a string takes an id, its units take words of 8 bytes, and each list of units that is
-   interned takes a slot. An agent takes two bits an id beside that. */
+/* What a heap has for its life; nothing is given back. Each is 1 to 2^29 - 1, together at most 2^29. A string
+   uses an id, and its units words of 8 bytes; each list of units that is interned uses a slot and a second
+   id. Set a prime number of slots, at least 2.6 for each. A heap occupies 8 * (2 + slots + 2 * ids + words)
+   bytes, twice that while it is made, and two bits an id for each agent. */
 typedef struct jsstr_size { uint32_t ids, words, slots; } jsstr_size;
 
 /* The greatest length of a string, and the greatest limit. */
@@ -51,8 +56,8 @@ enum jsstr_status {
   JSSTR_DONE = 0,
   JSSTR_NO_MEMORY = 1,   /* malloc answered null; nothing has changed */
   JSSTR_BAD_SIZE = 2,    /* sizes, number of agents or limit are out of bounds */
-  JSSTR_NO_IDS = 3,      /* no id is left: the counter is at `at`, `want` are wanted, `end` there are */
-  JSSTR_NO_WORDS = 4,    /* not enough words are left: the same of the words */
+  JSSTR_NO_IDS = 3,      /* no id is left: at = used, want = requested, end = capacity */
+  JSSTR_NO_WORDS = 4,    /* not enough words are left: the same of words */
   JSSTR_NO_SLOTS = 5,    /* all `end` slots of the string table are used by other units */
   JSSTR_TOO_LONG = 6,    /* the sides, `at` and `want` units long, are longer together than the limit */
   JSSTR_NONE = 7,        /* there is no such place */
@@ -60,8 +65,8 @@ enum jsstr_status {
   JSSTR_BAD_ARGUMENT = 9 /* the condition of the call doesn't hold; no string and no heap has changed */
 };
 
-/* What isn't told is 0. After a refusal each string is what it was, and what the call had claimed by then
-   is lost. NO_IDS, NO_WORDS and NO_SLOTS are final: the same want is refused from then on, to every agent. */
+/* Unused fields are 0. After a refusal each string is what it was, and what the call had claimed by then
+   is lost. After NO_IDS, NO_WORDS or NO_SLOTS any later request of that size fails, for every agent. */
 typedef struct jsstr_answer { uint32_t status; jsstr_id id; uint32_t at, want, end; } jsstr_answer;
 typedef struct jsstr_number { uint32_t status, value; } jsstr_number;
 typedef struct jsstr_order { uint32_t status; int32_t order; } jsstr_order;
@@ -71,106 +76,106 @@ typedef struct jsstr_words { uint32_t status; bool wide; uint32_t lane, length, 
 typedef struct jsstr_used { uint32_t status, ids, words; } jsstr_used;
 typedef struct jsstr_use { uint32_t ids, words; } jsstr_use;
 
-/* Of every call with an agent it is a condition that the handle isn't zero. */
+/* Every call with an agent has the conditions that the handle isn't zero, and that each string that it is
+   given is known. */
 
 /* A heap, and in `out` its first agent, with the whole share: `agents`, 1 to 64, is how many agents there
    may be at one time. Joined strings are at most `limit` units long, which is at most JSSTR_MAX_LENGTH.
    Answers DONE, BAD_SIZE or NO_MEMORY. Condition: *out is zero. It stays zero where no heap is made. */
 uint32_t jsstr_make(jsstr_size size, uint32_t agents, uint32_t limit, jsstr_agent *out);
 
-/* Gives an agent back, with its share; *agent is zero afterwards. The last one of a heap takes the heap along. */
+/* Frees an agent, and with the last one the heap; *agent is zero afterwards. Its share doesn't return to the
+   others: where the heap goes on, join the agent instead. */
 uint32_t jsstr_free(jsstr_agent *agent);
 
 /* In `out` an agent of the same heap with `give` of the share, which knows all that this one knows.
    Answers DONE or NO_MEMORY. Condition: 1 <= give < share, and *out is zero. It stays zero where it is refused. */
 uint32_t jsstr_split(jsstr_agent *agent, uint32_t give, jsstr_agent *out);
 
-/* Takes over the share of another agent, and all that it has and knows; *other is zero afterwards.
-   Condition: `other` was split off from `agent` itself. An agent that was split off from another one than
-   this, or from none, of this heap or another, is refused, and so is a copy of this handle. */
+/* Takes over the share of another agent, and all that it has and knows; *other is zero afterwards. Answers DONE
+   or BAD_ARGUMENT. Condition: `other` was split off from `agent` itself. Any other agent, of this heap or
+   another, is refused. */
 uint32_t jsstr_join(jsstr_agent *agent, jsstr_agent *other);
 
 /* How many agents this one may become, itself counted. */
 jsstr_number jsstr_share(jsstr_agent *agent);
 
-/* A new string with these units, settled. It takes an id, and a word for 8 units, or for 4 where one of
+/* A new string with these units, settled. It uses an id, and a word for 8 units, or for 4 where one of
    them is over 255. Condition: len is at most JSSTR_MAX_LENGTH. */
 jsstr_answer jsstr_from_units(jsstr_agent *agent, const uint16_t *units, size_t len);
 
-/* The same of units below 256, a byte each, as Latin-1 is. It wants memory for the time of the call, and
+/* The same of units below 256, a byte each, as Latin-1 is. It allocates memory for the time of the call, and
    may answer NO_MEMORY. Condition: len is at most JSSTR_MAX_LENGTH. */
 jsstr_answer jsstr_from_latin1(jsstr_agent *agent, const uint8_t *bytes, size_t len);
 
-/* The text whose UTF-8 these bytes are, in UTF-16: no unit is an unpaired surrogate. It wants memory for
-   the time of the call, and may answer NO_MEMORY; it answers NOT_UTF8 exactly where the bytes are none, as
-   where they end within a character, spell a surrogate, or spell one by too many bytes.
+/* The characters whose UTF-8 these bytes are, in UTF-16: no unit is an unpaired surrogate. It allocates memory
+   for the time of the call, and may answer NO_MEMORY; it answers NOT_UTF8 exactly where the bytes are no
+   UTF-8, as where they end within a character, spell a surrogate, or a character by too many bytes.
    Condition: len is at most JSSTR_MAX_LENGTH. */
 jsstr_answer jsstr_from_utf8(jsstr_agent *agent, const uint8_t *bytes, size_t len);
 
 /* The units of a, and then those of b. Fewer than 13 units are copied; from 13 on the answer is a rope,
-   which takes an id and no word. Where one side is empty, the answer is the other side.
-   Condition: a and b are known. */
+   which uses an id and no word. Where one side is empty, the answer is the other side. */
 jsstr_answer jsstr_concat(jsstr_agent *agent, jsstr_id a, jsstr_id b);
 
 /* The units of s from number `from` up to number `to`, settled. The whole is s itself. Fewer than 13
-   units are copied; from 13 on the answer is a slice, which takes an id and no word. Settles s.
-   Condition: s is known, and from <= to <= its length. */
+   units are copied; from 13 on the answer is a slice, which uses an id and no word. Settles s.
+   Condition: from <= to <= its length. */
 jsstr_answer jsstr_slice(jsstr_agent *agent, jsstr_id s, uint32_t from, uint32_t to);
 
-/* The number of units. Condition: s is known. */
+/* The number of units. */
 jsstr_number jsstr_length(jsstr_agent *agent, jsstr_id s);
 
-/* Sees to it that s is settled, and answers s. A rope's units are copied, once for all agents.
-   Condition: s is known. */
+/* Settles s, and answers s. A rope's units are copied, once for all agents. */
 jsstr_answer jsstr_settle(jsstr_agent *agent, jsstr_id s);
 
 /* The units of s from number `from` on, `len` of them, into `out`; nothing is written but where it answers
-   DONE. Settles s. Condition: s is known, and from + len is at most its length. */
+   DONE. Settles s. Condition: from + len is at most its length. */
 uint32_t jsstr_read(jsstr_agent *agent, jsstr_id s, uint32_t from, uint16_t *out, size_t len);
 
 /* The words that the units of s lie in, from word number `at` on, into `out`: as many as there are, at most
    `room`, and `count` says how many. A word has n lanes, 4 where `wide`, else 8, the first in its lowest
-   bits; of the `length` units number i stands in word (lane + i) / n, lane (lane + i) % n; other lanes may
+   bits; of the `length` units number i is in word (lane + i) / n, lane (lane + i) % n; other lanes may
    hold anything. `wide` and `lane` are those of this call; at the next one they may be others.
-   Nothing is written but where it answers DONE. Settles s. Condition: s is known. */
+   Nothing is written but where it answers DONE. Settles s. */
 jsstr_words jsstr_window(jsstr_agent *agent, jsstr_id s, uint32_t at, uint64_t *out, size_t room);
 
 /* The order of two strings by their units, where a proper prefix comes first: -1 where a comes before b,
-   0 where both have the same units, 1 where a comes after b. Settles both. Condition: a and b are known. */
+   0 where both have the same units, 1 where a comes after b. Settles both. */
 jsstr_order jsstr_compare(jsstr_agent *agent, jsstr_id a, jsstr_id b);
 
-/* Whether two strings have the same units. Settles both. Condition: a and b are known. */
+/* Whether two strings have the same units. Settles both. */
 jsstr_truth jsstr_equal(jsstr_agent *agent, jsstr_id a, jsstr_id b);
 
-/* Whether the units of `needle` stand in `hay` from number `at` on; where it has no room they don't.
-   Settles both. Condition: hay and needle are known. */
+/* Whether the units of `needle` are in `hay` from number `at` on; any `at` is allowed.
+   Settles both. */
 jsstr_truth jsstr_starts_with(jsstr_agent *agent, jsstr_id hay, jsstr_id needle, uint32_t at);
 
-/* The least place at or after `from` at which `needle` stands in `hay`, or NONE. An empty one stands at each
-   place. Settles both. Condition: hay and needle are known, and from is at most the length of hay. */
+/* The least place at or after `from` at which `needle` is in `hay`, or NONE. An empty one is at each place.
+   Settles both. Condition: from is at most the length of hay. */
 jsstr_place jsstr_index_of(jsstr_agent *agent, jsstr_id hay, jsstr_id needle, uint32_t from);
 
-/* The greatest place at most `limit` at which `needle` stands in `hay`, or NONE; any limit will do.
-   Settles both. Condition: hay and needle are known. */
+/* The greatest place at most `limit` at which `needle` is in `hay`, or NONE; any limit is allowed.
+   Settles both. */
 jsstr_place jsstr_last_index_of(jsstr_agent *agent, jsstr_id hay, jsstr_id needle, uint32_t limit);
 
 /* The one string of the string table with the units of s: every agent gets the same one for equal units.
-   It is known, and settled. It takes at most an id, and words where s is a slice. Settles s.
-   Condition: s is known. */
+   It is known, and settled. It uses at most an id, and words where s is a slice. Settles s. */
 jsstr_answer jsstr_intern(jsstr_agent *agent, jsstr_id s);
 
 /* Whether two interned strings have equal units, which is whether their numbers are equal.
-   Condition: a and b are answers of jsstr_intern that the agent knows. */
+   Condition: a and b are answers of jsstr_intern. */
 jsstr_truth jsstr_same(jsstr_agent *agent, jsstr_id a, jsstr_id b);
 
 /* What was used, by all agents, and how many different lists of units were interned.
-   Condition: the agent has the whole share. */
+   Condition: the agent has the whole share. Where others hold shares, the unchecked forms answer what each
+   counter, or slot, was at some moment; no contract says so. */
 jsstr_used jsstr_totals(jsstr_agent *agent);
 jsstr_number jsstr_count_interned(jsstr_agent *agent);
 
 /* THE SAME, CONDITION NOT TESTED. And nothing is settled on the way: the strings that are cut, read,
-   compared, searched, searched for or interned are settled already; of jsstr_starts_with_unchecked and
-   jsstr_last_index_of_unchecked the place may be any. What has no status here has done its work. */
+   compared, searched, searched for or interned are settled already. What has no status here always
+   succeeds. */
 uint32_t jsstr_make_unchecked(jsstr_size size, uint32_t agents, uint32_t limit, jsstr_agent *out);
 void jsstr_free_unchecked(jsstr_agent *agent);
 uint32_t jsstr_split_unchecked(jsstr_agent *agent, uint32_t give, jsstr_agent *out);

@@ -1,0 +1,86 @@
+"""The references of the documents to clauses and definitions, and whether the code has what they name.
+
+A reference is code in a document. `CRATE/src/FILE.rt: FUNCTION, CLAUSE, ..` names clauses of one function's contract,
+and `; ` begins the next function of that file. Without a clause it says that the function has a contract. `pub` in place
+of a function is each public one with a contract, and CRATE/src alone is each file of the crate.
+`CRATE/specs/FILE.antt: NAME, ..` names definitions, or a law in CRATE/proofs.
+"""
+
+import collections
+import glob
+import os
+import re
+
+REFERENCE = re.compile(r"`(\w+/(?:src|specs|proofs)[\w/]*(?:\.rt|\.antt)?): ([^`]+)`")
+FUNCTION = re.compile(r'\s*(pub )?(?:pub\(crate\) )?(?:const )?(?:unsafe )?(?:extern "C" )?fn (\w+)')
+CLAUSE = re.compile(r"\s*ensures (?:(\w+) )?\{")
+DEFINITION = r"(?m)^\s*(?:abbrev |unfoldable |pub |record |data |let |lemma |theorem |private )*%s(?=[ :(]|$)"
+
+Contract = collections.namedtuple("Contract", "name is_public clauses")
+
+
+def contracts(text):
+    """The functions of a file that have a contract, each with the names of its clauses ("" where one has none)."""
+    found, open_one = [], None
+    for line in text.splitlines():
+        begins = FUNCTION.match(line)
+        if begins:
+            open_one = Contract(begins.group(2), bool(begins.group(1)), set())
+            found.append(open_one)
+        elif line.strip() in ("{", "{}") or line.lstrip().startswith("///"):
+            open_one = None
+        clause = CLAUSE.match(line)
+        if clause and open_one:
+            open_one.clauses.add(clause.group(1) or "")
+    return [it for it in found if it.clauses]
+
+
+def named(all_contracts, name):
+    """The contracts that a reference means: of several functions with one name the public ones, if there are any."""
+    same = [it for it in all_contracts if name in (it.name, "pub")]
+    public = [it for it in same if it.is_public]
+    return public or [it for it in same if name != "pub"]
+
+
+def faults_of_code(root, path, names):
+    """What is wrong with a reference to functions."""
+    whole = os.path.join(root, "crates", path)
+    files = sorted(glob.glob(f"{whole}/**/*.rt", recursive=True)) if os.path.isdir(whole) else [whole]
+    if not files or not all(map(os.path.isfile, files)):
+        return [f"{path} is not there"]
+    all_contracts = []
+    for file in files:
+        with open(file, encoding="utf-8") as it:
+            all_contracts += contracts(it.read())
+    faults = []
+    for function, *clauses in (part.split(", ") for part in names.split("; ")):
+        meant = named(all_contracts, function)
+        if not meant:
+            faults.append(f"{path} has no {function} with a contract")
+        for clause in clauses:
+            faults += [f"{it.name} in {path} has no clause {clause}" for it in meant if clause not in it.clauses]
+    return faults
+
+
+def faults_of_definitions(root, path, names):
+    """What is wrong with a reference to definitions or laws."""
+    file = os.path.join(root, "crates", path)
+    if not os.path.isfile(file):
+        return [f"{path} is not there"]
+    with open(file, encoding="utf-8") as it:
+        text = it.read()
+    return [f"{path} defines no {name}" for name in names.split(", ") if not re.search(DEFINITION % re.escape(name), text)]
+
+
+def references(text):
+    """The references of a document: places with the names there."""
+    return REFERENCE.findall(text)
+
+
+def faults(root, text):
+    """What is wrong with the references of a document."""
+    found = []
+    for path, names in references(text):
+        found += (faults_of_definitions if path.endswith(".antt") else faults_of_code)(root, path, names)
+    return found
+
