@@ -24,5 +24,5 @@ leaves_after v x w us plan (Err f) l h = (h.0, h.1, refused_after v x w us plan 
 goes_after : (v x w : View) (id : ℕ) (us : List ℕ) (r : Result JsStr StoreFault) → IsPossible v → Looks v x → IsSeenLater v x id → GoesOn x w id us r → GoesOn v w id us r
 goes_after v x w id us r p l later h = (h.0, planned_then v x w id us h.0 later (l.used, l.words) h.1, leaves_after v x w us h.0 r l h.2, again_after v x w us r p l h.3)
 
-pub goes_by_plan : (v x w : View) (id : ℕ) (us : List ℕ) (r : Result JsStr StoreFault) → IsPossible v → (IsSettled v id → Reads v x) → (IsSettled v id → IsSeenLater v x id) → IsSettling v x id us → GoesOn x w id us r → GoesByPlan v w id us r
-goes_by_plan v x w id us r p reads later settling h = (λ settled. goes_after v x w id us r p (looks_reads v x (reads settled)) (later settled) h, inl (x, settling, h))
+pub goes_by_plan : (v x w : View) (id : ℕ) (us : List ℕ) (r : Result JsStr StoreFault) → IsPossible v → (IsSettled v id → Reads v x) → (IsSettled v id → IsSeenLater v x id) → IsSettling v x id us → IsSettled x id → GoesOn x w id us r → GoesByPlan v w id us r
+goes_by_plan v x w id us r p reads later settling settled h = (λ before. goes_after v x w id us r p (looks_reads v x (reads before)) (later before) h, inl (x, settling, settled, h))

@@ -50,4 +50,4 @@ IsNotSettled v w id us (Err f) = (full : TextFull) × (f ≡ fault_in_text full)
 -- A string that was settled is interned by a plan. Any other is settled first, and then interned by one, or not settled.
 abbrev pub GoesByPlan : View → View → ℕ → List ℕ → Result JsStr StoreFault → Type 0
 GoesByPlan v w id us r = (IsSettled v id → GoesOn v w id us r)
-    × (((m : View) × IsSettling v m id us × GoesOn m w id us r) ⊎ IsNotSettled v w id us r)
+    × (((m : View) × IsSettling v m id us × IsSettled m id × GoesOn m w id us r) ⊎ IsNotSettled v w id us r)
