@@ -6,6 +6,7 @@
 #![tactic(auto)]
 
 mod counts;
+mod finding;
 mod held;
 mod ids;
 mod life;
