@@ -7,6 +7,7 @@
 // place among those that were made, and what is told is its number on the heap. The steps are:
 //
 //     units TEXT · concat A B · slice A FROM TO · intern A      make a string
+//     intern-units TEXT · find-units TEXT                       the string of the table with these units
 //     settle A · reads A TEXT · same A B · count · totals       of texts and of sessions, but `settle`
 //     wide WORD                                                 makes four units by the steps of an agent
 //     doubled N · before A N · behind A N · rope UNIT EMPTY N   make ropes by many joins
