@@ -6,9 +6,9 @@
 #![tactic(auto)]
 
 mod counts;
-mod finding;
 mod held;
 mod ids;
+mod keys;
 mod life;
 mod making;
 mod member;

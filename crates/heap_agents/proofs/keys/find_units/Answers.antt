@@ -4,7 +4,7 @@ use Rattle.heap_intern.specs.Answers.{Finds, StandsAt}
 use Rattle.heap_table.specs.Agents.{view_of}
 use Rattle.heap_table.specs.declared.agent.Agent.{Agent}
 use Rattle.heap_agents.specs.Members.{view_if}
-use Rattle.heap_agents.proofs.finding.find_units.Goals as goal
+use Rattle.heap_agents.proofs.keys.find_units.Goals as goal
 
 pub returns-clause-finds : goal.returns-clause-finds
 returns-clause-finds c = let us : List ℕ = c.args.units.now in let r = c.find_units_by-answer.result in
