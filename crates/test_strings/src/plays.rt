@@ -45,6 +45,7 @@ fn wrong_in(rt: &impl Threads, alloc: Global, play: &str) -> Option<String> {
     wrong_on_text(rt, alloc, sizes, lines)
 }
 
+// The lines before those of two agents, these, and the lines behind them.
 fn wrong_on_text(rt: &impl Threads, alloc: Global, sizes: &str, lines: &str) -> Option<String> {
     let Some((size, agents)) = making_of(sizes) else {
         return fault(alloc, sizes);
@@ -53,19 +54,14 @@ fn wrong_on_text(rt: &impl Threads, alloc: Global, sizes: &str, lines: &str) -> 
         return fault(alloc, sizes);
     };
     let mut player = OnText::new(alloc, Text::new(&heap, agent, MAX), agents);
-    wrong_in_parts(rt, &mut player, lines)
-}
-
-// The lines before those of two agents, these, and the lines behind them.
-fn wrong_in_parts(rt: &impl Threads, player: &mut OnText, lines: &str) -> Option<String> {
     let Some((before, rest)) = lines.split_once("both\n") else {
         return player.wrong(lines);
     };
     let Some((first, rest)) = rest.split_once("and\n") else {
-        return fault(player.alloc, lines);
+        return fault(alloc, lines);
     };
     let Some((second, after)) = rest.split_once("end\n") else {
-        return fault(player.alloc, lines);
+        return fault(alloc, lines);
     };
     if let Some(line) = player.wrong(before) {
         return Some(line);
