@@ -8,6 +8,7 @@
 mod counts;
 mod held;
 mod ids;
+mod keys;
 mod life;
 mod making;
 mod member;

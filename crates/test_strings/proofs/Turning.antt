@@ -1,7 +1,7 @@
 -- What calls leave of an agent, one after another, and of the strings that a play made.
-use Rattle.std.proofs.Common.{◌≡◌, ℕ, ◌⊎◌, ⊎_elim, true, List, [], ◌∷◌, ◌++◌, refl, sym, ap, ◌∙◌, subst, append_assoc, arith, Result, Ok, Err, IfOk}
+use Rattle.std.proofs.Common.{◌≡◌, ℕ, ◌⊎◌, ⊎_elim, true, List, [], ◌∷◌, ◌++◌, refl, sym, ap, ◌∙◌, subst, append_assoc, arith, Option, Some, None, Result, Ok, Err, IfOk}
 use Rattle.std.proofs.lemmas.List.{append-nil}
-use Rattle.std.specs.Prelude.{Contains}
+use Rattle.std.specs.Prelude.{Contains, IfSome}
 use Rattle.heap_rule.specs.declared.view.View.{View}
 use Rattle.heap_rule.specs.Maps.{Has, HasKey}
 use Rattle.heap_rule.specs.Paths.{Calls}
@@ -16,7 +16,7 @@ use Rattle.heap_read.specs.Readers.{Moves, view_in}
 use Rattle.heap_read.specs.Reads.{Continues, Reads}
 use Rattle.heap_read.proofs.Loaded.{key_kept, known_refl, known_trans}
 use Rattle.heap_intern.specs.declared.table.faults.TableFull.{TableFull}
-use Rattle.heap_intern.specs.Answers.{Interns, Plan}
+use Rattle.heap_intern.specs.Answers.{Finds, Interns, Plan}
 use Rattle.heap_intern.specs.Goes.{Goes}
 use Rattle.heap_rule.specs.Agents.{MayJoin, left_after_split, right_after_split}
 use Rattle.test_strings.specs.Turns.{HasGoneOn, IsPlayed, Turns}
@@ -50,6 +50,14 @@ turns_goes v w calls g = record { known = g.known; agents = g.agents; live = g.l
 pub turns_interns : (v w : View) (us : List ℕ) (plan : Plan) (r : Result ℕ TableFull) → Interns v w us plan r → Turns v w
 turns_interns v w us plan (Ok i) h = turns_goes v w ((us, i) ∷ []) h.0
 turns_interns v w us plan (Err f) h = turns_goes v w [] h.0
+
+pub turns_finds : (v w : View) (us : List ℕ) (r : Option ℕ) → Finds v w us r → Turns v w
+turns_finds v w us (Some i) h = turns_goes v w ((us, i) ∷ []) h.0
+turns_finds v w us None h = turns_goes v w [] h.0.goes
+
+pub found_key : (v w : View) (us : List ℕ) (r : Option ℕ) → Finds v w us r → IfSome r (λ i. HasKey w.units i)
+found_key v w us (Some i) h = key_of w.units i us h.2.1
+found_key v w us None h = tt
 
 pub moves_refl : (a : Reader) → Moves Turns a a
 moves_refl a = record { heap = refl; view = turns_refl (view_in a) }

@@ -21,3 +21,5 @@ mod strings;
 mod table;
 #[cfg(test)]
 mod text_calls;
+#[cfg(test)]
+mod units;

@@ -54,6 +54,21 @@ fn interned(session: &mut Session, s: JsStr) -> Result<JsStr, StoreFault>
     session.intern(s)
 }
 
+// The interned string with these units. Where there is none, one is made if `make` says so.
+fn of_table(session: &mut Session, units: &[u16], make: bool) -> Option<Result<JsStr, StoreFault>>
+    requires short { length units.now ≤ 65536 }
+    ensures goes { GoesOn (state_in session.old) (state_in session.new) }
+    ensures known { IfSome result (λ r. IfOk r (λ s. IsKnown (state_in session.new) s.id)) }
+{
+    if make {
+        return Some(session.intern_units(units));
+    }
+    match session.find_units(units) {
+        Some(s) => Some(Ok(s)),
+        None => None,
+    }
+}
+
 // A part of a string, once that is settled; None where it has no such part.
 fn cut(session: &mut Session, s: JsStr, from: u32, to: u32) -> Option<Result<JsStr, StoreFault>>
     requires known { IsKnown (state_in session.old) s.id }
@@ -194,6 +209,22 @@ impl<'h> OnSession<'h> {
         }
     }
 
+    fn of_table(&mut self, text: &str, make: bool) -> Option<Told>
+        ensures goes { GoesOn (state_in self.old.session) (state_in self.new.session) }
+    {
+        let units = units_of(self.alloc, text)?;
+        if units.len() > 65536 {
+            return None;
+        }
+        match of_table(&mut self.session, units.as_slice(), make) {
+            Some(answer) => match answer {
+                Ok(s) => put(&mut self.made, s),
+                Err(fault) => Some(Told::NotStored(fault)),
+            },
+            None => Some(Told::Maybe(None)),
+        }
+    }
+
     fn reads(&mut self, k: usize, text: &str) -> Option<Told>
         ensures goes { GoesOn (state_in self.old.session) (state_in self.new.session) }
     {
@@ -236,6 +267,8 @@ impl<'h> OnSession<'h> {
             "concat" => self.concat(a, b),
             "slice" => self.slice(a, words.b, words.c),
             "intern" => self.intern(a),
+            "intern-units" => self.of_table(words.text, true),
+            "find-units" => self.of_table(words.text, false),
             "reads" => self.reads(a, behind(words.text)),
             "count" => self.count(),
             "totals" => self.totals(),

@@ -8,7 +8,7 @@ ghost use Rattle.test_strings.specs.Turns.{HasGoneOn, IsPlayed, Turns};
 
 use crate::by_hand::wide;
 use crate::lines::{Told, Words, behind, fault, step_of, units_of, wrong, yes_if};
-use crate::text_calls::{cut, ends, first_word, flat, interned, joined, reads};
+use crate::text_calls::{cut, ends, first_word, flat, interned, joined, of_table, reads};
 use heap_intern::count_interned;
 use heap_read::Reader;
 use heap_rule::MAX;
@@ -142,6 +142,22 @@ impl<'h> OnText<'h> {
                 Err(full) => Some(Told::NotInterned(full)),
             },
             None => None,
+        }
+    }
+
+    fn of_table(&mut self, text: &str, make: bool) -> Option<Told>
+        ensures goes { Moves Turns self.old.text.reader self.new.text.reader }
+    {
+        let units = units_of(self.alloc, text)?;
+        if units.len() > 65536 {
+            return None;
+        }
+        match of_table(&mut self.text, units.as_slice(), make) {
+            Some(answer) => match answer {
+                Ok(id) => put(&mut self.made, JsStr { id }),
+                Err(full) => Some(Told::NotInterned(full)),
+            },
+            None => Some(Told::Maybe(None)),
         }
     }
 
@@ -332,6 +348,8 @@ impl<'h> OnText<'h> {
             "settle" => self.settle(a),
             "slice" => self.slice(a, words.b, words.c),
             "intern" => self.intern(a),
+            "intern-units" => self.of_table(words.text, true),
+            "find-units" => self.of_table(words.text, false),
             "reads" => self.reads(a, behind(words.text)),
             "wide" => self.wide(words.text),
             "doubled" => self.doubled(words.a),

@@ -7,6 +7,7 @@
 // place among those that were made, and what is told is its number on the heap. The steps are:
 //
 //     units TEXT · concat A B · slice A FROM TO · intern A      make a string
+//     intern-units TEXT · find-units TEXT                       the string of the table with these units
 //     settle A · reads A TEXT · same A B · count · totals       of texts and of sessions, but `settle`
 //     wide WORD                                                 makes four units by the steps of an agent
 //     doubled N · before A N · behind A N · rope UNIT EMPTY N   make ropes by many joins
@@ -44,6 +45,7 @@ fn wrong_in(rt: &impl Threads, alloc: Global, play: &str) -> Option<String> {
     wrong_on_text(rt, alloc, sizes, lines)
 }
 
+// The lines before those of two agents, these, and the lines behind them.
 fn wrong_on_text(rt: &impl Threads, alloc: Global, sizes: &str, lines: &str) -> Option<String> {
     let Some((size, agents)) = making_of(sizes) else {
         return fault(alloc, sizes);
@@ -52,19 +54,14 @@ fn wrong_on_text(rt: &impl Threads, alloc: Global, sizes: &str, lines: &str) -> 
         return fault(alloc, sizes);
     };
     let mut player = OnText::new(alloc, Text::new(&heap, agent, MAX), agents);
-    wrong_in_parts(rt, &mut player, lines)
-}
-
-// The lines before those of two agents, these, and the lines behind them.
-fn wrong_in_parts(rt: &impl Threads, player: &mut OnText, lines: &str) -> Option<String> {
     let Some((before, rest)) = lines.split_once("both\n") else {
         return player.wrong(lines);
     };
     let Some((first, rest)) = rest.split_once("and\n") else {
-        return fault(player.alloc, lines);
+        return fault(alloc, lines);
     };
     let Some((second, after)) = rest.split_once("end\n") else {
-        return fault(player.alloc, lines);
+        return fault(alloc, lines);
     };
     if let Some(line) = player.wrong(before) {
         return Some(line);

@@ -1,6 +1,7 @@
 // Strings that are interned, and what interning leaves of the string itself: its header forwards to the
 // string in the table.
 use crate::plays::plays;
+use crate::units::{ON_SESSIONS, UNITS};
 
 // Each string takes one id, and one more where it goes into the table: a slot has that second one.
 const INTERNED: &str = "== one slot has one string
@@ -213,9 +214,25 @@ concat 0 1 -> Made(3)
 reads 3 abcdefghijklmnopbcdefghijklmnop -> Yes
 ";
 
+// Of a key that is interned a thousand times one id is taken of two, so that one is left for `a`.
 #[test]
 fn strings_are_interned_and_forward(rt: HostRuntime) {
     plays(&rt, rt.alloc(), INTERNED);
     plays(&rt, rt.alloc(), FORWARDED);
     plays(&rt, rt.alloc(), OF_FORWARDED);
+    plays(&rt, rt.alloc(), UNITS);
+    plays(&rt, rt.alloc(), ON_SESSIONS);
+    let mut text = String::new(rt.alloc());
+    let Ok(()) = text.push_str("== one id is left beside a key\n2 2 3 1\n") else {
+        panic!(&rt; "no memory");
+    };
+    for _turn in 0..1000 {
+        let Ok(()) = text.push_str("intern-units key -> Made(0)\n") else {
+            panic!(&rt; "no memory");
+        };
+    }
+    let Ok(()) = text.push_str("intern-units a -> Made(1)\ntotals -> Both(2, 2)\n") else {
+        panic!(&rt; "no memory");
+    };
+    plays(&rt, rt.alloc(), text.as_str());
 }

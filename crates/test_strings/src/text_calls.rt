@@ -6,7 +6,7 @@ ghost use Rattle.heap_table.specs.Agents.{size_of};
 ghost use Rattle.heap_read.specs.Readers.{Moves, view_in};
 ghost use Rattle.test_strings.specs.Turns.{Turns};
 
-use heap_intern::{TableFull, intern};
+use heap_intern::{TableFull, find_units, intern, intern_units};
 use heap_read::{Reader, Steps};
 use heap_text::{JoinFault, JsStr, Text, TextFull};
 use js_header::Form;
@@ -82,6 +82,22 @@ pub(crate) fn interned(text: &mut Text, s: JsStr) -> Option<Result<u32, TableFul
         return None;
     };
     Some(intern(&mut text.reader, s.id))
+}
+
+/// The number of the interned string with these units. Where there is none, one is made if `make` says so.
+pub(crate) fn of_table(text: &mut Text, units: &[u16], make: bool) -> Option<Result<u32, TableFull>>
+    requires short { length units.now ≤ 65536 }
+    ensures goes { Moves Turns text.old.reader text.new.reader }
+    ensures known { IfSome result
+        (λ r. IfOk r (λ i. HasKey (view_in text.new.reader).units i)) }
+{
+    if make {
+        return Some(intern_units(&mut text.reader, units));
+    }
+    match find_units(&mut text.reader, units) {
+        Some(id) => Some(Ok(id)),
+        None => None,
+    }
 }
 
 /// The first content word of a string that is flat; None where it is empty or has another form.
