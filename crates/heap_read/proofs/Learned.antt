@@ -1,5 +1,5 @@
 -- Whatever the data of a view justify it knows, once it has learned.
-use Rattle.std.proofs.Common.{◌≡◌, ℕ, zero, suc, ◌+◌, ◌<◌, ◌⊎◌, inl, inr, ⊎_elim, Bool, true, cond, List, [], ◌∷◌, ◌++◌, sym, refl, ap, ◌∙◌, subst, arith, eq-eqb, ne_eqb, Option, Some, None}
+use Rattle.std.proofs.Common.{◌≡◌, ℕ, zero, suc, ◌+◌, ◌<◌, ◌⊎◌, inl, inr, ⊎_elim, Bool, true, cond, List, [], ◌∷◌, ◌++◌, map, sym, refl, ap, ◌∙◌, subst, arith, eq-eqb, ne_eqb, Option, Some, None}
 use Rattle.std.proofs.lemmas.Bool.{and_from}
 use mathlib.Core.Logic.{dite}
 use native.Mathlib.Decide.{ℕ_discrete}
@@ -8,7 +8,7 @@ use Rattle.std.specs.Cmp.{unsigned_tied}
 use Rattle.std.specs.FinMap.{FinMap, get, insert, entries, find, get-entries, keys}
 use Rattle.js_units.specs.Lanes.{words_over}
 use Rattle.js_header.specs.declared.form.Form.{Form}
-use Rattle.js_header.specs.declared.form.Form.TheVariants.{Flat}
+use Rattle.js_header.specs.declared.form.Form.TheVariants.{Flat, Thin}
 use Rattle.heap_rule.specs.declared.view.View.{View}
 use Rattle.heap_rule.specs.Contents.{span}
 use Rattle.heap_rule.specs.Maps.{Has, HasKey, first_some, first_in}
@@ -24,13 +24,17 @@ in_right : (i : ℕ) (a b : List ℕ) → IsIn i b → IsIn i (a ++ b)
 in_right i [] b h = h
 in_right i (n ∷ a) b h = inr (in_right i a b h)
 
--- an id with a Flat is among those that the forms name
-named_in : (es : List (ℕ × Form)) (i : ℕ) (wide : Bool) (start : ℕ) (fixed : Bool) → find nat_cmp i es ≡ Some (Flat wide start fixed) → IsIn i (all_named es)
-named_in [] i wide start fixed h = absurd (cc)
-named_in (e ∷ es) i wide start fixed h = dite (ℕ_discrete i e.0)
-    (λ (is : i ≡ e.0). let here : Some e.1 ≡ Some (Flat wide start fixed) = sym (ap (λ b. cond b (Some e.1) (find nat_cmp i es)) (unsigned_tied i e.0 ∙ eq-eqb i e.0 is)) ∙ h in let form : e.1 ≡ Flat wide start fixed = cc in
-    subst (λ (f : Form). IsIn i (named_by (e.0, f) ++ all_named es)) (sym form) (inl is))
-    (λ ne. in_right i (named_by e) (all_named es) (named_in es i wide start fixed (sym (ap (λ b. cond b (Some e.1) (find nat_cmp i es)) (unsigned_tied i e.0 ∙ ne_eqb i e.0 ne)) ∙ h)))
+in_left : (i : ℕ) (a b : List ℕ) → IsIn i a → IsIn i (a ++ b)
+in_left i [] b h = absurd h
+in_left i (n ∷ a) b h = ⊎_elim (λ (e : i ≡ n). inl e) (λ (r : IsIn i a). inr (in_left i a b r)) h
+
+-- what the form of an id names is among what all forms name
+named_in : (es : List (ℕ × Form)) (j i : ℕ) (f : Form) → IsIn i (named_by (j, f)) → find nat_cmp j es ≡ Some f → IsIn i (all_named es)
+named_in [] j i f n h = absurd (cc)
+named_in (e ∷ es) j i f n h = dite (ℕ_discrete j e.0)
+    (λ (is : j ≡ e.0). let here : Some e.1 ≡ Some f = sym (ap (λ b. cond b (Some e.1) (find nat_cmp j es)) (unsigned_tied j e.0 ∙ eq-eqb j e.0 is)) ∙ h in let form : e.1 ≡ f = cc in
+    in_left i (named_by e) (all_named es) (subst (λ (k : ℕ). IsIn i (named_by (k, e.1))) is (subst (λ (g : Form). IsIn i (named_by (j, g))) (sym form) n)))
+    (λ ne. in_right i (named_by e) (all_named es) (named_in es j i f n (sym (ap (λ b. cond b (Some e.1) (find nat_cmp j es)) (unsigned_tied j e.0 ∙ ne_eqb j e.0 ne)) ∙ h)))
 
 module _ {X : Type 0} where
   key_more : (m : FinMap nat_cmp X) (k q : ℕ) (x : X) → HasKey m q → HasKey (insert m k x) q
@@ -58,6 +62,14 @@ some_last : {X : Type 0} (a : Option X) (x : X) → (y : X) × (first_some a (So
 some_last None x = (x, refl)
 some_last (Some y) x = (y, refl)
 
+-- a way by which an id of the map tells
+first_by : {X : Type 0} (tell : ℕ → Option X) (es : List (ℕ × Form)) (j : ℕ) (f : Form) (x : X) → find nat_cmp j es ≡ Some f → tell j ≡ Some x → (y : X) × (first_in tell (map (λ e. e.0) es) ≡ Some y)
+first_by tell [] j f x h t = absurd (cc)
+first_by tell (e ∷ es) j f x h t = dite (ℕ_discrete j e.0)
+    (λ (is : j ≡ e.0). (x, ap (λ o. first_some o (first_in tell (map (λ d. d.0) es))) (ap tell (sym is) ∙ t)))
+    (λ ne. let r = first_by tell es j f x (sym (ap (λ b. cond b (Some e.1) (find nat_cmp j es)) (unsigned_tied j e.0 ∙ ne_eqb j e.0 ne)) ∙ h) t in
+    let u = some_last (tell e.0) r.0 in (u.0, ap (first_some (tell e.0)) r.1 ∙ u.1))
+
 -- two ways before one that tells
 some_third : {X : Type 0} (a b c : Option X) (x : X) → c ≡ Some x → (y : X) × (first_some a (first_some b c) ≡ Some y)
 some_third a b c x e = let t = some_last b x in let u = some_last a t.0 in (u.0, ap (λ o. first_some a (first_some b o)) e ∙ (ap (first_some a) t.1 ∙ u.1))
@@ -80,8 +92,21 @@ module _ (v : View) where
   pub is_learned : IsLearned (learned_all v)
   is_learned = record {
     each = λ i wide start fixed n f l h. let t = flat_justified i wide start fixed n f l (all_are start (words_over wide n) h) in
-        learned_in (justified v) (all_named (entries v.forms)) v.units i t.0 t.1 (named_in (entries v.forms) i wide start fixed (sym (get-entries v.forms i) ∙ f));
+        learned_in (justified v) (all_named (entries v.forms)) v.units i t.0 t.1 (named_in (entries v.forms) i i (Flat wide start fixed) (inl refl) (sym (get-entries v.forms i) ∙ f));
   }
+
+  thin_tells : (j t : ℕ) (us : List ℕ) → Has v.forms j (Thin t) → Has v.units j us → by_thin v t j (get v.forms j) ≡ Some us
+  thin_tells j t us f u = ap (by_thin v t j) f ∙ (ap (λ (b : Bool). cond b (get v.units j) None) (eq-eqb t t refl) ∙ u)
+
+  thin_justified : (j t : ℕ) (us : List ℕ) → Has v.forms j (Thin t) → Has v.units j us → (xs : List ℕ) × (justified v t ≡ Some xs)
+  unfolding justified
+  thin_justified j t us f u = let e = first_by (λ i. by_thin v t i (get v.forms i)) (entries v.forms) j (Thin t) us (sym (get-entries v.forms j) ∙ f) (thin_tells j t us f u) in
+      (e.0, ap (λ o. first_some o (first_some (first_in (λ i. by_cons v t i (get v.forms i)) (keys v.forms)) (by_flat v t (get v.forms t) (get v.lengths t)))) e.1)
+
+  -- the units of a string to which one with known units forwards
+  pub thin_learned : (j t : ℕ) → Has v.forms j (Thin t) → HasKey v.units j → HasKey (learned_all v).units t
+  thin_learned j t f u = let us = has_key v.units j u in let x = thin_justified j t us.0 f us.1 in
+      learned_in (justified v) (all_named (entries v.forms)) v.units t x.0 x.1 (named_in (entries v.forms) j t (Thin t) (inl refl) (sym (get-entries v.forms j) ∙ f))
 
 pub learned_then : (v w : View) → w ≡ learned_all v → IsLearned w
 learned_then v w e = subst IsLearned (sym e) (is_learned v)

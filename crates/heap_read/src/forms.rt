@@ -2,11 +2,11 @@
 ghost use Rattle.std.specs.Prelude.{◌≡◌, ◌≢◌, ℕ, Bool, ◌⊎◌};
 ghost use Rattle.std.specs.FinMap.{get};
 ghost use Rattle.js_header.specs.Form.{IsInRange};
-ghost use Rattle.js_header.specs.declared.form.Form.TheVariants.{Sliced, Unborn};
+ghost use Rattle.js_header.specs.declared.form.Form.TheVariants.{Sliced, Thin, Unborn};
 ghost use Rattle.js_header.specs.declared.form.Form as form;
 ghost use Rattle.heap_rule.specs.Forms.{IsCons, IsLater, IsSolid};
 ghost use Rattle.heap_rule.specs.Loads.{added_loads};
-ghost use Rattle.heap_rule.specs.Maps.{Has};
+ghost use Rattle.heap_rule.specs.Maps.{Has, HasKey};
 ghost use Rattle.heap_rule.specs.Views.{IsKnown, IsSettled};
 ghost use Rattle.heap_read.specs.Readers.{Moves, view_in};
 ghost use Rattle.heap_read.specs.Reads.{Reads};
@@ -16,13 +16,16 @@ use crate::reader::Reader;
 use js_header::Form;
 
 impl<'h> Reader<'h> {
-    /// The form of a known string, as it is at this moment, by one load.
+    /// The form of a known string, as it is at this moment, by one load. Where it forwards to
+    /// another, the units of that one are known from then on, if its own are.
     pub fn form_now(&mut self, id: u32) -> Form
         requires known { IsKnown (view_in self.old) id }
         ensures reads { Moves Reads self.old self.new }
         ensures seen { Has (view_in self.new).forms id result }
         ensures others { (i : ℕ) → i ≢ id → get (view_in self.new).forms i ≡ get (view_in self.old).forms i }
         ensures side { KnowsSide (view_in self.new) result }
+        ensures target { (t : ℕ) → result ≡ Thin t → HasKey (view_in self.old).units id
+            → HasKey (view_in self.new).units t }
         ensures loads { (view_in self.new).form_loads ≡ added_loads (view_in self.old).form_loads 1 }
         ensures born { result ≢ Unborn }
         ensures range { IsInRange result }

@@ -1,5 +1,5 @@
 use Rattle.heap_read.proofs.Loaded.{reads_form}
-use Rattle.heap_read.proofs.Seeing.{one_load, others_stay, side_met}
+use Rattle.heap_read.proofs.Seeing.{one_load, others_stay, side_met, target_met}
 use Rattle.heap_read.proofs.Showing.{form_there}
 use Rattle.heap_read.proofs.reader.Reader.form_now.Goals as goal
 
@@ -17,3 +17,6 @@ returns-clause-side c = let e = c.load_form.ensures in side_met c.args.self.now.
 
 pub returns-clause-loads : goal.returns-clause-loads
 returns-clause-loads c = let e = c.load_form.ensures in one_load c.args.self.now.agent.seat.me.0 c.load_form.new.self.seat.me.0 c.args.id e.view.0 e.view.2
+
+pub returns-clause-target : goal.returns-clause-target
+returns-clause-target c t is known = let e = c.load_form.ensures in target_met c.args.self.now.agent.seat.me.0 c.load_form.new.self.seat.me.0 c.args.id e.view.0 t c.load_form.result e.view.1 is e.view.2 known
