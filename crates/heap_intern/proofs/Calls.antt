@@ -18,12 +18,12 @@ use Rattle.heap_table.specs.declared.claims.CounterFull.{CounterFull}
 use Rattle.std.specs.FinMap.{get}
 use Rattle.heap_intern.specs.declared.table.faults.TableFull.{TableFull}
 use Rattle.heap_intern.specs.declared.table.faults.TableFull.TheVariants as table
-use Rattle.heap_intern.specs.Answers.{HasLeft, IsPlan, IsRefused, Plan}
+use Rattle.heap_intern.specs.Answers.{HasLeft, IsPlan, IsRefused, Plan, UsesNothing}
 use Rattle.heap_intern.specs.Goes.{Goes}
 use Rattle.js_header.specs.declared.form.Form.{Form}
 use Rattle.heap_rule.specs.Forms.{IsLater}
 use Rattle.heap_rule.proofs.Carried.{latest}
-use Rattle.heap_intern.proofs.Planning.{plan_words}
+use Rattle.heap_intern.proofs.Planning.{makes_after, plan_words}
 use Rattle.heap_text.specs.declared.faults.JoinFault.{JoinFault}
 use Rattle.heap_text.specs.declared.faults.JoinFault.TheVariants as join
 use Rattle.heap_text.specs.declared.faults.TextFull.{TextFull}
@@ -270,8 +270,8 @@ pub interned_ok : (v w : View) (l : ℕ) (t : TableId) (calls : Calls) (words mo
 interned_ok v w l t calls words most le p g u c = record { grows = grows_goes v w calls l t p g; honest = tt; within_ids = omega arith; within_words = omega arith }
 
 -- the plan after a load that left the string settled
-pub planned_then : (v x w : View) (id : ℕ) (us : List ℕ) (plan : Plan) → IsSeenLater v x id → IsPlan x w id us plan → IsPlan v w id us plan
-planned_then v x w id us plan later h = (h.0, λ g seen. let t = later g seen in onward g t.0 h.0 t.2 (h.1 t.0 t.1), h.2)
+pub planned_then : (v x w : View) (id : ℕ) (us : List ℕ) (plan : Plan) → IsSeenLater v x id → UsesNothing v x → IsPlan x w id us plan → IsPlan v w id us plan
+planned_then v x w id us plan later none h = (h.0, λ g seen. let t = later g seen in onward g t.0 h.0 t.2 (h.1 t.0 t.1), h.2, makes_after v x w h.0 none h.3)
   where
     onward : (f g k : Form) → (f ≡ g) ⊎ IsLater f g → (g ≡ k) ⊎ IsLater g k → (f ≡ k) ⊎ IsLater f k
     onward f g k a b = ⊎_elim
@@ -287,4 +287,4 @@ interned_free v w us plan x (table.Slots n) h = tt
 
 -- no slot was loaded
 pub settle_free : (v w : View) (us : List ℕ) (wide : Bool) (f : TextFull) → IsNoRoom v w w.sizes us f wide → w.slot_loads ≡ v.slot_loads → FoundFree v w us (Some (fault_in_text f))
-settle_free v w us wide f h e = let is = h.words.1 in subst (λ (g : TextFull). FoundFree v w us (Some (fault_in_text g))) (sym is) (inr e)
+settle_free v w us wide f h e = let is = h.words.1 in subst (λ (g : TextFull). FoundFree v w us (Some (fault_in_text g))) (sym is) (inr (e, wide, subst (λ (g : TextFull). IsNoRoom v w w.sizes us g wide) is h))

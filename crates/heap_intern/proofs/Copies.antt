@@ -7,20 +7,33 @@ use Rattle.js_units.specs.Lanes.{lane_count, lane_of, words_over}
 use Rattle.heap_rule.specs.declared.view.View.{View}
 use Rattle.heap_rule.specs.Contents.{lane_in}
 use Rattle.heap_rule.specs.Layout.{MAX}
-use Rattle.heap_rule.specs.Maps.{HasKey}
+use Rattle.heap_rule.specs.Maps.{Has, HasKey}
 use Rattle.heap_rule.specs.Views.{shown}
-use Rattle.heap_rule.proofs.MapLemmas.{key_of}
+use Rattle.heap_rule.proofs.MapLemmas.{has_key, key_of}
 use Rattle.heap_read.specs.Written.{AreWords, IsWritten}
 use Rattle.heap_intern.specs.Answers.{HasSpared}
 use Rattle.heap_intern.specs.Headers.{MayBeOver}
 use Rattle.heap_intern.proofs.Possibly.{word_of_lane}
 
 -- the words of a copy are own, for a later view that has the same own words too; and none are where none are wanted
-pub spared_as : (w x : View) (wide : Bool) (start : ℕ) (us : List ℕ) (n m : ℕ) → AreWords w wide start us n → x.own_words ≡ w.own_words → n ≡ m → HasSpared x m
-spared_as w x wide start us n m h own e = (start, λ q l. let t = h.each q (omega arith) in subst (λ (y : FinMap nat_cmp ℕ). HasKey y (start + q)) (sym own) (key_of w.own_words (start + q) t.0 t.1))
+pub spared_as : (v w x : View) (wide : Bool) (start : ℕ) (us : List ℕ) (n m : ℕ) → AreWords w wide start us n → x.own_words ≡ w.own_words → n ≡ m
+    → ((q : ℕ) → q < n → HasKey v.own_words (start + q) → ⊥) → HasSpared v x m
+spared_as v w x wide start us n m h own e fresh = (
+  start,
+  λ q l. let t = h.each q (omega arith) in
+      (subst (λ (y : FinMap nat_cmp ℕ). HasKey y (start + q)) (sym own) (key_of w.own_words (start + q) t.0 t.1), fresh q (omega arith)),
+)
 
-pub spared_none : (w : View) (n : ℕ) → n ≡ 0 → HasSpared w n
-spared_none w n e = (0, λ q l. absurd (omega arith))
+pub spared_none : (v w : View) (n : ℕ) → n ≡ 0 → HasSpared v w n
+spared_none v w n e = (0, λ q l. absurd (omega arith))
+
+-- what was no own word later was none before
+pub spared_before : (a v w : View) (n : ℕ) → ((c x : ℕ) → Has a.own_words c x → Has v.own_words c x) → HasSpared v w n → HasSpared a w n
+spared_before a v w n own h = (
+  h.0,
+  λ q l. let t = h.1 q l in
+      (t.0, λ before. let k = has_key a.own_words (h.0 + q) before in t.1 (key_of v.own_words (h.0 + q) k.0 (own (h.0 + q) k.0 k.1))),
+)
 
 -- the lane of a unit in its word
 lane_of_word : (wide : Bool) (o : ℕ) → (o % lane_count wide < lane_count wide) × (o / lane_count wide * lane_count wide + o % lane_count wide ≡ o)

@@ -4,15 +4,17 @@ use Rattle.js_header.specs.declared.form.Form.{Form}
 use Rattle.js_header.specs.declared.form.Form.TheVariants.{Unborn, Flat, Cons, Sliced, Thin}
 use Rattle.heap_rule.specs.declared.view.View.{View}
 use Rattle.heap_rule.specs.Forms.{IsCons, IsSliced}
-use Rattle.heap_rule.specs.Maps.{Has}
+use Rattle.heap_rule.specs.Maps.{Has, HasKey}
+use Rattle.heap_rule.proofs.MapLemmas.{has_key}
 use Rattle.heap_rule.specs.Sound.{IsPossible}
 use Rattle.heap_table.specs.Known.{KeepsKnown}
 use Rattle.heap_intern.specs.declared.table.sought.Sought.{Sought}
-use Rattle.heap_intern.specs.Answers.{BeginsAt, IsFixed, IsFound, IsHeader, IsPlan, IsPlanBy, Plan, copy_words}
-use Rattle.heap_intern.specs.Headers.{IsFlat, begins, header_plan, plain_plan, plan_by}
+use Rattle.heap_intern.specs.Answers.{BeginsAt, IsFixed, IsFound, IsHeader, IsPlan, IsPlanBy, MakesNone, Plan, UsesNothing, copy_words}
+use Rattle.heap_intern.specs.Headers.{IsFlat, begins, header_plan, plain_plan, plan_by, target_of}
+use Rattle.heap_intern.specs.Visits.{IsMade}
 use Rattle.heap_intern.proofs.Going.{no_slice}
 use Rattle.heap_read.proofs.Freezing.{possible_fixed}
-use Rattle.heap_intern.proofs.Possibly.{possible_born}
+use Rattle.heap_intern.proofs.Possibly.{possible_born, possible_thin_units}
 use Rattle.heap_intern.proofs.Seeking.{one_form, sought_length}
 use Rattle.heap_intern.specs.Seeking.{IsSought}
 
@@ -84,6 +86,45 @@ module _ (v : View) (p : IsPossible v) (s : Sought) (us : List ℕ) (h : IsSough
   -- the plan that the code goes by is one by the form that was loaded
   pub plan_is : (w : View) → KeepsKnown v w → IsPlanBy w s.form us (header_plan s us)
   plan_is w k = plan_at w k s.form h.own h.settled
+
+  thin_made : (target : ℕ) → Has v.forms s.id (Thin target) → HasKey v.units target → IsHeader v (plain_plan s) us target
+  thin_made target own known = let ts = has_key v.units target known in let same = possible_thin_units v p s.id target us ts.0 own u ts.1 in
+      ((s.window.start, begins_at s.window.len s.window.start s.window.start (λ some. refl), thin_is target own), subst (λ (xs : List ℕ). Has v.units target xs) same ts.1)
+
+  ready_at : (f : Form) → Has v.forms s.id f → ((t : ℕ) → f ≡ Thin t → HasKey v.units t) → IsMade v (plan_by f s us) us (target_of f)
+  ready_at (Thin target) own known = thin_made target own (known target refl)
+  ready_at Unborn own known = tt
+  ready_at (Flat wide start fixed) own known = tt
+  ready_at (Cons wide left right) own known = tt
+  ready_at (Sliced wide parent offset) own known = tt
+
+  -- where the string forwards, its target is a header by the plan
+  pub ready_made : ((t : ℕ) → s.form ≡ Thin t → HasKey v.units t) → IsMade v (header_plan s us) us (target_of s.form)
+  ready_made known = ready_at s.form h.own known
+
+-- what forwards makes nothing, where there is a header already for it
+pub makes_none : (v w : View) (f : Form) → ((i : ℕ) → target_of f ≡ Some i → UsesNothing v w) → MakesNone f v w
+makes_none v w (Thin t) h = h t refl
+makes_none v w Unborn h = tt
+makes_none v w (Flat wide start fixed) h = tt
+makes_none v w (Cons wide left right) h = tt
+makes_none v w (Sliced wide parent offset) h = tt
+
+-- also where nothing was used before
+pub makes_after : (u v w : View) (f : Form) → UsesNothing u v → MakesNone f v w → MakesNone f u w
+makes_after u v w (Thin t) a b = (b.0 ∙ a.0, b.1 ∙ a.1)
+makes_after u v w Unborn a b = tt
+makes_after u v w (Flat wide start fixed) a b = tt
+makes_after u v w (Cons wide left right) a b = tt
+makes_after u v w (Sliced wide parent offset) a b = tt
+
+-- and afterwards
+pub makes_before : (u v w : View) (f : Form) → MakesNone f u v → UsesNothing v w → MakesNone f u w
+makes_before u v w (Thin t) a b = (b.0 ∙ a.0, b.1 ∙ a.1)
+makes_before u v w Unborn a b = tt
+makes_before u v w (Flat wide start fixed) a b = tt
+makes_before u v w (Cons wide left right) a b = tt
+makes_before u v w (Sliced wide parent offset) a b = tt
 
 -- a header takes no words, or those of a copy, where the string was never seen as a Flat
 pub plan_words : (v w : View) (id : ℕ) (us : List ℕ) (plan : Plan) → IsPlan v w id us plan → (plan.words ≡ 0) ⊎ ((plan.words ≡ copy_words us) × ((wide : Bool) (start : ℕ) (fixed : Bool) → Has v.forms id (Flat wide start fixed) → ⊥))

@@ -82,6 +82,14 @@ thin_answer_in v (z, agents, W, vs, l, st, at, live) s t k i us f u h w = let kn
 pub possible_thin_answer : (v : View) → IsPossible v → (s t k i : ℕ) (us : List ℕ) → Has v.forms s (Thin t) → Has v.units s us → Has v.slots k i → Has v.units i us → t ≡ i
 possible_thin_answer v p s t k i us f u h w = ∥∥₁_elim p (Prim.hlevel props) (λ q. thin_answer_in v q s t k i us f u h w)
 
+thin_units_in : (v : View) → StandsIn v → (s t : ℕ) (us ts : List ℕ) → Has v.forms s (Thin t) → Has v.units s us → Has v.units t ts → ts ≡ us
+thin_units_in v (z, agents, W, vs, l, st, at, live) s t us ts f u w = let know = st.knows l v at live in
+    sym (know.of_units t ts w).1 ∙ ((know.of_forms s (Thin t) f).shows.1 ∙ (know.of_units s us u).1)
+
+-- a string that forwards has the units of the one to which it does
+pub possible_thin_units : (v : View) → IsPossible v → (s t : ℕ) (us ts : List ℕ) → Has v.forms s (Thin t) → Has v.units s us → Has v.units t ts → ts ≡ us
+possible_thin_units v p s t us ts f u w = ∥∥₁_elim p (Prim.hlevel props) (λ q. thin_units_in v q s t us ts f u w)
+
 form_in : (v : View) → StandsIn v → (i : ℕ) → Has v.forms i Unborn → ⊥
 form_in v (z, agents, W, vs, l, st, at, live) i h = ((st.knows l v at live).of_forms i Unborn h).shows
 

@@ -132,3 +132,7 @@ step_looks v w l t p k = let a = k.used in let b = k.words in record { grows = g
 
 pub history_looks : (v w : View) → Looks v w → history w ≡ history v
 history_looks v w k = history_goes v w [] k.goes ∙ append-nil (history v)
+
+-- a call is entered, and nothing used
+pub found_step : (v w : View) (calls : Calls) (l : ℕ) (t : TableId) → IsPossible v → Goes v w calls → w.used.ids ≡ v.used.ids → w.used.words ≡ v.used.words → Step (state_by v l t) (state_by w l t) None 0 0
+found_step v w calls l t p g e d = record { grows = grows_goes v w calls l t p g; honest = tt; within_ids = omega arith; within_words = omega arith }

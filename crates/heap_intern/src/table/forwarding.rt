@@ -5,6 +5,7 @@ ghost use Rattle.heap_rule.specs.HeaderMoves.{CanThin};
 ghost use Rattle.heap_rule.specs.Maps.{Has};
 ghost use Rattle.heap_intern.specs.Answers.{IsForwarded};
 ghost use Rattle.heap_intern.specs.Goes.{Looks};
+ghost use Rattle.heap_intern.specs.Headers.{target_of};
 ghost use Rattle.heap_read.specs.Readers.{view_in};
 ghost use Rattle.heap_intern.specs.Seeking.{IsSought};
 
@@ -22,6 +23,16 @@ fn can_thin(form: Form) -> bool
         Form::Cons { .. } => false,
         Form::Sliced { .. } => true,
         Form::Thin { .. } => false,
+    }
+}
+
+// The string to which a form forwards: the interned one, which is a header for the same units.
+pub(crate) fn forwards_to(form: Form) -> Option<u32>
+    ensures { result ≡ target_of form }
+{
+    match form {
+        Form::Thin { target } => Some(target),
+        _ => None,
     }
 }
 

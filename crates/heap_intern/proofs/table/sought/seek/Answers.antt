@@ -1,6 +1,6 @@
-use Rattle.std.proofs.Common.{subst, ◌∙◌, arith}
+use Rattle.std.proofs.Common.{◌≡◌, subst, ◌∙◌, arith}
 use Rattle.js_header.specs.declared.form.Form.{Form}
-use Rattle.js_header.specs.declared.form.Form.TheVariants.{Sliced}
+use Rattle.js_header.specs.declared.form.Form.TheVariants.{Sliced, Thin}
 use Rattle.heap_rule.specs.declared.view.View.{View}
 use Rattle.heap_rule.specs.Maps.{Has}
 use Rattle.heap_read.specs.Sides.{KnowsSide}
@@ -40,7 +40,13 @@ returns-in-Sliced-clause-lies c = let x : View = c.part_window-window.new.self.a
     (c.part_window-window.ensures.held i f (c.form_now-under.ensures.others i (λ d. absurd (omega (arith, d, less))) ∙ subst (λ (g : Form). Has c.form_now-form.new.self.agent.seat.me.0.forms i g) c.in-Sliced.is e.seen))
     (λ none. none) c.part_window-window.ensures.over
 
+pub returns-in-Sliced-clause-target : goal.returns-in-Sliced-clause-target
+returns-in-Sliced-clause-target c t is = let bad : Sliced c.in-Sliced.wide c.in-Sliced.parent c.in-Sliced.offset ≡ Thin t = is in absurd (cc)
+
 -- a Flat or a Thin
+pub returns-clause-target : goal.returns-clause-target
+returns-clause-target c t is = key_kept c.form_now-form.new.self.agent.seat.me.0 c.solid_window-window.new.self.agent.seat.me.0 t c.solid_window-window.ensures.reads.view.known (c.form_now-form.ensures.target t is c.requires.known)
+
 pub solid_window-window-requires-clause-known : goal.solid_window-window-requires-clause-known
 solid_window-window-requires-clause-known c = key_kept c.args.reader.now.agent.seat.me.0 c.form_now-form.new.self.agent.seat.me.0 c.args.id c.form_now-form.ensures.reads.view.known c.requires.known
 

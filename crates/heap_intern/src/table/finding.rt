@@ -1,0 +1,125 @@
+// Looking for units in the string table, where nothing is made. Each load of a slot is counted.
+ghost use Rattle.std.specs.Prelude.{◌≡◌, ℕ, List, ◌+◌, ◌*◌, ◌%◌, ◌≤◌, ◌<◌, ◌^◌, Option, Some, length};
+ghost use Rattle.js_units.specs.Lanes.{hash_of};
+ghost use Rattle.heap_rule.specs.Layout.{MAX};
+ghost use Rattle.heap_rule.specs.Maps.{Has};
+ghost use Rattle.heap_table.specs.Agents.{size_of};
+ghost use Rattle.heap_intern.specs.Answers.{Finds, StandsAt};
+ghost use Rattle.heap_intern.specs.SlotLoads.{LoadsSlots, loads_at};
+ghost use Rattle.heap_intern.specs.Visits.{Looked, LoadsOne, entries_seen};
+ghost use Rattle.heap_intern.specs.Wanted.{IsWanted, wanted_plan};
+ghost use Rattle.heap_read.specs.Readers.{view_in};
+ghost use Rattle.heap_read.specs.Reads.{HoldsForms};
+
+use crate::table::probing::{Visit, visit_used};
+use crate::table::wanted::Wanted;
+use heap_read::{Reader, Steps};
+use js_units::hash_units;
+use std::marker::Brand;
+use std::sync::ledger::{Blank, Ledger};
+
+// A look at one slot: none where it is free.
+fn look<L: Ledger>(
+    reader: &mut Reader,
+    wanted: &Wanted,
+    k: u32,
+    steps: &mut Steps<L>,
+) -> Option<Visit>
+    requires wanted { (us : List ℕ) × IsWanted (view_in reader.old) wanted.now us }
+    requires inside { k < (size_of reader.old.heap.now).slots }
+    ensures heap { reader.new.heap ≡ reader.old.heap }
+    ensures looked { (us : List ℕ) → IsWanted (view_in reader.old) wanted.now us
+        → Looked (view_in reader.old) (view_in reader.new) us (wanted_plan wanted.now us) k result }
+    ensures loads { LoadsOne (view_in reader.old) (view_in reader.new) k
+        (entries_seen result + 1) steps.old steps.new }
+{
+    steps.tick();
+    match reader.agent.load_slot(reader.heap, k, false) {
+        Some(t) => Some(visit_used(reader, wanted, k, t, None, steps)),
+        None => None,
+    }
+}
+
+// The slots of the path, from the first on, up to the one with the string or a free one.
+fn walk<L: Ledger>(
+    reader: &mut Reader,
+    wanted: &Wanted,
+    hash: u32,
+    steps: &mut Steps<L>,
+) -> Option<u32>
+    requires wanted { (us : List ℕ) × IsWanted (view_in reader.old) wanted.now us }
+    requires hash { (us : List ℕ) → IsWanted (view_in reader.old) wanted.now us → hash ≡ hash_of us }
+    ensures heap { reader.new.heap ≡ reader.old.heap }
+    ensures forms { HoldsForms (view_in reader.old) (view_in reader.new) }
+    ensures finds { (us : List ℕ) → IsWanted (view_in reader.old) wanted.now us
+        → Finds (view_in reader.old) (view_in reader.new) us result }
+    ensures loads { LoadsSlots (view_in reader.old) (view_in reader.new) result steps.old steps.new }
+{
+    let n = reader.heap.size().slots;
+    let start = hash % n;
+    for r in 0..n {
+        let visit = match look(reader, wanted, (start + r) % n, steps) {
+            Some(visit) => visit,
+            None => return None,
+        };
+        match visit {
+            Visit::Answer { id } => return Some(id),
+            Visit::Next { .. } => {}
+        }
+    }
+    None
+}
+
+/// As [`find_units`], and counts each load of a slot. No slot is loaded twice but the one that
+/// answers: once more after its units were compared, which enters the call in the history.
+pub fn find_units_counted<L: Ledger>(
+    reader: &mut Reader,
+    units: &[u16],
+    steps: &mut Steps<L>,
+) -> Option<u32>
+    requires short { length units.now ≤ MAX }
+    ensures heap { reader.new.heap ≡ reader.old.heap }
+    ensures finds { Finds (view_in reader.old) (view_in reader.new) units.now result }
+    ensures again { (i : ℕ) → Has (view_in reader.old).units i units.now
+        → StandsAt (view_in reader.old) units.now i → result ≡ Some i }
+    ensures forms { HoldsForms (view_in reader.old) (view_in reader.new) }
+    ensures loads { LoadsSlots (view_in reader.old) (view_in reader.new) result steps.old steps.new }
+    ensures few { (k : ℕ) → loads_at (view_in reader.new) k ≤ loads_at (view_in reader.old) k + 2 }
+    ensures most { steps.new ≤ steps.old + 2 * (size_of reader.old.heap.now).slots }
+{
+    let hash = hash_units(0, units);
+    walk(reader, &Wanted::Units(units), hash, steps)
+}
+
+// The ledger of a caller that counts nothing.
+fn find_units_by<L: Ledger>(reader: &mut Reader, units: &[u16], blank: Blank) -> Option<u32>
+    requires name { blank.name ≡ L.name }
+    requires parts { blank.parts ≡ L.parts }
+    requires some { 0 < blank.parts }
+    requires short { length units.now ≤ MAX }
+    ensures heap { reader.new.heap ≡ reader.old.heap }
+    ensures finds { Finds (view_in reader.old) (view_in reader.new) units.now result }
+    ensures again { (i : ℕ) → Has (view_in reader.old).units i units.now
+        → StandsAt (view_in reader.old) units.now i → result ≡ Some i }
+    ensures forms { HoldsForms (view_in reader.old) (view_in reader.new) }
+    ensures few { (k : ℕ) → loads_at (view_in reader.new) k ≤ loads_at (view_in reader.old) k + 2 }
+{
+    let mut steps = Steps::<L>::start(blank);
+    find_units_counted(reader, units, &mut steps)
+}
+
+/// The interned string of these units, by its number, if it stands in the table: none exactly where
+/// a slot was found free behind slots with strings that differ, or every slot has such a string. It
+/// uses nothing, also on a full heap. What it found counts as a call of the history, so its number
+/// may be compared with those that interning answers. No slot is loaded more than twice.
+pub fn find_units(reader: &mut Reader, units: &[u16]) -> Option<u32>
+    requires short { length units.now ≤ MAX }
+    ensures heap { reader.new.heap ≡ reader.old.heap }
+    ensures finds { Finds (view_in reader.old) (view_in reader.new) units.now result }
+    ensures again { (i : ℕ) → Has (view_in reader.old).units i units.now
+        → StandsAt (view_in reader.old) units.now i → result ≡ Some i }
+    ensures forms { HoldsForms (view_in reader.old) (view_in reader.new) }
+    ensures few { (k : ℕ) → loads_at (view_in reader.new) k ≤ loads_at (view_in reader.old) k + 2 }
+{
+    find_units_by::<Brand>(reader, units, Blank::new(1))
+}
