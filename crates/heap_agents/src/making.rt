@@ -7,7 +7,7 @@ ghost use Rattle.heap_rule.specs.Maps.{Has, HasKey};
 ghost use Rattle.heap_rule.specs.Views.{IsSettled};
 ghost use Rattle.heap_table.specs.Agents.{size_of};
 ghost use Rattle.heap_text.specs.Joins.{IsCut, IsJoined};
-ghost use Rattle.heap_text.specs.Texts.{Told, Uses};
+ghost use Rattle.heap_text.specs.Texts.{IsSpared, KeepsOwn, Told, Uses};
 ghost use Rattle.heap_agents.specs.Held.{IsHeld, Leaves, size_by, view_by};
 ghost use Rattle.heap_agents.specs.Sets.{IsIn};
 ghost use Rattle.heap_agents.specs.Members.{IsWhole, HeapAgentLeaves, heap_of, view_if};
@@ -20,6 +20,7 @@ pub(crate) fn from_units(member: &mut HeapAgent, units: &[u16]) -> Result<JsStr,
     requires whole { IsWhole member.old }
     requires short { length units.now ≤ MAX }
     ensures leaves { HeapAgentLeaves member.old member.new }
+    ensures own { KeepsOwn (view_if member.old.agent) (view_if member.new.agent) }
     ensures units { IfOk result (λ s. Has (view_if member.new.agent).units s.id units.now) }
     ensures settled { IfOk result (λ s. IsSettled (view_if member.new.agent) s.id) }
     ensures used { IfOk result
@@ -27,6 +28,9 @@ pub(crate) fn from_units(member: &mut HeapAgent, units: &[u16]) -> Result<JsStr,
         (words_over (is_wide units.now) (length units.now))) }
     ensures refused { IfErr result
         (λ f. Told (view_if member.new.agent) (size_of (heap_of member.old))
+        (words_over (is_wide units.now) (length units.now)) f) }
+    ensures spared { IfErr result
+        (λ f. IsSpared (view_if member.old.agent) (view_if member.new.agent)
         (words_over (is_wide units.now) (length units.now)) f) }
 {
     let agent = member.take_agent();
@@ -42,6 +46,7 @@ pub(crate) fn concat(member: &mut HeapAgent, a: JsStr, b: JsStr) -> Result<JsStr
     requires known { HasKey (view_if member.old.agent).units a.id
         × HasKey (view_if member.old.agent).units b.id }
     ensures leaves { HeapAgentLeaves member.old member.new }
+    ensures own { KeepsOwn (view_if member.old.agent) (view_if member.new.agent) }
     ensures units { IfOk result
         (λ s. (us vs : List ℕ) → Has (view_if member.old.agent).units a.id us
         → Has (view_if member.old.agent).units b.id vs
@@ -65,6 +70,7 @@ pub(crate) fn slice(member: &mut HeapAgent, s: JsStr, from: u32, to: u32) -> Res
     requires within { (us : List ℕ) × Has (view_if member.old.agent).units s.id us × (from ≤ to)
         × (to ≤ length us) }
     ensures leaves { HeapAgentLeaves member.old member.new }
+    ensures own { KeepsOwn (view_if member.old.agent) (view_if member.new.agent) }
     ensures units { IfOk result
         (λ t. (us : List ℕ) → Has (view_if member.old.agent).units s.id us
         → Has (view_if member.new.agent).units t.id (part from (to - from) us)) }
@@ -87,6 +93,7 @@ impl Held {
         requires held { IsHeld self.old }
         requires short { length units.now ≤ MAX }
         ensures leaves { Leaves self.old self.new }
+        ensures own { KeepsOwn (view_by self.old) (view_by self.new) }
         ensures marked { IfOk result (λ s. IsIn self.new.known s.id) }
         ensures units { IfOk result (λ s. Has (view_by self.new).units s.id units.now) }
         ensures settled { IfOk result (λ s. IsSettled (view_by self.new) s.id) }
@@ -95,6 +102,9 @@ impl Held {
             (words_over (is_wide units.now) (length units.now))) }
         ensures refused { IfErr result
             (λ f. Told (view_by self.new) (size_by self.old)
+            (words_over (is_wide units.now) (length units.now)) f) }
+        ensures spared { IfErr result
+            (λ f. IsSpared (view_by self.old) (view_by self.new)
             (words_over (is_wide units.now) (length units.now)) f) }
     {
         let s = from_units(&mut self.member, units)?;
@@ -108,6 +118,7 @@ impl Held {
         requires known { HasKey (view_by self.old).units a.id
             × HasKey (view_by self.old).units b.id }
         ensures leaves { Leaves self.old self.new }
+        ensures own { KeepsOwn (view_by self.old) (view_by self.new) }
         ensures marked { IfOk result (λ s. IsIn self.new.known s.id) }
         ensures units { IfOk result
             (λ s. (us vs : List ℕ) → Has (view_by self.old).units a.id us
@@ -130,6 +141,7 @@ impl Held {
         requires within { (us : List ℕ) × Has (view_by self.old).units s.id us × (from ≤ to)
             × (to ≤ length us) }
         ensures leaves { Leaves self.old self.new }
+        ensures own { KeepsOwn (view_by self.old) (view_by self.new) }
         ensures marked { IfOk result (λ s. IsIn self.new.known s.id) }
         ensures units { IfOk result
             (λ t. (us : List ℕ) → Has (view_by self.old).units s.id us

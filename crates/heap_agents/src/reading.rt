@@ -1,10 +1,11 @@
 // Reading strings: their lengths and units.
-ghost use Rattle.std.specs.Prelude.{◌≡◌, ℕ, ◌+◌, ◌≤◌, ◌<◌, List, length, slice_range, IfOk, IfErr, Bool};
+ghost use Rattle.std.specs.Prelude.{◌≡◌, ℕ, ◌+◌, ◌≤◌, ◌<◌, List, length, slice_range, IfOk, IfErr, IsOk, Bool};
 ghost use Rattle.heap_read.specs.Reads.{Reads};
 ghost use Rattle.heap_rule.specs.Maps.{Has, HasKey};
 ghost use Rattle.heap_rule.specs.Views.{IsSettled};
 ghost use Rattle.heap_table.specs.Agents.{Belongs, size_of, view_of};
-ghost use Rattle.heap_text.specs.Settling.{IsNoRoom};
+ghost use Rattle.heap_text.specs.Settling.{IsBitOf, IsNoRoom, IsSettling};
+ghost use Rattle.heap_text.specs.Texts.{KeepsOwn};
 ghost use Rattle.heap_agents.specs.Held.{IsHeld, Leaves, size_by, view_by};
 ghost use Rattle.heap_agents.specs.Sets.{IsIn};
 ghost use Rattle.heap_agents.specs.Members.{IsWhole, HeapAgentLeaves, heap_of, view_if};
@@ -17,6 +18,7 @@ pub(crate) fn length(member: &mut HeapAgent, s: JsStr) -> u32
     requires whole { IsWhole member.old }
     requires known { HasKey (view_if member.old.agent).units s.id }
     ensures leaves { HeapAgentLeaves member.old member.new }
+    ensures reads { Reads (view_if member.old.agent) (view_if member.new.agent) }
     ensures length { (us : List ℕ) → Has (view_if member.old.agent).units s.id us → result ≡ length us }
 {
     let agent = member.take_agent();
@@ -31,10 +33,17 @@ pub(crate) fn settle(member: &mut HeapAgent, s: JsStr) -> Result<(), TextFull>
     requires whole { IsWhole member.old }
     requires known { HasKey (view_if member.old.agent).units s.id }
     ensures leaves { HeapAgentLeaves member.old member.new }
+    ensures own { KeepsOwn (view_if member.old.agent) (view_if member.new.agent) }
     ensures settled { IfOk result (λ u. IsSettled (view_if member.new.agent) s.id) }
+    ensures used { IfOk result
+        (λ u. (us : List ℕ) → Has (view_if member.old.agent).units s.id us
+        → IsSettling (view_if member.old.agent) (view_if member.new.agent) s.id us) }
+    ensures again { IsSettled (view_if member.old.agent) s.id
+        → IsOk result × Reads (view_if member.old.agent) (view_if member.new.agent) }
     ensures refused { IfErr result
         (λ f. (us : List ℕ) → Has (view_if member.old.agent).units s.id us
-        → (wide : Bool) × IsNoRoom (view_if member.old.agent) (view_if member.new.agent)
+        → (wide : Bool) × IsBitOf (view_if member.old.agent) s.id wide
+        × IsNoRoom (view_if member.old.agent) (view_if member.new.agent)
         (size_of (heap_of member.old)) us f wide) }
 {
     let agent = member.take_agent();
@@ -51,6 +60,7 @@ pub(crate) fn read(member: &mut HeapAgent, s: JsStr, from: u32, out: &mut [u16])
     requires within { (us : List ℕ) × Has (view_if member.old.agent).units s.id us
         × (from + length out.old ≤ length us) }
     ensures leaves { HeapAgentLeaves member.old member.new }
+    ensures reads { Reads (view_if member.old.agent) (view_if member.new.agent) }
     ensures units { (us : List ℕ) → Has (view_if member.old.agent).units s.id us
         → out.new ≡ slice_range us from (from + length out.old) }
 {
@@ -77,40 +87,49 @@ fn read_units(text: &mut Text, s: JsStr, from: u32, out: &mut [u16])
 }
 
 impl Held {
-    /// The length of a string, in units.
+    /// The length of a string, in units, by loads alone.
     pub fn length(&mut self, s: JsStr) -> u32
         requires held { IsHeld self.old }
         requires known { HasKey (view_by self.old).units s.id }
         ensures leaves { Leaves self.old self.new }
+        ensures reads { Reads (view_by self.old) (view_by self.new) }
         ensures length { (us : List ℕ) → Has (view_by self.old).units s.id us → result ≡ length us }
     {
         length(&mut self.member, s)
     }
 
-    /// Sees to it that a string is settled, so that it may be cut, read and interned.
+    /// Sees to it that a string is settled, so that it may be cut, read and interned. Only a rope uses
+    /// content words.
     pub fn settle(&mut self, s: JsStr) -> Result<(), TextFull>
         requires held { IsHeld self.old }
         requires known { HasKey (view_by self.old).units s.id }
         ensures leaves { Leaves self.old self.new }
+        ensures own { KeepsOwn (view_by self.old) (view_by self.new) }
         ensures marked { IfOk result (λ u. IsIn self.new.known s.id) }
         ensures settled { IfOk result (λ u. IsSettled (view_by self.new) s.id) }
+        ensures used { IfOk result
+            (λ u. (us : List ℕ) → Has (view_by self.old).units s.id us
+            → IsSettling (view_by self.old) (view_by self.new) s.id us) }
+        ensures again { IsSettled (view_by self.old) s.id
+            → IsOk result × Reads (view_by self.old) (view_by self.new) }
         ensures refused { IfErr result
             (λ f. (us : List ℕ) → Has (view_by self.old).units s.id us
-            → (wide : Bool) × IsNoRoom (view_by self.old) (view_by self.new)
-            (size_by self.old) us f wide) }
+            → (wide : Bool) × IsBitOf (view_by self.old) s.id wide
+            × IsNoRoom (view_by self.old) (view_by self.new) (size_by self.old) us f wide) }
     {
         settle(&mut self.member, s)?;
         self.mark(s.id);
         Ok(())
     }
 
-    /// The units of a settled string from unit `from` on, as many as there is room for.
+    /// The units of a settled string from unit `from` on, as many as there is room for, by loads alone.
     pub fn read(&mut self, s: JsStr, from: u32, out: &mut [u16])
         requires held { IsHeld self.old }
         requires settled { IsSettled (view_by self.old) s.id }
         requires within { (us : List ℕ) × Has (view_by self.old).units s.id us
             × (from + length out.old ≤ length us) }
         ensures leaves { Leaves self.old self.new }
+        ensures reads { Reads (view_by self.old) (view_by self.new) }
         ensures units { (us : List ℕ) → Has (view_by self.old).units s.id us
             → out.new ≡ slice_range us from (from + length out.old) }
     {

@@ -77,6 +77,7 @@ pub(crate) fn show(member: &mut HeapAgent, s: JsStr, at: u32, into: &mut [u64]) 
     requires known { HasKey (view_if member.old.agent).units s.id }
     requires settled { IsSettled (view_if member.old.agent) s.id }
     ensures leaves { HeapAgentLeaves member.old member.new }
+    ensures reads { Reads (view_if member.old.agent) (view_if member.new.agent) }
     ensures shown { (us : List ℕ) → Has (view_if member.old.agent).units s.id us
         → AreShown us at into.old into.new result }
     ensures there { (us : List ℕ) → Has (view_if member.old.agent).units s.id us
@@ -92,12 +93,13 @@ pub(crate) fn show(member: &mut HeapAgent, s: JsStr, at: u32, into: &mut [u64]) 
 
 impl Held {
     /// The content words of a settled string from word number `at` on, as many as there are and as there
-    /// is room for, and where its units stand in them.
+    /// is room for, and where its units stand in them, by loads alone.
     pub fn window(&mut self, s: JsStr, at: u32, into: &mut [u64]) -> Shown
         requires held { IsHeld self.old }
         requires known { HasKey (view_by self.old).units s.id }
         requires settled { IsSettled (view_by self.old) s.id }
         ensures leaves { Leaves self.old self.new }
+        ensures reads { Reads (view_by self.old) (view_by self.new) }
         ensures shown { (us : List ℕ) → Has (view_by self.old).units s.id us
             → AreShown us at into.old into.new result }
         ensures there { (us : List ℕ) → Has (view_by self.old).units s.id us

@@ -3,6 +3,7 @@ ghost use Rattle.std.specs.Prelude.{◌≡◌, ℕ, [], ◌∷◌, ◌++◌, ◌
 ghost use Rattle.js_store.specs.Faults.{SlotsShut, Step, fault_of};
 ghost use Rattle.js_store.specs.Rows.{intern_words};
 ghost use Rattle.js_store.specs.State.{Has, IsKnown, IsSettled, text};
+ghost use Rattle.heap_text.specs.Texts.{KeepsOwn};
 ghost use Rattle.heap_intern.specs.Answers.{IsForwarded};
 ghost use Rattle.heap_intern.specs.SlotLoads.{LoadsSlots, loads_at};
 ghost use Rattle.heap_intern.specs.Counted.{FoundFree, GoesByPlan, answered};
@@ -38,6 +39,7 @@ impl<'h> Session<'h> {
             (λ r. (state_in self.new).history
             ≡ (state_in self.old).history ++ (text (state_in self.old) s.id, r.id) ∷ []) }
         ensures kept { OnErr result ((state_in self.new).history ≡ (state_in self.old).history) }
+        ensures own { KeepsOwn (view_in self.old) (view_in self.new) }
         ensures shut { SlotsShut (state_in self.new) (fault_of result) (text (state_in self.old) s.id) }
         ensures free { FoundFree (view_in self.old) (view_in self.new) (text (state_in self.old) s.id)
             (fault_of result) }
@@ -79,6 +81,7 @@ impl<'h> Session<'h> {
             (λ r. (state_in self.new).history
             ≡ (state_in self.old).history ++ (text (state_in self.old) s.id, r.id) ∷ []) }
         ensures kept { OnErr result ((state_in self.new).history ≡ (state_in self.old).history) }
+        ensures own { KeepsOwn (view_in self.old) (view_in self.new) }
         ensures shut { SlotsShut (state_in self.new) (fault_of result) (text (state_in self.old) s.id) }
         ensures free { FoundFree (view_in self.old) (view_in self.new) (text (state_in self.old) s.id)
             (fault_of result) }

@@ -1,9 +1,11 @@
 // New strings of units and of parts, and those of one unit.
-ghost use Rattle.std.specs.Prelude.{◌≡◌, ◌+◌, ◌≤◌, length, slice_range, IfOk};
+ghost use Rattle.std.specs.Prelude.{◌≡◌, ◌+◌, ◌≤◌, length, slice_range, IfOk, OnErr};
 ghost use Rattle.js_store.specs.Faults.{fault_of, Uses};
 ghost use Rattle.js_store.specs.Rows.{cut_ids, cut_words, flat_words};
 ghost use Rattle.js_store.specs.State.{Has, IsKnown, IsSettled, text};
-ghost use Rattle.heap_intern.specs.Sessions.{state_in};
+ghost use Rattle.heap_text.specs.Texts.{KeepsOwn};
+ghost use Rattle.heap_intern.specs.Owning.{Spares};
+ghost use Rattle.heap_intern.specs.Sessions.{state_in, view_in};
 
 use crate::faults::text_fault;
 use crate::session::Session;
@@ -18,6 +20,8 @@ impl<'h> Session<'h> {
             (λ r. Has (state_in self.new) r.id units.now × IsSettled (state_in self.new) r.id) }
         ensures uses { Uses (state_in self.old) (state_in self.new) (fault_of result)
             1 (flat_words units.now) }
+        ensures own { KeepsOwn (view_in self.old) (view_in self.new) }
+        ensures spared { OnErr result (Spares (view_in self.old) (view_in self.new)) }
     {
         match self.text.make_flat(units) {
             Ok(s) => Ok(s),
@@ -33,6 +37,8 @@ impl<'h> Session<'h> {
             (λ r. Has (state_in self.new) r.id units.now × IsSettled (state_in self.new) r.id) }
         ensures uses { Uses (state_in self.old) (state_in self.new) (fault_of result)
             1 (flat_words units.now) }
+        ensures own { KeepsOwn (view_in self.old) (view_in self.new) }
+        ensures spared { OnErr result (Spares (view_in self.old) (view_in self.new)) }
     {
         let unit = units[0];
         if let Some(kept) = self.singles.get(unit) {
@@ -59,6 +65,8 @@ impl<'h> Session<'h> {
         ensures uses { Uses (state_in self.old) (state_in self.new) (fault_of result)
             (cut_ids from to (length (text (state_in self.old) s.id)))
             (cut_words from to (length (text (state_in self.old) s.id))) }
+        ensures own { KeepsOwn (view_in self.old) (view_in self.new) }
+        ensures spared { OnErr result (Spares (view_in self.old) (view_in self.new)) }
     {
         match self.text.slice(s, from, to) {
             Ok(part) => Ok(part),
@@ -78,6 +86,8 @@ impl<'h> Session<'h> {
         ensures uses { Uses (state_in self.old) (state_in self.new) (fault_of result)
             (cut_ids from to (length (text (state_in self.old) s.id)))
             (cut_words from to (length (text (state_in self.old) s.id))) }
+        ensures own { KeepsOwn (view_in self.old) (view_in self.new) }
+        ensures spared { OnErr result (Spares (view_in self.old) (view_in self.new)) }
     {
         let unit = self.unit_at(s, from);
         if let Some(kept) = self.singles.get(unit) {

@@ -5,6 +5,7 @@ ghost use Rattle.js_store.specs.Faults.{Uses};
 ghost use Rattle.js_store.specs.Limits.{limit_units};
 ghost use Rattle.heap_rule.specs.Agents.{joined, left_after_split, right_after_split};
 ghost use Rattle.heap_table.specs.Agents.{Belongs, view_of};
+ghost use Rattle.heap_text.specs.Texts.{KeepsOwn};
 ghost use Rattle.heap_intern.specs.Counting.{count_below, different};
 ghost use Rattle.heap_intern.specs.Sessions.{state_by, state_in, table_of, view_in};
 ghost use Rattle.heap_intern.specs.Shares.{BelongsAs, IsJoined, IsWhole, MayJoin, left_by, right_by, total_by};
@@ -75,6 +76,7 @@ impl<'h> Session<'h> {
         ensures used { result ≡ count_below (λ k. contains_key (view_in self.new).slots k)
             (view_in self.new).sizes.slots }
         ensures uses { Uses (state_in self.old) (state_in self.new) None 0 0 }
+        ensures own { KeepsOwn (view_in self.old) (view_in self.new) }
     {
         let text = &mut self.text;
         count_interned(&mut text.reader)
@@ -87,6 +89,7 @@ impl<'h> Session<'h> {
         ensures ids { result.0 ≡ (state_in self.old).used_ids }
         ensures words { result.1 ≡ (state_in self.old).used_words }
         ensures state { state_in self.new ≡ total_by (state_in self.old) }
+        ensures own { KeepsOwn (view_in self.old) (view_in self.new) }
     {
         self.text.totals()
     }

@@ -1,5 +1,5 @@
 // Short strings, which a session keeps for a while after it made them.
-ghost use Rattle.std.specs.Prelude.{◌≡◌, ◌≤◌, ◌↔◌, ℕ, List, length, IsTrue, None, IfOk, IfSome};
+ghost use Rattle.std.specs.Prelude.{◌≡◌, ◌≤◌, ◌↔◌, ℕ, List, length, IsTrue, None, IfOk, IfSome, OnErr};
 ghost use Rattle.js_store.specs.Faults.{fault_of, Uses};
 ghost use Rattle.js_store.specs.Rows.{flat_words};
 ghost use Rattle.js_store.specs.State.{Has, IsSettled};
@@ -8,7 +8,9 @@ ghost use Rattle.heap_rule.specs.Views as views;
 ghost use Rattle.heap_table.specs.Agents.{view_of};
 ghost use Rattle.heap_read.specs.Reads.{Reads};
 ghost use Rattle.heap_read.specs.Windows.{IsWindow};
-ghost use Rattle.heap_intern.specs.Sessions.{state_in};
+ghost use Rattle.heap_text.specs.Texts.{KeepsOwn};
+ghost use Rattle.heap_intern.specs.Owning.{Spares};
+ghost use Rattle.heap_intern.specs.Sessions.{state_in, view_in};
 
 use crate::recent::Mark;
 use crate::session::Session;
@@ -28,6 +30,8 @@ impl<'h> Session<'h> {
             (λ r. Has (state_in self.new) r.id units.now × IsSettled (state_in self.new) r.id) }
         ensures uses { Uses (state_in self.old) (state_in self.new) (fault_of result)
             1 (flat_words units.now) }
+        ensures own { KeepsOwn (view_in self.old) (view_in self.new) }
+        ensures spared { OnErr result (Spares (view_in self.old) (view_in self.new)) }
     {
         let mark = Mark::new(units);
         if let Some(kept) = self.recent_of(mark, units) {
@@ -48,6 +52,7 @@ impl<'h> Session<'h> {
         ensures has { IfSome result
             (λ r. Has (state_in self.new) r.id units.now × IsSettled (state_in self.new) r.id) }
         ensures uses { Uses (state_in self.old) (state_in self.new) None 0 0 }
+        ensures reads { Reads (view_in self.old) (view_in self.new) }
     {
         let kept = match self.recent.get(mark) {
             Some(kept) => kept,

@@ -30,6 +30,11 @@ pub record IsHeld (v : View) (w : Window) (h : HeldWord) : Type 0 where
   pub within : h.from + h.count ≤ w.len
   pub each : (k : ℕ) → k < h.count → HasLane v w.wide w.start (w.offset + (h.from + k)) (lane_of h.wide h.word (h.lane + k))
 
+-- It shows all units of the window that its word has: it begins with the window or with the word, and ends with one of the two.
+pub record HoldsAll (w : Window) (h : HeldWord) : Type 0 where
+  pub front : 0 < h.from → h.lane ≡ 0
+  pub back : h.from + h.count < w.len → h.lane + h.count ≡ lane_count h.wide
+
 -- the view has each word with a unit of the window as frozen
 pub record AreFrozen (v : View) (w : Window) : Type 0 where
   pub each : (k : ℕ) → k < w.len → HasKey v.frozen (w.start + (w.offset + k) / lane_count w.wide)

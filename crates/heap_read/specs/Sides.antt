@@ -1,5 +1,5 @@
 -- The strings that a form names.
-use Rattle.std.specs.Prelude.{◌≡◌, ℕ, ◌+◌}
+use Rattle.std.specs.Prelude.{◌≡◌, ℕ, ◌+◌, ◌≤◌}
 use Rattle.js_header.specs.declared.form.Form.{Form}
 use Rattle.js_header.specs.declared.form.Form.TheVariants.{Cons, Sliced, Thin}
 use Rattle.heap_rule.specs.declared.view.View.{View}
@@ -21,3 +21,9 @@ target_loads _ = 0
 -- n forms were loaded in between; the count stands still at the end of its type
 abbrev pub LoadsForms : View → View → ℕ → Type 0
 LoadsForms v w n = (l j : ℕ) → v.form_loads ≡ added_loads l j → w.form_loads ≡ added_loads l (j + n)
+
+-- at most n forms were loaded in between
+pub record LoadsFewForms (v w : View) (n : ℕ) : Type 0 where
+  pub times : ℕ
+  pub few : times ≤ n
+  pub loads : LoadsForms v w times

@@ -6,6 +6,7 @@ ghost use Rattle.heap_rule.specs.Maps.{Has, HasKey};
 ghost use Rattle.heap_rule.specs.Views.{IsSettled, shown};
 ghost use Rattle.heap_read.specs.Readers.{Moves, view_in};
 ghost use Rattle.heap_read.specs.Reads.{KeepsForms, Reads};
+ghost use Rattle.heap_read.specs.Sides.{LoadsFewForms};
 ghost use Rattle.heap_read.specs.Windows.{IsFrozenWindow, IsWindow, ShowsAll};
 
 use crate::reader::Reader;
@@ -23,13 +24,14 @@ impl<'h> Reader<'h> {
         self.agent.load_length(self.heap, s.id)
     }
 
-    /// A window on the units of a settled string.
+    /// A window on the units of a settled string, by at most three loads of a form.
     pub fn window(&mut self, s: JsStr) -> Window
         requires known { HasKey (view_in self.old).units s.id }
         requires settled { IsSettled (view_in self.old) s.id }
         ensures reads { Moves Reads self.old self.new }
         ensures shows { ShowsAll (view_in self.old) (view_in self.new) s.id result }
         ensures frozen { IsFrozenWindow (view_in self.new) result }
+        ensures few { LoadsFewForms (view_in self.old) (view_in self.new) 3 }
     {
         self.window_on(s)
     }
@@ -53,12 +55,13 @@ impl<'h> Reader<'h> {
         }
     }
 
-    /// Unit `i` of a settled string.
+    /// Unit `i` of a settled string, by at most three loads of a form.
     pub fn unit_at(&mut self, s: JsStr, i: u32) -> u16
         requires settled { IsSettled (view_in self.old) s.id }
         requires within { (us : List ℕ) × Has (view_in self.old).units s.id us × (i < length us) }
         ensures reads { Moves Reads self.old self.new }
         ensures unit { (us : List ℕ) → Has (view_in self.old).units s.id us → result ≡ slice_index us i }
+        ensures few { LoadsFewForms (view_in self.old) (view_in self.new) 3 }
     {
         let window = self.window(s);
         self.unit_in(window, i)

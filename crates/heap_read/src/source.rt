@@ -2,7 +2,7 @@
 ghost use Rattle.std.specs.Prelude.{◌≡◌, ℕ, List, ◌+◌, ◌-◌, ◌/◌, ◌%◌, ◌≤◌, ◌<◌, ◌↔◌, IsTrue, false, slice_index, length};
 ghost use Rattle.js_units.specs.Lanes.{lane_count, lane_of};
 ghost use Rattle.heap_rule.specs.Layout.{MAX};
-ghost use Rattle.heap_read.specs.Frozen.{IsHeld, IsLearned};
+ghost use Rattle.heap_read.specs.Frozen.{HoldsAll, IsHeld, IsLearned};
 ghost use Rattle.heap_read.specs.Readers.{Moves, view_in};
 ghost use Rattle.heap_read.specs.Reads.{KeepsForms, Reads};
 ghost use Rattle.heap_read.specs.Shifted.{HoldsLanes};
@@ -118,6 +118,7 @@ impl<'h> Reader<'h> {
         ensures forms { KeepsForms (view_in self.old) (view_in self.new) }
         ensures has { (result.from ≤ i) × (i < result.from + result.count) }
         ensures held { IsHeld (view_in self.new) w result }
+        ensures all { HoldsAll w result }
         ensures holds { (us : List ℕ) → IsWindow (view_in self.old) w us → Holds us result }
         ensures learned { IsLearned (view_in self.new) }
         ensures wide { result.wide ≡ w.wide }

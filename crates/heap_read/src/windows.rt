@@ -9,7 +9,7 @@ ghost use Rattle.heap_rule.specs.Views.{IsKnown, IsSettled};
 ghost use Rattle.heap_read.specs.Frozen.{IsFixedBy, IsFixedWindow, IsLearned};
 ghost use Rattle.heap_read.specs.Readers.{Moves, view_in};
 ghost use Rattle.heap_read.specs.Reads.{HoldsForms, KeepsForms, Reads};
-ghost use Rattle.heap_read.specs.Sides.{KnowsSide, LoadsForms, target_loads};
+ghost use Rattle.heap_read.specs.Sides.{KnowsSide, LoadsFewForms, LoadsForms, target_loads};
 ghost use Rattle.heap_read.specs.Windows.{IsLed, IsWindowOf, ShowsAll, StandsFor};
 
 use crate::lanes::Run;
@@ -112,12 +112,13 @@ impl<'h> Reader<'h> {
         self.window_over(of, of.id, run, offset)
     }
 
-    /// A window on all units of a settled string, by three loads of a form at most.
+    /// A window on all units of a settled string, by at most three loads of a form.
     pub fn window_on(&mut self, of: JsStr) -> Window
         requires known { HasKey (view_in self.old).units of.id }
         requires settled { IsSettled (view_in self.old) of.id }
         ensures reads { Moves Reads self.old self.new }
         ensures shows { ShowsAll (view_in self.old) (view_in self.new) of.id result }
+        ensures few { LoadsFewForms (view_in self.old) (view_in self.new) 3 }
     {
         let form = self.form_now(of.id);
         if let Form::Sliced { parent, offset, .. } = form {

@@ -1,5 +1,5 @@
 -- What settling answers after a load.
-use Rattle.std.proofs.Common.{◌≡◌, ◌<◌, ◌⊎◌, ⊎_elim, ℕ, Bool, List, length, sym, refl, subst, ◌∙◌, arith}
+use Rattle.std.proofs.Common.{◌≡◌, ◌+◌, ◌<◌, ◌⊎◌, ⊎_elim, ℕ, Bool, List, length, sym, refl, subst, ◌∙◌, arith}
 use Rattle.std.specs.Prelude.{Result, Ok, Err, IfOk, IfErr}
 use Rattle.std.specs.FinMap.{FinMap}
 use Rattle.std.specs.Ordering.{nat_cmp}
@@ -55,7 +55,7 @@ module _ (v u w : View) (read : Reads v u) where
     own_ids = h.own_ids ∙ read.own_ids;
     own_words = λ c k. h.own_words c (subst (λ (m : FinMap nat_cmp ℕ). HasKey m c) (sym read.own_words) k);
     sides = h.sides;
-    words = h.words;
+    words = (h.words.0, λ q l k. h.words.1 q l (subst (λ (m : FinMap nat_cmp ℕ). HasKey m (h.words.0 + q)) (sym read.own_words) k), h.words.2);
   }
 
   pub no_room_after : (z : HeapSize) (us : List ℕ) (f : TextFull) (wide : Bool) → IsNoRoom u w z us f wide → IsNoRoom v w z us f wide

@@ -6,6 +6,7 @@ ghost use Rattle.heap_rule.specs.Maps.{Has, HasKey};
 ghost use Rattle.heap_rule.specs.Views.{IsSettled, shown};
 ghost use Rattle.heap_table.specs.Agents.{view_of};
 ghost use Rattle.heap_read.specs.Reads.{KeepsForms, Reads};
+ghost use Rattle.heap_read.specs.Sides.{LoadsFewForms};
 ghost use Rattle.heap_read.specs.Spans.{IsFirstUnit};
 ghost use Rattle.heap_read.specs.Windows.{IsFrozenWindow, IsWindow};
 ghost use Rattle.heap_read.specs.Written.{ShowsFrom};
@@ -27,7 +28,7 @@ impl<'h> Text<'h> {
         self.reader.len(s)
     }
 
-    /// A window on the units of a settled string.
+    /// A window on the units of a settled string, by at most three loads of a form.
     pub fn window(&mut self, s: JsStr) -> Window
         requires known { HasKey (view_of self.old.reader.agent).units s.id }
         requires settled { IsSettled (view_of self.old.reader.agent) s.id }
@@ -36,6 +37,7 @@ impl<'h> Text<'h> {
         ensures shows { (us : List ℕ) → Has (view_of self.old.reader.agent).units s.id us
             → IsWindow (view_of self.new.reader.agent) result us × (result.len ≡ length us) }
         ensures frozen { IsFrozenWindow (view_of self.new.reader.agent) result }
+        ensures few { LoadsFewForms (view_of self.old.reader.agent) (view_of self.new.reader.agent) 3 }
     {
         self.reader.window(s)
     }
@@ -55,7 +57,7 @@ impl<'h> Text<'h> {
         self.reader.unit_in(w, i)
     }
 
-    /// Unit `i` of a settled string.
+    /// Unit `i` of a settled string, by at most three loads of a form.
     pub fn unit_at(&mut self, s: JsStr, i: u32) -> u16
         requires settled { IsSettled (view_of self.old.reader.agent) s.id }
         requires within { (us : List ℕ) × Has (view_of self.old.reader.agent).units s.id us
@@ -64,6 +66,7 @@ impl<'h> Text<'h> {
         ensures reads { Reads (view_of self.old.reader.agent) (view_of self.new.reader.agent) }
         ensures unit { (us : List ℕ) → Has (view_of self.old.reader.agent).units s.id us
             → result ≡ slice_index us i }
+        ensures few { LoadsFewForms (view_of self.old.reader.agent) (view_of self.new.reader.agent) 3 }
     {
         self.reader.unit_at(s, i)
     }

@@ -145,11 +145,71 @@ count -> Number(2)
 totals -> Both(6, 4)
 ";
 
+// A call that is refused words claims no id: the next string, a rope that takes no word, has the next one.
+// One that is refused an id has claimed the word of its copy before, which stays claimed; a rope, and a part
+// that is no copy, claim none. 13 letters take two words, 26 take four.
+const REFUSED: &str = "== a short join is refused a word
+session 8 3 1 1
+units abcdefghijklm -> Made(0)
+units xy -> Made(1)
+concat 1 1 -> NotConcat(Store(Full(Words { at: 3, want: 1, end: 3 })))
+concat 0 0 -> Made(2)
+totals -> Both(3, 3)
+== a short join is refused an id
+session 2 8 1 1
+units abcdefghijklm -> Made(0)
+units xy -> Made(1)
+concat 1 1 -> NotConcat(Store(Full(Ids { at: 2, want: 1, end: 2 })))
+totals -> Both(2, 4)
+concat 0 0 -> NotConcat(Store(Full(Ids { at: 2, want: 1, end: 2 })))
+totals -> Both(2, 4)
+== a short part is refused a word
+session 8 2 1 1
+units abcdefghijklm -> Made(0)
+slice 0 1 4 -> NotStored(Full(Words { at: 2, want: 1, end: 2 }))
+slice 0 1 2 -> NotStored(Full(Words { at: 2, want: 1, end: 2 }))
+concat 0 0 -> Made(1)
+totals -> Both(2, 2)
+== a part is refused an id
+session 1 8 1 1
+units abcdefghijklmnopqr -> Made(0)
+slice 0 1 14 -> NotStored(Full(Ids { at: 1, want: 1, end: 1 }))
+totals -> Both(1, 3)
+slice 0 1 4 -> NotStored(Full(Ids { at: 1, want: 1, end: 1 }))
+totals -> Both(1, 4)
+== units are refused words
+session 8 3 1 1
+units abcdefghijklm -> Made(0)
+units abcdefghijklmn -> NotStored(Full(Words { at: 2, want: 2, end: 3 }))
+concat 0 0 -> Made(1)
+units a -> Made(2)
+units xy -> NotStored(Full(Words { at: 3, want: 1, end: 3 }))
+units b -> NotStored(Full(Words { at: 3, want: 1, end: 3 }))
+units b -> NotStored(Full(Words { at: 3, want: 1, end: 3 }))
+concat 0 1 -> Made(3)
+totals -> Both(4, 3)
+== units are refused an id
+session 1 8 1 1
+units abcdefghijklm -> Made(0)
+units xy -> NotStored(Full(Ids { at: 1, want: 1, end: 1 }))
+totals -> Both(1, 3)
+units xy -> NotStored(Full(Ids { at: 1, want: 1, end: 1 }))
+totals -> Both(1, 4)
+== settling is refused words
+session 8 5 1 1
+units abcdefghijklm -> Made(0)
+concat 0 0 -> Made(1)
+reads 1 abcdefghijklmabcdefghijklm -> No
+concat 0 1 -> Made(2)
+totals -> Both(3, 2)
+";
+
 #[test]
 fn sessions_alone_and_split(rt: HostRuntime) {
     plays(&rt, rt.alloc(), SESSIONS);
     plays(&rt, rt.alloc(), RECENT);
     plays(&rt, rt.alloc(), SPLIT);
+    plays(&rt, rt.alloc(), REFUSED);
 }
 
 // Two sessions intern the same list at once, each in a thread. Joined again, there is one interned string, and

@@ -3,6 +3,7 @@ ghost use Rattle.std.specs.Prelude.{◌≡◌, ◌≢◌, ◌↔◌, ℕ, ◌+�
 ghost use Rattle.heap_rule.specs.Maps.{Has, HasKey};
 ghost use Rattle.heap_rule.specs.Views.{IsSettled};
 ghost use Rattle.heap_text.specs.declared.faults.TextFull as text_full;
+ghost use Rattle.heap_read.specs.Reads.{Reads};
 ghost use Rattle.heap_text.specs.Settling.{IsNoRoom};
 ghost use Rattle.heap_agents.specs.Ready.{Goes, IsReady, Knows, size_in, view_in};
 ghost use Rattle.heap_agents.specs.Words.{AreShown, AreThere};
@@ -29,6 +30,8 @@ pub extern "C" fn jsstr_length(alloc: Global, agent: &mut JsAgent, s: u32) -> Js
     ensures known { result.status ≡ reports.DONE → Knows agent.old.at.value s }
     ensures unchanged { ¬ (Knows agent.old.at.value s) → agent.new.at.value ≡ agent.old.at.value }
     ensures goes { Knows agent.old.at.value s → Goes agent.old.at.value agent.new.at.value }
+    ensures reads { Knows agent.old.at.value s
+        → Reads (view_in agent.old.at.value) (view_in agent.new.at.value) }
     ensures length { result.status ≡ reports.DONE → (us : List ℕ)
         → Has (view_in agent.old.at.value).units s us → result.value ≡ length us }
 {

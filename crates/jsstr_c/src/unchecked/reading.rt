@@ -3,6 +3,7 @@ ghost use Rattle.std.specs.Prelude.{◌≡◌, ◌≢◌, ℕ, ◌+◌, ◌≤�
 ghost use Rattle.heap_rule.specs.Maps.{Has, HasKey};
 ghost use Rattle.heap_rule.specs.Views.{IsSettled};
 ghost use Rattle.heap_text.specs.declared.faults.TextFull as text_full;
+ghost use Rattle.heap_read.specs.Reads.{Reads};
 ghost use Rattle.heap_text.specs.Settling.{IsNoRoom};
 ghost use Rattle.heap_agents.specs.Ready.{Goes, IsReady, Knows, size_in, view_in};
 ghost use Rattle.heap_agents.specs.Words.{AreShown, AreThere};
@@ -22,6 +23,7 @@ pub extern "C" fn jsstr_length_unchecked(alloc: Global, agent: &mut JsAgent, s: 
     requires known { HasKey (view_in agent.old.at.value).units s }
     ensures handle { IsHandle agent.new }
     ensures goes { Goes agent.old.at.value agent.new.at.value }
+    ensures reads { Reads (view_in agent.old.at.value) (view_in agent.new.at.value) }
     ensures length { (us : List ℕ) → Has (view_in agent.old.at.value).units s us → result ≡ length us }
 {
     let mut held = agent.take(alloc);
@@ -72,6 +74,7 @@ pub extern "C" fn jsstr_read_unchecked(
         × (from + length out.old ≤ length us) }
     ensures handle { IsHandle agent.new }
     ensures goes { Goes agent.old.at.value agent.new.at.value }
+    ensures reads { Reads (view_in agent.old.at.value) (view_in agent.new.at.value) }
     ensures units { (us : List ℕ) → Has (view_in agent.old.at.value).units s us
         → out.new ≡ slice_range us from (from + length out.old) }
 {
@@ -95,6 +98,7 @@ pub extern "C" fn jsstr_window_unchecked(
     requires settled { IsSettled (view_in agent.old.at.value) s }
     ensures handle { IsHandle agent.new }
     ensures goes { Goes agent.old.at.value agent.new.at.value }
+    ensures reads { Reads (view_in agent.old.at.value) (view_in agent.new.at.value) }
     ensures told { result.status ≡ reports.DONE }
     ensures shown { (us : List ℕ) → Has (view_in agent.old.at.value).units s us
         → AreShown us at out.old out.new (shown_by result) }

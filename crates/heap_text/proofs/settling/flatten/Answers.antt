@@ -380,7 +380,7 @@ returns-clause-flat g c xs h = let v : View = c.args.reader.now.agent.seat.me.0 
           moving.own_words q (ok.above_own q here) (r2.writes.view.own_words q (r1.writes.view.own_words q (subst (λ (y : View). HasKey y.own_words q) (sym ok.view) (run_kept b.own_words start want q 0 here))));
       sides = sides_of b x i left right m us (continues_trans b w x (continues_words b w start want ok.view c.claim_words.ensures.low)
           (continues_trans w f1 x (continues_writes w f1 r1.writes.view) (continues_trans f1 f2 x (continues_writes f1 f2 r2.writes.view) moving.continues))).known d.below d.known both;
-      words = (start, won_or_lost f2 x i (Cons wide left right) wide start (words_over wide (length us)) c.flatten_step.result st.step st.view own);
+      words = (start, λ q l k. let low = ok.above_own (start + q) (subst (λ (y : FinMap nat_cmp ℕ). HasKey y (start + q)) (sym rb.own_words) k) in omega arith, won_or_lost f2 x i (Cons wide left right) wide start (words_over wide (length us)) c.flatten_step.result st.step st.view own);
     }
 
 pub returns-in-Err-clause-rope : goal.returns-in-Err-clause-rope

@@ -1,4 +1,4 @@
-use Rattle.std.proofs.Common.{◌∙◌, ap, sym, None}
+use Rattle.std.proofs.Common.{◌∙◌, [], ap, sym, None}
 use Rattle.std.specs.FinMap.{contains_key}
 use Rattle.js_store.specs.Limits.{limit_units}
 use Rattle.heap_rule.specs.declared.size.HeapSize.{HeapSize}
@@ -9,6 +9,7 @@ use Rattle.heap_rule.specs.declared.view.View.{View}
 use Rattle.heap_intern.proofs.Lately.{kept_by}
 use Rattle.heap_intern.proofs.OneUnit.{singles_by}
 use Rattle.heap_intern.proofs.MadeLately.{recent_by}
+use Rattle.heap_intern.proofs.Owning.{own_goes}
 use Rattle.heap_intern.proofs.session.Session.count_interned.Goals as goal
 
 pub returns-clause-uses : goal.returns-clause-uses
@@ -32,3 +33,6 @@ invariant_of-self-clause-recent_kept c = let s = c.args.self.now in let v : View
 pub returns-clause-used : goal.returns-clause-used
 returns-clause-used c = let w : View = c.count_interned.new.reader.agent.seat.me.0 in
     c.count_interned.ensures.used ∙ ap (λ (z : HeapSize). count_below (λ k. contains_key w.slots k) z.slots) (sym (c.count_interned.ensures.looks.goes.sizes ∙ c.args.self.now.text.reader.belongs.1))
+
+pub returns-clause-own : goal.returns-clause-own
+returns-clause-own c = own_goes c.args.self.now.text.reader.agent.seat.me.0 c.count_interned.new.reader.agent.seat.me.0 [] c.count_interned.ensures.looks.goes

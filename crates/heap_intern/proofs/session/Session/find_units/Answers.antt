@@ -8,6 +8,7 @@ use Rattle.heap_intern.proofs.MadeLately.{recent_by}
 use Rattle.heap_intern.proofs.OneUnit.{singles_by}
 use Rattle.heap_intern.proofs.States.{found_step, history_goes, history_looks, settled_test, step_at, step_looks}
 use Rattle.heap_intern.proofs.Again.{finds_known}
+use Rattle.heap_intern.proofs.Owning.{own_goes}
 use Rattle.heap_intern.proofs.session.Session.find_units.Goals as goal
 
 pub find_units-requires : goal.find_units-requires
@@ -40,3 +41,9 @@ invariant_of-self c = let s = c.args.self.now in let v : View = s.text.reader.ag
       singles_kept = singles_by v w k s.singles.ids s.singles_kept;
       recent_kept = recent_by v w k s.recent.ids s.recent_kept;
     }
+
+pub returns-in-Some-clause-own : goal.returns-in-Some-clause-own
+returns-in-Some-clause-own c = own_goes c.args.self.now.text.reader.agent.seat.me.0 c.find_units.new.reader.agent.seat.me.0 ((c.args.units.now, c.in-Some.id) ∷ []) c.in-Some.ensures.finds.0
+
+pub returns-in-None-clause-own : goal.returns-in-None-clause-own
+returns-in-None-clause-own c = own_goes c.args.self.now.text.reader.agent.seat.me.0 c.find_units.new.reader.agent.seat.me.0 [] c.in-None.ensures.finds.0.goes

@@ -14,6 +14,7 @@ use Rattle.heap_intern.proofs.States.{history_continues, settled_test, uses_at}
 use Rattle.heap_intern.proofs.Lately.{kept_by}
 use Rattle.heap_intern.proofs.OneUnit.{singles_by}
 use Rattle.heap_intern.proofs.MadeLately.{recent_by}
+use Rattle.heap_intern.proofs.Owning.{spares_of}
 use Rattle.heap_intern.proofs.session.Session.flat_of.Goals as goal
 
 pub make_flat-requires : goal.make_flat-requires
@@ -45,3 +46,7 @@ invariant_of-self-clause-singles_kept c = let s = c.args.self.now in let v : Vie
 
 pub invariant_of-self-clause-recent_kept : goal.invariant_of-self-clause-recent_kept
 invariant_of-self-clause-recent_kept c = let s = c.args.self.now in let v : View = s.text.reader.agent.seat.me.0 in let w : View = c.make_flat.new.self.reader.agent.seat.me.0 in recent_by v w (c.make_flat.ensures.continues.known) s.recent.ids s.recent_kept
+
+pub returns-in-Err-clause-spared : goal.returns-in-Err-clause-spared
+returns-in-Err-clause-spared c = let v : View = c.args.self.now.text.reader.agent.seat.me.0 in let w : View = c.make_flat.new.self.reader.agent.seat.me.0 in let us : List ℕ = c.args.units.now in
+    spares_of v w (words_over (texts.is_wide us) (length us)) c.in-Err.full c.in-Err.ensures.spared

@@ -16,6 +16,7 @@ use Rattle.heap_intern.proofs.States.{history_continues, settled_test, test_sett
 use Rattle.heap_intern.proofs.Lately.{kept_by}
 use Rattle.heap_intern.proofs.OneUnit.{singles_by}
 use Rattle.heap_intern.proofs.MadeLately.{recent_by}
+use Rattle.heap_intern.proofs.Owning.{cut_spares}
 use Rattle.heap_intern.proofs.session.Session.part_of.Goals as goal
 
 pub slice-requires-clause-settled : goal.slice-requires-clause-settled
@@ -58,3 +59,7 @@ invariant_of-self-clause-singles_kept c = let s = c.args.self.now in let v : Vie
 
 pub invariant_of-self-clause-recent_kept : goal.invariant_of-self-clause-recent_kept
 invariant_of-self-clause-recent_kept c = let s = c.args.self.now in let v : View = s.text.reader.agent.seat.me.0 in let w : View = c.slice.new.self.reader.agent.seat.me.0 in recent_by v w (c.slice.ensures.continues.known) s.recent.ids s.recent_kept
+
+pub returns-in-Err-clause-spared : goal.returns-in-Err-clause-spared
+returns-in-Err-clause-spared c = let s = c.args.self.now in let v : View = s.text.reader.agent.seat.me.0 in let w : View = c.slice.new.self.reader.agent.seat.me.0 in let u = has_key v.units c.args.s.id c.requires.known in
+    cut_spares v w (size_of s.text.reader.heap.now) c.args.s c.args.from c.args.to u.0 c.in-Err.full (subst (λ (xs : List ℕ). c.args.to ≤ length xs) (text_is v.units c.args.s.id u.0 u.1) c.requires.within) (c.in-Err.ensures.cut u.0 u.1)

@@ -6,6 +6,7 @@ use Rattle.heap_intern.proofs.Lately.{kept_by}
 use Rattle.heap_intern.proofs.OneUnit.{singles_by}
 use Rattle.heap_intern.proofs.MadeLately.{recent_by}
 use Rattle.heap_intern.proofs.States.{history_reads, step_reads, test_settled, uses_at}
+use Rattle.heap_read.proofs.Loaded.{reads_refl}
 use Rattle.heap_intern.proofs.session.Session.recent_of.Goals as goal
 
 pub has_units-requires-clause-settled : goal.has_units-requires-clause-settled
@@ -27,3 +28,6 @@ returns-then-has_units-clause-uses c = let s = c.args.self.now in let v : View =
 pub returns-clause-uses : goal.returns-clause-uses
 returns-clause-uses c = let s = c.args.self.now in let v : View = s.text.reader.agent.seat.me.0 in let w : View = c.has_units.new.text.reader.agent.seat.me.0 in let l = limit_units s.limit in let t = table_of s.text.reader.heap.now in let e = c.has_units.ensures in
     uses_at v w l t (table_of c.has_units.new.text.reader.heap.now) None 0 0 (ap (λ x. table_of x.now) e.heap) (history_reads v w e.reads) tt (step_reads v w l t s.text.reader.belongs.5 e.reads)
+
+pub returns-in-None-clause-reads : goal.returns-in-None-clause-reads
+returns-in-None-clause-reads c = reads_refl c.args.self.now.text.reader.agent.seat.me.0

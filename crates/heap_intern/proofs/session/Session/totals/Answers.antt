@@ -7,6 +7,7 @@ use Rattle.heap_intern.specs.Lately.{IsKept}
 use Rattle.heap_intern.specs.Singles.{AreSingles}
 use Rattle.heap_intern.specs.Recent.{AreRecent}
 use Rattle.std.proofs.Common.{subst, sym}
+use Rattle.heap_text.specs.Texts.{KeepsOwn}
 use Rattle.heap_intern.proofs.session.Session.totals.Goals as goal
 
 pub returns-clause-state : goal.returns-clause-state
@@ -25,3 +26,6 @@ invariant_of-self-clause-singles_kept c = let s = c.args.self.now in subst (λ (
 
 pub invariant_of-self-clause-recent_kept : goal.invariant_of-self-clause-recent_kept
 invariant_of-self-clause-recent_kept c = let s = c.args.self.now in subst (λ (w : View). AreRecent w s.recent.ids) (sym c.totals.ensures.view) s.recent_kept
+
+pub returns-clause-own : goal.returns-clause-own
+returns-clause-own c = let v : View = c.args.self.now.text.reader.agent.seat.me.0 in subst (KeepsOwn v) (sym c.totals.ensures.view) record { ids = λ i n h. h; words = λ d x h. h }

@@ -13,6 +13,7 @@ use Rattle.heap_intern.proofs.States.{has_text, history_continues, uses_at}
 use Rattle.heap_intern.proofs.Lately.{kept_by}
 use Rattle.heap_intern.proofs.OneUnit.{singles_by}
 use Rattle.heap_intern.proofs.MadeLately.{recent_by}
+use Rattle.heap_intern.proofs.Owning.{joined_spares}
 use Rattle.heap_intern.proofs.strings.SessionStrings.concat.Goals as goal
 
 pub returns-in-Ok-clause-ok : goal.returns-in-Ok-clause-ok
@@ -64,3 +65,9 @@ invariant_of-self-clause-singles_kept c = let s = c.args.self.now in let v : Vie
 
 pub invariant_of-self-clause-recent_kept : goal.invariant_of-self-clause-recent_kept
 invariant_of-self-clause-recent_kept c = let s = c.args.self.now in let v : View = s.text.reader.agent.seat.me.0 in let w : View = c.concat.new.self.reader.agent.seat.me.0 in recent_by v w c.concat.ensures.continues.known s.recent.ids s.recent_kept
+
+pub returns-in-Err-clause-spared : goal.returns-in-Err-clause-spared
+returns-in-Err-clause-spared c = let s = c.args.self.now in let v : View = s.text.reader.agent.seat.me.0 in let w : View = c.concat.new.self.reader.agent.seat.me.0 in
+    let us : List ℕ = unwrap_or (get v.units c.args.a.id) [] in let vs : List ℕ = unwrap_or (get v.units c.args.b.id) [] in
+    let h = has_text v.units c.args.a.id c.requires.left in let k = has_text v.units c.args.b.id c.requires.right in
+    joined_spares v w (size_of s.text.reader.heap.now) s.text.limit c.args.a c.args.b us vs c.in-Err.fault (c.in-Err.ensures.joined us vs h k)

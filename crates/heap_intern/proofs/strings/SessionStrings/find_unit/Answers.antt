@@ -44,3 +44,7 @@ invariant_of-self-clause-singles_kept c = let s = c.args.self.now in let v : Vie
 pub invariant_of-self-clause-recent_kept : goal.invariant_of-self-clause-recent_kept
 invariant_of-self-clause-recent_kept c = let s = c.args.self.now in let v : View = s.text.reader.agent.seat.me.0 in let x : View = c.window-window.new.self.reader.agent.seat.me.0 in let w : View = c.find_in.new.self.reader.agent.seat.me.0 in
     recent_by v w ((reads_trans v x w c.window-window.ensures.reads c.find_in.ensures.reads).known) s.recent.ids s.recent_kept
+
+pub returns-clause-reads : goal.returns-clause-reads
+returns-clause-reads c = let v : View = c.args.self.now.text.reader.agent.seat.me.0 in let x : View = c.window-window.new.self.reader.agent.seat.me.0 in let w : View = c.find_in.new.self.reader.agent.seat.me.0 in
+    reads_trans v x w c.window-window.ensures.reads c.find_in.ensures.reads

@@ -1,5 +1,6 @@
 use Rattle.std.proofs.Common.{◌≡◌, ◌∙◌, ℕ, List, Bool, None, Some, length, ap, subst, sym}
 use Rattle.std.specs.FinMap.{get}
+use Rattle.js_units.specs.Lanes.{words_over}
 use Rattle.heap_rule.specs.declared.size.HeapSize.{HeapSize}
 use Rattle.heap_rule.specs.declared.view.View.{View}
 use Rattle.heap_rule.proofs.MapLemmas.{has_key}
@@ -15,7 +16,8 @@ use Rattle.heap_intern.proofs.Calls.{never_slots, settle_refused, settled_step}
 use Rattle.heap_intern.proofs.Lately.{kept_by}
 use Rattle.heap_intern.proofs.OneUnit.{singles_by}
 use Rattle.heap_intern.proofs.MadeLately.{recent_by}
-use Rattle.heap_intern.proofs.States.{history_continues, settled_test, text_is, uses_at}
+use Rattle.heap_intern.proofs.States.{has_text, history_continues, settled_test, text_is, uses_at}
+use Rattle.heap_intern.proofs.Owning.{spares_of}
 use Rattle.heap_intern.proofs.strings.SessionStrings.settle.Goals as goal
 
 pub returns-in-Ok-clause-ok : goal.returns-in-Ok-clause-ok
@@ -48,3 +50,11 @@ invariant_of-self-clause-singles_kept c = let s = c.args.self.now in let v : Vie
 
 pub invariant_of-self-clause-recent_kept : goal.invariant_of-self-clause-recent_kept
 invariant_of-self-clause-recent_kept c = let s = c.args.self.now in let v : View = s.text.reader.agent.seat.me.0 in let w : View = c.settle.new.self.reader.agent.seat.me.0 in recent_by v w (c.settle.ensures.continues.known) s.recent.ids s.recent_kept
+
+pub returns-in-Ok-clause-settling : goal.returns-in-Ok-clause-settling
+returns-in-Ok-clause-settling c = c.in-Ok.ensures.used _ (has_text c.args.self.now.text.reader.agent.seat.me.0.units c.args.s.id c.requires)
+
+pub returns-in-Err-clause-spared : goal.returns-in-Err-clause-spared
+returns-in-Err-clause-spared c = let v : View = c.args.self.now.text.reader.agent.seat.me.0 in let w : View = c.settle.new.self.reader.agent.seat.me.0 in
+    let p = has_key v.units c.args.s.id c.requires in let r = c.in-Err.ensures.refused p.0 p.1 in
+    spares_of v w (words_over r.0 (length p.0)) c.in-Err.full r.2.spared

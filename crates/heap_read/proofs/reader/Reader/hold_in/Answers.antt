@@ -4,7 +4,7 @@ use Rattle.heap_rule.specs.Loads.{loaded_word}
 use Rattle.heap_rule.specs.Maps.{HasKey}
 use Rattle.heap_rule.specs.Views.{IsFrozen}
 use Rattle.heap_read.proofs.Freezing.{held_lanes, word_there}
-use Rattle.heap_read.proofs.Holding.{held_window}
+use Rattle.heap_read.proofs.Holding.{held_window, lane_small}
 use Rattle.heap_read.proofs.Learned.{learned_then}
 use Rattle.heap_read.proofs.Loaded.{has_loaded, reads_word}
 use Rattle.heap_read.proofs.Showing.{forms_held, place_frozen, place_small, window_kept, word_small}
@@ -35,3 +35,9 @@ returns-clause-held c = let w = c.args.w in let v : View = c.args.self.now.agent
 
 pub returns-clause-learned : goal.returns-clause-learned
 returns-clause-learned c = let v : View = c.args.self.now.agent.seat.me.0 in learned_then (loaded_word v (c.args.w.start + c.word_and_lane-at.result.0) c.load_word-word.result) c.load_word-word.new.self.seat.me.0 c.load_word-word.ensures.view
+
+pub returns-clause-all : goal.returns-clause-all
+returns-clause-all c = let m = c.min-back.ensures in let n = c.min.ensures in let lanes = c.lanes-lanes.ensures in let lane = c.word_and_lane-at.ensures.1 in let small = lane_small c.args.w.wide (c.args.w.offset + c.args.i) in record {
+  front = λ more. omega arith;
+  back = λ more. omega arith;
+}

@@ -1,12 +1,13 @@
-use Rattle.std.proofs.Common.{subst, ◌∙◌, arith}
+use Rattle.std.proofs.Common.{subst, ◌∙◌, ◌+◌, arith}
 use Rattle.js_header.specs.declared.form.Form.{Form}
 use Rattle.js_header.specs.declared.form.Form.TheVariants.{Sliced}
 use Rattle.heap_rule.specs.declared.view.View.{View}
 use Rattle.heap_rule.specs.Maps.{Has}
-use Rattle.heap_read.specs.Sides.{KnowsSide}
+use Rattle.heap_read.specs.Sides.{KnowsSide, target_loads}
 use Rattle.heap_read.proofs.Leading.{leaf_solid, possible_parent}
 use Rattle.heap_read.proofs.Loaded.{reads_trans}
 use Rattle.heap_read.proofs.Loaded.{key_kept}
+use Rattle.heap_read.proofs.Solids.{one_target}
 use Rattle.heap_read.proofs.reader.Reader.window_on.Goals as goal
 
 -- a Sliced
@@ -44,3 +45,18 @@ returns-clause-reads c = record { heap = cc; view = reads_trans c.args.self.now.
 
 pub returns-clause-shows : goal.returns-clause-shows
 returns-clause-shows c us h = c.solid_window.ensures.shows us (c.form_now-form.ensures.reads.view.known.units c.args.of.id us h)
+
+-- one load for the string, one for the parent of a Sliced, and one for a Thin's target
+pub returns-in-Sliced-clause-few : goal.returns-in-Sliced-clause-few
+returns-in-Sliced-clause-few c = let under : Form = c.form_now-under.result in let most = one_target under in record {
+  times = 2 + target_loads under;
+  few = omega arith;
+  loads = λ l j e. let h = c.part_window.ensures.loads l (j + 2) (omega (arith, e, c.form_now-form.ensures.loads, c.form_now-under.ensures.loads)) in omega arith;
+}
+
+pub returns-clause-few : goal.returns-clause-few
+returns-clause-few c = let form : Form = c.form_now-form.result in let most = one_target form in record {
+  times = 1 + target_loads form;
+  few = omega arith;
+  loads = λ l j e. let h = c.solid_window.ensures.loads l (j + 1) (omega (arith, e, c.form_now-form.ensures.loads)) in omega arith;
+}
