@@ -4,11 +4,11 @@ use Rattle.std.proofs.Math.Seq.{take-length}
 use Rattle.std.proofs.lemmas.List.{length-drop}
 use Rattle.std.proofs.lemmas.Option.{slice_get-get_or}
 use Rattle.std.specs.Prelude.{OnOk, slice_get}
-use Rattle.js_store.specs.State.{State, Grows, text}
+use Rattle.js_store.specs.State.{State, Grows, IsSettled, text}
 use Rattle.js_store.specs.Rows.{settle_words}
 use Rattle.js_store.specs.declared.faults.StoreFault.{StoreFault}
 use Rattle.js_store.proofs.Laws.{known_still, text_still}
-use Rattle.js_texts.specs.Texts.{Every, AllKnown, texts, settle_most}
+use Rattle.js_texts.specs.Texts.{Every, AllKnown, AllSettled, texts, settle_most}
 
 pub drop_at : {X : Type 0} (xs : List X) (i : ℕ) (x : X) → i < length xs → x ≡ get_or xs i x → drop i xs ≡ x ∷ drop (i + 1) xs
 drop_at xs i x h e = rw (add-one, drop-cons xs i x) (cc (sym e))
@@ -33,6 +33,15 @@ every_get P (y ∷ xs) (suc i) x h e = every_get P xs i x h.1 e
 
 pub every_at : {A : Type 0} (P : A → Type 0) (xs : List A) (i : ℕ) (x : A) → Every P xs → i < length xs → x ≡ get_or xs i x → P x
 every_at P xs i x h l e = every_get P xs i x h (slice_get-get_or xs i x l ∙ ap Some (sym e))
+
+-- one more of the first elements
+every_next : {A : Type 0} (P : A → Type 0) (xs : List A) (i : ℕ) (x : A) → i < length xs → x ≡ get_or xs i x → Every P (take i xs) → P x → Every P (take (suc i) xs)
+every_next P [] i x l e h p = tt
+every_next P (y ∷ xs) zero x l e h p = (subst P e p, tt)
+every_next P (y ∷ xs) (suc i) x l e h p = (h.0, every_next P xs i x (omega (arith, l)) e h.1 p)
+
+pub every_more : {A : Type 0} (P : A → Type 0) (xs : List A) (i : ℕ) (x : A) → i < length xs → x ≡ get_or xs i x → Every P (take i xs) → P x → Every P (take (i + 1) xs)
+every_more P xs i x l e h p = rw add-one (every_next P xs i x l e h p)
 
 -- all but the first, as a pattern gives them
 pub rest_is : {A : Type 0} (xs : List A) → take (length xs - 1) (drop 1 xs) ≡ drop 1 xs
@@ -69,3 +78,11 @@ module _ {F R : Type 0} (name : R → ℕ) where
 
   pub all_known_still : (a b : State F) (rs : List R) → Grows a b → AllKnown a name rs → AllKnown b name rs
   all_known_still a b rs g h = every_map (λ r k. known_still g (name r) k) rs h
+
+  -- settled strings, in a store that has grown
+  pub all_settled_still : (a b : State F) (rs : List R) → Grows a b → AllSettled a name rs → AllSettled b name rs
+  all_settled_still a b rs g h = every_map (λ r k. g.settled (name r) k) rs h
+
+  -- one more string is settled beside those before it
+  pub settled_turn : (b c : State F) (rs : List R) (i : ℕ) (r : R) → i < length rs → r ≡ get_or rs i r → Grows b c → AllSettled b name (take i rs) → IsSettled c (name r) → AllSettled c name (take (i + 1) rs)
+  settled_turn b c rs i r l p g h s = every_more (λ q. IsSettled c (name q)) rs i r l p (all_settled_still b c (take i rs) g h) s

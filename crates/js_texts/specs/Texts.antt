@@ -1,6 +1,6 @@
 -- Several strings of a store, one after another.
 use Rattle.std.specs.Prelude.{ℕ, ◌+◌, List, [], ◌∷◌, map, length, Option, None, Some, Result, Ok, Err}
-use Rattle.js_store.specs.State.{State, IsKnown, text}
+use Rattle.js_store.specs.State.{State, IsKnown, IsSettled, text}
 use Rattle.js_store.specs.Rows.{settle_words}
 use Rattle.js_store.specs.declared.faults.StoreFault.{StoreFault}
 use Rattle.js_store.specs.declared.faults.StoreFault.TheVariants.{Full, Memory}
@@ -15,6 +15,9 @@ Every P (x ∷ xs) = P x × Every P xs
 
 abbrev pub AllKnown : {F R : Type 0} → State F → (R → ℕ) → List R → Type 0
 AllKnown s name rs = Every (λ r. IsKnown s (name r)) rs
+
+abbrev pub AllSettled : {F R : Type 0} → State F → (R → ℕ) → List R → Type 0
+AllSettled s name rs = Every (λ r. IsSettled s (name r)) rs
 
 -- what settling strings takes at most
 abbrev pub settle_most : {F R : Type 0} → State F → (R → ℕ) → List R → ℕ

@@ -3,7 +3,7 @@ ghost use Rattle.std.specs.Prelude.{◌≡◌, ◌+◌, ◌++◌, length, IfOk, 
 ghost use Rattle.js_store.specs.State.{Has, IsKnown, IsSettled, text as text_of};
 ghost use Rattle.js_store.specs.Faults.{Uses};
 ghost use Rattle.js_texts.specs.Answers.{ThrowsLong, full_of};
-ghost use Rattle.js_texts.specs.Texts.{texts, AllKnown, settle_most, full_fault_of};
+ghost use Rattle.js_texts.specs.Texts.{texts, AllKnown, AllSettled, settle_most, full_fault_of};
 ghost use Rattle.js_texts.specs.Joined.{joined, with_each};
 ghost use Rattle.js_texts.specs.Use.{settling, made_words};
 
@@ -28,7 +28,9 @@ pub fn join<S: Strings>(
         (λ r. Has (S.state store.new) (S.number r)
         (joined (text_of (S.state store.old) (S.number sep))
         (texts (S.state store.old) S.number parts.now))) }
-    ensures settled { IfOk result (λ r. IsSettled (S.state store.new) (S.number r)) }
+    ensures parts_settled { OnOk result (AllSettled (S.state store.new) S.number parts.now) }
+    ensures separator_settled { OnOk result (IsSettled (S.state store.new) (S.number sep)) }
+    ensures result_settled { IfOk result (λ r. IsSettled (S.state store.new) (S.number r)) }
     ensures throws { ThrowsLong result (S.state store.old).limit
         (length (joined (text_of (S.state store.old) (S.number sep))
         (texts (S.state store.old) S.number parts.now))) }
@@ -76,6 +78,8 @@ fn joined_units<S: Strings>(
     ensures value { IfOk result
         (λ u. u ≡ joined (text_of (S.state store.old) (S.number sep))
         (texts (S.state store.old) S.number parts.now)) }
+    ensures parts_settled { OnOk result (AllSettled (S.state store.new) S.number parts.now) }
+    ensures separator_settled { OnOk result (IsSettled (S.state store.new) (S.number sep)) }
     ensures uses { Uses (S.state store.old) (S.state store.new) (full_fault_of result) 0
         (settle_most (S.state store.old) S.number parts.now + settling (S.state store.old) (S.number sep)) }
 {
@@ -96,6 +100,7 @@ fn append_joined<S: Strings>(
     requires { AllKnown (S.state store.old) S.number parts.now }
     ensures added { OnOk result
         (text.new ≡ text.old ++ joined sep.now (texts (S.state store.old) S.number parts.now)) }
+    ensures settled { OnOk result (AllSettled (S.state store.new) S.number parts.now) }
     ensures uses { Uses (S.state store.old) (S.state store.new) (full_fault_of result) 0
         (settle_most (S.state store.old) S.number parts.now) }
 {
@@ -119,6 +124,7 @@ fn append_rest<S: Strings>(
     requires { AllKnown (S.state store.old) S.number rest.now }
     ensures added { OnOk result
         (text.new ≡ text.old ++ with_each sep.now (texts (S.state store.old) S.number rest.now)) }
+    ensures settled { OnOk result (AllSettled (S.state store.new) S.number rest.now) }
     ensures uses { Uses (S.state store.old) (S.state store.new) (full_fault_of result) 0
         (settle_most (S.state store.old) S.number rest.now) }
 {
@@ -138,6 +144,7 @@ fn append<S: Strings>(
 ) -> Result<(), StoreFault>
     requires { IsKnown (S.state store.old) (S.number s) }
     ensures added { OnOk result (text.new ≡ text.old ++ text_of (S.state store.old) (S.number s)) }
+    ensures settled { OnOk result (IsSettled (S.state store.new) (S.number s)) }
     ensures uses { Uses (S.state store.old) (S.state store.new) (full_fault_of result) 0
         (settling (S.state store.old) (S.number s)) }
 {

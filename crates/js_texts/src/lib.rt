@@ -2,8 +2,8 @@
 //! words in which the crates above speak of several strings, one after another; and the faults of
 //! methods ([`MethodFault`]).
 //!
-//! Each call keeps what the store knows and the history of interned strings, settles what it reads,
-//! and never finds the string table full.
+//! Each call keeps what the store knows and the history of interned strings, and never finds the
+//! string table full. [`read`] and [`join`] settle what they read; [`copied`] takes a settled string.
 #![tactic(auto)]
 
 mod faults;

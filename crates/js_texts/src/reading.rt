@@ -1,5 +1,5 @@
 // The units of a string of a store.
-ghost use Rattle.std.specs.Prelude.{◌≡◌, length, IfOk, None};
+ghost use Rattle.std.specs.Prelude.{◌≡◌, length, IfOk, OnOk, None};
 ghost use Rattle.js_store.specs.State.{IsKnown, IsSettled, text};
 ghost use Rattle.js_store.specs.Rows.{settle_words};
 ghost use Rattle.js_store.specs.Faults.{Uses};
@@ -39,6 +39,7 @@ pub fn copied<S: Strings>(alloc: Global, store: &mut S, s: S::Ref) -> Result<Uni
 pub fn read<S: Strings>(alloc: Global, store: &mut S, s: S::Ref) -> Result<Units, StoreFault>
     requires { IsKnown (S.state store.old) (S.number s) }
     ensures value { IfOk result (λ u. u ≡ text (S.state store.old) (S.number s)) }
+    ensures settled { OnOk result (IsSettled (S.state store.new) (S.number s)) }
     ensures uses { Uses (S.state store.old) (S.state store.new) (full_fault_of result) 0
         (settle_words ((S.state store.old).settled (S.number s))
         (length (text (S.state store.old) (S.number s)))) }
