@@ -1,5 +1,5 @@
 -- A pad from its filling: its length, what it gives and what it uses.
-use Rattle.std.proofs.Common.{◌≡◌, ℕ, ◌+◌, ◌-◌, ◌*◌, ◌≤◌, List, [], ◌∷◌, ◌++◌, length, arith, refl, ap, ◌∙◌}
+use Rattle.std.proofs.Common.{◌≡◌, ℕ, ◌+◌, ◌-◌, ◌*◌, ◌%◌, ◌≤◌, List, [], ◌∷◌, ◌++◌, length, arith, refl, ap, sym, subst, ◌∙◌}
 use Rattle.std.specs.Prelude.{Option, Some, None}
 use Rattle.std.specs.List.{repeat}
 use Rattle.std.proofs.lemmas.List.{length-take}
@@ -8,7 +8,7 @@ use Rattle.js_store.specs.Faults.{Uses}
 use Rattle.js_store.specs.Rows.{wide_words}
 use Rattle.js_store.specs.declared.faults.StoreFault.{StoreFault}
 use Rattle.js_store.proofs.Laws.{has_text, text_still, known_still}
-use Rattle.js_methods.specs.Padding.{filling, pad_start_of, pad_end_of, pad_ids, pad_words}
+use Rattle.js_methods.specs.Padding.{CutsFiller, filling, pad_start_of, pad_end_of, pad_ids, pad_words}
 use Rattle.js_methods.proofs.Copies.{length-copies}
 use Rattle.js_methods.proofs.Fill.{length-filling}
 use Rattle.js_methods.proofs.Uses.{uses_after}
@@ -37,8 +37,14 @@ module _ {F : Type 0} (a b : State F) (s t most room : ℕ) (known : IsKnown a s
   pub filler_units : 1 ≤ length (text b t)
   filler_units = omega (arith, has_units, ap (λ (v : List ℕ). length v) kept)
 
+  room_is : room ≡ most - length (text a s)
+  room_is = is ∙ length-filling (most - length (text a s)) (text a t) has_units
+
+  pub filler_cut : CutsFiller (most - length (text a s)) (length (text a t)) → 1 ≤ room % length (text b t)
+  filler_cut h = subst (λ n. 1 ≤ n) (sym (ap (λ (v : List ℕ). room % length v) kept ∙ ap (λ n. n % length (text a t)) room_is)) h.1
+
   same_filling : filling (text b t) room ≡ filling (text a t) (most - length (text a s))
-  same_filling = ap (λ (v : List ℕ). filling v room) kept ∙ ap (filling (text a t)) (is ∙ length-filling (most - length (text a s)) (text a t) has_units)
+  same_filling = ap (λ (v : List ℕ). filling v room) kept ∙ ap (filling (text a t)) room_is
 
   module _ (d : State F) (x : ℕ) (fill : Has d x (filling (text b t) room)) (second : Uses b d None 64 (2 * wide_words (length (text b t)) + 256)) where
     filled : text d x ≡ filling (text a t) (most - length (text a s))

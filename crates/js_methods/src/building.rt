@@ -1,5 +1,5 @@
 // Methods that build a string of units that they find themselves.
-ghost use Rattle.std.specs.Prelude.{◌≡◌, ◌≤◌, ◌+◌, ◌++◌, ◌∷◌, ℕ, List, false, All, map, length, IfOk, IsTrue};
+ghost use Rattle.std.specs.Prelude.{◌≡◌, ◌≤◌, ◌+◌, ◌++◌, ◌∷◌, ℕ, List, false, All, map, length, IfOk, OnOk, IsTrue};
 ghost use Rattle.js_units.specs.Text;
 ghost use Rattle.js_units.specs.Text.{well};
 ghost use Rattle.js_store.specs.State.{Has, IsKnown, IsSettled, text};
@@ -108,6 +108,7 @@ pub fn to_well_formed<S: Strings>(
     requires { IsKnown (S.state store.old) (S.number s) }
     ensures value { IfOk result
         (λ r. Has (S.state store.new) (S.number r) (well (text (S.state store.old) (S.number s)))) }
+    ensures settled { OnOk result (IsSettled (S.state store.new) (S.number s)) }
     ensures throws { ThrowsLong result (S.state store.old).limit
         (length (well (text (S.state store.old) (S.number s)))) }
     ensures uses { Uses (S.state store.old) (S.state store.new) (full_of result)

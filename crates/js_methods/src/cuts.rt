@@ -1,5 +1,5 @@
 // Methods that give a part of a string, or several put together.
-ghost use Rattle.std.specs.Prelude.{◌+◌, ◌*◌, ◌≤◌, ◌++◌, length, slice_range, IfOk, IfSome};
+ghost use Rattle.std.specs.Prelude.{◌+◌, ◌*◌, ◌≤◌, ◌++◌, length, slice_range, IfOk, OnOk, IfSome};
 ghost use Rattle.js_store.specs.State.{Has, IsKnown, IsSettled, text};
 ghost use Rattle.js_store.specs.Rows.{wide_words, join_ids, join_words};
 ghost use Rattle.js_store.specs.Faults.{fault_of, Uses};
@@ -28,6 +28,7 @@ pub fn slice<S: Strings>(
     ensures value { IfOk result
         (λ r. Has (S.state store.new) (S.number r)
         (slice_of (text (S.state store.old) (S.number s)) start end)) }
+    ensures settled { OnOk result (IsSettled (S.state store.new) (S.number s)) }
     ensures throws { ThrowsLong result (S.state store.old).limit
         (length (slice_of (text (S.state store.old) (S.number s)) start end)) }
     ensures uses { Uses (S.state store.old) (S.state store.new) (method_fault_of result)
@@ -53,6 +54,7 @@ pub fn substring<S: Strings>(
     ensures value { IfOk result
         (λ r. Has (S.state store.new) (S.number r)
         (substring_of (text (S.state store.old) (S.number s)) start end)) }
+    ensures settled { OnOk result (IsSettled (S.state store.new) (S.number s)) }
     ensures throws { ThrowsLong result (S.state store.old).limit
         (length (substring_of (text (S.state store.old) (S.number s)) start end)) }
     ensures uses { Uses (S.state store.old) (S.state store.new) (method_fault_of result)
@@ -78,6 +80,7 @@ pub fn substr<S: Strings>(
     ensures value { IfOk result
         (λ r. Has (S.state store.new) (S.number r)
         (substr_of (text (S.state store.old) (S.number s)) start count)) }
+    ensures settled { OnOk result (IsSettled (S.state store.new) (S.number s)) }
     ensures throws { ThrowsLong result (S.state store.old).limit
         (length (substr_of (text (S.state store.old) (S.number s)) start count)) }
     ensures uses { Uses (S.state store.old) (S.state store.new) (method_fault_of result)
@@ -97,6 +100,7 @@ fn cut<S: Strings>(store: &mut S, s: S::Ref, from: u32, to: u32) -> Result<S::Re
     ensures value { IfOk result
         (λ r. Has (S.state store.new) (S.number r)
         (slice_range (text (S.state store.old) (S.number s)) from to)) }
+    ensures settled { OnOk result (IsSettled (S.state store.new) (S.number s)) }
     ensures throws { ThrowsLong result (S.state store.old).limit
         (length (slice_range (text (S.state store.old) (S.number s)) from to)) }
     ensures uses { Uses (S.state store.old) (S.state store.new) (method_fault_of result)

@@ -6,6 +6,9 @@
 //! interned strings, and never finds the string table full. It throws a RangeError exactly where
 //! its contract says so; every other fault is one that the store answered. What it uses of the
 //! store is at most its row, on a full store with what was wanted besides.
+//!
+//! A method at a place reads its string where there is such a place, and a pad reads its filler
+//! where the last copy is cut. [`concat`] and [`repeat`] read nothing.
 #![tactic(auto)]
 
 mod building;

@@ -1,10 +1,10 @@
 // A string made longer by a filler at one side.
-ghost use Rattle.std.specs.Prelude.{◌≡◌, ◌+◌, ◌-◌, ◌*◌, ◌≤◌, length, take, None, IfOk};
-ghost use Rattle.js_store.specs.State.{Has, IsKnown, text};
+ghost use Rattle.std.specs.Prelude.{◌≡◌, ◌+◌, ◌-◌, ◌*◌, ◌%◌, ◌≤◌, length, take, None, IfOk, OnOk};
+ghost use Rattle.js_store.specs.State.{Has, IsKnown, IsSettled, text};
 ghost use Rattle.js_store.specs.Rows.{wide_words};
 ghost use Rattle.js_store.specs.Faults.{fault_of, Uses};
 ghost use Rattle.js_texts.specs.Answers.{method_fault_of, ThrowsLong};
-ghost use Rattle.js_methods.specs.Padding.{filling, pad_start_of, pad_end_of, pad_ids, pad_words};
+ghost use Rattle.js_methods.specs.Padding.{CutsFiller, filling, pad_start_of, pad_end_of, pad_ids, pad_words};
 
 use crate::cuts::joined;
 use crate::repeating::doubled;
@@ -26,6 +26,9 @@ pub fn pad_end<S: Strings>(
         (λ r. Has (S.state store.new) (S.number r)
         (pad_end_of (text (S.state store.old) (S.number s)) max
         (text (S.state store.old) (S.number filler)))) }
+    ensures filler_settled { CutsFiller (max - length (text (S.state store.old) (S.number s)))
+        (length (text (S.state store.old) (S.number filler)))
+        → OnOk result (IsSettled (S.state store.new) (S.number filler)) }
     ensures throws { ThrowsLong result (S.state store.old).limit
         (length (pad_end_of (text (S.state store.old) (S.number s)) max
         (text (S.state store.old) (S.number filler)))) }
@@ -55,6 +58,9 @@ pub fn pad_start<S: Strings>(
         (λ r. Has (S.state store.new) (S.number r)
         (pad_start_of (text (S.state store.old) (S.number s)) max
         (text (S.state store.old) (S.number filler)))) }
+    ensures filler_settled { CutsFiller (max - length (text (S.state store.old) (S.number s)))
+        (length (text (S.state store.old) (S.number filler)))
+        → OnOk result (IsSettled (S.state store.new) (S.number filler)) }
     ensures throws { ThrowsLong result (S.state store.old).limit
         (length (pad_start_of (text (S.state store.old) (S.number s)) max
         (text (S.state store.old) (S.number filler)))) }
@@ -116,6 +122,8 @@ fn filled<S: Strings>(store: &mut S, filler: S::Ref, room: u32) -> Result<S::Ref
     ensures value { IfOk result
         (λ r. Has (S.state store.new) (S.number r)
         (filling (text (S.state store.old) (S.number filler)) room)) }
+    ensures settled { 1 ≤ room % length (text (S.state store.old) (S.number filler))
+        → OnOk result (IsSettled (S.state store.new) (S.number filler)) }
     ensures uses { Uses (S.state store.old) (S.state store.new) (fault_of result)
         64 (2 * wide_words (length (text (S.state store.old) (S.number filler))) + 256) }
 {
@@ -139,6 +147,7 @@ fn front<S: Strings>(store: &mut S, s: S::Ref, size: u32) -> Result<S::Ref, Stor
     requires within { size ≤ length (text (S.state store.old) (S.number s)) }
     ensures value { IfOk result
         (λ r. Has (S.state store.new) (S.number r) (take size (text (S.state store.old) (S.number s)))) }
+    ensures settled { OnOk result (IsSettled (S.state store.new) (S.number s)) }
     ensures uses { Uses (S.state store.old) (S.state store.new) (fault_of result)
         1 (2 * wide_words (length (text (S.state store.old) (S.number s))) + 3) }
 {

@@ -1,6 +1,6 @@
 // Methods that read at one place.
-ghost use Rattle.std.specs.Prelude.{◌≡◌, ◌+◌, length, IfOk};
-ghost use Rattle.js_store.specs.State.{Has, IsKnown, text};
+ghost use Rattle.std.specs.Prelude.{◌≡◌, ◌+◌, length, IfOk, OnOk, IsSome};
+ghost use Rattle.js_store.specs.State.{Has, IsKnown, IsSettled, text};
 ghost use Rattle.js_store.specs.Rows.{wide_words};
 ghost use Rattle.js_store.specs.Faults.{Uses};
 ghost use Rattle.js_texts.specs.Answers.{method_fault_of, MaybeHas, NeverThrows};
@@ -19,6 +19,8 @@ pub fn at<S: Strings>(store: &mut S, s: S::Ref, i: Num) -> Result<Option<S::Ref>
     requires lawful { IsLawful i }
     ensures value { IfOk result
         (λ r. MaybeHas (S.state store.new) S.number r (at_of (text (S.state store.old) (S.number s)) i)) }
+    ensures settled { IsSome (relative_place i (length (text (S.state store.old) (S.number s))))
+        → OnOk result (IsSettled (S.state store.new) (S.number s)) }
     ensures throws { NeverThrows result }
     ensures uses { Uses (S.state store.old) (S.state store.new) (method_fault_of result)
         1 (wide_words (length (text (S.state store.old) (S.number s))) + 3) }
@@ -40,6 +42,8 @@ pub fn char_at<S: Strings>(store: &mut S, s: S::Ref, i: Num) -> Result<S::Ref, M
     requires lawful { IsLawful i }
     ensures value { IfOk result
         (λ r. Has (S.state store.new) (S.number r) (char_at_of (text (S.state store.old) (S.number s)) i)) }
+    ensures settled { IsSome (exact_place i (length (text (S.state store.old) (S.number s))))
+        → OnOk result (IsSettled (S.state store.new) (S.number s)) }
     ensures throws { NeverThrows result }
     ensures uses { Uses (S.state store.old) (S.state store.new) (method_fault_of result)
         1 (wide_words (length (text (S.state store.old) (S.number s))) + 3) }
@@ -61,6 +65,8 @@ pub fn char_code_at<S: Strings>(store: &mut S, s: S::Ref, i: Num) -> Result<Num,
     requires lawful { IsLawful i }
     ensures value { IfOk result (λ r. r ≡ char_code_of (text (S.state store.old) (S.number s)) i) }
     ensures lawful { IfOk result IsLawful }
+    ensures settled { IsSome (exact_place i (length (text (S.state store.old) (S.number s))))
+        → OnOk result (IsSettled (S.state store.new) (S.number s)) }
     ensures throws { NeverThrows result }
     ensures uses { Uses (S.state store.old) (S.state store.new) (method_fault_of result)
         0 (wide_words (length (text (S.state store.old) (S.number s)))) }
@@ -85,6 +91,8 @@ pub fn code_point_at<S: Strings>(
     requires known { IsKnown (S.state store.old) (S.number s) }
     requires lawful { IsLawful i }
     ensures value { IfOk result (λ r. r ≡ code_point_of (text (S.state store.old) (S.number s)) i) }
+    ensures settled { IsSome (exact_place i (length (text (S.state store.old) (S.number s))))
+        → OnOk result (IsSettled (S.state store.new) (S.number s)) }
     ensures throws { NeverThrows result }
     ensures uses { Uses (S.state store.old) (S.state store.new) (method_fault_of result)
         0 (wide_words (length (text (S.state store.old) (S.number s)))) }
