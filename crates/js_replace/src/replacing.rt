@@ -30,7 +30,10 @@ pub fn replace<S: Strings>(
         (λ r. Has (S.state store.new) (S.number r)
         (replaced_first (text (S.state store.old) (S.number s)) (text (S.state store.old) (S.number w))
         (text (S.state store.old) (S.number template)))) }
-    ensures settled { IfOk result (λ r. IsSettled (S.state store.new) (S.number r)) }
+    ensures settled { OnOk result (IsSettled (S.state store.new) (S.number s)) }
+    ensures needle_settled { OnOk result (IsSettled (S.state store.new) (S.number w)) }
+    ensures template_settled { OnOk result (IsSettled (S.state store.new) (S.number template)) }
+    ensures result_settled { IfOk result (λ r. IsSettled (S.state store.new) (S.number r)) }
     ensures throws { ThrowsLong result (S.state store.old).limit
         (length (replaced_first (text (S.state store.old) (S.number s))
         (text (S.state store.old) (S.number w)) (text (S.state store.old) (S.number template)))) }
@@ -63,7 +66,10 @@ pub fn replace_all<S: Strings>(
         (λ r. Has (S.state store.new) (S.number r)
         (replaced_all (text (S.state store.old) (S.number s)) (text (S.state store.old) (S.number w))
         (text (S.state store.old) (S.number template)))) }
-    ensures settled { IfOk result (λ r. IsSettled (S.state store.new) (S.number r)) }
+    ensures settled { OnOk result (IsSettled (S.state store.new) (S.number s)) }
+    ensures needle_settled { OnOk result (IsSettled (S.state store.new) (S.number w)) }
+    ensures template_settled { OnOk result (IsSettled (S.state store.new) (S.number template)) }
+    ensures result_settled { IfOk result (λ r. IsSettled (S.state store.new) (S.number r)) }
     ensures places { AreMatches (text (S.state store.old) (S.number s))
         (text (S.state store.old) (S.number w)) 0
         (matches (text (S.state store.old) (S.number s)) (text (S.state store.old) (S.number w))) }
@@ -126,7 +132,7 @@ fn replaced<S: Strings>(
         (text (S.state store.old) (S.number template)) 0
         (first_matches most (text (S.state store.old) (S.number s))
         (text (S.state store.old) (S.number w)) 0))) }
-    ensures settled { IfOk result (λ r. IsSettled (S.state store.new) (S.number r)) }
+    ensures result_settled { IfOk result (λ r. IsSettled (S.state store.new) (S.number r)) }
     ensures throws { ThrowsLong result (S.state store.old).limit
         (length (replaced_at (text (S.state store.old) (S.number s)) (text (S.state store.old) (S.number w))
         (text (S.state store.old) (S.number template)) 0
@@ -164,7 +170,7 @@ fn with_places<S: Strings>(
         (λ r. Has (S.state store.new) (S.number r)
         (replaced_at (text (S.state store.old) (S.number s))
         (text (S.state store.old) (S.number w)) template.now 0 places.now)) }
-    ensures settled { IfOk result (λ r. IsSettled (S.state store.new) (S.number r)) }
+    ensures result_settled { IfOk result (λ r. IsSettled (S.state store.new) (S.number r)) }
     ensures throws { ThrowsLong result (S.state store.old).limit
         (length (replaced_at (text (S.state store.old) (S.number s))
         (text (S.state store.old) (S.number w)) template.now 0 places.now)) }

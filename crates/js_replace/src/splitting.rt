@@ -34,6 +34,9 @@ pub fn split<S: Strings>(
         ≡ Parts.parts (text (S.state store.old) (S.number s))
         (option_map (λ r. text (S.state store.old) (S.number r)) sep) limit) }
     ensures known { IfOk result (λ v. AllKnown (S.state store.new) S.number v.items) }
+    ensures settled { IfSome sep
+        (λ r. OnOk result
+        (IsSettled (S.state store.new) (S.number s) × IsSettled (S.state store.new) (S.number r))) }
     ensures throws { NeverThrows result }
     ensures uses { Uses (S.state store.old) (S.state store.new) (full_of result)
         (split_ids (S.state store.old) S.number s sep limit)
@@ -81,6 +84,8 @@ fn split_by<S: Strings>(
         ≡ Parts.parts (text (S.state store.old) (S.number s))
         (Some (text (S.state store.old) (S.number sep))) limit) }
     ensures known { IfOk result (λ v. AllKnown (S.state store.new) S.number v.items) }
+    ensures settled { OnOk result (IsSettled (S.state store.new) (S.number s)) }
+    ensures separator_settled { OnOk result (IsSettled (S.state store.new) (S.number sep)) }
     ensures uses { Uses (S.state store.old) (S.state store.new) (full_fault_of result)
         (length (Parts.parts (text (S.state store.old) (S.number s))
         (Some (text (S.state store.old) (S.number sep))) limit))

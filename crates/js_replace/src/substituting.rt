@@ -1,5 +1,5 @@
 // What a template stands for at a match.
-ghost use Rattle.std.specs.Prelude.{◌≡◌, ◌+◌, ◌≤◌, length, IfOk};
+ghost use Rattle.std.specs.Prelude.{◌≡◌, ◌+◌, ◌≤◌, length, IfOk, OnOk};
 ghost use Rattle.js_store.specs.State.{Has, IsKnown, IsSettled, text};
 ghost use Rattle.js_store.specs.Faults.{Uses};
 ghost use Rattle.js_texts.specs.Answers.{ThrowsLong, full_of};
@@ -34,7 +34,10 @@ pub fn substitution<S: Strings>(
         (λ r. Has (S.state store.new) (S.number r)
         (substituted (text (S.state store.old) (S.number template)) (text (S.state store.old) (S.number s)) at
         (text (S.state store.old) (S.number w)))) }
-    ensures settled { IfOk result (λ r. IsSettled (S.state store.new) (S.number r)) }
+    ensures template_settled { OnOk result (IsSettled (S.state store.new) (S.number template)) }
+    ensures settled { OnOk result (IsSettled (S.state store.new) (S.number s)) }
+    ensures match_settled { OnOk result (IsSettled (S.state store.new) (S.number w)) }
+    ensures result_settled { IfOk result (λ r. IsSettled (S.state store.new) (S.number r)) }
     ensures throws { ThrowsLong result (S.state store.old).limit
         (length (substituted (text (S.state store.old) (S.number template))
         (text (S.state store.old) (S.number s)) at (text (S.state store.old) (S.number w)))) }
@@ -86,6 +89,8 @@ fn match_units<S: Strings>(
     ensures value { IfOk result
         (λ u. u ≡ substituted template.now (text (S.state store.old) (S.number s)) at
         (text (S.state store.old) (S.number w))) }
+    ensures settled { OnOk result (IsSettled (S.state store.new) (S.number s)) }
+    ensures match_settled { OnOk result (IsSettled (S.state store.new) (S.number w)) }
     ensures uses { Uses (S.state store.old) (S.state store.new) (full_fault_of result) 0
         (settling (S.state store.old) (S.number s) + settling (S.state store.old) (S.number w)) }
 {

@@ -88,7 +88,8 @@ impl UriCall {
             (λ r. HasOutcome (S.state store.new) (S.number r)
             (outcome self (text_of (S.state store.old) (S.number s)))) }
         ensures known { IfOk result (λ r. IsKnown (S.state store.new) (S.number r)) }
-        ensures settled { IfOk result (λ r. IsSettled (S.state store.new) (S.number r)) }
+        ensures settled { OnOk result (IsSettled (S.state store.new) (S.number s)) }
+        ensures result_settled { IfOk result (λ r. IsSettled (S.state store.new) (S.number r)) }
         ensures throws { Throws result (S.state store.old).limit
             (outcome self (text_of (S.state store.old) (S.number s))) }
         ensures uses { Uses (S.state store.old) (S.state store.new) (full_of result) 1

@@ -1,5 +1,5 @@
 // The URI functions.
-ghost use Rattle.std.specs.Prelude.{◌+◌, IfOk};
+ghost use Rattle.std.specs.Prelude.{◌+◌, IfOk, OnOk};
 ghost use Rattle.js_store.specs.State.{IsKnown, IsSettled, text};
 ghost use Rattle.js_store.specs.Faults.{Uses};
 ghost use Rattle.js_texts.specs.Use.{settling};
@@ -23,7 +23,8 @@ pub fn encode_uri<S: Strings>(alloc: Global, store: &mut S, s: S::Ref) -> Result
         (λ r. HasOutcome (S.state store.new) (S.number r)
         (encoded (text (S.state store.old) (S.number s)) uri_keep)) }
     ensures known { IfOk result (λ r. IsKnown (S.state store.new) (S.number r)) }
-    ensures settled { IfOk result (λ r. IsSettled (S.state store.new) (S.number r)) }
+    ensures settled { OnOk result (IsSettled (S.state store.new) (S.number s)) }
+    ensures result_settled { IfOk result (λ r. IsSettled (S.state store.new) (S.number r)) }
     ensures throws { Throws result (S.state store.old).limit
         (encoded (text (S.state store.old) (S.number s)) uri_keep) }
     ensures uses { Uses (S.state store.old) (S.state store.new) (full_of result) 1
@@ -45,7 +46,8 @@ pub fn encode_uri_component<S: Strings>(
         (λ r. HasOutcome (S.state store.new) (S.number r)
         (encoded (text (S.state store.old) (S.number s)) component_keep)) }
     ensures known { IfOk result (λ r. IsKnown (S.state store.new) (S.number r)) }
-    ensures settled { IfOk result (λ r. IsSettled (S.state store.new) (S.number r)) }
+    ensures settled { OnOk result (IsSettled (S.state store.new) (S.number s)) }
+    ensures result_settled { IfOk result (λ r. IsSettled (S.state store.new) (S.number r)) }
     ensures throws { Throws result (S.state store.old).limit
         (encoded (text (S.state store.old) (S.number s)) component_keep) }
     ensures uses { Uses (S.state store.old) (S.state store.new) (full_of result) 1
@@ -65,7 +67,8 @@ pub fn decode_uri<S: Strings>(alloc: Global, store: &mut S, s: S::Ref) -> Result
         (λ r. HasOutcome (S.state store.new) (S.number r)
         (decoded (text (S.state store.old) (S.number s)) uri_hold)) }
     ensures known { IfOk result (λ r. IsKnown (S.state store.new) (S.number r)) }
-    ensures settled { IfOk result (λ r. IsSettled (S.state store.new) (S.number r)) }
+    ensures settled { OnOk result (IsSettled (S.state store.new) (S.number s)) }
+    ensures result_settled { IfOk result (λ r. IsSettled (S.state store.new) (S.number r)) }
     ensures throws { Throws result (S.state store.old).limit
         (decoded (text (S.state store.old) (S.number s)) uri_hold) }
     ensures uses { Uses (S.state store.old) (S.state store.new) (full_of result) 1
@@ -87,7 +90,8 @@ pub fn decode_uri_component<S: Strings>(
         (λ r. HasOutcome (S.state store.new) (S.number r)
         (decoded (text (S.state store.old) (S.number s)) no_hold)) }
     ensures known { IfOk result (λ r. IsKnown (S.state store.new) (S.number r)) }
-    ensures settled { IfOk result (λ r. IsSettled (S.state store.new) (S.number r)) }
+    ensures settled { OnOk result (IsSettled (S.state store.new) (S.number s)) }
+    ensures result_settled { IfOk result (λ r. IsSettled (S.state store.new) (S.number r)) }
     ensures throws { Throws result (S.state store.old).limit
         (decoded (text (S.state store.old) (S.number s)) no_hold) }
     ensures uses { Uses (S.state store.old) (S.state store.new) (full_of result) 1
