@@ -1,7 +1,7 @@
 // The lines of a run.
 ghost use Rattle.std.specs.Prelude.{◌≡◌, ◌++◌, [], OnOk, OnErr};
 ghost use Rattle.js_store.specs.Faults.{Uses};
-ghost use Rattle.js_texts.specs.Texts.{texts as texts_seen, AllKnown, settle_most, full_fault_of};
+ghost use Rattle.js_texts.specs.Texts.{texts as texts_seen, AllKnown, AllSettled, settle_most, full_fault_of};
 ghost use Rattle.js_json.specs.Printing.{line};
 
 use crate::printing::append_line;
@@ -50,6 +50,7 @@ impl Lines {
         requires { AllKnown (S.state store.old) S.number parts.now }
         ensures added { OnOk result (self.new ≡ self.old ++ line
             (texts_seen (S.state store.old) S.number parts.now)) }
+        ensures settled { OnOk result (AllSettled (S.state store.new) S.number parts.now) }
         ensures unchanged { OnErr result (self.new ≡ self.old) }
         ensures uses { Uses (S.state store.old) (S.state store.new) (full_fault_of result)
             0 (settle_most (S.state store.old) S.number parts.now) }
@@ -69,6 +70,7 @@ pub fn print_line<S: Strings>(
     requires { AllKnown (S.state store.old) S.number parts.now }
     ensures added { OnOk result (out.new.items ≡ out.old.items ++ line
         (texts_seen (S.state store.old) S.number parts.now)) }
+    ensures settled { OnOk result (AllSettled (S.state store.new) S.number parts.now) }
     ensures unchanged { OnErr result (out.new.items ≡ out.old.items) }
     ensures uses { Uses (S.state store.old) (S.state store.new) (full_fault_of result) 0
         (settle_most (S.state store.old) S.number parts.now) }

@@ -1,11 +1,12 @@
 // Arrays of strings as JSON text.
 ghost use Rattle.std.specs.Prelude.{◌≡◌, ◌+◌, ◌*◌, ◌≤◌, ◌++◌, ◌∷◌, [], length, IfOk, OnOk, IfErr};
-ghost use Rattle.js_store.specs.State.{Has, IsKnown, text as text_of};
-ghost use Rattle.js_store.specs.Rows.{flat_words, settle_words};
+ghost use Rattle.js_store.specs.State.{Has, IsKnown, IsSettled, text as text_of};
+ghost use Rattle.js_store.specs.Rows.{settle_words};
 ghost use Rattle.js_store.specs.Faults.{Uses};
 ghost use Rattle.js_texts.specs.Answers.{ThrowsLong, full_of};
 ghost use Rattle.js_json.specs.Quoting.{quoted, elements, list_rest, list_text};
-ghost use Rattle.js_texts.specs.Texts.{texts, AllKnown, settle_most, full_fault_of};
+ghost use Rattle.js_texts.specs.Texts.{texts, AllKnown, AllSettled, settle_most, full_fault_of};
+ghost use Rattle.js_texts.specs.Use.{made_ids, made_words};
 
 use crate::escapes::{push_quoted, quoted_len};
 use js_store::{StoreFault, Strings};
@@ -16,7 +17,7 @@ use std::alloc::Global;
 /// The array of the strings: a bracket at both ends, each string as `quote` has it, and a comma
 /// between two ("SerializeJSONArray"). The length is found before anything of that size is made,
 /// so that each string is read twice.
-#[tactic(auto, using(js_texts::proofs::Lists::texts_still, js_texts::proofs::Lists::all_known_still, js_texts::proofs::Lists::settle_still))]
+#[tactic(auto, using(js_texts::proofs::Lists::texts_still, js_texts::proofs::Lists::all_known_still, js_texts::proofs::Lists::settle_still, js_texts::proofs::Lists::all_settled_still, js_texts::proofs::Lengths::made_is, js_texts::proofs::Lengths::made_id))]
 pub fn stringify_list<S: Strings>(
     alloc: Global,
     store: &mut S,
@@ -26,11 +27,13 @@ pub fn stringify_list<S: Strings>(
     ensures value { IfOk result
         (λ r. Has (S.state store.new) (S.number r)
         (list_text (texts (S.state store.old) S.number parts.now))) }
+    ensures settled { OnOk result (AllSettled (S.state store.new) S.number parts.now) }
     ensures throws { ThrowsLong result (S.state store.old).limit
         (length (list_text (texts (S.state store.old) S.number parts.now))) }
     ensures uses { Uses (S.state store.old) (S.state store.new) (full_of result)
-        1 (2 * settle_most (S.state store.old) S.number parts.now
-        + flat_words (list_text (texts (S.state store.old) S.number parts.now))) }
+        (made_ids (S.state store.old).limit (list_text (texts (S.state store.old) S.number parts.now)))
+        (2 * settle_most (S.state store.old) S.number parts.now
+        + made_words (S.state store.old).limit (list_text (texts (S.state store.old) S.number parts.now))) }
 {
     let length = list_len(alloc, store, parts)?;
     if length > u128::from(store.limit()) {
@@ -49,6 +52,7 @@ pub fn list_len<S: Strings>(
 ) -> Result<u128, StoreFault>
     requires { AllKnown (S.state store.old) S.number parts.now }
     ensures value { IfOk result (λ n. n ≡ length (list_text (texts (S.state store.old) S.number parts.now))) }
+    ensures settled { OnOk result (AllSettled (S.state store.new) S.number parts.now) }
     ensures most { IfOk result (λ n. n ≤ 2 + length parts.now * 4294967296) }
     ensures uses { Uses (S.state store.old) (S.state store.new) (full_fault_of result) 0
         (settle_most (S.state store.old) S.number parts.now) }
@@ -62,6 +66,7 @@ pub fn list_len<S: Strings>(
 fn rest_len<S: Strings>(alloc: Global, store: &mut S, rest: &[S::Ref]) -> Result<u128, StoreFault>
     requires { AllKnown (S.state store.old) S.number rest.now }
     ensures value { IfOk result (λ n. n ≡ length (list_rest (texts (S.state store.old) S.number rest.now))) }
+    ensures settled { OnOk result (AllSettled (S.state store.new) S.number rest.now) }
     ensures most { IfOk result (λ n. n ≤ 1 + length rest.now * 4294967296) }
     ensures uses { Uses (S.state store.old) (S.state store.new) (full_fault_of result) 0
         (settle_most (S.state store.old) S.number rest.now) }
@@ -77,6 +82,7 @@ fn rest_len<S: Strings>(alloc: Global, store: &mut S, rest: &[S::Ref]) -> Result
 pub fn element_len<S: Strings>(alloc: Global, store: &mut S, s: S::Ref) -> Result<u128, StoreFault>
     requires { IsKnown (S.state store.old) (S.number s) }
     ensures value { IfOk result (λ n. n ≡ length (quoted (text_of (S.state store.old) (S.number s)))) }
+    ensures settled { OnOk result (IsSettled (S.state store.new) (S.number s)) }
     ensures most { IfOk result (λ n. n ≤ 2 + 6 * length (text_of (S.state store.old) (S.number s))) }
     ensures uses { Uses (S.state store.old) (S.state store.new) (full_fault_of result) 0
         (settle_words ((S.state store.old).settled (S.number s))
@@ -93,6 +99,7 @@ fn list_units<S: Strings>(
 ) -> Result<Units, StoreFault>
     requires { AllKnown (S.state store.old) S.number parts.now }
     ensures value { IfOk result (λ u. u ≡ list_text (texts (S.state store.old) S.number parts.now)) }
+    ensures settled { OnOk result (AllSettled (S.state store.new) S.number parts.now) }
     ensures uses { Uses (S.state store.old) (S.state store.new) (full_fault_of result) 0
         (settle_most (S.state store.old) S.number parts.now) }
 {
@@ -112,6 +119,7 @@ pub fn append_elements<S: Strings>(
     requires { AllKnown (S.state store.old) S.number parts.now }
     ensures added { OnOk result
         (text.new ≡ text.old ++ elements (texts (S.state store.old) S.number parts.now)) }
+    ensures settled { OnOk result (AllSettled (S.state store.new) S.number parts.now) }
     ensures uses { Uses (S.state store.old) (S.state store.new) (full_fault_of result) 0
         (settle_most (S.state store.old) S.number parts.now) }
 {
@@ -134,6 +142,7 @@ fn append_rest<S: Strings>(
     requires { AllKnown (S.state store.old) S.number rest.now }
     ensures added { OnOk result
         (text.new ≡ text.old ++ list_rest (texts (S.state store.old) S.number rest.now)) }
+    ensures settled { OnOk result (AllSettled (S.state store.new) S.number rest.now) }
     ensures uses { Uses (S.state store.old) (S.state store.new) (full_fault_of result) 0
         (settle_most (S.state store.old) S.number rest.now) }
 {
@@ -153,6 +162,7 @@ pub fn append_quoted<S: Strings>(
 ) -> Result<(), StoreFault>
     requires { IsKnown (S.state store.old) (S.number s) }
     ensures added { OnOk result (text.new ≡ text.old ++ quoted (text_of (S.state store.old) (S.number s))) }
+    ensures settled { OnOk result (IsSettled (S.state store.new) (S.number s)) }
     ensures uses { Uses (S.state store.old) (S.state store.new) (full_fault_of result) 0
         (settle_words ((S.state store.old).settled (S.number s))
         (length (text_of (S.state store.old) (S.number s)))) }

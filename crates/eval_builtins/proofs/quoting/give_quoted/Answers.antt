@@ -1,11 +1,13 @@
 use Rattle.std.proofs.Common.{arith, ◌+◌, length}
 use Rattle.std.proofs.lemmas.Result.{err_from_is_err_and}
 use Rattle.js_store.specs.State.{text}
-use Rattle.js_store.specs.Rows.{wide_words, flat_words}
-use Rattle.js_store.proofs.Laws.{flat_words_most}
+use Rattle.js_store.proofs.Laws.{settle_words_most}
+use Rattle.js_texts.specs.Use.{settling, made_words}
+use Rattle.js_texts.proofs.Lengths.{made_ids_most}
 use Rattle.js_json.specs.Quoting.{quoted}
 use Rattle.eval_values.specs.Need.{row_ids, row_words}
 use Rattle.eval_values.proofs.Limited.{within_given, within_ends}
+use Rattle.eval_values.proofs.Needs.{made_most}
 use Rattle.eval_builtins.proofs.Quoted.{quoted_most}
 use Rattle.eval_builtins.proofs.quoting.give_quoted.Goals as goal
 
@@ -16,7 +18,7 @@ returns-clause-did g c =
     let a = state c.args.store.now in
     let u = text a (number c.args.s) in
     let e = c.in_ok-r.ensures in
-    within_given number a (state c.quote.new.store) {k = wide_words (length u) + flat_words (quoted u)} a.limit row_ids (λ r. row_words (length u + r)) (quoted u) c.in_ok-r.r e.value e.throws e.uses.step e.uses.history (omega arith) (omega (arith, flat_words_most (quoted u)))
+    within_given number a (state c.quote.new.store) {k = settling a (number c.args.s) + made_words a.limit (quoted u)} a.limit row_ids (λ r. row_words (length u + r)) (quoted u) c.in_ok-r.r e.value e.throws e.uses.step e.uses.history (omega (arith, made_ids_most a.limit (quoted u))) (omega (arith, settle_words_most (a.settled (number c.args.s)) (length u), made_most a.limit (quoted u)))
 
 pub returns-in_err-r-clause-did : goal.returns-in_err-r-clause-did
 returns-in_err-r-clause-did g c =
@@ -26,4 +28,4 @@ returns-in_err-r-clause-did g c =
     let u = text a (number c.args.s) in
     let e = c.in_err-r.ensures in
     let p = err_from_is_err_and c.from_residual.result c.from_residual.ensures.1 in
-    rw (p.1, p.2) (within_ends number a (state c.quote.new.store) {k = wide_words (length u) + flat_words (quoted u)} a.limit row_ids (λ r. row_words (length u + r)) (quoted u) c.in_err-r.field-0.0 e.throws e.uses.step e.uses.history e.uses.no_slots (omega arith) (omega (arith, flat_words_most (quoted u))) (omega (arith, flat_words_most (quoted u), quoted_most u)))
+    rw (p.1, p.2) (within_ends number a (state c.quote.new.store) {k = settling a (number c.args.s) + made_words a.limit (quoted u)} a.limit row_ids (λ r. row_words (length u + r)) (quoted u) c.in_err-r.field-0.0 e.throws e.uses.step e.uses.history e.uses.no_slots (omega (arith, made_ids_most a.limit (quoted u))) (omega (arith, settle_words_most (a.settled (number c.args.s)) (length u), made_most a.limit (quoted u))) (omega (arith, settle_words_most (a.settled (number c.args.s)) (length u), made_most a.limit (quoted u), quoted_most u)))

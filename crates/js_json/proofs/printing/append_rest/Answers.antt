@@ -5,7 +5,7 @@ use Rattle.js_store.specs.State.{IsKnown, text}
 use Rattle.js_store.proofs.Laws.{grows_trans, known_still, text_still}
 use Rattle.js_json.specs.Printing.{line_rest}
 use Rattle.js_texts.specs.Texts.{texts}
-use Rattle.js_texts.proofs.Lists.{every_at, every_map, settle_front}
+use Rattle.js_texts.proofs.Lists.{every_at, every_map, settle_front, settled_turn}
 use Rattle.js_texts.proofs.Delimited.{kept_trans, rest_front, text_turn}
 use Rattle.js_json.proofs.printing.append_rest.Goals as goal
 
@@ -31,6 +31,7 @@ loop-s-preserved g c =
       grows = grows_trans i.grows e.uses.step.grows;
       history = e.uses.history ∙ i.history;
       known = every_map (λ q h. known_still e.uses.step.grows (number q) h) rest i.known;
+      settled = settled_turn number b d rest k r c.loop-s-test.true c.s-item.is e.uses.step.grows i.settled e.settled;
       ids = let done = i.ids in omega (arith, ids, done);
       words = omega (arith, front, words, before);
       bytes =

@@ -1,10 +1,10 @@
 use Rattle.std.proofs.Common.{◌≡◌, ◌+◌, ◌≤◌, ◌++◌, drop, length, take}
 use Rattle.js_store.specs.State.{Grows}
 use Rattle.js_json.specs.Printing.{line_rest}
-use Rattle.js_texts.specs.Texts.{texts, AllKnown, settle_most}
+use Rattle.js_texts.specs.Texts.{texts, AllKnown, AllSettled, settle_most}
 use Rattle.js_json.proofs.printing.append_rest.Given as goal
 
--- what was used and what is left to settle; the line so far, what is left of it and what stood before it
+-- what was settled and used, and what is left to settle; the line so far, what is left of it and what stood before it
 abbrev pub invariant-loop-s : goal.invariant-loop-s
 invariant-loop-s g l =
     let state = g.S.Strings.state in
@@ -13,6 +13,7 @@ invariant-loop-s g l =
       grows : Grows (state l.fn.store) (state l.store);
       history : (state l.store).history ≡ (state l.fn.store).history;
       known : AllKnown (state l.store) number l.rest;
+      settled : AllSettled (state l.store) number (take l.s-index l.rest);
       ids : (state l.store).used_ids ≤ (state l.fn.store).used_ids;
       words : (state l.store).used_words + settle_most (state l.store) number (drop l.s-index l.rest) ≤ (state l.fn.store).used_words + settle_most (state l.fn.store) number l.rest;
       bytes : l.line.items ++ line_rest (texts (state l.fn.store) number (drop l.s-index l.rest)) ≡ l.fn.line.items ++ line_rest (texts (state l.fn.store) number l.rest);
