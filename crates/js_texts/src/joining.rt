@@ -15,7 +15,7 @@ use js_units::Units;
 use std::alloc::Global;
 
 /// The strings of the list with the separator between two ("Array.prototype.join").
-#[tactic(auto, using(crate::proofs::Lists::texts_still, crate::proofs::Lists::all_known_still, crate::proofs::Lists::settle_still))]
+#[tactic(auto, using(crate::proofs::Lists::texts_still, crate::proofs::Lists::all_known_still, crate::proofs::Lists::settle_still, crate::proofs::Lists::all_settled_still))]
 pub fn join<S: Strings>(
     alloc: Global,
     store: &mut S,

@@ -3,9 +3,10 @@
 //!
 //! What each makes of a list of units stands in `specs/`, from the front: `encoded` and `decoded`,
 //! with the sets of characters that are kept. Each call reads its string twice, first for the
-//! place that is malformed or for the length, so that a list that is too long is never made; a
-//! string that would stay as it is is the answer itself. Each call settles its string, keeps what
-//! the store knows and the history of interned strings, and never finds the string table full.
+//! place that is malformed or for the length, so that a list that is too long is never made.
+//! For speed alone, a string of which nothing is escaped, or without a `%`, is the answer itself.
+//! Each call settles its string, keeps what the store knows and the history of interned strings,
+//! and never finds the string table full.
 #![tactic(auto)]
 
 mod answering;
