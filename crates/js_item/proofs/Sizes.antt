@@ -1,5 +1,5 @@
 -- How deep members nest and how many there are, one member after another.
-use Rattle.std.specs.Prelude.{if◌then◌else◌, Bool, true, false}
+use Rattle.std.specs.Prelude.{if◌then◌else◌, Bool, true, false, Result, Ok, Err, OnOk, OnErr}
 use Rattle.std.proofs.Common.{arith, ◌≡◌, ℕ, zero, suc, ◌+◌, ◌<◌, ◌≤◌, max, List, [], ◌∷◌, length, get_or, take, ap, ◌∙◌}
 use Rattle.js_item.specs.Contents.{Content, Fields, no_fields, field, add, count, count_in}
 use Rattle.js_item.specs.Puts.{width, put_by}
@@ -56,3 +56,11 @@ width_if false fs gs n h k = k
 pub width_put : {R : Type 0} (is : R → Bool) (key : R) (value : Content R) (fs : Fields R) → width (put_by is key value fs) ≤ width fs + 1
 width_put is key value no_fields = omega arith
 width_put is key value (field k v rest) = width_if (is k) (field k value rest) (field k v (put_by is key value rest)) (width rest + 1 + 1) (omega arith) (omega (arith, width_put is key value rest))
+
+module _ {R : Type 0} (is : R → Bool) (key : R) (value : Content R) (fs gs : Fields R) where
+  pub width_with : gs ≡ put_by is key value fs → width gs ≤ width fs + 1
+  width_with e = omega (arith, ap width e, width_put is key value fs)
+
+  pub width_either : {A E : Type 0} (r : Result A E) (hs : Fields R) → hs ≡ fs → OnOk r (gs ≡ put_by is key value fs) → OnErr r (gs ≡ hs) → width gs ≤ width fs + 1
+  width_either (Ok x) hs e p q = width_with p
+  width_either (Err x) hs e p q = omega (arith, ap width (q ∙ e))

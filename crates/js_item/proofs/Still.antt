@@ -1,6 +1,6 @@
 -- What is fine stays fine while the store grows.
 use Rattle.std.proofs.Common.{◌≡◌, ℕ, zero, suc, ◌<◌, Bool, true, false, List, [], ◌∷◌, ◌++◌, length, get_or, refl, sym, subst, ◌∙◌, arith}
-use Rattle.std.specs.Prelude.{if◌then◌else◌, bytes_eq, Contains, Option, Some}
+use Rattle.std.specs.Prelude.{if◌then◌else◌, bytes_eq, Contains, Option, Some, Result, Ok, Err, OnOk, OnErr}
 use Rattle.std.proofs.lemmas.List.Elements.{Contains-append_right}
 use Rattle.std.proofs.lemmas.Slice.Eq.{bytes_eq-Decides}
 use Rattle.js_store.specs.State.{State, Grows, Has, IsSettled, Interned, text}
@@ -11,7 +11,7 @@ use Rattle.js_item.specs.Contents.{Content, undefined, null, bool, number, text 
 use Rattle.js_item.specs.declared.item.Item.{Item}
 use Rattle.js_item.specs.declared.item.Member.{Member}
 use Rattle.js_item.specs.Views.{content, fields_of}
-use Rattle.js_item.specs.Puts.{value_by, put_by}
+use Rattle.js_item.specs.Puts.{value_by, put_by, names_key}
 use Rattle.js_item.specs.Fine.{Strings, strings_of, units_at, SymbolFine, KeyFine, NoKey, FineOf, FineFields, KeysFine, KeysDiffer, IsFine}
 
 -- the keys of a fine object are fine, and differ
@@ -64,6 +64,10 @@ module _ {F : Type 0} (a b : State F) (g : Grows a b) where
     keys_still no_fields h = tt
     keys_still (field key value rest) h = (key_still (name key) h.0, keys_still rest h.1)
 
+    pub differ_still : (fs : Fields R) → KeysFine (strings_of a) name fs → KeysDiffer (strings_of a) name fs → KeysDiffer (strings_of b) name fs
+    differ_still no_fields k h = tt
+    differ_still (field key value rest) k h = (no_other_still key rest k.0 k.1 h.0, differ_still rest k.1 h.1)
+
 -- each value of a fine object is fine, also once one more was put in
 module _ {R : Type 0} (s : Strings) (name : R → ℕ) where
   pub fine_value : (ms : List (Member R)) (i : ℕ) (m : Member R) → i < length ms → m ≡ get_or ms i m → FineFields s name (fields_of ms) → FineOf s name (content m.value)
@@ -94,16 +98,65 @@ module _ {R : Type 0} (s : Strings) (name : R → ℕ) where
   apart : (u w : List ℕ) → bytes_eq u w ≡ false → w ≡ u → ⊥
   apart u w h e = let t : false ≡ true = sym h ∙ (bytes_eq-Decides u w).1 (sym e) in cc
 
+  keys_if : (b : Bool) (fs gs : Fields R) → KeysFine s name fs → KeysFine s name gs → KeysFine s name (if b then fs else gs)
+  keys_if true fs gs h k = h
+  keys_if false fs gs h k = k
+
+  differ_if : (b : Bool) (fs gs : Fields R) → KeysDiffer s name fs → (b ≡ false → KeysDiffer s name gs) → KeysDiffer s name (if b then fs else gs)
+  differ_if true fs gs h k = h
+  differ_if false fs gs h k = k refl
+
   -- a member that is put in by its key leaves the keys different
-  module _ (key : R) (value : Content R) (k : KeyFine s (name key)) (v : FineOf s name value) where
+  module _ (key : R) (value : Content R) (k : KeyFine s (name key)) where
     abbrev names : R → Bool
     names r = bytes_eq (units_at s (name r)) (units_at s (name key))
 
-    pub fine_put : (fs : Fields R) → FineFields s name fs → FineFields s name (put_by names key value fs)
+    pub keys_put : (fs : Fields R) → KeysFine s name fs → KeysFine s name (put_by names key value fs)
+    keys_put no_fields h = (k, tt)
+    keys_put (field l w rest) h = keys_if (names l) (field l value rest) (field l w (put_by names key value rest)) h (h.0, keys_put rest h.1)
+
+    pub differ_put : (fs : Fields R) → KeysDiffer s name fs → KeysDiffer s name (put_by names key value fs)
+    differ_put no_fields h = (tt, tt)
+    differ_put (field l w rest) h = differ_if (names l) (field l value rest) (field l w (put_by names key value rest)) h
+        (λ n. (no_key_put names key value (units_at s (name l)) rest (apart (units_at s (name l)) (units_at s (name key)) n) h.0, differ_put rest h.1))
+
+  module _ (key : R) (value : Content R) (k : KeyFine s (name key)) (v : FineOf s name value) where
+    abbrev named : R → Bool
+    named r = bytes_eq (units_at s (name r)) (units_at s (name key))
+
+    pub fine_put : (fs : Fields R) → FineFields s name fs → FineFields s name (put_by named key value fs)
     fine_put no_fields h = (k, v, tt, tt)
-    fine_put (field l w rest) h = fine_if (names l) (field l value rest) (field l w (put_by names key value rest))
+    fine_put (field l w rest) h = fine_if (named l) (field l value rest) (field l w (put_by named key value rest))
         (λ t. (h.0, v, h.2, h.3))
-        (λ n. (h.0, h.1, fine_put rest h.2, no_key_put names key value (units_at s (name l)) rest (apart (units_at s (name l)) (units_at s (name key)) n) h.3))
+        (λ n. (h.0, h.1, fine_put rest h.2, no_key_put named key value (units_at s (name l)) rest (apart (units_at s (name l)) (units_at s (name key)) n) h.3))
+
+-- an object gs that is fs with a member put in, or fs itself, in a store that has grown
+module _ {F R : Type 0} (a b : State F) (g : Grows a b) (name : R → ℕ) (key : R) (value : Content R) (k : KeyFine (strings_of a) (name key)) (fs gs : Fields R) (keys : KeysFine (strings_of a) name fs) where
+  abbrev with_member : Fields R
+  with_member = put_by (names_key a name key) key value fs
+
+  pub keys_with : gs ≡ with_member → KeysFine (strings_of b) name gs
+  keys_with e = let P : Fields R → Type 0 = λ f. KeysFine (strings_of b) name f in subst P (sym e) (keys_still a b g name with_member (keys_put (strings_of a) name key value k fs keys))
+
+  pub keys_without : gs ≡ fs → KeysFine (strings_of b) name gs
+  keys_without e = let P : Fields R → Type 0 = λ f. KeysFine (strings_of b) name f in subst P (sym e) (keys_still a b g name fs keys)
+
+  pub keys_either : {A E : Type 0} (r : Result A E) (hs : Fields R) → hs ≡ fs → OnOk r (gs ≡ with_member) → OnErr r (gs ≡ hs) → KeysFine (strings_of b) name gs
+  keys_either (Ok x) hs e p q = keys_with p
+  keys_either (Err x) hs e p q = keys_without (q ∙ e)
+
+  module _ (differ : KeysDiffer (strings_of a) name fs) where
+    pub differ_with : gs ≡ with_member → KeysDiffer (strings_of b) name gs
+    differ_with e =
+        let P : Fields R → Type 0 = λ f. KeysDiffer (strings_of b) name f in
+        subst P (sym e) (differ_still a b g name with_member (keys_put (strings_of a) name key value k fs keys) (differ_put (strings_of a) name key value k fs differ))
+
+    pub differ_without : gs ≡ fs → KeysDiffer (strings_of b) name gs
+    differ_without e = let P : Fields R → Type 0 = λ f. KeysDiffer (strings_of b) name f in subst P (sym e) (differ_still a b g name fs keys differ)
+
+    pub differ_either : {A E : Type 0} (r : Result A E) (hs : Fields R) → hs ≡ fs → OnOk r (gs ≡ with_member) → OnErr r (gs ≡ hs) → KeysDiffer (strings_of b) name gs
+    differ_either (Ok x) hs e p q = differ_with p
+    differ_either (Err x) hs e p q = differ_without (q ∙ e)
 
 -- what was interned last is a key
 pub key_made : {F : Type 0} (s : State F) (n : ℕ) (u : List ℕ) (h : List (List ℕ × ℕ)) → Has s n u → IsSettled s n → s.history ≡ h ++ (u, n) ∷ [] → KeyFine (strings_of s) n

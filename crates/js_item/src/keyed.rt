@@ -1,5 +1,5 @@
 // The members of objects, by their keys.
-ghost use Rattle.std.specs.Prelude.{◌≡◌, ◌<◌, OnOk, OnErr, MatchOption, IfSome, None, Some, is_some, bytes_eq};
+ghost use Rattle.std.specs.Prelude.{◌≡◌, ◌+◌, ◌<◌, ◌≤◌, OnOk, OnErr, MatchOption, IfSome, None, Some, is_some, bytes_eq};
 ghost use Rattle.js_store.specs.State.{text};
 ghost use Rattle.js_store.specs.Faults.{Uses};
 ghost use Rattle.js_item.specs.Fine.{strings_of, KeyFine, KeysFine, KeysDiffer};
@@ -84,7 +84,8 @@ impl<R: Copy> Object<R> {
     }
 
     /// Puts the value in the place of the one whose key has the units of `key`, or else a new
-    /// member at the end. A refusal leaves the object as it was.
+    /// member at the end. A refusal leaves the object as it was. Afterwards its keys are fine and
+    /// differ, so that a caller may find, get and insert again.
     pub fn insert<S: Strings<Ref = R>>(
         &mut self,
         store: &mut S,
@@ -98,6 +99,9 @@ impl<R: Copy> Object<R> {
         ensures added { OnOk result
             (self.new ≡ put_by (names_key (S.state store.old) S.number key) key (content value) self.old) }
         ensures unchanged { OnErr result (self.new ≡ self.old) }
+        ensures keys { KeysFine (strings_of (S.state store.new)) S.number self.new }
+        ensures apart { KeysDiffer (strings_of (S.state store.new)) S.number self.new }
+        ensures few { width self.new ≤ width self.old + 1 }
         ensures uses { Uses (S.state store.old) (S.state store.new) None 0 0 }
     {
         match self.find(store, key) {
