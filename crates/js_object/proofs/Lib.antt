@@ -5,3 +5,4 @@ pub mod Seen
 pub mod Uses
 mod Decimals
 pub mod Lengths
+pub mod Orders

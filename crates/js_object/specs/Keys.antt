@@ -1,4 +1,5 @@
--- The keys of an object in their order: the array indexes ascending, and then the others (ECMA-262, "OrdinaryOwnPropertyKeys").
+-- Array indexes, and the keys of an object in their order (ECMA-262, "OrdinaryOwnPropertyKeys"). What that order is stands in
+-- `specs/Order.antt`; here is how the list that has it comes about.
 use Rattle.std.specs.Prelude.{ℕ, ◌+◌, ◌-◌, ◌*◌, Bool, false, not, ◌&&◌, ◌||◌, ◌==◌, nat_eq, nat_le, if◌then◌else◌, List, [], ◌∷◌, ◌++◌, length, Option, Some, None, map}
 use Rattle.std.specs.Str.{all_ascii_digits}
 use Rattle.std.specs.Ordering.{nat_cmp}
@@ -41,7 +42,7 @@ abbrev pub others : {X : Type 0} → (X → Option ℕ) → List X → List X
 others index [] = []
 others index (x ∷ xs) = put_off (index x) x (others index xs)
 
--- the elements with an index in ascending order, and then the others in their order
+-- the elements in the order of `specs/Order.antt`, where indexes differ, and else with the last one of each index
 abbrev pub ordered : {X : Type 0} → (X → Option ℕ) → List X → List X
 ordered index xs = values_of (indexes index xs []) ++ others index xs
 
@@ -57,8 +58,11 @@ abbrev pub lent_entry : {R : Type 0} → Bor (Member R) → R × Content R
 lent_entry b = member_entry b.now
 
 -- the array index that the units of a key are
+abbrev pub key_index : {F R : Type 0} → State F → (R → ℕ) → R → Option ℕ
+key_index s name r = index_of (text s (name r))
+
 abbrev pub index_in : {F R : Type 0} → State F → (R → ℕ) → R × Content R → Option ℕ
-index_in s name e = index_of (text s (name e.0))
+index_in s name e = key_index s name e.0
 
 abbrev pub keys_of : {R : Type 0} → List (R × Content R) → List R
 keys_of es = map (λ e. e.0) es

@@ -2,3 +2,5 @@ pub mod Readable
 pub mod Keys
 pub mod Json
 pub mod Use
+pub mod Order
+pub mod Laws

@@ -5,8 +5,9 @@ ghost use Rattle.std.specs.BTreeMap.{values};
 ghost use Rattle.js_store.specs.State.{text};
 ghost use Rattle.js_store.specs.Faults.{Uses};
 ghost use Rattle.js_store.specs.declared.faults.StoreFault.TheVariants.{Memory};
-ghost use Rattle.js_item.specs.Fine.{strings_of, KeyFine, KeysFine};
-ghost use Rattle.js_object.specs.Keys.{index_of, has_form, read_on, entered, put_off, ordered, entries, lent_entry, index_in};
+ghost use Rattle.js_item.specs.Fine.{strings_of, KeyFine, KeysFine, KeysDiffer};
+ghost use Rattle.js_object.specs.Order.{IsTheOrder};
+ghost use Rattle.js_object.specs.Keys.{index_of, has_form, read_on, entered, put_off, ordered, entries, lent_entry, key_index, index_in};
 ghost use Rattle.js_object.specs.Keys.{unit_keys};
 ghost use Rattle.js_object.specs.Keys;
 ghost use Rattle.js_item.specs.Seen.{says, fields_mapped};
@@ -32,6 +33,8 @@ pub fn own_keys<S: Strings>(
     ensures units { IfOk result
         (λ keys. map (says (S.state store.old) S.number) keys.items
         ≡ unit_keys (fields_mapped (says (S.state store.old) S.number) of.now)) }
+    ensures order { IfOk result (λ keys. KeysDiffer (strings_of (S.state store.old)) S.number of.now
+        → IsTheOrder (key_index (S.state store.old) S.number) (Keys.keys_of (entries of.now)) keys.items) }
     ensures fault { IfErr result (λ f. f ≡ Memory) }
     ensures uses { Uses (S.state store.old) (S.state store.new) None 0 0 }
 {
@@ -74,6 +77,8 @@ pub fn in_order<'a, S: Strings>(
     ensures value { IfOk result
         (λ members. map lent_entry members.items
         ≡ ordered (index_in (S.state store.old) S.number) (entries of.now)) }
+    ensures order { IfOk result (λ members. KeysDiffer (strings_of (S.state store.old)) S.number of.now
+        → IsTheOrder (index_in (S.state store.old) S.number) (entries of.now) (map lent_entry members.items)) }
     ensures uses { Uses (S.state store.old) (S.state store.new) None 0 0 }
 {
     let mut indexes = BTreeMap::new(alloc);

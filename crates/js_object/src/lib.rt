@@ -8,8 +8,10 @@
 mod json;
 mod json_len;
 mod keys;
+mod order;
 mod serialize;
 
 pub use js_item::{Item, Member, Object};
 pub use keys::{array_index, in_order, own_keys};
+pub use order::keys_have_one_order;
 pub use serialize::stringify;

@@ -5,6 +5,7 @@ use Rattle.js_store.proofs.Laws.{step_trans}
 use Rattle.js_object.specs.Keys.{index_in, ordered, entries, member_entry, lent_entry, indexes, others}
 use Rattle.js_item.proofs.Finding.{now_fine, first_fine}
 use Rattle.js_object.proofs.Ordered.{index_still, indexes_turn, others_turn, ordered_end, entries_take, entries_all}
+use Rattle.js_object.proofs.Orders.{members_order}
 use Rattle.js_object.proofs.keys.in_order.Goals as goal
 
 pub key_index-requires : goal.key_index-requires
@@ -61,3 +62,8 @@ returns-clause-value g c =
     let e : map lent_entry (values c.loop-member.indexes ++ c.deref.result.now) ≡ ordered index (entries c.args.of.now) = ordered_end lent_entry index c.loop-member.indexes.entries c.loop-member.others.items c.deref.result.now (entries c.args.of.now)
     (c.loop-member.invariant.indexes ∙ ap (λ es. indexes index es []) all) (c.loop-member.invariant.others ∙ ap (λ es. others index es) all) c.deref.ensures.value in
     IfOk-weaker c.listed.result _ _ (λ ks k. ap (map lent_entry) k ∙ e) c.listed.ensures
+
+pub returns-clause-order : goal.returns-clause-order
+returns-clause-order g c =
+    let a = g.S.Strings.state c.args.store.now in
+    IfOk-weaker c.listed.result _ _ (λ ks e d. members_order a g.S.Strings.number c.args.of.now (map lent_entry ks.items) e d) (returns-clause-value g c)

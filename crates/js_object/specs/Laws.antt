@@ -1,0 +1,20 @@
+-- What the order of keys means for the keys of an object, and for its JSON text.
+use Rattle.std.specs.Prelude.{List, ℕ, map, bytes_eq}
+use Rattle.std.specs.List.{IsDistinct}
+use Rattle.js_item.specs.Contents.{Fields}
+use Rattle.js_object.specs.Keys.{index_of, ordered, entries, keys_of, unit_keys}
+use Rattle.js_object.specs.Order.{IsTheOrder}
+use Rattle.js_object.specs.Json.{Part, part_index}
+
+-- the keys of the members, as they stand
+abbrev pub standing_keys : Fields (List ℕ) → List (List ℕ)
+standing_keys fs = keys_of (entries fs)
+
+abbrev pub KeysInOrder : Type 0
+KeysInOrder = (fs : Fields (List ℕ)) → IsDistinct bytes_eq (standing_keys fs) → IsTheOrder index_of (standing_keys fs) (unit_keys fs)
+
+abbrev pub part_keys : List Part → List (List ℕ)
+part_keys ps = map (λ p. p.0) ps
+
+abbrev pub PartsInOrder : Type 0
+PartsInOrder = (ps : List Part) → IsDistinct bytes_eq (part_keys ps) → IsTheOrder part_index ps (ordered part_index ps)
