@@ -13,14 +13,13 @@ use Rattle.js_item.specs.declared.item.Item.{Item}
 use Rattle.eval_values.specs.declared.value.Stop.{Stop}
 use Rattle.eval_values.specs.declared.value.Stop.TheVariants.{Store}
 use Rattle.js_item.specs.Seen.{Val, seen}
-use Rattle.eval_values.specs.Outcome.{gave, free, cost, converting}
+use Rattle.eval_values.specs.Outcome.{gave, free, cost, bind}
 use Rattle.eval_values.specs.Need.{reads, row_ids, row_words}
-use Rattle.eval_values.specs.Conversions.{text_units, string_units}
 use Rattle.eval_values.specs.Operators.{primitive}
 use Rattle.eval_values.specs.Comparing.{compared, order_primitives, order_out}
 use Rattle.js_item.specs.Fine.{IsFine}
 use Rattle.eval_values.specs.Does.{Does, Tells}
-use Rattle.eval_values.proofs.Compose.{did_convert, did_fail, cut_of_step, ran_of_step}
+use Rattle.eval_values.proofs.Compose.{did_bind, did_stop, cut_of_step, ran_of_step}
 use Rattle.eval_values.proofs.Still.{seen_still}
 use Rattle.eval_values.proofs.Sums.{meant}
 
@@ -64,13 +63,13 @@ module _ {F R : Type 0} (name : R → ℕ) (a b : State F) (at : ℕ) (v w : Ite
   pub order_does : (c d : State F) (x y : Item R) (r : Result (Option Ordering) Stop) → Grows a b → Grows b c → IsFine a name w → IsFine b name x → Does name a b (Ok x) (primitive a.limit (seen a name v)) → Does name b c (Ok y) (primitive b.limit (seen b name w)) → Tells c d r (order_primitives at (seen c name x) (seen c name y)) → Tells a d r (order_out at a.limit (seen a name v) (seen a name w))
   order_does c d x y r g h f k e e' z =
       let last : Tells c d r (order_primitives at (seen b name x) (seen c name y)) = subst (λ (q : Val). Tells c d r (order_primitives at q (seen c name y))) (seen_still b c name h x k) z in
-      did_convert (reads (string_units (seen a name v) + string_units (seen a name w))) a b d (λ s q. seen s name q) (λ s q. IsFine s name q) (λ s q. q) (λ s q. Unit {0}) x r (primitive a.limit (seen a name v)) (λ p. converting (reads (text_units (seen a name v) + string_units (seen a name w))) (primitive a.limit (seen a name w)) (λ q. order_primitives at p q)) e
-      (did_convert (reads (text_units (seen a name v) + string_units (seen a name w))) b c d (λ s q. seen s name q) (λ s q. IsFine s name q) (λ s q. q) (λ s q. Unit {0}) y r (primitive a.limit (seen a name w)) (λ q. order_primitives at (seen b name x) q) (meant name a b c w (Ok y) g f e') last)
+      did_bind a b d (λ s q. seen s name q) (λ s q. IsFine s name q) (λ s q. q) (λ s q. Unit {0}) x r (primitive a.limit (seen a name v)) (λ p. bind (primitive a.limit (seen a name w)) (λ q. order_primitives at p q)) e
+      (did_bind b c d (λ s q. seen s name q) (λ s q. IsFine s name q) (λ s q. q) (λ s q. Unit {0}) y r (primitive a.limit (seen a name w)) (λ q. order_primitives at (seen b name x) q) (meant name a b c w (Ok y) g f e') last)
 
   pub first_ends : (n : Stop) → Does name a b (Err n) (primitive a.limit (seen a name v)) → Tells {A = Option Ordering} a b (Err n) (order_out at a.limit (seen a name v) (seen a name w))
-  first_ends n e = did_fail (reads (string_units (seen a name v) + string_units (seen a name w))) a b (λ s q. seen s name q) (λ s q. IsFine s name q) (λ s q. q) (λ s q. Unit {0}) n (primitive a.limit (seen a name v)) (λ p. converting (reads (text_units (seen a name v) + string_units (seen a name w))) (primitive a.limit (seen a name w)) (λ q. order_primitives at p q)) e
+  first_ends n e = did_stop a b (λ s q. seen s name q) (λ s q. IsFine s name q) (λ s q. q) (λ s q. Unit {0}) n (primitive a.limit (seen a name v)) (λ p. bind (primitive a.limit (seen a name w)) (λ q. order_primitives at p q)) e
 
   pub second_ends : (c : State F) (x : Item R) (n : Stop) → Grows a b → IsFine a name w → Does name a b (Ok x) (primitive a.limit (seen a name v)) → Does name b c (Err n) (primitive b.limit (seen b name w)) → Tells {A = Option Ordering} a c (Err n) (order_out at a.limit (seen a name v) (seen a name w))
   second_ends c x n g f e e' =
-      did_convert (reads (string_units (seen a name v) + string_units (seen a name w))) a b c (λ s q. seen s name q) (λ s q. IsFine s name q) (λ s q. q) (λ s q. Unit {0}) x (Err n) (primitive a.limit (seen a name v)) (λ p. converting (reads (text_units (seen a name v) + string_units (seen a name w))) (primitive a.limit (seen a name w)) (λ q. order_primitives at p q)) e
-      (did_fail (reads (text_units (seen a name v) + string_units (seen a name w))) b c (λ s q. seen s name q) (λ s q. IsFine s name q) (λ s q. q) (λ s q. Unit {0}) n (primitive a.limit (seen a name w)) (λ q. order_primitives at (seen b name x) q) (meant name a b c w (Err n) g f e'))
+      did_bind a b c (λ s q. seen s name q) (λ s q. IsFine s name q) (λ s q. q) (λ s q. Unit {0}) x (Err n) (primitive a.limit (seen a name v)) (λ p. bind (primitive a.limit (seen a name w)) (λ q. order_primitives at p q)) e
+      (did_stop b c (λ s q. seen s name q) (λ s q. IsFine s name q) (λ s q. q) (λ s q. Unit {0}) n (primitive a.limit (seen a name w)) (λ q. order_primitives at (seen b name x) q) (meant name a b c w (Err n) g f e'))

@@ -7,9 +7,9 @@ use Rattle.js_number.specs.Arith.{below}
 use Rattle.js_search.specs.Order.{units_cmp}
 use Rattle.js_item.specs.Seen.{Val}
 use Rattle.js_item.specs.Contents.{undefined, null, bool, number, text, symbol, list, object}
-use Rattle.eval_values.specs.Outcome.{Out, gave, free, cost, converts, converting, refuses}
+use Rattle.eval_values.specs.Outcome.{Out, gave, free, cost, bind, converts, refuses}
 use Rattle.eval_values.specs.Need.{nothing, reads}
-use Rattle.eval_values.specs.Conversions.{to_number, text_units, string_units}
+use Rattle.eval_values.specs.Conversions.{to_number}
 use Rattle.eval_values.specs.Operators.{paired, primitive}
 
 -- the order of two numbers, none where one is NaN ("Number::lessThan")
@@ -107,11 +107,10 @@ abbrev pub order_primitives : ℕ → Val → Val → Out (Option Ordering)
 order_primitives at (text u) w = order_text at u w
 order_primitives at v w = order_numbers at v w
 
--- arrays and objects become strings before anything else, from left to right
+-- arrays and objects become strings before anything else, from left to right; what ends there has needed its conversions alone
 abbrev pub order_out : ℕ → ℕ → Val → Val → Out (Option Ordering)
 order_out at limit v w =
-    converting (reads (string_units v + string_units w)) (primitive limit v) (λ x.
-    converting (reads (text_units v + string_units w)) (primitive limit w) (λ y. order_primitives at x y))
+    bind (primitive limit v) (λ x. bind (primitive limit w) (λ y. order_primitives at x y))
 
 -- what each operator says of an order; all are false where one side is NaN
 abbrev pub is_less : Option Ordering → Bool
