@@ -46,6 +46,7 @@ TextSettled s name _ = Unit {0}
 abbrev pub OneOrSettled : {F : Type 0} → State F → ℕ → ℕ → Type 0
 OneOrSettled s m n = (m ≡ n) ⊎ (IsSettled s m × IsSettled s n)
 
+-- the same of a string and a value, where that is a string
 abbrev pub TextRead : {F R : Type 0} → State F → (R → ℕ) → ℕ → Item R → Type 0
 TextRead s name n (item.Text r) = OneOrSettled s n (name r)
 TextRead s name n _ = Unit {0}
