@@ -10,8 +10,8 @@ use Rattle.js_store.specs.State.{State, Has, text as text_of}
 use Rattle.js_store.specs.Faults.{Step}
 use Rattle.js_store.specs.declared.faults.StoreFault.{StoreFault}
 use Rattle.js_store.specs.declared.faults.StoreFault.TheVariants.{Memory}
-use Rattle.js_store.specs.Rows.{flat_words}
-use Rattle.js_store.proofs.Laws.{flat_words_most, settle_words_most, known_has}
+use Rattle.js_texts.specs.Use.{made_words}
+use Rattle.js_store.proofs.Laws.{settle_words_most, known_has}
 use Rattle.js_texts.specs.Texts.{AllKnown, texts}
 use Rattle.js_texts.specs.Delimited.{rest_of, delimited}
 use Rattle.js_texts.proofs.Lists.{all_known_still, texts_still}
@@ -32,7 +32,7 @@ use Rattle.eval_values.specs.Outcome.{needing, ledger_of}
 use Rattle.eval_values.specs.Ran.{Ran, Cut}
 use Rattle.eval_values.specs.Does.{Does}
 use Rattle.eval_values.proofs.Compose.{cut_of_memory}
-use Rattle.eval_values.proofs.Needs.{some_most, settle_few}
+use Rattle.eval_values.proofs.Needs.{made_most, some_most, settle_few}
 use Rattle.eval_builtins.specs.Quoting.{units_in, field_units, parts_in, field_parts}
 use Rattle.eval_builtins.specs.Keys.{keys_out}
 use Rattle.eval_builtins.proofs.Quoted.{quoted_most, list_most}
@@ -118,8 +118,8 @@ module _ {F R : Type 0} (s : State F) (name : R → ℕ) where
     abbrev pub given : Fields (List ℕ)
     given = fields_mapped (says s name) fs
 
-    pub stringify_use : (n : ℕ) → 2 * settle_fields s name fs + flat_words (json_of (says s name) fs) ≤ parts_words (field_parts given) (field_units given + n)
-    stringify_use n = omega (arith, settle_object fs, flat_words_most (json_of (says s name) fs), json_most (says s name) (strings_of s) name fs h, some_most (field_parts given))
+    pub stringify_use : (limit n : ℕ) → 2 * settle_fields s name fs + made_words limit (json_of (says s name) fs) ≤ parts_words (field_parts given) (field_units given + n)
+    stringify_use limit n = omega (arith, settle_object fs, made_most limit (json_of (says s name) fs), json_most (says s name) (strings_of s) name fs h, some_most (field_parts given))
 
 -- the keys of an object as an array
 module _ {F R : Type 0} (name : R → ℕ) where

@@ -158,8 +158,7 @@ fn intern_units<S: Strings>(store: &mut S, units: &[u16]) -> Result<S::Ref, Stop
     ensures key { IfOk result (λ r. KeyFine (strings_of (S.state store.new)) (S.number r)) }
     ensures did { GivesText S.number (S.state store.old) (S.state store.new) result (key_out units.now) }
 {
-    let string = store.from_units(units)?;
-    Ok(store.intern(string)?)
+    Ok(store.intern_units(units)?)
 }
 
 // The key of the units of a string.

@@ -107,7 +107,8 @@ abbrev pub order_primitives : ℕ → Val → Val → Out (Option Ordering)
 order_primitives at (text u) w = order_text at u w
 order_primitives at v w = order_numbers at v w
 
--- arrays and objects become strings before anything else, from left to right; what ends there has needed its conversions alone
+-- arrays and objects become strings before anything else, from left to right; what ends there has needed its
+-- conversions alone
 abbrev pub order_out : ℕ → ℕ → Val → Val → Out (Option Ordering)
 order_out at limit v w =
     bind (primitive limit v) (λ x. bind (primitive limit w) (λ y. order_primitives at x y))

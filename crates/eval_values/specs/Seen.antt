@@ -1,8 +1,8 @@
 -- What the values of the code stand for in a store, and when they may be used; of one value, `js_item` says so.
-use Rattle.std.specs.Prelude.{◌≡◌, ℕ, List, map, Option, Some, None}
+use Rattle.std.specs.Prelude.{◌≡◌, ◌⊎◌, ℕ, List, map, Option, Some, None}
 use Rattle.js_number.specs.declared.Num.{Num}
 use Rattle.js_number.specs.Places.{IsLawful}
-use Rattle.js_store.specs.State.{State, IsKnown, Interned, text as units_of}
+use Rattle.js_store.specs.State.{State, IsKnown, IsSettled, Interned, text as units_of}
 use Rattle.js_texts.specs.Texts.{Every}
 use Rattle.js_item.specs.Contents.{undefined, number}
 use Rattle.js_item.specs.declared.item.Item.{Item}
@@ -36,3 +36,27 @@ IsWritten (item.Object fs) n = ⊥
 abbrev pub LawfulEnd : Option Num → Type 0
 LawfulEnd (Some n) = IsLawful n
 LawfulEnd None = Unit {0}
+
+-- a string is settled; of other values nothing is said
+abbrev pub TextSettled : {F R : Type 0} → State F → (R → ℕ) → Item R → Type 0
+TextSettled s name (item.Text r) = IsSettled s (name r)
+TextSettled s name _ = Unit {0}
+
+-- two strings are one, by their number, or both are settled
+abbrev pub OneOrSettled : {F : Type 0} → State F → ℕ → ℕ → Type 0
+OneOrSettled s m n = (m ≡ n) ⊎ (IsSettled s m × IsSettled s n)
+
+-- the same of a string and a value, where that is a string
+abbrev pub TextRead : {F R : Type 0} → State F → (R → ℕ) → ℕ → Item R → Type 0
+TextRead s name n (item.Text r) = OneOrSettled s n (name r)
+TextRead s name n _ = Unit {0}
+
+-- the same of two values where both are strings
+abbrev pub TextsRead : {F R : Type 0} → State F → (R → ℕ) → Item R → Item R → Type 0
+TextsRead s name (item.Text r) w = TextRead s name (name r) w
+TextsRead s name _ w = Unit {0}
+
+-- a string is its own primitive value
+abbrev pub OwnText : {R : Type 0} → Item R → Item R → Type 0
+OwnText (item.Text r) w = w ≡ item.Text r
+OwnText _ w = Unit {0}

@@ -10,7 +10,7 @@ ghost use Rattle.eval_values.specs.Comparing;
 ghost use Rattle.eval_values.specs.Comparing.{compared, same_out, same_as_text, same_as_list, same_as_object, order_out, order_primitives, order_numbers, order_text, number_order};
 ghost use Rattle.js_item.specs.Seen.{seen};
 ghost use Rattle.js_item.specs.Fine.{IsFine};
-ghost use Rattle.eval_values.specs.Seen.{IsKey};
+ghost use Rattle.eval_values.specs.Seen.{IsKey, TextSettled, OneOrSettled, TextRead, TextsRead};
 ghost use Rattle.eval_values.specs.Does.{Tells};
 
 use crate::operators::{to_primitive, two_numbers};
@@ -20,7 +20,8 @@ use js_store::{StoreFault, Strings};
 use std::alloc::Global;
 use std::cmp::Ordering;
 
-/// `===` of two values, at the byte offset `at`. Two strings are settled.
+/// `===` of two values, at the byte offset `at`. Two strings are settled, unless the store tells one
+/// number of both: then nothing is read.
 pub fn is_same<S: Strings>(
     store: &mut S,
     at: u32,
@@ -30,6 +31,7 @@ pub fn is_same<S: Strings>(
     requires left { IsFine (S.state store.old) S.number left.now }
     requires right { IsFine (S.state store.old) S.number right.now }
     ensures grows { Grows (S.state store.old) (S.state store.new) }
+    ensures read { OnOk result (TextsRead (S.state store.new) S.number left.now right.now) }
     ensures did { Tells (S.state store.old) (S.state store.new) result (same_out at
         (seen (S.state store.old) S.number left.now) (seen (S.state store.old) S.number right.now)) }
 {
@@ -126,6 +128,7 @@ fn is_text_too<S: Strings>(store: &mut S, s: S::Ref, value: &Value<S::Ref>) -> R
     requires string { IsKnown (S.state store.old) (S.number s) }
     requires value { IsFine (S.state store.old) S.number value.now }
     ensures grows { Grows (S.state store.old) (S.state store.new) }
+    ensures read { OnOk result (TextRead (S.state store.new) S.number (S.number s) value.now) }
     ensures did { Tells (S.state store.old) (S.state store.new) result
         (same_as_text (text (S.state store.old) (S.number s)) (seen (S.state store.old) S.number value.now)) }
 {
@@ -202,6 +205,7 @@ fn same_texts<S: Strings>(store: &mut S, a: S::Ref, b: S::Ref) -> Result<bool, S
     requires left { IsKnown (S.state store.old) (S.number a) }
     requires right { IsKnown (S.state store.old) (S.number b) }
     ensures grows { Grows (S.state store.old) (S.state store.new) }
+    ensures read { OnOk result (OneOrSettled (S.state store.new) (S.number a) (S.number b)) }
     ensures did { Tells (S.state store.old) (S.state store.new) result
         (compared (bytes_eq (text (S.state store.old) (S.number a)) (text (S.state store.old) (S.number b)))
         (text (S.state store.old) (S.number a)) (text (S.state store.old) (S.number b))) }
@@ -266,6 +270,8 @@ pub fn compare<S: Strings>(
     requires left { IsFine (S.state store.old) S.number left.now }
     requires right { IsFine (S.state store.old) S.number right.now }
     ensures grows { Grows (S.state store.old) (S.state store.new) }
+    ensures left_settled { OnOk result (TextSettled (S.state store.new) S.number left.now) }
+    ensures right_settled { OnOk result (TextSettled (S.state store.new) S.number right.now) }
     ensures did { Tells (S.state store.old) (S.state store.new) result (order_out at (S.state store.old).limit
         (seen (S.state store.old) S.number left.now) (seen (S.state store.old) S.number right.now)) }
 {
@@ -283,6 +289,8 @@ fn compare_primitives<S: Strings>(
     requires left { IsFine (S.state store.old) S.number left.now }
     requires right { IsFine (S.state store.old) S.number right.now }
     ensures grows { Grows (S.state store.old) (S.state store.new) }
+    ensures left_settled { OnOk result (TextSettled (S.state store.new) S.number left.now) }
+    ensures right_settled { OnOk result (TextSettled (S.state store.new) S.number right.now) }
     ensures did { Tells (S.state store.old) (S.state store.new) result
         (order_primitives at (seen (S.state store.old) S.number left.now)
         (seen (S.state store.old) S.number right.now)) }
@@ -309,6 +317,8 @@ fn compare_text<S: Strings>(
     requires left { IsKnown (S.state store.old) (S.number s) }
     requires right { IsFine (S.state store.old) S.number right.now }
     ensures grows { Grows (S.state store.old) (S.state store.new) }
+    ensures left_settled { OnOk result (IsSettled (S.state store.new) (S.number s)) }
+    ensures right_settled { OnOk result (TextSettled (S.state store.new) S.number right.now) }
     ensures did { Tells (S.state store.old) (S.state store.new) result
         (order_text at (text (S.state store.old) (S.number s))
         (seen (S.state store.old) S.number right.now)) }
@@ -329,6 +339,8 @@ fn compare_texts<S: Strings>(store: &mut S, a: S::Ref, b: S::Ref) -> Result<Opti
     requires left { IsKnown (S.state store.old) (S.number a) }
     requires right { IsKnown (S.state store.old) (S.number b) }
     ensures grows { Grows (S.state store.old) (S.state store.new) }
+    ensures left_settled { OnOk result (IsSettled (S.state store.new) (S.number a)) }
+    ensures right_settled { OnOk result (IsSettled (S.state store.new) (S.number b)) }
     ensures did { Tells (S.state store.old) (S.state store.new) result
         (compared (Some
         (units_cmp (text (S.state store.old) (S.number a)) (text (S.state store.old) (S.number b))))
@@ -348,6 +360,8 @@ fn compare_numbers<S: Strings>(
     requires left { IsFine (S.state store.old) S.number left.now }
     requires right { IsFine (S.state store.old) S.number right.now }
     ensures grows { Grows (S.state store.old) (S.state store.new) }
+    ensures left_settled { OnOk result (TextSettled (S.state store.new) S.number left.now) }
+    ensures right_settled { OnOk result (TextSettled (S.state store.new) S.number right.now) }
     ensures did { Tells (S.state store.old) (S.state store.new) result
         (order_numbers at (seen (S.state store.old) S.number left.now)
         (seen (S.state store.old) S.number right.now)) }

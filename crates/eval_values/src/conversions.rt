@@ -1,5 +1,5 @@
 // Conversions of values (ECMA-262, "Type Conversion").
-ghost use Rattle.std.specs.Prelude.{◌≡◌, ◌+◌, ◌≤◌, [], length, IfOk, None};
+ghost use Rattle.std.specs.Prelude.{◌≡◌, ◌+◌, ◌≤◌, [], length, IfOk, OnOk, None};
 ghost use Rattle.js_number.specs.Places.{IsLawful};
 ghost use Rattle.js_number.specs.Arith.{text_of};
 ghost use Rattle.js_store.specs.State.{Has, Grows, IsKnown, IsSettled, text};
@@ -10,7 +10,7 @@ ghost use Rattle.js_store.specs.Rows.{wide_words, settle_words};
 ghost use Rattle.js_item.specs.Contents;
 ghost use Rattle.eval_values.specs.Outcome.{each, fails};
 ghost use Rattle.eval_values.specs.Conversions.{spelled, to_string, is_text, to_number, to_boolean, number_truth, list_string, object_string, own_to_string, comma_joined, text_units};
-ghost use Rattle.js_texts.specs.Texts.{texts as texts_seen, AllKnown, settle_most};
+ghost use Rattle.js_texts.specs.Texts.{texts as texts_seen, AllKnown, AllSettled, settle_most};
 ghost use Rattle.eval_values.specs.Stops.{converted_of, ending_of};
 ghost use Rattle.js_item.specs.Seen.{seen, says, fields_mapped};
 ghost use Rattle.js_item.specs.Fine.{IsFine, FineFields, strings_of};
@@ -104,7 +104,7 @@ fn has_to_string<S: Strings>(store: &mut S, object: &Object<S::Ref>) -> bool
     object.has(store, &[0x74, 0x6F, 0x53, 0x74, 0x72, 0x69, 0x6E, 0x67])
 }
 
-/// The strings joined by commas.
+/// The strings joined by commas. Each of them is settled.
 #[tactic(auto, using(js_texts::proofs::Lists::texts_still, js_texts::proofs::Lists::settle_still))]
 pub fn joined_by_commas<S: Strings>(
     alloc: Global,
@@ -116,6 +116,7 @@ pub fn joined_by_commas<S: Strings>(
         (λ r. Has (S.state store.new) (S.number r)
         (comma_joined (texts_seen (S.state store.old) S.number list.now))) }
     ensures settled { IfOk result (λ r. IsSettled (S.state store.new) (S.number r)) }
+    ensures read { OnOk result (AllSettled (S.state store.new) S.number list.now) }
     ensures throws { ThrowsLong result (S.state store.old).limit
         (length (comma_joined (texts_seen (S.state store.old) S.number list.now))) }
     ensures uses { Uses (S.state store.old) (S.state store.new) (full_of result)

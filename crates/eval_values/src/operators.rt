@@ -10,6 +10,7 @@ ghost use Rattle.eval_values.specs.Operators.{counted, sum_in, paired, differenc
 ghost use Rattle.eval_values.specs.Stops.{converted_of};
 ghost use Rattle.js_item.specs.Seen.{seen};
 ghost use Rattle.js_item.specs.Fine.{IsFine};
+ghost use Rattle.eval_values.specs.Seen.{OwnText};
 ghost use Rattle.eval_values.specs.Does.{Does};
 
 use crate::conversions::{is_string, number_of, to_text, truth};
@@ -39,7 +40,7 @@ pub fn plus<S: Strings>(
     plus_primitives(alloc, store, at, &first, &second)
 }
 
-/// The primitive value of a value, which is no array and no object.
+/// The primitive value of a value, which is no array and no object. A string is its own.
 pub fn to_primitive<S: Strings>(
     alloc: Global,
     store: &mut S,
@@ -48,6 +49,7 @@ pub fn to_primitive<S: Strings>(
     requires { IsFine (S.state store.old) S.number value.now }
     ensures grows { Grows (S.state store.old) (S.state store.new) }
     ensures fine { IfOk result (λ v. IsFine (S.state store.new) S.number v) }
+    ensures own { IfOk result (λ v. OwnText value.now v) }
     ensures did { Does S.number (S.state store.old) (S.state store.new) result
         (primitive (S.state store.old).limit (seen (S.state store.old) S.number value.now)) }
 {

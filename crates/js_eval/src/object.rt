@@ -31,8 +31,7 @@ pub fn intern_key<S: Strings>(
     if key.len() > store.limit() as usize {
         return Err(Stop::Threw(Kind::RangeError));
     }
-    let made = store.from_units(key)?;
-    Ok(store.intern(made)?)
+    Ok(store.intern_units(key)?)
 }
 
 /// The object with one more member, or with another value of the member that has this key.

@@ -22,6 +22,7 @@ mod well_formed;
 
 pub use building::{from_char_code, from_code_point, to_well_formed};
 pub use cuts::{concat, slice, substr, substring};
+pub use js_texts::{Cause, MethodFault};
 pub use padding::{pad_end, pad_start};
 pub use places::{at, char_at, char_code_at, code_point_at};
 pub use repeating::repeat;

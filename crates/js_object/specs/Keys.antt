@@ -1,5 +1,5 @@
--- Array indexes, and the keys of an object in their order (ECMA-262, "OrdinaryOwnPropertyKeys"). What that order is stands in
--- `specs/Order.antt`; here is how the list that has it comes about.
+-- Array indexes, and the keys of an object in their order (ECMA-262, "OrdinaryOwnPropertyKeys"). What that
+-- order is stands in `specs/Order.antt`; here is how the list that has it comes about.
 use Rattle.std.specs.Prelude.{ℕ, ◌+◌, ◌-◌, ◌*◌, Bool, false, not, ◌&&◌, ◌||◌, ◌==◌, nat_eq, nat_le, if◌then◌else◌, List, [], ◌∷◌, ◌++◌, length, Option, Some, None, map}
 use Rattle.std.specs.Str.{all_ascii_digits}
 use Rattle.std.specs.Ordering.{nat_cmp}
@@ -42,7 +42,8 @@ abbrev pub others : {X : Type 0} → (X → Option ℕ) → List X → List X
 others index [] = []
 others index (x ∷ xs) = put_off (index x) x (others index xs)
 
--- the elements in the order of `specs/Order.antt`, where indexes differ, and else with the last one of each index
+-- the elements in the order of `specs/Order.antt` where indexes differ, and else with the last one of each
+-- index
 abbrev pub ordered : {X : Type 0} → (X → Option ℕ) → List X → List X
 ordered index xs = values_of (indexes index xs []) ++ others index xs
 

@@ -10,11 +10,17 @@ use Rattle.js_object.specs.Json.{Part, part_index}
 abbrev pub standing_keys : Fields (List ℕ) → List (List ℕ)
 standing_keys fs = keys_of (entries fs)
 
+-- an object's keys stand in the one order that they have
 abbrev pub KeysInOrder : Type 0
-KeysInOrder = (fs : Fields (List ℕ)) → IsDistinct bytes_eq (standing_keys fs) → IsTheOrder index_of (standing_keys fs) (unit_keys fs)
+KeysInOrder =
+    (fs : Fields (List ℕ)) → IsDistinct bytes_eq (standing_keys fs)
+    → IsTheOrder index_of (standing_keys fs) (unit_keys fs)
 
+-- the keys of the parts of a JSON text, as they stand
 abbrev pub part_keys : List Part → List (List ℕ)
 part_keys ps = map (λ p. p.0) ps
 
+-- so do the parts of its JSON text
 abbrev pub PartsInOrder : Type 0
-PartsInOrder = (ps : List Part) → IsDistinct bytes_eq (part_keys ps) → IsTheOrder part_index ps (ordered part_index ps)
+PartsInOrder =
+    (ps : List Part) → IsDistinct bytes_eq (part_keys ps) → IsTheOrder part_index ps (ordered part_index ps)

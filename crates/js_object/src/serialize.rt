@@ -1,9 +1,9 @@
 // Objects as strings of JSON text.
 ghost use Rattle.std.specs.Prelude.{◌+◌, ◌*◌, length, IfOk};
 ghost use Rattle.js_store.specs.State.{Has};
-ghost use Rattle.js_store.specs.Rows.{flat_words};
 ghost use Rattle.js_store.specs.Faults.{Uses};
 ghost use Rattle.js_texts.specs.Answers.{ThrowsLong, full_of};
+ghost use Rattle.js_texts.specs.Use.{made_ids, made_words};
 ghost use Rattle.js_object.specs.Use.{settle_fields};
 ghost use Rattle.js_item.specs.Fine.{strings_of, Bounded};
 ghost use Rattle.js_object.specs.Readable.{ReadableFields};
@@ -18,8 +18,9 @@ use js_texts::{Cause, MethodFault};
 use js_units::Units;
 use std::alloc::Global;
 
-/// The JSON text of an object. Its length is found before anything of that size is made.
-#[tactic(auto, using(crate::proofs::Readable::fields_still, crate::proofs::Texts::object_still, crate::proofs::Uses::settle_fields_still))]
+/// The JSON text of an object. Its length is found before anything of that size is made: of a text
+/// that is too long nothing is made.
+#[tactic(auto, using(crate::proofs::Readable::fields_still, crate::proofs::Texts::object_still, crate::proofs::Uses::settle_fields_still, js_texts::proofs::Lengths::made_is, js_texts::proofs::Lengths::made_id))]
 pub fn stringify<S: Strings>(
     alloc: Global,
     store: &mut S,
@@ -32,8 +33,9 @@ pub fn stringify<S: Strings>(
     ensures throws { ThrowsLong result (S.state store.old).limit
         (length (json_of (says (S.state store.old) S.number) of.now)) }
     ensures uses { Uses (S.state store.old) (S.state store.new) (full_of result)
-        1 (2 * settle_fields (S.state store.old) S.number of.now
-        + flat_words (json_of (says (S.state store.old) S.number) of.now)) }
+        (made_ids (S.state store.old).limit (json_of (says (S.state store.old) S.number) of.now))
+        (2 * settle_fields (S.state store.old) S.number of.now
+        + made_words (S.state store.old).limit (json_of (says (S.state store.old) S.number) of.now)) }
 {
     let length = object_len(alloc, store, of)?;
     if length > u128::from(store.limit()) {

@@ -15,7 +15,9 @@ mod name_walk;
 mod parser;
 mod proto_key;
 
-pub use eval_tree::{Names, Script};
+pub use eval_tree::{
+    Arm, Block, Builtin, Expr, Link, Method, Name, Names, Op, PostStep, Script, Stmt,
+};
 pub use fault::{ParseFault, Role};
 pub use laws::{no_refused_script, one_refusal, one_script, some_answer};
 pub use parser::parse;

@@ -14,6 +14,7 @@ mod replacing;
 mod splitting;
 mod substituting;
 
+pub use js_texts::{Cause, MethodFault, join};
 pub use replacing::{replace, replace_all};
 pub use splitting::split;
 pub use substituting::substitution;
