@@ -10,7 +10,7 @@ print('\u4e16\u754c'.length, '\u4e16\u754c'.charAt(1), 'a,b,,c'.split(',').lengt
 print(/^(\d{4})-(\d\d)$/.exec('2026-11').slice(1).join('/'), 'aaa'.replace(/a/g, function (m, at) { return at; }));
 var big = '';
 for (i = 0; i < 2000; i++) big += String.fromCharCode(97 + i % 26);
-print(big.length, big.indexOf('xyza'), big.substr(1990));
+print(big.length, big.indexOf('xyza'), big.slice(1990));
 print(isNaN('x'), Number(''), Number(' 12 '), -0 + '', [1, [2, 3]] + '', {} + '', typeof null);
 print(Math.max(3, 7), Math.round(2.5), Math.floor(-1.5), Math.pow(2, 31));
 print(new Date(0).toISOString(), Date.UTC(2026, 10, 30));
