@@ -24,13 +24,13 @@ Follows o m = (m ≡ o) ⊎ Goes o m
 abbrev pub IsUnsettled : Option Held → Option Held → ℕ → JsAnswer → Type 0
 IsUnsettled o p s r = (m : Option Held) × Follows o m × ((us : List ℕ) → Has (view_in m).units s us
     → (f : TextFull) × (wide : Bool) × (r ≡ text_report f)
-        × IsNoRoom (view_in m) (view_in p) (size_in m) us f wide)
+    × IsNoRoom (view_in m) (view_in p) (size_in m) us f wide)
 
 -- the string, which by then was settled, was cut, with r as the answer
 abbrev pub IsCutIn : Option Held → Option Held → ℕ → ℕ → ℕ → JsAnswer → Type 0
 IsCutIn o p s from to r = (m : Option Held) × Goes o m × ((us : List ℕ) → Has (view_in m).units s us
     → (t : Result JsStr TextFull) × (r ≡ text_answer t)
-        × IsCut (view_in m) (view_in p) (size_in m) (record { id = s }) from to us t)
+    × IsCut (view_in m) (view_in p) (size_in m) (record { id = s }) from to us t)
 
 -- strings were settled, and then searched
 abbrev pub Sought : Option Held → Option Held → Type 0
@@ -45,7 +45,7 @@ IsRefused o p a b status =
 abbrev pub IsEnteredIn : Option Held → Option Held → ℕ → JsAnswer → Type 0
 IsEnteredIn o p s r = (m : Option Held) × Goes o m × ((us : List ℕ) → Has (view_in m).units s us
     → (plan : Plan) × (t : Result ℕ TableFull) × (r ≡ table_answer t)
-        × IsPlan (view_in m) (view_in p) s us plan × Interns (view_in m) (view_in p) us plan t)
+    × IsPlan (view_in m) (view_in p) s us plan × Interns (view_in m) (view_in p) us plan t)
 
 -- both are there, and by their numbers the second one was split off from the first
 abbrev pub IsChild : Option Held → Option Held → Type 0
