@@ -137,8 +137,11 @@ const char *js_intern(js_State *J, const char *s)
 	names_seat *seat = J->strings ? J->strings : (J->strings = seated);
 	size_t count = strlen(s);
 	uint32_t hash = hash_of(s, count);
-	const char *name = place_of(seat, s, hash)->name;
+	const char *name;
 	jsstr_answer answer;
+	if (!seat)
+		refuse(J, JSSTR_BAD_ARGUMENT); /* the thread doesn't sit */
+	name = place_of(seat, s, hash)->name;
 	if (name)
 		return name;
 	if (count > JS_STRLIMIT)

@@ -15,7 +15,7 @@ names_seat *names_open(uint32_t ids, uint32_t words, uint32_t slots, uint32_t th
 /* A seat for another thread, to be made before that thread starts; null where there is no memory. */
 names_seat *names_split(names_seat *from);
 
-/* The states that the calling thread makes from now on work from this seat. */
+/* The states that the calling thread makes from now on work from this seat. A thread without one has no states. */
 void names_sit(names_seat *seat);
 
 /* Takes a seat back that was split off from this one. */
