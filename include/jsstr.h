@@ -21,7 +21,7 @@
 
    KNOWN. An agent knows the strings that its calls answered, what the agent that it was split off from
    knew by then, and what those knew that it joined. A string goes from one running thread to another by
-   jsstr_intern alone: the other thread interns equal units and gets that number.
+   interning alone: the other thread interns equal units, or finds them, and gets that number.
 
    SETTLED. A string that was made of units, and a slice, is settled. What jsstr_concat answers may be a
    rope; the calls that need a settled string settle it first, once for all agents, and may then be refused
@@ -66,7 +66,7 @@ enum jsstr_status {
   JSSTR_NO_WORDS = 4,    /* not enough words are left: the same of words */
   JSSTR_NO_SLOTS = 5,    /* all `end` slots of the string table are used by other units */
   JSSTR_TOO_LONG = 6,    /* the sides, `at` and `want` units long, are longer together than the limit */
-  JSSTR_NONE = 7,        /* there is no such place */
+  JSSTR_NONE = 7,        /* there is no such place, or no interned string with these units */
   JSSTR_NOT_UTF8 = 8,    /* the first `at` bytes are UTF-8, and no more of them are; nothing has changed */
   JSSTR_BAD_ARGUMENT = 9 /* the condition of the call doesn't hold; no string and no heap has changed */
 };
@@ -91,7 +91,7 @@ typedef struct jsstr_used { uint32_t status, ids, words; } jsstr_used;
 typedef struct jsstr_use { uint32_t ids, words; } jsstr_use;
 
 /* Every call with an agent has the conditions that the handle isn't zero, and that each string that it is
-   given is known. */
+   given is known (jsstr_is_interned: the first alone). */
 
 /* A heap, and in `out` its first agent, with the whole share: `agents`, 1 to 64, is how many agents there
    may be at one time. Joined strings are at most `limit` units long, which is at most JSSTR_MAX_LENGTH.
@@ -177,8 +177,31 @@ jsstr_place jsstr_last_index_of(jsstr_agent *agent, jsstr_id hay, jsstr_id needl
    It is known, and settled. It uses at most an id, and words where s is a slice. Settles s. */
 jsstr_answer jsstr_intern(jsstr_agent *agent, jsstr_id s);
 
+/* The same of units that are in no string yet. Where the table has their string by then, nothing is used: no id,
+   no word and no slot. Else the call makes it, which uses an id, its words and a slot; where another thread interns
+   these units at that moment, the id and the words may be lost. Condition: len is at most JSSTR_MAX_LENGTH. */
+jsstr_answer jsstr_intern_units(jsstr_agent *agent, const uint16_t *units, size_t len);
+
+/* The same of bytes, by the rules of jsstr_from_latin1 and jsstr_from_utf8. Memory is allocated for the time of
+   the call; NO_MEMORY and NOT_UTF8 leave all as it was. Condition: len is at most JSSTR_MAX_LENGTH. */
+jsstr_answer jsstr_intern_latin1(jsstr_agent *agent, const uint8_t *bytes, size_t len);
+jsstr_answer jsstr_intern_utf8(jsstr_agent *agent, const uint8_t *bytes, size_t len);
+
+/* The one string of the string table with these units, or NONE where it has no such string. It is known, settled
+   and interned. No id, no word and no slot is used, ever. While another thread interns these units, either may be
+   the answer. Condition: len is at most JSSTR_MAX_LENGTH. */
+jsstr_answer jsstr_find_units(jsstr_agent *agent, const uint16_t *units, size_t len);
+
+/* The same of bytes, by the rules of jsstr_intern_latin1 and jsstr_intern_utf8. */
+jsstr_answer jsstr_find_latin1(jsstr_agent *agent, const uint8_t *bytes, size_t len);
+jsstr_answer jsstr_find_utf8(jsstr_agent *agent, const uint8_t *bytes, size_t len);
+
+/* Whether s is an interned string of this agent: one that a call above answered, to it or to an agent from which
+   it knows its strings. Any number is allowed. */
+jsstr_truth jsstr_is_interned(jsstr_agent *agent, jsstr_id s);
+
 /* Whether two interned strings have equal units, which is whether their numbers are equal.
-   Condition: a and b are answers of jsstr_intern. */
+   Condition: a and b are interned, as jsstr_is_interned tells. */
 jsstr_truth jsstr_same(jsstr_agent *agent, jsstr_id a, jsstr_id b);
 
 /* What was used, by all agents, and how many different lists of units were interned.
@@ -210,6 +233,13 @@ bool jsstr_starts_with_unchecked(jsstr_agent *agent, jsstr_id hay, jsstr_id need
 jsstr_place jsstr_index_of_unchecked(jsstr_agent *agent, jsstr_id hay, jsstr_id needle, uint32_t from);
 jsstr_place jsstr_last_index_of_unchecked(jsstr_agent *agent, jsstr_id hay, jsstr_id needle, uint32_t limit);
 jsstr_answer jsstr_intern_unchecked(jsstr_agent *agent, jsstr_id s);
+jsstr_answer jsstr_intern_units_unchecked(jsstr_agent *agent, const uint16_t *units, size_t len);
+jsstr_answer jsstr_intern_latin1_unchecked(jsstr_agent *agent, const uint8_t *bytes, size_t len);
+jsstr_answer jsstr_intern_utf8_unchecked(jsstr_agent *agent, const uint8_t *bytes, size_t len);
+jsstr_answer jsstr_find_units_unchecked(jsstr_agent *agent, const uint16_t *units, size_t len);
+jsstr_answer jsstr_find_latin1_unchecked(jsstr_agent *agent, const uint8_t *bytes, size_t len);
+jsstr_answer jsstr_find_utf8_unchecked(jsstr_agent *agent, const uint8_t *bytes, size_t len);
+bool jsstr_is_interned_unchecked(jsstr_agent *agent, jsstr_id s);
 bool jsstr_same_unchecked(const jsstr_agent *agent, jsstr_id a, jsstr_id b);
 jsstr_use jsstr_totals_unchecked(jsstr_agent *agent);
 uint32_t jsstr_count_interned_unchecked(jsstr_agent *agent);

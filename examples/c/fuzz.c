@@ -89,23 +89,35 @@ static uint32_t some_units(uint16_t *units) {
   return len;
 }
 
+/* The units as Latin-1, each cut to a byte. */
+static void to_latin1(uint16_t *units, uint32_t len, uint8_t *bytes) {
+  for (uint32_t i = 0; i < len; i++) units[i] = bytes[i] = (uint8_t)units[i];
+}
+
+/* The UTF-8 of units that are below 128, or from 0x800 on and no surrogates. */
+static uint32_t to_utf8(const uint16_t *units, uint32_t len, uint8_t *bytes) {
+  uint32_t n = 0;
+  for (uint32_t i = 0; i < len; i++)
+    if (units[i] < 128) bytes[n++] = (uint8_t)units[i];
+    else {
+      bytes[n++] = (uint8_t)(0xE0 | units[i] >> 12);
+      bytes[n++] = (uint8_t)(0x80 | (units[i] >> 6 & 63));
+      bytes[n++] = (uint8_t)(0x80 | (units[i] & 63));
+    }
+  return n;
+}
+
 static void make(agent *a) {
   uint16_t units[100];
-  uint8_t bytes[300];
+  uint8_t bytes[301];
   uint32_t len = some_units(units), n = 0, kind = chance(3);
   jsstr_answer s;
   if (kind == 0) s = jsstr_from_units(&a->handle, units, len);
   else if (kind == 1) {
-    for (uint32_t i = 0; i < len; i++) units[i] = bytes[i] = (uint8_t)units[i];
+    to_latin1(units, len, bytes);
     s = jsstr_from_latin1(&a->handle, bytes, len);
   } else {
-    for (uint32_t i = 0; i < len; i++)
-      if (units[i] < 128) bytes[n++] = (uint8_t)units[i];
-      else {
-        bytes[n++] = (uint8_t)(0xE0 | units[i] >> 12);
-        bytes[n++] = (uint8_t)(0x80 | (units[i] >> 6 & 63));
-        bytes[n++] = (uint8_t)(0x80 | (units[i] & 63));
-      }
+    n = to_utf8(units, len, bytes);
     if (a->handle.live && chance(20) == 0) {
       bytes[n] = 0xFF;
       s = jsstr_from_utf8(&a->handle, bytes, n + 1);
@@ -239,10 +251,49 @@ static void intern(agent *a) {
   table[entries++] = one.id;
 }
 
+/* The string of the table with these units, or -1. */
+static long entry(const uint16_t *units, uint32_t len) {
+  for (uint32_t i = 0; i < entries; i++) {
+    text t = texts[table[i]];
+    if (t.len == len && (!len || memcmp(t.units, units, len * 2) == 0)) return table[i];
+  }
+  return -1;
+}
+
+/* Units that are interned, or looked for, with no string of their own: each answer is the table's. */
+static void key(agent *a) {
+  uint16_t units[100];
+  uint8_t bytes[301];
+  uint32_t len = some_units(units), n = 0, kind = chance(6), find = kind % 2;
+  if (chance(2)) len %= 9;
+  if (kind / 2 == 1) to_latin1(units, len, bytes);
+  if (kind / 2 == 2) n = to_utf8(units, len, bytes);
+  if (kind / 2 == 2 && a->handle.live && chance(20) == 0) {
+    bytes[n] = 0xFF;
+    jsstr_answer s = find ? jsstr_find_utf8(&a->handle, bytes, n + 1) : jsstr_intern_utf8(&a->handle, bytes, n + 1);
+    CHECK(s.status == JSSTR_NOT_UTF8 && s.at == n);
+    return;
+  }
+  jsstr_answer one = kind == 0 ? jsstr_intern_units(&a->handle, units, len) : kind == 1 ? jsstr_find_units(&a->handle, units, len)
+    : kind == 2 ? jsstr_intern_latin1(&a->handle, bytes, len) : kind == 3 ? jsstr_find_latin1(&a->handle, bytes, len)
+    : kind == 4 ? jsstr_intern_utf8(&a->handle, bytes, n) : jsstr_find_utf8(&a->handle, bytes, n);
+  if (!a->handle.live) { CHECK(one.status == JSSTR_BAD_ARGUMENT); return; }
+  lawful++;
+  long there = entry(units, len);
+  if (there >= 0) CHECK(one.status == JSSTR_DONE && one.id == (jsstr_id)there);
+  else if (find) { CHECK(one.status == JSSTR_NONE); return; }
+  else if (refused_for_room(one.status)) return;
+  answered(a, one, units, len);
+  a->interned[one.id] = 1;
+  if (there < 0) { CHECK(entries < SLOTS); table[entries++] = one.id; }
+}
+
 static void same(agent *a) {
   jsstr_id s = entries && chance(9) ? table[chance(entries)] : some_id(a), t = entries && chance(2) ? table[chance(entries)] : s;
   jsstr_truth o = jsstr_same(&a->handle, s, t);
   int ok = knows(a, s) && knows(a, t) && a->interned[s] && a->interned[t];
+  jsstr_truth is = jsstr_is_interned(&a->handle, s);
+  CHECK(a->handle.live ? is.status == JSSTR_DONE && is.holds == (s < IDS && a->interned[s]) : is.status == JSSTR_BAD_ARGUMENT);
   lawful += ok;
   CHECK(ok ? o.status == JSSTR_DONE && o.holds == (s == t) : o.status == JSSTR_BAD_ARGUMENT);
 }
@@ -307,7 +358,7 @@ int main(int count_of, char **told) {
   for (call = 0; call < calls; call++) {
     agent *a = &agents[chance(AGENTS)], *b = &agents[chance(AGENTS)];
     if (!a->handle.live && chance(3)) a = &agents[0];
-    switch (chance(17)) {
+    switch (chance(19)) {
     case 0: case 1: make(a); break;
     case 2: case 3: concat(a); break;
     case 4: case 5: slice(a); break;
@@ -319,6 +370,7 @@ int main(int count_of, char **told) {
     case 13: settle(a); break;
     case 14: split(a, b); break;
     case 15: window(a); break;
+    case 16: case 17: key(a); break;
     default: join(a, b);
     }
     if (full > 300) begin();

@@ -84,10 +84,17 @@ struct Worker {
     }
     case 4: {
       uint32_t number = chance(KEYS);
-      jsstr_id s = made(key(number));
-      if (full) break;
-      jsstr_answer one = jsstr_intern(&agent, s);
-      if (!answered(one, key(number))) break;
+      const Text text = key(number);
+      auto units = reinterpret_cast<const uint16_t *>(text.data());
+      jsstr_answer there = jsstr_find_units(&agent, units, text.size()), one;
+      if (chance(2)) one = jsstr_intern_units(&agent, units, text.size());
+      else {
+        jsstr_id s = made(text);
+        if (full) break;
+        one = jsstr_intern(&agent, s);
+      }
+      CHECK(there.status == JSSTR_DONE ? one.status == JSSTR_DONE && there.id == one.id : there.status == JSSTR_NONE && keys[number] == UINT32_MAX);
+      if (!answered(one, text)) break;
       CHECK(keys[number] == UINT32_MAX || keys[number] == one.id);
       keys[number] = one.id;
       break;

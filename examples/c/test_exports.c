@@ -44,8 +44,10 @@ static void *intern_keys(void *at) {
     CHECK(settled.status == JSSTR_DONE && settled.id == whole.id);
     jsstr_answer part = jsstr_slice(&j->agent, whole.id, 7, (uint32_t)(7 + n));
     CHECK(part.status == JSSTR_DONE);
+    jsstr_answer first = jsstr_intern_units(&j->agent, units, i % 3 ? n : 0);
     jsstr_answer one = jsstr_intern(&j->agent, part.id);
-    CHECK(one.status == JSSTR_DONE);
+    CHECK(one.status == JSSTR_DONE && first.status == JSSTR_DONE && (i % 3 == 0 || first.id == one.id));
+    CHECK(jsstr_find_units(&j->agent, units, n).id == one.id && jsstr_is_interned(&j->agent, one.id).holds);
     jsstr_answer other = jsstr_intern(&j->agent, s.id);
     CHECK(other.status == JSSTR_DONE && other.id == one.id);
     j->numbers[key] = one.id;
@@ -102,7 +104,7 @@ static void intern_by_two(void) {
   CHECK(memcmp(a.numbers, b.numbers, sizeof a.numbers) == 0);
   CHECK(jsstr_join(&a.agent, &b.agent) == JSSTR_DONE);
   CHECK(!b.agent.at && jsstr_share(&a.agent).value == 2);
-  CHECK(jsstr_count_interned(&a.agent).value == KEYS);
+  CHECK(jsstr_count_interned(&a.agent).value == KEYS + 1);
   for (int key = 0; key < KEYS; key++) {
     uint16_t want[32], got[32];
     size_t n = key_units(key, want);
@@ -227,6 +229,13 @@ static void refuse_empty(void) {
   CHECK(jsstr_index_of(&none, 0, 0, 0).status == JSSTR_BAD_ARGUMENT);
   CHECK(jsstr_last_index_of(&none, 0, 0, 0).status == JSSTR_BAD_ARGUMENT);
   CHECK(jsstr_intern(&none, 0).status == JSSTR_BAD_ARGUMENT);
+  CHECK(jsstr_intern_units(&none, &x, 1).status == JSSTR_BAD_ARGUMENT);
+  CHECK(jsstr_intern_latin1(&none, &y, 1).status == JSSTR_BAD_ARGUMENT);
+  CHECK(jsstr_intern_utf8(&none, &y, 1).status == JSSTR_BAD_ARGUMENT);
+  CHECK(jsstr_find_units(&none, &x, 1).status == JSSTR_BAD_ARGUMENT);
+  CHECK(jsstr_find_latin1(&none, &y, 1).status == JSSTR_BAD_ARGUMENT);
+  CHECK(jsstr_find_utf8(&none, &y, 1).status == JSSTR_BAD_ARGUMENT);
+  CHECK(jsstr_is_interned(&none, 0).status == JSSTR_BAD_ARGUMENT);
   CHECK(jsstr_same(&none, 0, 0).status == JSSTR_BAD_ARGUMENT);
   CHECK(jsstr_totals(&none).status == JSSTR_BAD_ARGUMENT);
   CHECK(jsstr_count_interned(&none).status == JSSTR_BAD_ARGUMENT);
@@ -262,6 +271,7 @@ static void refuse_strings(void) {
     CHECK(jsstr_last_index_of(&a, s, u, 0).status == JSSTR_BAD_ARGUMENT);
     CHECK(jsstr_intern(&a, u).status == JSSTR_BAD_ARGUMENT);
     CHECK(jsstr_same(&a, u, u).status == JSSTR_BAD_ARGUMENT);
+    CHECK(jsstr_is_interned(&a, u).status == JSSTR_DONE && !jsstr_is_interned(&a, u).holds);
   }
   CHECK(jsstr_length(&a, s).value == 13 && jsstr_length(&b, s).value == 13);
   /* Known, and not an answer of the string table. */
@@ -349,11 +359,118 @@ static void unchecked(void) {
   jsstr_id i = jsstr_intern_unchecked(&b, part).id, j = jsstr_intern(&b, other).id;
   CHECK(jsstr_same_unchecked(&b, i, j) && jsstr_same(&b, i, j).holds);
   CHECK(jsstr_same(&a, i, j).status == JSSTR_BAD_ARGUMENT);
+  jsstr_id key = jsstr_intern_units_unchecked(&b, units, 9).id;
+  CHECK(jsstr_intern_latin1_unchecked(&b, (const uint8_t *)"units of ", 9).id == key);
+  CHECK(jsstr_intern_utf8_unchecked(&b, (const uint8_t *)"units of ", 9).id == key);
+  CHECK(jsstr_find_units_unchecked(&a, units, 9).id == key && jsstr_is_interned_unchecked(&a, key));
+  CHECK(jsstr_find_latin1_unchecked(&a, (const uint8_t *)"units of", 8).status == JSSTR_NONE);
+  CHECK(jsstr_find_utf8_unchecked(&a, (const uint8_t *)"units of ", 9).id == key && !jsstr_is_interned_unchecked(&a, one));
   jsstr_join_unchecked(&a, &b);
   CHECK(!b.at && !b.live && jsstr_same(&a, i, j).holds);
-  CHECK(jsstr_count_interned_unchecked(&a) == 1 && jsstr_totals_unchecked(&a).ids == jsstr_totals(&a).ids);
+  CHECK(jsstr_count_interned_unchecked(&a) == 2 && jsstr_totals_unchecked(&a).ids == jsstr_totals(&a).ids);
   jsstr_free_unchecked(&a);
   CHECK(!a.at && !a.live);
+}
+
+/* Whether an answer has this status, and nothing else. */
+static int is_bare(jsstr_answer s, uint32_t status) {
+  return s.status == status && !s.id && !s.at && !s.want && !s.end;
+}
+
+/* Whether an answer is this string. */
+static int is_string(jsstr_answer s, jsstr_id id) {
+  return s.status == JSSTR_DONE && s.id == id && !s.at && !s.want && !s.end;
+}
+
+static int has_used(jsstr_agent *a, uint32_t ids, uint32_t words) {
+  jsstr_used use = jsstr_totals(a);
+  return use.status == JSSTR_DONE && use.ids == ids && use.words == words;
+}
+
+/* Units that aren't in the table, then are: an id and their words once, and never again. */
+static void intern_row(jsstr_agent *a, const uint16_t *units, uint32_t len, uint32_t words) {
+  uint8_t bytes[16];
+  jsstr_used use = jsstr_totals(a);
+  uint32_t lists = jsstr_count_interned(a).value, narrow = 1;
+  CHECK(is_bare(jsstr_find_units(a, units, len), JSSTR_NONE) && has_used(a, use.ids, use.words));
+  jsstr_answer key = jsstr_intern_units(a, units, len);
+  CHECK(is_string(key, key.id) && has_used(a, use.ids + 1, use.words + words));
+  CHECK(is_string(jsstr_intern_units(a, units, len), key.id) && is_string(jsstr_find_units(a, units, len), key.id));
+  for (uint32_t i = 0; i < len; i++) bytes[i] = (uint8_t)units[i], narrow &= units[i] < 128;
+  if (narrow) {
+    CHECK(is_string(jsstr_intern_latin1(a, bytes, len), key.id) && is_string(jsstr_find_latin1(a, bytes, len), key.id));
+    CHECK(is_string(jsstr_intern_utf8(a, bytes, len), key.id) && is_string(jsstr_find_utf8(a, bytes, len), key.id));
+  }
+  CHECK(has_used(a, use.ids + 1, use.words + words) && jsstr_count_interned(a).value == lists + 1);
+  CHECK(jsstr_is_interned(a, key.id).holds && jsstr_same(a, key.id, key.id).holds);
+  jsstr_id s = jsstr_from_units(a, units, len).id;
+  CHECK(!jsstr_is_interned(a, s).holds && jsstr_equal(a, s, key.id).holds && is_string(jsstr_intern(a, s), key.id));
+}
+
+static void intern_units(void) {
+  jsstr_agent a = {0};
+  static const uint16_t narrow[] = {'n', 'i', 'n', 'e', 'u', 'n', 'i', 't', 's'}, wide[] = {'n', 'i', 'n', 'e', 0x100, 'n', 'i', 't', 0xD800};
+  CHECK(jsstr_make((jsstr_size){100, 100, 20}, 1, 1000, &a) == JSSTR_DONE);
+  for (uint32_t len = 0; len <= 9; len++) intern_row(&a, narrow, len, (len + 7) / 8);
+  for (uint32_t len = 5; len <= 9; len++) intern_row(&a, wide, len, (len + 3) / 4);
+  jsstr_used use = jsstr_totals(&a);
+  CHECK(is_bare(jsstr_intern_units(&a, narrow, (size_t)JSSTR_MAX_LENGTH + 1), JSSTR_BAD_ARGUMENT));
+  CHECK(is_bare(jsstr_find_units(&a, narrow, SIZE_MAX / 4), JSSTR_BAD_ARGUMENT));
+  CHECK(is_bare(jsstr_intern_latin1(&a, (const uint8_t *)narrow, SIZE_MAX / 4), JSSTR_BAD_ARGUMENT));
+  CHECK(is_bare(jsstr_intern_utf8(&a, (const uint8_t *)narrow, (size_t)JSSTR_MAX_LENGTH + 1), JSSTR_BAD_ARGUMENT));
+  CHECK(is_bare(jsstr_find_latin1(&a, (const uint8_t *)narrow, (size_t)JSSTR_MAX_LENGTH + 1), JSSTR_BAD_ARGUMENT));
+  CHECK(is_bare(jsstr_find_utf8(&a, (const uint8_t *)narrow, SIZE_MAX / 4), JSSTR_BAD_ARGUMENT));
+  CHECK(has_used(&a, use.ids, use.words) && jsstr_free(&a) == JSSTR_DONE);
+}
+
+/* One free slot and none, no id and no word: what is in the table is answered, and what isn't is refused. */
+static void refuse_keys(void) {
+  jsstr_agent a = {0};
+  static const uint16_t x[] = {'x', 'y', 'z'}, wide[] = {0x4E16, 0x754C};
+  CHECK(jsstr_make((jsstr_size){9, 9, 2}, 1, 9, &a) == JSSTR_DONE);
+  jsstr_id one = jsstr_intern_units(&a, x, 1).id, two = jsstr_intern_units(&a, wide, 2).id;
+  jsstr_answer slots = jsstr_intern_units(&a, x, 3);
+  CHECK(slots.status == JSSTR_NO_SLOTS && !slots.id && !slots.at && !slots.want && slots.end == 2);
+  CHECK(is_bare(jsstr_find_units(&a, x, 3), JSSTR_NONE) && is_string(jsstr_find_units(&a, wide, 2), two));
+  CHECK(is_string(jsstr_intern_units(&a, x, 1), one) && has_used(&a, 2, 2) && jsstr_free(&a) == JSSTR_DONE);
+
+  CHECK(jsstr_make((jsstr_size){1, 9, 9}, 1, 9, &a) == JSSTR_DONE);
+  one = jsstr_intern_units(&a, x, 1).id;
+  jsstr_answer ids = jsstr_intern_units(&a, x, 0);
+  CHECK(ids.status == JSSTR_NO_IDS && !ids.id && ids.at == 1 && ids.want == 1 && ids.end == 1);
+  CHECK(is_bare(jsstr_find_units(&a, x, 0), JSSTR_NONE) && jsstr_count_interned(&a).value == 1);
+  CHECK(is_string(jsstr_intern_units(&a, x, 1), one) && is_string(jsstr_find_latin1(&a, (const uint8_t *)"x", 1), one));
+  CHECK(has_used(&a, 1, 1) && jsstr_free(&a) == JSSTR_DONE);
+
+  CHECK(jsstr_make((jsstr_size){9, 1, 9}, 1, 9, &a) == JSSTR_DONE);
+  one = jsstr_intern_units(&a, x, 3).id;
+  jsstr_answer words = jsstr_intern_units(&a, x, 2);
+  CHECK(words.status == JSSTR_NO_WORDS && !words.id && words.at == 1 && words.want == 1 && words.end == 1);
+  CHECK(is_bare(jsstr_find_units(&a, x, 2), JSSTR_NONE) && is_string(jsstr_intern_units(&a, x, 3), one) && has_used(&a, 1, 1));
+  CHECK(jsstr_intern_units(&a, x, 0).status == JSSTR_DONE && has_used(&a, 2, 1) && jsstr_free(&a) == JSSTR_DONE);
+}
+
+/* A text of one to four bytes a character, cut short at each place, and with each byte replaced. */
+static void malformed_keys(void) {
+  jsstr_agent a = {0};
+  static const char text[] = "a\xC3\xA9\xE4\xB8\x96\xF0\x9F\x98\x80z";
+  static const uint32_t starts[] = {0, 1, 1, 3, 3, 3, 6, 6, 6, 6, 10}, all = 11;
+  static const uint16_t units[] = {'a', 0xE9, 0x4E16, 0xD83D, 0xDE00, 'z'};
+  uint8_t bytes[11];
+  CHECK(jsstr_make((jsstr_size){9, 9, 9}, 1, 9, &a) == JSSTR_DONE);
+  for (uint32_t i = 0; i < all; i++) {
+    memcpy(bytes, text, all);
+    bytes[i] = 0xFF;
+    jsstr_answer s = jsstr_intern_utf8(&a, bytes, all), t = jsstr_find_utf8(&a, bytes, all);
+    CHECK(s.status == JSSTR_NOT_UTF8 && !s.id && s.at == starts[i] && !s.want && !s.end && !memcmp(&s, &t, sizeof s));
+    if (starts[i] == i) continue;
+    s = jsstr_intern_utf8(&a, (const uint8_t *)text, i), t = jsstr_find_utf8(&a, (const uint8_t *)text, i);
+    CHECK(s.status == JSSTR_NOT_UTF8 && !s.id && s.at == starts[i] && !s.want && !s.end && !memcmp(&s, &t, sizeof s));
+  }
+  CHECK(has_used(&a, 0, 0));
+  jsstr_id key = jsstr_intern_utf8(&a, (const uint8_t *)text, all).id;
+  CHECK(is_string(jsstr_find_units(&a, units, 6), key) && jsstr_length(&a, key).value == 6);
+  CHECK(has_used(&a, 1, 2) && jsstr_free(&a) == JSSTR_DONE);
 }
 
 /* A rope that can't be settled for want of words: what needs it settled is refused, and the rope stays. */
@@ -376,6 +493,9 @@ int main(void) {
   refuse_parts();
   refuse_joins();
   refuse_settling();
+  intern_units();
+  refuse_keys();
+  malformed_keys();
   unchecked();
   refuse_sizes();
   refuse_calls();

@@ -3,3 +3,4 @@ pub mod Interned
 pub mod Settled
 pub mod Searched
 pub mod Marks
+pub mod Answered

@@ -1,12 +1,13 @@
 -- What is kept at run time beside an agent: which ids it may use, which of them are answers of the string table, and the
 -- numbers by which a join is told to be lawful.
-use Rattle.std.specs.Prelude.{◌≡◌, ℕ, ◌<◌, List, Contains}
+use Rattle.std.specs.Prelude.{◌≡◌, ◌⊎◌, ℕ, ◌<◌, List, Contains, Result, Ok, Err}
 use Rattle.heap_rule.specs.Maps.{HasKey}
 use Rattle.heap_rule.specs.Views.{history}
 use Rattle.heap_rule.specs.declared.size.HeapSize.{HeapSize}
 use Rattle.heap_rule.specs.declared.view.View.{View}
 use Rattle.heap_table.specs.Agents.{size_of}
 use Rattle.heap_read.specs.Reads.{Continues}
+use Rattle.heap_read.specs.declared.string.JsStr.{JsStr}
 use Rattle.heap_agents.specs.declared.ids.IdSet.{IdSet}
 use Rattle.heap_agents.specs.Sets.{Covers, IsIn}
 use Rattle.heap_agents.specs.declared.held.Held.{Held}
@@ -50,9 +51,37 @@ pub record Leaves (x y : Held) : Type 0 where
   pub continues : Continues (view_by x) (view_by y)
   pub marks : KeepsMarks x y
 
+-- string i is marked, what was marked is so still, and nothing else is
+pub record MarksOnly (x y : Held) (i : ℕ) : Type 0 where
+  pub known : IsIn y.known i
+  pub only : (j : ℕ) → IsIn y.known j → (j ≡ i) ⊎ IsIn x.known j
+  pub interned : y.interned ≡ x.interned
+
+-- string i is marked as an answer of the string table, what was marked is so still, and nothing else is
+pub record MarksOnlyKey (x y : Held) (i : ℕ) : Type 0 where
+  pub known : IsIn y.known i
+  pub interned : IsIn y.interned i
+  pub only : (j : ℕ) → IsIn y.known j → (j ≡ i) ⊎ IsIn x.known j
+  pub only_interned : (j : ℕ) → IsIn y.interned j → (j ≡ i) ⊎ IsIn x.interned j
+
+-- nothing was marked
+abbrev pub MarksNothing : Held → Held → Type 0
+MarksNothing x y = (y.known ≡ x.known) × (y.interned ≡ x.interned)
+
+-- the answer is marked; a refusal marks nothing
+abbrev pub MarksMade : {E : Type 0} → Held → Held → Result JsStr E → Type 0
+MarksMade x y (Ok s) = MarksOnly x y s.id
+MarksMade x y (Err e) = MarksNothing x y
+
+-- the string s is marked once it is settled; a refusal marks nothing
+abbrev pub MarksSettled : {T E : Type 0} → Held → Held → ℕ → Result T E → Type 0
+MarksSettled x y s (Ok t) = MarksOnly x y s
+MarksSettled x y s (Err e) = MarksNothing x y
+
 -- what a search leaves
 pub record Searched (x y : Held) : Type 0 where
   pub held : IsHeld y
   pub same : IsSame x.member y.member
   pub strings : KeepsStrings (view_by x) (view_by y)
   pub marks : KeepsMarks x y
+  pub marked : MarksNothing x y

@@ -4,4 +4,5 @@ pub mod Interned
 pub mod Searched
 pub mod Words
 pub mod Held
+pub mod Keys
 pub mod Ready

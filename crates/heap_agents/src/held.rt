@@ -2,7 +2,7 @@
 ghost use Rattle.std.specs.Prelude.{◌≡◌, ◌↔◌, ℕ, List, Contains, IsTrue};
 ghost use Rattle.heap_rule.specs.Maps.{HasKey};
 ghost use Rattle.heap_rule.specs.Views.{history};
-ghost use Rattle.heap_agents.specs.Held.{IsHeld, KeepsMarks, view_by};
+ghost use Rattle.heap_agents.specs.Held.{IsHeld, KeepsMarks, MarksOnly, MarksOnlyKey, view_by};
 ghost use Rattle.heap_agents.specs.Sets.{IsIn};
 
 use crate::ids::IdSet;
@@ -47,7 +47,7 @@ impl Held {
         ensures held { IsHeld self.new }
         ensures member { self.new.member ≡ self.old.member }
         ensures marks { KeepsMarks self.old self.new }
-        ensures marked { IsIn self.new.known id }
+        ensures marked { MarksOnly self.old self.new id }
     {
         self.known.add(id);
     }
@@ -60,8 +60,7 @@ impl Held {
         ensures held { IsHeld self.new }
         ensures member { self.new.member ≡ self.old.member }
         ensures marks { KeepsMarks self.old self.new }
-        ensures marked { IsIn self.new.known id }
-        ensures interned { IsIn self.new.interned id }
+        ensures marked { MarksOnlyKey self.old self.new id }
     {
         self.known.add(id);
         self.interned.add(id);

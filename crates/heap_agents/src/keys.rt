@@ -6,8 +6,8 @@ ghost use Rattle.heap_intern.specs.Answers.{Finds, Interns, IsFoundAgain, Stands
 ghost use Rattle.heap_table.specs.Agents.{view_of};
 ghost use Rattle.heap_table.specs.Known.{KeepsKnown};
 ghost use Rattle.heap_agents.specs.Interned.{HasEntered, KeepsCalls};
-ghost use Rattle.heap_agents.specs.Held.{IsHeld, KeepsMarks, view_by};
-ghost use Rattle.heap_agents.specs.Sets.{IsIn};
+ghost use Rattle.heap_agents.specs.Held.{IsHeld};
+ghost use Rattle.heap_agents.specs.Keys.{FoundUnits, InternedUnits};
 ghost use Rattle.heap_agents.specs.Members.{IsSame, IsWhole, view_if};
 
 use crate::held::Held;
@@ -91,16 +91,7 @@ impl Held {
     pub fn intern_units(&mut self, units: &[u16]) -> Result<u32, TableFull>
         requires held { IsHeld self.old }
         requires short { length units.now ≤ MAX }
-        ensures held { IsHeld self.new }
-        ensures same { IsSame self.old.member self.new.member }
-        ensures marks { KeepsMarks self.old self.new }
-        ensures marked { IfOk result (λ i. IsIn self.new.known i × IsIn self.new.interned i) }
-        ensures known { KeepsKnown (view_by self.old) (view_by self.new) }
-        ensures calls { KeepsCalls (view_by self.old) (view_by self.new) }
-        ensures entered { IfOk result (λ i. HasEntered (view_by self.new) units.now i) }
-        ensures interns { Interns (view_by self.old) (view_by self.new) units.now
-            (copy_plan units.now) result }
-        ensures again { IsFoundAgain (view_by self.old) (view_by self.new) units.now result }
+        ensures { InternedUnits self.old self.new units.now result }
     {
         let id = intern_units(&mut self.member, units)?;
         self.mark_interned(id);
@@ -112,16 +103,7 @@ impl Held {
     pub fn find_units(&mut self, units: &[u16]) -> Option<u32>
         requires held { IsHeld self.old }
         requires short { length units.now ≤ MAX }
-        ensures held { IsHeld self.new }
-        ensures same { IsSame self.old.member self.new.member }
-        ensures marks { KeepsMarks self.old self.new }
-        ensures marked { IfSome result (λ i. IsIn self.new.known i × IsIn self.new.interned i) }
-        ensures known { KeepsKnown (view_by self.old) (view_by self.new) }
-        ensures calls { KeepsCalls (view_by self.old) (view_by self.new) }
-        ensures entered { IfSome result (λ i. HasEntered (view_by self.new) units.now i) }
-        ensures finds { Finds (view_by self.old) (view_by self.new) units.now result }
-        ensures again { (i : ℕ) → Has (view_by self.old).units i units.now
-            → StandsAt (view_by self.old) units.now i → result ≡ Some i }
+        ensures { FoundUnits self.old self.new units.now result }
     {
         match find_units(&mut self.member, units) {
             Some(id) => {

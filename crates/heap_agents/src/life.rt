@@ -28,6 +28,7 @@ fn make_member(
     ensures whole { IfOk result (λ m. IsWhole m) }
     ensures size { IfOk result (λ m. size_of (heap_of m) ≡ size) }
     ensures view { IfOk result (λ m. view_if m.agent ≡ first_view size agents) }
+    ensures limit { IfOk result (λ m. m.limit ≡ limit) }
     ensures lawful { OnOk result (MayMake size agents × (limit ≤ MAX)) }
     ensures refused { result ≡ Err MakeFault.Size → ¬ (MayMake size agents × (limit ≤ MAX)) }
 {
@@ -92,6 +93,7 @@ impl Held {
     ) -> Result<Box<Held>, MakeFault>
         ensures held { IfOk result (λ b. IsHeld b.value) }
         ensures view { IfOk result (λ b. view_by b.value ≡ first_view size agents) }
+        ensures limit { IfOk result (λ b. b.value.member.limit ≡ limit) }
         ensures lawful { OnOk result (MayMake size agents × (limit ≤ MAX)) }
         ensures refused { result ≡ Err MakeFault.Size → ¬ (MayMake size agents × (limit ≤ MAX)) }
     {

@@ -8,8 +8,7 @@ ghost use Rattle.heap_rule.specs.Views.{IsSettled};
 ghost use Rattle.heap_table.specs.Agents.{size_of};
 ghost use Rattle.heap_text.specs.Joins.{IsCut, IsJoined};
 ghost use Rattle.heap_text.specs.Texts.{IsSpared, KeepsOwn, Told, Uses};
-ghost use Rattle.heap_agents.specs.Held.{IsHeld, Leaves, size_by, view_by};
-ghost use Rattle.heap_agents.specs.Sets.{IsIn};
+ghost use Rattle.heap_agents.specs.Held.{IsHeld, Leaves, MarksMade, size_by, view_by};
 ghost use Rattle.heap_agents.specs.Members.{IsWhole, HeapAgentLeaves, heap_of, view_if};
 
 use crate::held::Held;
@@ -94,7 +93,7 @@ impl Held {
         requires short { length units.now ≤ MAX }
         ensures leaves { Leaves self.old self.new }
         ensures own { KeepsOwn (view_by self.old) (view_by self.new) }
-        ensures marked { IfOk result (λ s. IsIn self.new.known s.id) }
+        ensures marked { MarksMade self.old self.new result }
         ensures units { IfOk result (λ s. Has (view_by self.new).units s.id units.now) }
         ensures settled { IfOk result (λ s. IsSettled (view_by self.new) s.id) }
         ensures used { IfOk result
@@ -119,7 +118,7 @@ impl Held {
             × HasKey (view_by self.old).units b.id }
         ensures leaves { Leaves self.old self.new }
         ensures own { KeepsOwn (view_by self.old) (view_by self.new) }
-        ensures marked { IfOk result (λ s. IsIn self.new.known s.id) }
+        ensures marked { MarksMade self.old self.new result }
         ensures units { IfOk result
             (λ s. (us vs : List ℕ) → Has (view_by self.old).units a.id us
             → Has (view_by self.old).units b.id vs
@@ -142,7 +141,7 @@ impl Held {
             × (to ≤ length us) }
         ensures leaves { Leaves self.old self.new }
         ensures own { KeepsOwn (view_by self.old) (view_by self.new) }
-        ensures marked { IfOk result (λ s. IsIn self.new.known s.id) }
+        ensures marked { MarksMade self.old self.new result }
         ensures units { IfOk result
             (λ t. (us : List ℕ) → Has (view_by self.old).units s.id us
             → Has (view_by self.new).units t.id (part from (to - from) us)) }

@@ -6,8 +6,7 @@ ghost use Rattle.heap_rule.specs.Views.{IsSettled};
 ghost use Rattle.heap_table.specs.Agents.{Belongs, size_of, view_of};
 ghost use Rattle.heap_text.specs.Settling.{IsBitOf, IsNoRoom, IsSettling};
 ghost use Rattle.heap_text.specs.Texts.{KeepsOwn};
-ghost use Rattle.heap_agents.specs.Held.{IsHeld, Leaves, size_by, view_by};
-ghost use Rattle.heap_agents.specs.Sets.{IsIn};
+ghost use Rattle.heap_agents.specs.Held.{IsHeld, Leaves, MarksNothing, MarksSettled, size_by, view_by};
 ghost use Rattle.heap_agents.specs.Members.{IsWhole, HeapAgentLeaves, heap_of, view_if};
 
 use crate::held::Held;
@@ -93,6 +92,7 @@ impl Held {
         requires known { HasKey (view_by self.old).units s.id }
         ensures leaves { Leaves self.old self.new }
         ensures reads { Reads (view_by self.old) (view_by self.new) }
+        ensures marked { MarksNothing self.old self.new }
         ensures length { (us : List ℕ) → Has (view_by self.old).units s.id us → result ≡ length us }
     {
         length(&mut self.member, s)
@@ -105,7 +105,7 @@ impl Held {
         requires known { HasKey (view_by self.old).units s.id }
         ensures leaves { Leaves self.old self.new }
         ensures own { KeepsOwn (view_by self.old) (view_by self.new) }
-        ensures marked { IfOk result (λ u. IsIn self.new.known s.id) }
+        ensures marked { MarksSettled self.old self.new s.id result }
         ensures settled { IfOk result (λ u. IsSettled (view_by self.new) s.id) }
         ensures used { IfOk result
             (λ u. (us : List ℕ) → Has (view_by self.old).units s.id us
@@ -130,6 +130,7 @@ impl Held {
             × (from + length out.old ≤ length us) }
         ensures leaves { Leaves self.old self.new }
         ensures reads { Reads (view_by self.old) (view_by self.new) }
+        ensures marked { MarksNothing self.old self.new }
         ensures units { (us : List ℕ) → Has (view_by self.old).units s.id us
             → out.new ≡ slice_range us from (from + length out.old) }
     {

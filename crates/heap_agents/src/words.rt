@@ -6,7 +6,7 @@ ghost use Rattle.heap_rule.specs.Layout.{MAX};
 ghost use Rattle.heap_rule.specs.Maps.{Has, HasKey};
 ghost use Rattle.heap_rule.specs.Views.{IsSettled};
 ghost use Rattle.heap_table.specs.Agents.{Belongs, view_of};
-ghost use Rattle.heap_agents.specs.Held.{IsHeld, Leaves, view_by};
+ghost use Rattle.heap_agents.specs.Held.{IsHeld, Leaves, MarksNothing, view_by};
 ghost use Rattle.heap_agents.specs.Members.{IsWhole, HeapAgentLeaves, view_if};
 ghost use Rattle.heap_agents.specs.Words.{AreShown, AreThere};
 
@@ -100,6 +100,7 @@ impl Held {
         requires settled { IsSettled (view_by self.old) s.id }
         ensures leaves { Leaves self.old self.new }
         ensures reads { Reads (view_by self.old) (view_by self.new) }
+        ensures marked { MarksNothing self.old self.new }
         ensures shown { (us : List ℕ) → Has (view_by self.old).units s.id us
             → AreShown us at into.old into.new result }
         ensures there { (us : List ℕ) → Has (view_by self.old).units s.id us

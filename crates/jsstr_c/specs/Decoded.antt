@@ -1,7 +1,9 @@
 -- The units of a text that comes as UTF-8.
-use Rattle.std.specs.Prelude.{ℕ, List, [], ◌∷◌, ◌++◌}
-use Rattle.std.specs.Str.{chars}
+use Rattle.std.specs.Prelude.{◌≡◌, ◌⊎◌, ℕ, List, [], ◌∷◌, ◌++◌}
+use Rattle.std.specs.Str.{IsUtf8, IsValidUpTo, chars}
 use Rattle.js_units.specs.Text.{utf16_of}
+use Rattle.jsstr_c.specs.declared.answer.JsAnswer.{JsAnswer}
+use Rattle.jsstr_c.specs.Reports.{no_memory, not_utf8}
 
 -- the units of these characters (ECMA-262, "CodePointsToString")
 abbrev pub utf16 : List ℕ → List ℕ
@@ -11,3 +13,7 @@ utf16 (c ∷ cs) = utf16_of c ++ utf16 cs
 -- the units of the characters that the bytes spell
 abbrev pub decoded : List ℕ → List ℕ
 decoded bytes = utf16 (chars bytes)
+
+-- Why bytes gave no units: they are no UTF-8, which is told wherever it is so; or memory is wanting.
+abbrev pub IsUndecoded : List ℕ → JsAnswer → Type 0
+IsUndecoded bytes r = ((IsUtf8 bytes → ⊥) × ((n : ℕ) × (r ≡ not_utf8 n) × IsValidUpTo bytes n)) ⊎ (IsUtf8 bytes × (r ≡ no_memory))

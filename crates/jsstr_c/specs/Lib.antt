@@ -2,4 +2,5 @@ pub mod Owned
 pub mod Handles
 pub mod Reports
 pub mod Decoded
+pub mod Keys
 pub mod Checked

@@ -44,7 +44,7 @@ NO_SLOTS = 5
 abbrev pub TOO_LONG : ℕ
 TOO_LONG = 6
 
--- there is no such place
+-- there is no such place, or no such string
 abbrev pub NONE : ℕ
 NONE = 7
 
@@ -90,6 +90,15 @@ table_report (table.Slots n) = record { status = NO_SLOTS; id = 0; at = 0; want 
 abbrev pub table_answer : Result ℕ TableFull → JsAnswer
 table_answer (Ok i) = done i
 table_answer (Err f) = table_report f
+
+-- no string of the table has these units, and nothing else is told
+abbrev pub none : JsAnswer
+none = record { status = NONE; id = 0; at = 0; want = 0; end = 0 }
+
+-- the interned string, or that there is none
+abbrev pub found_answer : Option ℕ → JsAnswer
+found_answer (Some i) = done i
+found_answer None = none
 
 -- memory is wanting, and nothing else is told
 abbrev pub no_memory : JsAnswer

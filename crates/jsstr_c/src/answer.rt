@@ -1,7 +1,7 @@
 // What a call answers.
 ghost use Rattle.std.specs.Prelude.{◌≡◌, ◌≢◌};
 ghost use Rattle.jsstr_c.specs.Reports as reports;
-ghost use Rattle.jsstr_c.specs.Reports.{join_answer, no_words, order_number, place_answer, table_answer, text_answer, words_answer};
+ghost use Rattle.jsstr_c.specs.Reports.{found_answer, join_answer, no_words, order_number, place_answer, table_answer, text_answer, words_answer};
 
 use heap_agents::Shown;
 use heap_intern::TableFull;
@@ -191,6 +191,22 @@ pub(crate) fn of_table(answer: Result<u32, TableFull>) -> JsAnswer
         at: full.at,
         want: full.want,
         end: full.end,
+    }
+}
+
+pub(crate) fn of_found(answer: Option<u32>) -> JsAnswer
+    ensures value { result ≡ found_answer answer }
+    ensures told { result.status ≢ reports.BAD_ARGUMENT }
+{
+    match answer {
+        Some(id) => done(JsStr { id }),
+        None => JsAnswer {
+            status: NONE,
+            id: 0,
+            at: 0,
+            want: 0,
+            end: 0,
+        },
     }
 }
 

@@ -2,6 +2,7 @@
 // them a handle that the library wrote, and nothing else.
 pub(crate) mod counts;
 pub(crate) mod decoding;
+pub(crate) mod keys;
 pub(crate) mod life;
 pub(crate) mod making;
 pub(crate) mod reading;

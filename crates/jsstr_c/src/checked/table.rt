@@ -3,7 +3,7 @@ ghost use Rattle.std.specs.Prelude.{◌≡◌, ◌≢◌, ◌↔◌, ◌⊎◌, 
 ghost use Rattle.heap_rule.specs.Maps.{Has};
 ghost use Rattle.heap_table.specs.Known.{KeepsKnown};
 ghost use Rattle.heap_agents.specs.Interned.{IsEntered, KeepsCalls};
-ghost use Rattle.heap_agents.specs.Ready.{HasInterned, IsBeside, Knows, MarksStay, view_in};
+ghost use Rattle.heap_agents.specs.Ready.{HasInterned, IsBeside, IsReady, Knows, MarksStay, view_in};
 ghost use Rattle.jsstr_c.specs.Checked.{IsEnteredIn, IsUnsettled};
 ghost use Rattle.jsstr_c.specs.Handles.{IsHandle};
 ghost use Rattle.jsstr_c.specs.Reports as reports;
@@ -11,7 +11,7 @@ ghost use Rattle.jsstr_c.specs.Reports as reports;
 use crate::agent::JsAgent;
 use crate::answer::{BAD_ARGUMENT, DONE, JsAnswer, JsTruth, bad_argument};
 use crate::unchecked::reading::jsstr_settle_unchecked;
-use crate::unchecked::table::jsstr_intern_unchecked;
+use crate::unchecked::table::{jsstr_intern_unchecked, jsstr_is_interned_unchecked};
 use std::alloc::Global;
 
 /// The one string of the table with the units of a string, which is settled first.
@@ -43,6 +43,29 @@ pub extern "C" fn jsstr_intern(alloc: Global, agent: &mut JsAgent, s: u32) -> Js
         return settled;
     }
     jsstr_intern_unchecked(alloc, agent, s)
+}
+
+/// Whether a string is an answer of the string table that the agent knows. Any number may be asked for.
+#[unsafe(no_mangle)]
+pub extern "C" fn jsstr_is_interned(alloc: Global, agent: &mut JsAgent, s: u32) -> JsTruth
+    requires { IsHandle agent.old }
+    ensures handle { IsHandle agent.new }
+    ensures unchanged { agent.new.at.value ≡ agent.old.at.value }
+    ensures bad { result.status ≡ reports.BAD_ARGUMENT ↔ ¬ (IsReady agent.old.at.value) }
+    ensures status { result.status ≢ reports.BAD_ARGUMENT → result.status ≡ reports.DONE }
+    ensures interned { IsTrue result.holds ↔ HasInterned agent.old.at.value s }
+{
+    if agent.is_empty() {
+        return JsTruth {
+            status: BAD_ARGUMENT,
+            holds: false,
+        };
+    }
+    let holds = jsstr_is_interned_unchecked(alloc, agent, s);
+    JsTruth {
+        status: DONE,
+        holds,
+    }
 }
 
 /// Whether two interned strings are one, which is whether their units are equal.

@@ -14,9 +14,9 @@ ghost use Rattle.jsstr_c.specs.Reports.{text_report};
 ghost use Rattle.jsstr_c.specs.Reports as reports;
 
 use crate::agent::JsAgent;
-use crate::answer::{JsAnswer, no_memory, not_utf8, of_text};
-use crate::decoding::units_of;
-use js_units::NoMemory;
+use crate::answer::JsAnswer;
+use crate::decoding::utf8_units;
+use crate::unchecked::making::jsstr_from_units_unchecked;
 use std::alloc::Global;
 
 /// A new string of the text whose UTF-8 these bytes are, settled. Bytes that are none are refused
@@ -44,32 +44,8 @@ pub extern "C" fn jsstr_from_utf8_unchecked(
         × Told (view_in agent.new.at.value) (size_in agent.old.at.value)
         (words_over (is_wide (decoded bytes.now)) (length (decoded bytes.now))) f) }
 {
-    match str::from_utf8(bytes) {
-        Ok(text) => from_text(alloc, agent, text),
-        Err(fault) => not_utf8(fault.valid_up_to() as u32),
+    match utf8_units(alloc, bytes) {
+        Ok(units) => jsstr_from_units_unchecked(alloc, agent, units.as_slice()),
+        Err(refusal) => refusal,
     }
-}
-
-fn from_text(alloc: Global, agent: &mut JsAgent, text: &str) -> JsAnswer
-    requires ready { IsReady agent.old.at.value }
-    requires short { length text.now ≤ MAX }
-    ensures handle { IsHandle agent.new }
-    ensures goes { Goes agent.old.at.value agent.new.at.value }
-    ensures marked { result.status ≡ reports.DONE → Knows agent.new.at.value result.id }
-    ensures told { result.status ≢ reports.BAD_ARGUMENT }
-    ensures units { result.status ≡ reports.DONE
-        → Has (view_in agent.new.at.value).units result.id (decoded text.now) }
-    ensures settled { result.status ≡ reports.DONE → IsSettled (view_in agent.new.at.value) result.id }
-    ensures refused { result.status ≢ reports.DONE → (result ≡ reports.no_memory)
-        ⊎ ((f : text_full.TextFull) × (result ≡ text_report f)
-        × Told (view_in agent.new.at.value) (size_in agent.old.at.value)
-        (words_over (is_wide (decoded text.now)) (length (decoded text.now))) f) }
-{
-    let mut held = agent.take(alloc);
-    let answer = match units_of(alloc, text) {
-        Ok(units) => of_text(held.from_units(units.as_slice())),
-        Err(NoMemory) => no_memory(),
-    };
-    agent.put(held);
-    answer
 }

@@ -16,9 +16,9 @@ ghost use Rattle.jsstr_c.specs.Reports.{join_answer, text_answer, text_report};
 ghost use Rattle.jsstr_c.specs.Reports as reports;
 
 use crate::agent::JsAgent;
-use crate::answer::{JsAnswer, no_memory, of_join, of_text};
+use crate::answer::{JsAnswer, of_join, of_text};
+use crate::decoding::latin1_units;
 use heap_text::JsStr;
-use js_units::{NoMemory, Units};
 use std::alloc::Global;
 
 /// A new string with these units, settled.
@@ -73,10 +73,9 @@ pub extern "C" fn jsstr_from_latin1_unchecked(
         (words_over (is_wide bytes.now) (length bytes.now)) f) }
 {
     let mut held = agent.take(alloc);
-    let mut units = Units::new(alloc);
-    let answer = match units.extend_from_latin1(bytes) {
-        Ok(()) => of_text(held.from_units(units.as_slice())),
-        Err(NoMemory) => no_memory(),
+    let answer = match latin1_units(alloc, bytes) {
+        Ok(units) => of_text(held.from_units(units.as_slice())),
+        Err(refusal) => refusal,
     };
     agent.put(held);
     answer

@@ -44,6 +44,20 @@ pub extern "C" fn jsstr_intern_unchecked(alloc: Global, agent: &mut JsAgent, s: 
     of_table(answer)
 }
 
+/// Whether a string is an answer of the string table that the agent knows. Any number may be asked for.
+#[unsafe(no_mangle)]
+pub extern "C" fn jsstr_is_interned_unchecked(alloc: Global, agent: &mut JsAgent, s: u32) -> bool
+    requires ready { IsReady agent.old.at.value }
+    ensures handle { IsHandle agent.new }
+    ensures unchanged { agent.new.at.value ≡ agent.old.at.value }
+    ensures interned { IsTrue result ↔ HasInterned agent.old.at.value s }
+{
+    let held = agent.take(alloc);
+    let interned = held.has_interned(s);
+    agent.put(held);
+    interned
+}
+
 /// Whether two interned strings are one, which is whether their units are equal.
 #[unsafe(no_mangle)]
 pub extern "C" fn jsstr_same_unchecked(_agent: &JsAgent, a: u32, b: u32) -> bool

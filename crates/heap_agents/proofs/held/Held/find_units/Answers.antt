@@ -1,10 +1,6 @@
-use Rattle.std.proofs.Common.{ℕ, Some, sym, subst}
-use Rattle.heap_intern.specs.Answers.{Finds}
-use Rattle.heap_agents.specs.declared.member.HeapAgent.{HeapAgent}
-use Rattle.heap_agents.specs.Held.{view_by}
-use Rattle.heap_agents.specs.Members.{view_if}
+use Rattle.heap_agents.proofs.Answered.{found_marked}
 use Rattle.heap_agents.proofs.held.Held.find_units.Goals as goal
 
-pub returns-in-Some-clause-finds : goal.returns-in-Some-clause-finds
-returns-in-Some-clause-finds c = let v = view_by c.args.self.now in
-    subst (λ (m : HeapAgent). Finds v (view_if m.agent) c.args.units.now (Some c.in-Some.id)) (sym c.mark_interned.ensures.member) c.in-Some.ensures.finds
+pub returns-in-Some : goal.returns-in-Some
+returns-in-Some c = let made = c.in-Some.ensures in let mark = c.mark_interned.ensures in
+    found_marked c.args.self.now c.mark_interned.new.self c.find_units.new.member mark.member c.args.units.now c.in-Some.id mark.held mark.marks mark.marked made.same made.known made.calls made.entered made.finds made.again

@@ -7,9 +7,10 @@ returns-clause-held c = let a = c.add.ensures in let b = c.add-2.ensures in
     interned_held c.args.self.now c.args.id c.add.new.self c.add-2.new.self c.requires.held c.requires.known c.requires.call a.room a.only b.room b.only
 
 pub returns-clause-marked : goal.returns-clause-marked
-returns-clause-marked c = let x = c.args.self.now in
-    c.add.ensures.there (size_by x).ids c.requires.held.marked.room (below x c.requires.held c.args.id c.requires.known)
-
-pub returns-clause-interned : goal.returns-clause-interned
-returns-clause-interned c = let x = c.args.self.now in
-    c.add-2.ensures.there (size_by x).ids c.requires.held.marked.calls_room (below x c.requires.held c.args.id c.requires.known)
+returns-clause-marked c = let x = c.args.self.now in let a = c.add.ensures in let b = c.add-2.ensures in
+    let low = below x c.requires.held c.args.id c.requires.known in record {
+      known = a.there (size_by x).ids c.requires.held.marked.room low;
+      interned = b.there (size_by x).ids c.requires.held.marked.calls_room low;
+      only = a.only;
+      only_interned = b.only;
+    }
