@@ -36,29 +36,26 @@ static _Thread_local names_seat *seated;
 
 /* Bytes that are no UTF-8, as an unpaired surrogate of a script: an unpaired surrogate, which no text in
    UTF-8 has, and then a unit for each byte. */
-static jsstr_answer make_of_odd_bytes(jsstr_agent *agent, const uint8_t *bytes, size_t count)
+static jsstr_answer intern_odd_bytes(jsstr_agent *agent, const uint8_t *bytes, size_t count)
 {
 	uint16_t *units = malloc((count + 1) * sizeof *units);
-	jsstr_answer made = { .status = JSSTR_NO_MEMORY };
+	jsstr_answer name = { .status = JSSTR_NO_MEMORY };
 	size_t i;
 	if (!units)
-		return made;
+		return name;
 	units[0] = 0xD800;
 	for (i = 0; i < count; ++i)
 		units[i + 1] = bytes[i];
-	made = jsstr_from_units(agent, units, count + 1);
+	name = jsstr_intern_units(agent, units, count + 1);
 	free(units);
-	return made;
+	return name;
 }
 
-/* The interned string of a name. A string is made for each question, also where the name is there already:
-   that is what the table of a seat saves. A call that interns bytes needs no string, and goes in here alone. */
+/* The interned string of a name. Where it is there already, nothing is used. */
 static jsstr_answer intern_bytes(jsstr_agent *agent, const uint8_t *bytes, size_t count)
 {
-	jsstr_answer made = jsstr_from_utf8(agent, bytes, count);
-	if (made.status == JSSTR_NOT_UTF8)
-		made = make_of_odd_bytes(agent, bytes, count);
-	return made.status == JSSTR_DONE ? jsstr_intern(agent, made.id) : made;
+	jsstr_answer name = jsstr_intern_utf8(agent, bytes, count);
+	return name.status == JSSTR_NOT_UTF8 ? intern_odd_bytes(agent, bytes, count) : name;
 }
 
 /* The kept bytes of the name with this number; null where there is no memory. */
