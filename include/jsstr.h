@@ -1,4 +1,4 @@
-/* The string heap of jsstr, for C and C++.
+/* The string heap of jsstr, for C99 and C++.
 
    A heap is one array of words that threads share, without a lock. An agent is one user of a heap, and
    makes its calls from one thread at a time. A string is a number below 2^29; the first one of a heap is
