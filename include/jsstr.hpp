@@ -1,8 +1,9 @@
 // The string heap of jsstr for C++17: this header alone, over jsstr.h and libjsstr.a.
 //
+//     using namespace jsstr::literals;
 //     jsstr::agent agent = jsstr::agent::make({65536, 262144, 65537}).value();
 //     jsstr::string s = agent.from_utf8("caf\xC3\xA9").value();
-//     jsstr::key k = agent.intern(s).value();
+//     jsstr::key k = agent.intern(u"length"_js).value();
 //
 // A call that may be refused answers a jsstr::result, which has a value or says why not, as std::expected
 // does; value() throws jsstr::failure where there is none. With JSSTR_THROW defined before this header is
@@ -192,7 +193,9 @@ public:
 
   answer<std::uint32_t> share() { return given(number(jsstr_share(handle()))); }
 
-  answer<string> from(std::u16string_view units) { return given(made<string>(from_units(units))); }
+  answer<string> from(std::u16string_view units) {
+    return given(made<string>(jsstr_from_units(handle(), data(units), units.size())));
+  }
   answer<string> from(literal text) { return from(text.units); }
   answer<string> from_latin1(std::string_view bytes) {
     return given(made<string>(jsstr_from_latin1(handle(), data(bytes), bytes.size())));
@@ -241,12 +244,32 @@ public:
   /// The one string of the heap's string table with the units of s.
   answer<key> intern(string s) { return given(made<key>(jsstr_intern(handle(), s.id()))); }
 
-  /// The same of units: a string is made of them, and then interned.
+  /// The same of units or bytes that are in no string yet. Nothing is used where the table has their string.
   answer<key> intern(std::u16string_view units) {
-    const jsstr_answer s = from_units(units);
-    return given(made<key>(s.status == JSSTR_DONE ? jsstr_intern(handle(), s.id) : s));
+    return given(made<key>(jsstr_intern_units(handle(), data(units), units.size())));
   }
   answer<key> intern(literal text) { return intern(text.units); }
+  answer<key> intern_latin1(std::string_view bytes) {
+    return given(made<key>(jsstr_intern_latin1(handle(), data(bytes), bytes.size())));
+  }
+  answer<key> intern_utf8(std::string_view bytes) {
+    return given(made<key>(jsstr_intern_utf8(handle(), data(bytes), bytes.size())));
+  }
+
+  /// The one string of the string table with these units, if it has one. Nothing is used.
+  answer<std::optional<key>> find(std::u16string_view units) {
+    return given(found(jsstr_find_units(handle(), data(units), units.size())));
+  }
+  answer<std::optional<key>> find(literal text) { return find(text.units); }
+  answer<std::optional<key>> find_latin1(std::string_view bytes) {
+    return given(found(jsstr_find_latin1(handle(), data(bytes), bytes.size())));
+  }
+  answer<std::optional<key>> find_utf8(std::string_view bytes) {
+    return given(found(jsstr_find_utf8(handle(), data(bytes), bytes.size())));
+  }
+
+  /// Whether s is an interned string of this agent, so that its number makes a key.
+  answer<bool> is_interned(string s) { return given(truth(jsstr_is_interned(handle(), s.id()))); }
 
   /// What all agents used, and how many different lists of units were interned: this one must have the whole
   /// share.
@@ -299,6 +322,11 @@ private:
     if (a.status == JSSTR_DONE) return T(a.id);
     return refusal{static_cast<status>(a.status), a.at, a.want, a.end};
   }
+  static result<std::optional<key>> found(const jsstr_answer &a) {
+    using maybe = std::optional<key>;
+    if (a.status == JSSTR_DONE) return maybe(a.id);
+    return a.status == JSSTR_NONE ? result<maybe>(maybe()) : result<maybe>(made<key>(a).error());
+  }
   static result<std::uint32_t> number(const jsstr_number &n) {
     return n.status == JSSTR_DONE ? result<std::uint32_t>(n.value) : refused<std::uint32_t>(n.status);
   }
@@ -306,9 +334,9 @@ private:
     return t.status == JSSTR_DONE ? result<bool>(t.holds) : refused<bool>(t.status);
   }
   static result<std::optional<std::uint32_t>> place(const jsstr_place &p) {
-    using found = std::optional<std::uint32_t>;
-    if (p.status == JSSTR_NONE) return found();
-    return p.status == JSSTR_DONE ? result<found>(found(p.at)) : refused<found>(p.status);
+    using maybe = std::optional<std::uint32_t>;
+    if (p.status == JSSTR_NONE) return maybe();
+    return p.status == JSSTR_DONE ? result<maybe>(maybe(p.at)) : refused<maybe>(p.status);
   }
 
   // A pointer that isn't null, also where there are no units.
@@ -320,8 +348,6 @@ private:
     static constexpr std::uint8_t empty = 0;
     return bytes.empty() ? &empty : reinterpret_cast<const std::uint8_t *>(bytes.data());
   }
-
-  jsstr_answer from_units(std::u16string_view units) { return jsstr_from_units(handle(), data(units), units.size()); }
 
   result<std::u16string> units_of(string s) {
     const jsstr_number length = jsstr_length(handle(), s.id());

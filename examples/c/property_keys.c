@@ -27,9 +27,7 @@ static void *intern_all(void *at) {
   for (uint32_t i = 0; i < NAMES; i++) {
     uint32_t name = (i * 7 + w->seed * 501) % NAMES;
     uint16_t units[24];
-    jsstr_answer made = jsstr_from_units(&w->agent, units, name_units(name, units));
-    if (made.status != JSSTR_DONE) return w->failed = 1, NULL;
-    jsstr_answer key = jsstr_intern(&w->agent, made.id);
+    jsstr_answer key = jsstr_intern_units(&w->agent, units, name_units(name, units));
     if (key.status != JSSTR_DONE) return w->failed = 1, NULL;
     w->keys[name] = key.id;
   }
@@ -38,7 +36,7 @@ static void *intern_all(void *at) {
 
 int main(void) {
   static worker workers[THREADS];
-  jsstr_size size = {40000, 40000, 8192};
+  jsstr_size size = {THREADS * NAMES, 2 * THREADS * NAMES, 8209};
   if (jsstr_make(size, THREADS, JSSTR_MAX_LENGTH, &workers[0].agent) != JSSTR_DONE) return 1;
   for (uint32_t i = 1; i < THREADS; i++) {
     workers[i].seed = i;

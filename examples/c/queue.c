@@ -17,7 +17,7 @@
 #define ROOM (IN_FLIGHT + WORKERS) /* never needed in full, so who puts never waits */
 #define WORDS 8      /* of a text */
 #define UNITS 16     /* of a word */
-#define IDS 60000
+#define IDS 4000
 
 #define CHECK(c) do { if (!(c)) { printf("line %d: %s\n", __LINE__, #c); exit(1); } } while (0)
 
@@ -54,9 +54,7 @@ static job *take(queue *q) {
 }
 
 static jsstr_id interned(jsstr_agent *agent, const uint16_t *units, size_t length) {
-  jsstr_answer made = jsstr_from_units(agent, units, length);
-  CHECK(made.status == JSSTR_DONE);
-  jsstr_answer key = jsstr_intern(agent, made.id);
+  jsstr_answer key = jsstr_intern_units(agent, units, length);
   CHECK(key.status == JSSTR_DONE);
   return key.id;
 }

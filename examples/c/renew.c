@@ -57,8 +57,7 @@ static jsstr_id carried(journey *j, jsstr_id s, bool is_key) {
     CHECK((j->units = realloc(j->units, j->room * sizeof *j->units)) != NULL);
   }
   CHECK(jsstr_read(j->from, s, 0, j->units, length) == JSSTR_DONE); /* settles a rope: a quarter is left for that */
-  jsstr_id made = done(jsstr_from_units(j->to, j->units, length));
-  return j->went[s] = is_key ? done(jsstr_intern(j->to, made)) : made;
+  return j->went[s] = done((is_key ? jsstr_intern_units : jsstr_from_units)(j->to, j->units, length));
 }
 
 /* Goes over to a new heap, and answers how many seconds that took. */

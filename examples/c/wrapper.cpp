@@ -43,9 +43,16 @@ static void makes_and_reads(jsstr::agent &agent) {
 
 static void interns(jsstr::agent &agent) {
   std::unordered_map<jsstr::key, int> counts;
-  for (const char *word : {"one", "two", "one", "three", "one"}) counts[agent.intern(agent.from_utf8(word).value()).value()]++;
-  CHECK(counts.size() == 3 && counts[agent.intern(u"one"_js).value()] == 3);
-  CHECK(agent.intern(std::u16string_view(u"two")).value() != agent.intern(u"one"_js).value());
+  for (const char *word : {"one", "two", "one", "three", "one"}) counts[agent.intern_utf8(word).value()]++;
+  const jsstr::key one = agent.intern(u"one"_js).value();
+  const std::uint32_t used = agent.totals().value().ids;
+  CHECK(counts.size() == 3 && counts[one] == 3);
+  CHECK(agent.intern(std::u16string_view(u"two")).value() != one && agent.intern_latin1("one").value() == one);
+  CHECK(agent.find(u"one"_js).value() == one && agent.find_latin1("one").value() == one && agent.find_utf8("one").value() == one);
+  CHECK(!agent.find(std::u16string_view()).value() && !agent.find_latin1("four").value() && !agent.find_utf8("f\xC3\xBCnf").value());
+  CHECK(agent.totals().value().ids == used);
+  const jsstr::string copy = agent.from(u"one"_js).value();
+  CHECK(agent.is_interned(one).value() && !agent.is_interned(copy).value() && agent.intern(copy).value() == one);
 }
 
 static void splits_and_joins(jsstr::agent &agent) {
@@ -72,6 +79,7 @@ static void refuses() {
   CHECK(jsstr::agent::make({0, 1, 1}).error().why == status::bad_size);
   jsstr::agent small = jsstr::agent::make({1, 1, 1}, 1, 100).value();
   const jsstr::refusal bytes = small.from_utf8("a\xC0\x80").error();
+  CHECK(small.intern_utf8("\xED\xA0\x80").error().why == status::not_utf8 && small.find_utf8("ab\xFF").error().at == 2);
   CHECK(bytes.why == status::not_utf8 && bytes.at == 1 && std::string(bytes.name()) == "JSSTR_NOT_UTF8");
   const jsstr::refusal words = small.from(u"nine units"_js).error();
   CHECK(words.why == status::no_words && words.at == 0 && words.want == 2 && words.end == 1);

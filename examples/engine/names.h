@@ -1,6 +1,5 @@
 /* The names of several engines, kept on one heap of strings. A seat is what an engine works from: an agent of
-   the heap, and what that agent was answered. It serves any number of states, one after another or at once,
-   but one thread at a time. */
+   the heap. It serves any number of states, one after another or at once, but one thread at a time. */
 #ifndef NAMES_H
 #define NAMES_H
 #include <stdbool.h>
