@@ -1,4 +1,4 @@
-/* The string heap of jsstr, for C and C++.
+/* The string heap of jsstr, for C99 and C++.
 
    A heap is one array of words that threads share, without a lock. An agent is one user of a heap, and
    makes its calls from one thread at a time. A string is a number below 2^29; the first one of a heap is
@@ -27,7 +27,8 @@
    rope; the calls that need a settled string settle it first, once for all agents, and may then be refused
    with JSSTR_NO_WORDS.
 
-   Link -ljsstr. malloc, realloc and free are the C library's, and malloc aligns to 16. */
+   Link -ljsstr: there is one archive, libjsstr.a, and no shared object. malloc, realloc and free are the C
+   library's, and malloc aligns to 16. */
 #ifndef JSSTR_H
 #define JSSTR_H
 #include <stdbool.h>
@@ -37,11 +38,16 @@
 extern "C" {
 #endif
 
+/* The version of this header: in the number, major * 10000 + minor * 100 + patch. */
+#define JSSTR_VERSION "1.0.0"
+#define JSSTR_VERSION_NUMBER 10000
+
 /* An agent; all zero where there is none. */
 typedef struct jsstr_agent { void *at; uint32_t live; } jsstr_agent;
 
-/* A string. */
+/* A string, by its number below 2^29; so JSSTR_NO_STRING is none. */
 typedef uint32_t jsstr_id;
+#define JSSTR_NO_STRING UINT32_MAX
 
 /* What a heap has for its life; nothing is given back. Each is 1 to 2^29 - 1, together at most 2^29. A string
    uses an id, and its units words of 8 bytes; each list of units that is interned uses a slot and a second
@@ -64,6 +70,14 @@ enum jsstr_status {
   JSSTR_NOT_UTF8 = 8,    /* the first `at` bytes are UTF-8, and no more of them are; nothing has changed */
   JSSTR_BAD_ARGUMENT = 9 /* the condition of the call doesn't hold; no string and no heap has changed */
 };
+
+/* The name of a status, as it stands above, else "unknown". Not proved. */
+static inline const char *jsstr_status_name(uint32_t status) {
+  static const char *const names[] = {
+    "JSSTR_DONE", "JSSTR_NO_MEMORY", "JSSTR_BAD_SIZE", "JSSTR_NO_IDS", "JSSTR_NO_WORDS",
+    "JSSTR_NO_SLOTS", "JSSTR_TOO_LONG", "JSSTR_NONE", "JSSTR_NOT_UTF8", "JSSTR_BAD_ARGUMENT"};
+  return status < sizeof names / sizeof *names ? names[status] : "unknown";
+}
 
 /* Unused fields are 0. After a refusal each string is what it was, and what the call had claimed by then
    is lost. After NO_IDS, NO_WORDS or NO_SLOTS any later request of that size fails, for every agent. */

@@ -59,15 +59,56 @@ def pkg_config(version):
     )
 
 
+def cmake_config():
+    """The target jsstr::jsstr of CMake. It goes by where the file lies, too."""
+    return (
+        "# The heap of strings of jsstr, for C and C++: the target jsstr::jsstr.\n"
+        "if(NOT TARGET jsstr::jsstr)\n"
+        '  get_filename_component(jsstr_prefix "${CMAKE_CURRENT_LIST_DIR}/../../.." ABSOLUTE)\n'
+        "  add_library(jsstr::jsstr STATIC IMPORTED)\n"
+        "  set_target_properties(jsstr::jsstr PROPERTIES\n"
+        '    IMPORTED_LOCATION "${jsstr_prefix}/lib/libjsstr.a"\n'
+        "    IMPORTED_LINK_INTERFACE_LANGUAGES C\n"
+        '    INTERFACE_INCLUDE_DIRECTORIES "${jsstr_prefix}/include")\n'
+        "  unset(jsstr_prefix)\n"
+        "endif()\n"
+    )
+
+
+def cmake_version(version):
+    """Says of a version that is asked for whether this one will do: one of the same major version that is at most this one."""
+    major = version.partition(".")[0]
+    return (
+        f"set(PACKAGE_VERSION {version})\n"
+        'if("${CMAKE_SIZEOF_VOID_P}" STREQUAL "4")\n'
+        "  set(PACKAGE_VERSION_UNSUITABLE TRUE)\n"
+        "endif()\n"
+        f"if(PACKAGE_FIND_VERSION_MAJOR EQUAL {major} AND NOT PACKAGE_FIND_VERSION VERSION_GREATER PACKAGE_VERSION)\n"
+        "  set(PACKAGE_VERSION_COMPATIBLE TRUE)\n"
+        "endif()\n"
+        "if(PACKAGE_FIND_VERSION VERSION_EQUAL PACKAGE_VERSION)\n"
+        "  set(PACKAGE_VERSION_EXACT TRUE)\n"
+        "endif()\n"
+    )
+
+
+def headers():
+    """The headers for C and for C++."""
+    return {it: read(checkout.ROOT, "include", it) for it in ("jsstr.h", "jsstr.hpp")}
+
+
 def library_files(archive, record):
     """Each file of the library, in the same form."""
-    version, header = checkout.version(), read(checkout.ROOT, "include", "jsstr.h")
+    version, said = checkout.version(), headers()
+    page = pages.library_page(version, *(it.decode() for it in said.values()))
     return {
-        "include/jsstr.h": (header, False),
+        **{f"include/{it}": (data, False) for it, data in said.items()},
         "lib/libjsstr.a": (archive, False),
+        "lib/cmake/jsstr/jsstrConfig.cmake": (cmake_config().encode(), False),
+        "lib/cmake/jsstr/jsstrConfigVersion.cmake": (cmake_version(version).encode(), False),
         "lib/pkgconfig/jsstr.pc": (pkg_config(version).encode(), False),
         f"{SHARE}/library.proved": (checkout.spelled(record).encode(), False),
-        "share/man/man3/jsstr.3": (pages.library_page(version, header.decode()).encode(), False),
+        "share/man/man3/jsstr.3": (page.encode(), False),
     }
 
 

@@ -39,7 +39,7 @@ def files():
     """Each file of the library, by its path below a prefix, once it is proved and built."""
     prove()
     whole = archive()
-    sums = {"sha256": built.sum_of_bytes(whole), "sha256 of jsstr.h": built.sum_of(os.path.join(checkout.ROOT, "include", "jsstr.h"))}
+    sums = {"sha256": built.sum_of_bytes(whole), **{f"sha256 of {it}": built.sum_of_bytes(data) for it, data in installing.headers().items()}}
     return installing.library_files(whole, {**checkout.identity(), **sums})
 
 

@@ -106,13 +106,21 @@ def described(header):
             yield f".PP\n.nf\n{roff(code.strip())}\n.fi"
 
 
-def library_page(version, header):
-    """The page of the library: what include/jsstr.h says, without the guards of C and C++."""
+def said_first(wrapper):
+    """What the head of include/jsstr.hpp says, in paragraphs, and its lines of code as they stand."""
+    head = re.match(r"(?:// ?.*\n|//\n)*", wrapper)[0]
+    for it in re.split(r"\n\n", re.sub(r"(?m)^// ?", "", head).strip("\n")):
+        yield f".PP\n.nf\n{roff(it)}\n.fi" if it.startswith("    ") else f".PP\n{roff(it)}"
+
+
+def library_page(version, header, wrapper):
+    """The page of the library: what include/jsstr.h says, without the guards of C and C++, and the head of include/jsstr.hpp."""
     plain = re.sub(r"(?m)^#(?:ifndef|if|endif|ifdef|include).*\n(?:extern \"C\" \{\n|\}\n)?", "", header)
     plain = re.sub(r"(?m)^#define JSSTR_H\n", "", plain)
     return page("jsstr", 3, version, "a heap of strings that threads share, for C and C++", [
         ("SYNOPSIS", ".nf\n#include <jsstr.h>\ncc $(pkg\\-config \\-\\-cflags jsstr) a.c $(pkg\\-config \\-\\-libs jsstr)\n.fi"),
         ("DESCRIPTION", "\n".join(described(plain))),
+        ("C++", "\n".join(said_first(wrapper))),
         ("SEE ALSO", ".BR jsstr (1)"),
     ])
 

@@ -12,7 +12,8 @@ from test_house import REPOSITORY, check, read
 PROGRAM = ["bin/jsstr", "bin/jsstr-where", "share/bash-completion/completions/jsstr", "share/fish/vendor_completions.d/jsstr.fish"]
 PROGRAM += [f"share/jsstr/{it}" for it in ("VERSION", "checking.py", "hints.py", "installed", "jsstr.proved", "methods.py", "reading.py", "running.py", "where.py")]
 PROGRAM += ["share/man/man1/jsstr-where.1", "share/man/man1/jsstr.1", "share/zsh/site-functions/_jsstr"]
-LIBRARY = ["include/jsstr.h", "lib/libjsstr.a", "lib/pkgconfig/jsstr.pc", "share/jsstr/library.proved", "share/man/man3/jsstr.3"]
+HEADERS = ["include/jsstr.h", "include/jsstr.hpp"]
+LIBRARY = [*HEADERS, "lib/cmake/jsstr/jsstrConfig.cmake", "lib/cmake/jsstr/jsstrConfigVersion.cmake", "lib/libjsstr.a", "lib/pkgconfig/jsstr.pc", "share/jsstr/library.proved", "share/man/man3/jsstr.3"]
 
 
 def below(folder):
@@ -83,12 +84,38 @@ def another_program(house):
 
 
 def make_kit(house):
-    """The header, and a made-up archive of the toolchain."""
-    house.write("include/jsstr.h", read(REPOSITORY, "include/jsstr.h"))
+    """The headers, and a made-up archive of the toolchain."""
+    for it in HEADERS:
+        house.write(it, read(REPOSITORY, it))
     kit = f"{house.room}/kit/c"
     with open(f"{kit}/malloc.o", "w", encoding="ascii") as file:
         file.write("malloc\n")
     subprocess.run(["ar", "rcs", f"{kit}/liblibc_c.a", f"{kit}/malloc.o"], check=True)
+
+
+CMAKE = """cmake_minimum_required(VERSION 3.10)
+project(some NONE)
+find_package(jsstr {} REQUIRED)
+get_target_property(at jsstr::jsstr IMPORTED_LOCATION)
+message(STATUS "at ${{at}}")
+"""
+
+
+def cmake(house, to):
+    """CMake finds the package where it is of the version that is asked for, and not else."""
+    if not shutil.which("cmake"):
+        return
+    version = read(REPOSITORY, "VERSION").strip()
+    major, minor, patch = (int(it) for it in version.split("."))
+    asked = {"": True, version: True, f"{version} EXACT": True, f"{major}.{minor}.{patch + 1}": False, f"{major + 1}.0": False, "0.1": False}
+    for number, (it, is_found) in enumerate(asked.items()):
+        folder = f"{house.room}/cmake{number}"
+        os.makedirs(folder)
+        with open(f"{folder}/CMakeLists.txt", "w", encoding="ascii") as text:
+            text.write(CMAKE.format(it))
+        ran = subprocess.run(["cmake", f"-DCMAKE_PREFIX_PATH={to}", "."], cwd=folder, capture_output=True, text=True)
+        found = ran.returncode == 0 and f"at {to}/lib/libjsstr.a" in ran.stdout
+        check(f"CMake finds version {it!r}: {is_found}", found == is_found, ran.stdout + ran.stderr)
 
 
 def libraries(house):
@@ -106,6 +133,7 @@ def libraries(house):
         env = {**os.environ, "PKG_CONFIG_PATH": f"{to}/lib/pkgconfig"}
         told = [subprocess.run(["pkg-config", it, "jsstr"], env=env, capture_output=True, text=True).stdout.strip() for it in ("--modversion", "--cflags", "--libs")]
         check("pkg-config finds it", told[0] == read(REPOSITORY, "VERSION").strip() and "/include" in told[1] and told[2].endswith("-ljsstr"), str(told))
+    cmake(house, to)
     house.call("--install", "out/lib")
     check("program and library go below one prefix", below(to) == sorted(PROGRAM + LIBRARY), str(below(to)))
     check("and are removed together", house.call("--uninstall", "out/lib")[0] == 0 and not os.listdir(to), str(below(to)))
@@ -156,7 +184,7 @@ def releases(house):
 
 
 def man_pages(_house):
-    made = {"jsstr.1": pages.jsstr_page("1"), "jsstr-where.1": pages.where_page("1"), "jssched.1": pages.sched_page("1"), "jsstr.3": pages.library_page("1", read(REPOSITORY, "include/jsstr.h"))}
+    made = {"jsstr.1": pages.jsstr_page("1"), "jsstr-where.1": pages.where_page("1"), "jssched.1": pages.sched_page("1"), "jsstr.3": pages.library_page("1", *(read(REPOSITORY, it) for it in HEADERS))}
     for name, text in made.items():
         check(f"{name} begins as a page does", text.startswith(".TH ") and "\n.SH NAME\n" in text and "\n.SH SYNOPSIS\n" in text)
         if shutil.which("groff"):
@@ -164,6 +192,7 @@ def man_pages(_house):
             check(f"{name} has no fault", ran.returncode == 0 and not ran.stderr, ran.stderr)
     calls = re.findall(r"\b(jsstr_\w+)\(", read(REPOSITORY, "include/jsstr.h"))
     check("the library's page has each call", calls and all(it in made["jsstr.3"] for it in calls))
+    check("and what C++ has", "jsstr::agent::make" in made["jsstr.3"] and "JSSTR_THROW" in made["jsstr.3"])
 
 
 def completions(house):

@@ -6,3 +6,4 @@ pub mod Keys
 pub mod Builtins
 pub mod Numbers
 pub mod UriFunctions
+pub mod Settled

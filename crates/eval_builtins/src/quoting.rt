@@ -1,9 +1,9 @@
 // Values as JSON text (ECMA-262, "JSON.stringify").
-ghost use Rattle.std.specs.Prelude.{length, IfOk};
+ghost use Rattle.std.specs.Prelude.{length, IfOk, OnOk};
 ghost use Rattle.js_number.specs.Places.{IsLawful};
-ghost use Rattle.js_store.specs.State.{Grows, IsKnown, text};
+ghost use Rattle.js_store.specs.State.{Grows, IsKnown, IsSettled, text};
 ghost use Rattle.js_json.specs.Quoting.{quoted};
-ghost use Rattle.js_texts.specs.Texts.{texts, AllKnown};
+ghost use Rattle.js_texts.specs.Texts.{texts, AllKnown, AllSettled};
 ghost use Rattle.eval_values.specs.Arguments.{first_of};
 ghost use Rattle.eval_values.specs.Limited.{limited};
 ghost use Rattle.eval_builtins.specs.Quoting.{whole_or_null, as_text, list_json, object_json, stringify_call};
@@ -11,6 +11,9 @@ ghost use Rattle.js_item.specs.Seen.{seen, says, fields_mapped};
 ghost use Rattle.js_item.specs.Fine.{IsFine, FineFields, Bounded, strings_of};
 ghost use Rattle.eval_values.specs.Seen.{all_seen, AllFine};
 ghost use Rattle.eval_values.specs.Does.{Does};
+ghost use Rattle.js_item.specs.Views.{content};
+ghost use Rattle.js_object.specs.Settled.{SettledIn, SettledFields};
+ghost use Rattle.eval_builtins.specs.Settled.{FirstSettled};
 
 use eval_values::{Stop, Value, to_text};
 use js_item::Object;
@@ -27,6 +30,7 @@ pub fn call_stringify<S: Strings>(
     requires { AllFine (S.state store.old) S.number args.now }
     ensures grows { Grows (S.state store.old) (S.state store.new) }
     ensures fine { IfOk result (λ v. IsFine (S.state store.new) S.number v) }
+    ensures settled { OnOk result (FirstSettled (S.state store.new) S.number args.now) }
     ensures did { Does S.number (S.state store.old) (S.state store.new) result
         (stringify_call (S.state store.old).limit
         (first_of (all_seen (S.state store.old) S.number args.now))) }
@@ -45,6 +49,7 @@ fn stringify<S: Strings>(
     requires { IsFine (S.state store.old) S.number value.now }
     ensures grows { Grows (S.state store.old) (S.state store.new) }
     ensures fine { IfOk result (λ v. IsFine (S.state store.new) S.number v) }
+    ensures settled { OnOk result (SettledIn (S.state store.new) S.number (content value.now)) }
     ensures did { Does S.number (S.state store.old) (S.state store.new) result
         (stringify_call (S.state store.old).limit (seen (S.state store.old) S.number value.now)) }
 {
@@ -92,6 +97,7 @@ fn give_quoted<S: Strings>(alloc: Global, store: &mut S, s: S::Ref) -> Result<Va
     requires { IsKnown (S.state store.old) (S.number s) }
     ensures grows { Grows (S.state store.old) (S.state store.new) }
     ensures fine { IfOk result (λ v. IsFine (S.state store.new) S.number v) }
+    ensures settled { OnOk result (IsSettled (S.state store.new) (S.number s)) }
     ensures did { Does S.number (S.state store.old) (S.state store.new) result
         (limited (S.state store.old).limit (length (text (S.state store.old) (S.number s)))
         (quoted (text (S.state store.old) (S.number s)))) }
@@ -109,6 +115,7 @@ fn give_list<S: Strings>(
     requires { AllKnown (S.state store.old) S.number list.now }
     ensures grows { Grows (S.state store.old) (S.state store.new) }
     ensures fine { IfOk result (λ v. IsFine (S.state store.new) S.number v) }
+    ensures settled { OnOk result (AllSettled (S.state store.new) S.number list.now) }
     ensures did { Does S.number (S.state store.old) (S.state store.new) result
         (list_json (S.state store.old).limit (texts (S.state store.old) S.number list.now)) }
 {
@@ -126,6 +133,7 @@ fn give_object<S: Strings>(
     requires bounded { Bounded object.now }
     ensures grows { Grows (S.state store.old) (S.state store.new) }
     ensures fine { IfOk result (λ v. IsFine (S.state store.new) S.number v) }
+    ensures settled { OnOk result (SettledFields (S.state store.new) S.number object.now) }
     ensures did { Does S.number (S.state store.old) (S.state store.new) result
         (object_json (S.state store.old).limit
         (fields_mapped (says (S.state store.old) S.number) object.now)) }

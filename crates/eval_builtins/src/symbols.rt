@@ -1,6 +1,6 @@
 // Symbols and `String` (ECMA-262, "String ( value )", "Symbol.for", "Symbol.keyFor").
 ghost use Rattle.std.specs.Prelude.{◌≡◌, ◌+◌, ◌++◌, ◌≤◌, ℕ, [], length, IfOk, OnOk};
-ghost use Rattle.js_store.specs.State.{Has, Grows, IsKnown, text};
+ghost use Rattle.js_store.specs.State.{Has, Grows, IsKnown, IsSettled, text};
 ghost use Rattle.js_store.specs.Rows.{wide_words, flat_words};
 ghost use Rattle.js_store.specs.Faults.{Uses};
 ghost use Rattle.js_texts.specs.Answers.{NeverThrows, full_of};
@@ -12,6 +12,7 @@ ghost use Rattle.js_item.specs.Seen.{seen};
 ghost use Rattle.js_item.specs.Fine.{IsFine};
 ghost use Rattle.eval_values.specs.Seen.{all_seen, AllFine};
 ghost use Rattle.eval_values.specs.Does.{Does};
+ghost use Rattle.eval_builtins.specs.Settled.{ShownSettled, FirstShownSettled};
 ghost use Rattle.eval_builtins.specs.Symbols.{shown_symbol, shown_out, string_call, registered, string_of as string_out, symbol_for as symbol_out, key_for as key_out};
 
 use crate::quoting::give_text;
@@ -31,6 +32,7 @@ pub(crate) fn call_string_function<S: Strings>(
     requires { AllFine (S.state store.old) S.number args.now }
     ensures grows { Grows (S.state store.old) (S.state store.new) }
     ensures fine { IfOk result (λ v. IsFine (S.state store.new) S.number v) }
+    ensures settled { OnOk result (FirstShownSettled (S.state store.new) S.number args.now) }
     ensures did { Does S.number (S.state store.old) (S.state store.new) result
         (string_call (S.state store.old).limit (all_seen (S.state store.old) S.number args.now)) }
 {
@@ -58,6 +60,7 @@ fn string_of<S: Strings>(
     requires { IsFine (S.state store.old) S.number value.now }
     ensures grows { Grows (S.state store.old) (S.state store.new) }
     ensures fine { IfOk result (λ v. IsFine (S.state store.new) S.number v) }
+    ensures settled { OnOk result (ShownSettled (S.state store.new) S.number value.now) }
     ensures did { Does S.number (S.state store.old) (S.state store.new) result
         (string_out (S.state store.old).limit (seen (S.state store.old) S.number value.now)) }
 {
@@ -78,6 +81,7 @@ fn show_symbol<S: Strings>(alloc: Global, store: &mut S, key: S::Ref) -> Result<
     requires { IsKnown (S.state store.old) (S.number key) }
     ensures grows { Grows (S.state store.old) (S.state store.new) }
     ensures fine { IfOk result (λ v. IsFine (S.state store.new) S.number v) }
+    ensures settled { OnOk result (IsSettled (S.state store.new) (S.number key)) }
     ensures did { Does S.number (S.state store.old) (S.state store.new) result
         (shown_out (S.state store.old).limit (text (S.state store.old) (S.number key))) }
 {
@@ -94,6 +98,7 @@ fn give_shown<S: Strings>(alloc: Global, store: &mut S, key: S::Ref) -> Result<V
         (S.state store.old).limit }
     ensures grows { Grows (S.state store.old) (S.state store.new) }
     ensures fine { IfOk result (λ v. IsFine (S.state store.new) S.number v) }
+    ensures settled { OnOk result (IsSettled (S.state store.new) (S.number key)) }
     ensures did { Does S.number (S.state store.old) (S.state store.new) result
         (shown_out (S.state store.old).limit (text (S.state store.old) (S.number key))) }
 {
@@ -109,6 +114,7 @@ fn shown<S: Strings>(alloc: Global, store: &mut S, key: S::Ref) -> Result<S::Ref
     ensures value { IfOk result
         (λ r. Has (S.state store.new) (S.number r) (shown_symbol (text (S.state store.old) (S.number key)))) }
     ensures throws { NeverThrows result }
+    ensures settled { OnOk result (IsSettled (S.state store.new) (S.number key)) }
     ensures uses { Uses (S.state store.old) (S.state store.new) (full_of result)
         1 (wide_words (length (text (S.state store.old) (S.number key)))
         + flat_words (shown_symbol (text (S.state store.old) (S.number key)))) }

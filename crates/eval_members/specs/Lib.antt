@@ -8,3 +8,4 @@ pub mod Replacing
 pub mod Properties
 pub mod Arrays
 pub mod Members
+pub mod Settled

@@ -1,12 +1,13 @@
 // Elements of values, and methods of arrays (ECMA-262, "Property Accessors", "Properties of the
 // Array Prototype Object").
-ghost use Rattle.std.specs.Prelude.{◌≡◌, ℕ, ◌+◌, ◌≤◌, ◌∷◌, [], length, slice_get, IfOk, IfSome};
+ghost use Rattle.std.specs.Prelude.{◌≡◌, ℕ, ◌+◌, ◌≤◌, ◌∷◌, [], length, slice_get, IfOk, OnOk, IfSome};
 ghost use Rattle.js_number.specs.Places.{IsLawful};
-ghost use Rattle.js_store.specs.State.{Grows, IsKnown, text};
-ghost use Rattle.js_texts.specs.Texts.{texts as texts_seen, AllKnown};
+ghost use Rattle.js_store.specs.State.{Grows, IsKnown, IsSettled, text};
+ghost use Rattle.js_texts.specs.Texts.{texts as texts_seen, AllKnown, AllSettled};
 ghost use Rattle.eval_values.specs.Conversions.{list_units};
 ghost use Rattle.eval_members.specs.Arrays.{as_number, indexed_text, indexed_list, indexed_other, indexed, joined_with, join_call, list_call};
 ghost use Rattle.eval_members.specs.Reading.{maybe_text};
+ghost use Rattle.eval_members.specs.Settled.{IndexSettles, ListSettled, UnitSettled};
 ghost use Rattle.js_item.specs.Seen.{seen};
 ghost use Rattle.js_item.specs.Fine.{IsFine};
 ghost use Rattle.eval_values.specs.Seen.{all_seen, AllFine};
@@ -31,6 +32,8 @@ pub fn read_index<S: Strings>(
     requires index { IsFine (S.state store.old) S.number index.now }
     ensures grows { Grows (S.state store.old) (S.state store.new) }
     ensures fine { IfOk result (λ v. IsFine (S.state store.new) S.number v) }
+    ensures settled { OnOk result (IndexSettles (S.state store.old) (S.state store.new) S.number value.now
+        (as_number (seen (S.state store.old) S.number index.now))) }
     ensures did { Does S.number (S.state store.old) (S.state store.new) result
         (indexed at (S.state store.old).limit (seen (S.state store.old) S.number value.now)
         (seen (S.state store.old) S.number index.now)) }
@@ -85,6 +88,8 @@ fn unit<S: Strings>(
     requires lawful { IfSome index IsLawful }
     ensures grows { Grows (S.state store.old) (S.state store.new) }
     ensures fine { IfOk result (λ v. IsFine (S.state store.new) S.number v) }
+    ensures settled { OnOk result (UnitSettled (S.state store.new) (S.number s)
+        (text (S.state store.old) (S.number s)) index) }
     ensures did { Does S.number (S.state store.old) (S.state store.new) result
         (indexed_text at (text (S.state store.old) (S.number s)) index) }
 {
@@ -148,6 +153,7 @@ pub fn call_list<S: Strings>(
     requires args { AllFine (S.state store.old) S.number args.now }
     ensures grows { Grows (S.state store.old) (S.state store.new) }
     ensures fine { IfOk result (λ v. IsFine (S.state store.new) S.number v) }
+    ensures settled { OnOk result (ListSettled method (S.state store.new) S.number list.now) }
     ensures did { (t : ℕ) → Does S.number (S.state store.old) (S.state store.new) result
         (list_call method at (S.state store.old).limit t (texts_seen (S.state store.old) S.number list.now)
         (all_seen (S.state store.old) S.number args.now)) }
@@ -175,6 +181,7 @@ fn call_join<S: Strings>(
     requires args { AllFine (S.state store.old) S.number args.now }
     ensures grows { Grows (S.state store.old) (S.state store.new) }
     ensures fine { IfOk result (λ v. IsFine (S.state store.new) S.number v) }
+    ensures settled { OnOk result (AllSettled (S.state store.new) S.number list.now) }
     ensures did { Does S.number (S.state store.old) (S.state store.new) result
         (join_call (S.state store.old).limit (texts_seen (S.state store.old) S.number list.now)
         (all_seen (S.state store.old) S.number args.now)) }
@@ -194,6 +201,7 @@ fn join_with_commas<S: Strings>(
     requires known { AllKnown (S.state store.old) S.number list.now }
     ensures grows { Grows (S.state store.old) (S.state store.new) }
     ensures fine { IfOk result (λ v. IsFine (S.state store.new) S.number v) }
+    ensures settled { OnOk result (AllSettled (S.state store.new) S.number list.now) }
     ensures did { (t : ℕ) → list_units (texts_seen (S.state store.old) S.number list.now) ≤ t → Does S.number
         (S.state store.old) (S.state store.new) result
         (joined_with (S.state store.old).limit t (texts_seen (S.state store.old) S.number list.now)
@@ -215,6 +223,7 @@ fn join_with<S: Strings>(
     requires separator_known { IsKnown (S.state store.old) (S.number sep) }
     ensures grows { Grows (S.state store.old) (S.state store.new) }
     ensures fine { IfOk result (λ v. IsFine (S.state store.new) S.number v) }
+    ensures settled { OnOk result (AllSettled (S.state store.new) S.number list.now) }
     ensures did { (t : ℕ) → list_units (texts_seen (S.state store.old) S.number list.now)
         + length (text (S.state store.old) (S.number sep)) ≤ t + 40 → Does S.number (S.state store.old)
         (S.state store.new) result

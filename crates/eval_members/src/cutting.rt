@@ -1,8 +1,8 @@
 // Methods that give a part of a string, or the string with units replaced.
-ghost use Rattle.std.specs.Prelude.{◌≡◌, ℕ, ◌+◌, ◌*◌, ◌≤◌, length, IfOk, IfSome};
+ghost use Rattle.std.specs.Prelude.{◌≡◌, ℕ, ◌+◌, ◌*◌, ◌≤◌, length, IfOk, OnOk, IfSome};
 ghost use Rattle.js_number.specs.Places.{IsLawful};
 ghost use Rattle.js_units.specs.Text.{well};
-ghost use Rattle.js_store.specs.State.{Has, Grows, IsKnown, text};
+ghost use Rattle.js_store.specs.State.{Has, Grows, IsKnown, IsSettled, text};
 ghost use Rattle.js_store.specs.Rows.{wide_words};
 ghost use Rattle.js_store.specs.Faults.{Uses};
 ghost use Rattle.js_texts.specs.Answers.{method_fault_of, ThrowsLong};
@@ -49,6 +49,7 @@ pub fn call_cut<S: Strings>(
     requires args { AllFine (S.state store.old) S.number args.now }
     ensures grows { Grows (S.state store.old) (S.state store.new) }
     ensures fine { IfOk result (λ v. IsFine (S.state store.new) S.number v) }
+    ensures settled { OnOk result (IsSettled (S.state store.new) (S.number s)) }
     ensures did { Does S.number (S.state store.old) (S.state store.new) result
         (cut_call (S.state store.old).limit
         (length (text (S.state store.old) (S.number s))
@@ -75,6 +76,7 @@ fn give_part<S: Strings>(
     requires end { IfSome end IsLawful }
     ensures grows { Grows (S.state store.old) (S.state store.new) }
     ensures fine { IfOk result (λ v. IsFine (S.state store.new) S.number v) }
+    ensures settled { OnOk result (IsSettled (S.state store.new) (S.number s)) }
     ensures did { (t : ℕ) → length (text (S.state store.old) (S.number s)) ≤ t → Does S.number
         (S.state store.old) (S.state store.new) result
         (limited (S.state store.old).limit t
@@ -97,6 +99,7 @@ fn part<S: Strings>(
     ensures value { IfOk result
         (λ r. Has (S.state store.new) (S.number r)
         (part_of cut (text (S.state store.old) (S.number s)) start end)) }
+    ensures settled { OnOk result (IsSettled (S.state store.new) (S.number s)) }
     ensures throws { ThrowsLong result (S.state store.old).limit
         (length (part_of cut (text (S.state store.old) (S.number s)) start end)) }
     ensures uses { Uses (S.state store.old) (S.state store.new) (method_fault_of result)
@@ -114,6 +117,7 @@ pub fn call_trim<S: Strings>(store: &mut S, trim: Trim, s: S::Ref) -> Result<Val
     requires known { IsKnown (S.state store.old) (S.number s) }
     ensures grows { Grows (S.state store.old) (S.state store.new) }
     ensures fine { IfOk result (λ v. IsFine (S.state store.new) S.number v) }
+    ensures settled { OnOk result (IsSettled (S.state store.new) (S.number s)) }
     ensures did { (t : ℕ) → length (text (S.state store.old) (S.number s)) ≤ t → Does S.number
         (S.state store.old) (S.state store.new) result
         (limited (S.state store.old).limit t (trimmed_of trim (text (S.state store.old) (S.number s)))) }
@@ -127,6 +131,7 @@ fn trimmed<S: Strings>(store: &mut S, trim: Trim, s: S::Ref) -> Result<S::Ref, M
     ensures value { IfOk result
         (λ r. Has (S.state store.new) (S.number r)
         (trimmed_of trim (text (S.state store.old) (S.number s)))) }
+    ensures settled { OnOk result (IsSettled (S.state store.new) (S.number s)) }
     ensures throws { ThrowsLong result (S.state store.old).limit
         (length (trimmed_of trim (text (S.state store.old) (S.number s)))) }
     ensures uses { Uses (S.state store.old) (S.state store.new) (method_fault_of result)
@@ -148,6 +153,7 @@ pub fn call_to_well_formed<S: Strings>(
     requires known { IsKnown (S.state store.old) (S.number s) }
     ensures grows { Grows (S.state store.old) (S.state store.new) }
     ensures fine { IfOk result (λ v. IsFine (S.state store.new) S.number v) }
+    ensures settled { OnOk result (IsSettled (S.state store.new) (S.number s)) }
     ensures did { (t : ℕ) → length (text (S.state store.old) (S.number s)) ≤ t → Does S.number
         (S.state store.old) (S.state store.new) result
         (limited (S.state store.old).limit t (well (text (S.state store.old) (S.number s)))) }

@@ -1,12 +1,13 @@
 // Members and methods of values (ECMA-262, "Properties of the String Prototype Object").
-ghost use Rattle.std.specs.Prelude.{ℕ, ◌+◌, ◌≤◌, length, IfOk};
-ghost use Rattle.js_store.specs.State.{Grows, IsKnown, text};
+ghost use Rattle.std.specs.Prelude.{ℕ, ◌+◌, ◌≤◌, length, IfOk, OnOk};
+ghost use Rattle.js_store.specs.State.{Grows, IsKnown, IsSettled, text};
 ghost use Rattle.eval_values.specs.Outcome.{needing};
 ghost use Rattle.eval_values.specs.Need.{reads};
 ghost use Rattle.js_item.specs.Contents;
 ghost use Rattle.js_methods.specs.WellFormed.{all_paired};
 ghost use Rattle.eval_values.specs.Conversions.{all_units};
 ghost use Rattle.eval_members.specs.Members.{length_of, description_of, present as present_out, string_call, called};
+ghost use Rattle.eval_members.specs.Settled.{StringSettled, CallSettles};
 ghost use Rattle.js_item.specs.Seen.{seen};
 ghost use Rattle.js_item.specs.Fine.{IsFine};
 ghost use Rattle.eval_values.specs.Seen.{all_seen, AllFine};
@@ -104,6 +105,8 @@ pub fn call<S: Strings>(
     requires args { AllFine (S.state store.old) S.number args.now }
     ensures grows { Grows (S.state store.old) (S.state store.new) }
     ensures fine { IfOk result (λ v. IsFine (S.state store.new) S.number v) }
+    ensures settled { OnOk result (CallSettles method at (S.state store.old) (S.state store.new) S.number
+        value.now (all_seen (S.state store.old) S.number args.now)) }
     ensures did { Does S.number (S.state store.old) (S.state store.new) result
         (called method at (S.state store.old).limit (seen (S.state store.old) S.number value.now)
         (all_seen (S.state store.old) S.number args.now)) }
@@ -133,6 +136,8 @@ fn call_string<S: Strings>(
     requires args { AllFine (S.state store.old) S.number args.now }
     ensures grows { Grows (S.state store.old) (S.state store.new) }
     ensures fine { IfOk result (λ v. IsFine (S.state store.new) S.number v) }
+    ensures settled { OnOk result (StringSettled method at (S.state store.new) (S.number s)
+        (text (S.state store.old) (S.number s)) (all_seen (S.state store.old) S.number args.now)) }
     ensures did { Does S.number (S.state store.old) (S.state store.new) result
         (string_call method at (S.state store.old).limit
         (length (text (S.state store.old) (S.number s))
@@ -173,6 +178,7 @@ fn call_is_well_formed<S: Strings>(store: &mut S, s: S::Ref) -> Result<Value<S::
     requires { IsKnown (S.state store.old) (S.number s) }
     ensures grows { Grows (S.state store.old) (S.state store.new) }
     ensures fine { IfOk result (λ v. IsFine (S.state store.new) S.number v) }
+    ensures settled { OnOk result (IsSettled (S.state store.new) (S.number s)) }
     ensures did { (t : ℕ) → length (text (S.state store.old) (S.number s)) ≤ t → Does S.number
         (S.state store.old) (S.state store.new) result
         (needing (reads t) (Contents.bool (all_paired (text (S.state store.old) (S.number s))))) }

@@ -1,9 +1,11 @@
 // Methods that read single units.
-ghost use Rattle.std.specs.Prelude.{◌+◌, length, IfOk};
-ghost use Rattle.js_store.specs.State.{Grows, IsKnown, text};
+ghost use Rattle.std.specs.Prelude.{◌+◌, length, IfOk, OnOk};
+ghost use Rattle.js_store.specs.State.{Grows, IsKnown, IsSettled, text};
+ghost use Rattle.js_methods.specs.Places.{relative_place, exact_place};
 ghost use Rattle.eval_values.specs.Conversions.{to_number, all_units};
 ghost use Rattle.eval_values.specs.Arguments.{first_of};
 ghost use Rattle.eval_members.specs.Reading.{at_call, char_at_call, char_code_call, code_point_call};
+ghost use Rattle.eval_members.specs.Settled.{NamesPlace};
 ghost use Rattle.js_item.specs.Fine.{IsFine};
 ghost use Rattle.eval_values.specs.Seen.{all_seen, AllFine};
 ghost use Rattle.eval_values.specs.Does.{Does};
@@ -23,6 +25,9 @@ pub fn call_at<S: Strings>(
     requires args { AllFine (S.state store.old) S.number args.now }
     ensures grows { Grows (S.state store.old) (S.state store.new) }
     ensures fine { IfOk result (λ v. IsFine (S.state store.new) S.number v) }
+    ensures settled { OnOk result (NamesPlace relative_place (text (S.state store.old) (S.number s))
+        (to_number at (first_of (all_seen (S.state store.old) S.number args.now)))
+        → IsSettled (S.state store.new) (S.number s)) }
     ensures did { Does S.number (S.state store.old) (S.state store.new) result
         (at_call (length (text (S.state store.old) (S.number s))
         + all_units (all_seen (S.state store.old) S.number args.now))
@@ -47,6 +52,9 @@ pub fn call_char_at<S: Strings>(
     requires args { AllFine (S.state store.old) S.number args.now }
     ensures grows { Grows (S.state store.old) (S.state store.new) }
     ensures fine { IfOk result (λ v. IsFine (S.state store.new) S.number v) }
+    ensures settled { OnOk result (NamesPlace exact_place (text (S.state store.old) (S.number s))
+        (to_number at (first_of (all_seen (S.state store.old) S.number args.now)))
+        → IsSettled (S.state store.new) (S.number s)) }
     ensures did { Does S.number (S.state store.old) (S.state store.new) result
         (char_at_call
         (length (text (S.state store.old) (S.number s))
@@ -70,6 +78,9 @@ pub fn call_char_code_at<S: Strings>(
     requires args { AllFine (S.state store.old) S.number args.now }
     ensures grows { Grows (S.state store.old) (S.state store.new) }
     ensures fine { IfOk result (λ v. IsFine (S.state store.new) S.number v) }
+    ensures settled { OnOk result (NamesPlace exact_place (text (S.state store.old) (S.number s))
+        (to_number at (first_of (all_seen (S.state store.old) S.number args.now)))
+        → IsSettled (S.state store.new) (S.number s)) }
     ensures did { Does S.number (S.state store.old) (S.state store.new) result
         (char_code_call
         (length (text (S.state store.old) (S.number s))
@@ -93,6 +104,9 @@ pub fn call_code_point_at<S: Strings>(
     requires args { AllFine (S.state store.old) S.number args.now }
     ensures grows { Grows (S.state store.old) (S.state store.new) }
     ensures fine { IfOk result (λ v. IsFine (S.state store.new) S.number v) }
+    ensures settled { OnOk result (NamesPlace exact_place (text (S.state store.old) (S.number s))
+        (to_number at (first_of (all_seen (S.state store.old) S.number args.now)))
+        → IsSettled (S.state store.new) (S.number s)) }
     ensures did { Does S.number (S.state store.old) (S.state store.new) result
         (code_point_call
         (length (text (S.state store.old) (S.number s))

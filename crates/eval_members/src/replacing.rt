@@ -1,6 +1,6 @@
 // Methods that put a template in the place of matches.
-ghost use Rattle.std.specs.Prelude.{◌≡◌, ℕ, ◌+◌, ◌≤◌, length, IfOk};
-ghost use Rattle.js_store.specs.State.{Has, Grows, IsKnown, text};
+ghost use Rattle.std.specs.Prelude.{◌≡◌, ℕ, ◌+◌, ◌≤◌, length, IfOk, OnOk};
+ghost use Rattle.js_store.specs.State.{Has, Grows, IsKnown, IsSettled, text};
 ghost use Rattle.js_store.specs.Faults.{Uses};
 ghost use Rattle.js_texts.specs.Answers.{ThrowsLong, full_of};
 ghost use Rattle.js_texts.specs.Use.{settling, made_words};
@@ -37,6 +37,7 @@ pub fn call_replace<S: Strings>(
     requires args { AllFine (S.state store.old) S.number args.now }
     ensures grows { Grows (S.state store.old) (S.state store.new) }
     ensures fine { IfOk result (λ v. IsFine (S.state store.new) S.number v) }
+    ensures settled { OnOk result (IsSettled (S.state store.new) (S.number s)) }
     ensures did { Does S.number (S.state store.old) (S.state store.new) result
         (replace_call (S.state store.old).limit
         (length (text (S.state store.old) (S.number s))
@@ -79,6 +80,7 @@ fn replace_values<S: Strings>(
     requires template { IsFine (S.state store.old) S.number template.now }
     ensures grows { Grows (S.state store.old) (S.state store.new) }
     ensures fine { IfOk result (λ v. IsFine (S.state store.new) S.number v) }
+    ensures settled { OnOk result (IsSettled (S.state store.new) (S.number s)) }
     ensures did { (o m t : ℕ) → length (text (S.state store.old) (S.number s))
         + (text_units (seen (S.state store.old) S.number searched.now)
         + text_units (seen (S.state store.old) S.number template.now)) ≤ t → Does S.number
@@ -109,6 +111,7 @@ fn give_replaced<S: Strings>(
     requires template_known { IsKnown (S.state store.old) (S.number template) }
     ensures grows { Grows (S.state store.old) (S.state store.new) }
     ensures fine { IfOk result (λ v. IsFine (S.state store.new) S.number v) }
+    ensures settled { OnOk result (IsSettled (S.state store.new) (S.number s)) }
     ensures did { (t : ℕ) → length (text (S.state store.old) (S.number s))
         + (length (text (S.state store.old) (S.number w))
         + length (text (S.state store.old) (S.number template))) ≤ t + 80 → Does S.number
@@ -138,6 +141,7 @@ fn replaced<S: Strings>(
         (λ r. Has (S.state store.new) (S.number r)
         (replaced_of replace (text (S.state store.old) (S.number s))
         (text (S.state store.old) (S.number w)) (text (S.state store.old) (S.number template)))) }
+    ensures settled { OnOk result (IsSettled (S.state store.new) (S.number s)) }
     ensures throws { ThrowsLong result (S.state store.old).limit
         (length (replaced_of replace (text (S.state store.old) (S.number s))
         (text (S.state store.old) (S.number w)) (text (S.state store.old) (S.number template)))) }

@@ -1,7 +1,7 @@
 // Methods that look for one string in another.
-ghost use Rattle.std.specs.Prelude.{◌≡◌, ℕ, ◌+◌, ◌≤◌, length, IfOk};
+ghost use Rattle.std.specs.Prelude.{◌≡◌, ℕ, ◌+◌, ◌≤◌, length, IfOk, OnOk};
 ghost use Rattle.js_number.specs.Places.{IsLawful};
-ghost use Rattle.js_store.specs.State.{Grows, IsKnown, text};
+ghost use Rattle.js_store.specs.State.{Grows, IsKnown, IsSettled, text};
 ghost use Rattle.js_store.specs.Rows.{wide_words};
 ghost use Rattle.js_store.specs.Faults.{Uses};
 ghost use Rattle.js_texts.specs.Answers.{method_fault_of, NeverThrows};
@@ -46,6 +46,7 @@ pub fn call_search<S: Strings>(
     requires args { AllFine (S.state store.old) S.number args.now }
     ensures grows { Grows (S.state store.old) (S.state store.new) }
     ensures fine { IfOk result (λ v. IsFine (S.state store.new) S.number v) }
+    ensures settled { OnOk result (IsSettled (S.state store.new) (S.number s)) }
     ensures did { Does S.number (S.state store.old) (S.state store.new) result
         (search_call (S.state store.old).limit
         (length (text (S.state store.old) (S.number s))
@@ -74,6 +75,7 @@ fn find<S: Strings>(
     requires lawful { IfOk place IsLawful }
     ensures grows { Grows (S.state store.old) (S.state store.new) }
     ensures fine { IfOk result (λ v. IsFine (S.state store.new) S.number v) }
+    ensures settled { OnOk result (IsSettled (S.state store.new) (S.number s)) }
     ensures did { (t : ℕ) → length (text (S.state store.old) (S.number s))
         + length (text (S.state store.old) (S.number w)) ≤ t + 40 → Does S.number (S.state store.old)
         (S.state store.new) result
@@ -98,6 +100,7 @@ fn searched<S: Strings>(
         (λ v. seen (S.state store.new) S.number v ≡ search_of search (text (S.state store.old) (S.number s))
         (text (S.state store.old) (S.number w)) n) }
     ensures fine { IfOk result (λ v. IsFine (S.state store.new) S.number v) }
+    ensures settled { OnOk result (IsSettled (S.state store.new) (S.number s)) }
     ensures throws { NeverThrows result }
     ensures uses { Uses (S.state store.old) (S.state store.new) (method_fault_of result)
         0 (wide_words (length (text (S.state store.old) (S.number s)))
@@ -134,6 +137,7 @@ pub fn call_ends_with<S: Strings>(
     requires args { AllFine (S.state store.old) S.number args.now }
     ensures grows { Grows (S.state store.old) (S.state store.new) }
     ensures fine { IfOk result (λ v. IsFine (S.state store.new) S.number v) }
+    ensures settled { OnOk result (IsSettled (S.state store.new) (S.number s)) }
     ensures did { Does S.number (S.state store.old) (S.state store.new) result
         (search_call (S.state store.old).limit
         (length (text (S.state store.old) (S.number s))
@@ -160,6 +164,7 @@ fn find_end<S: Strings>(
     requires lawful { IfOk end LawfulEnd }
     ensures grows { Grows (S.state store.old) (S.state store.new) }
     ensures fine { IfOk result (λ v. IsFine (S.state store.new) S.number v) }
+    ensures settled { OnOk result (IsSettled (S.state store.new) (S.number s)) }
     ensures did { (t : ℕ) → length (text (S.state store.old) (S.number s))
         + length (text (S.state store.old) (S.number w)) ≤ t + 40 → Does S.number (S.state store.old)
         (S.state store.new) result

@@ -1,8 +1,8 @@
 // `split`.
-ghost use Rattle.std.specs.Prelude.{◌≡◌, ℕ, ◌+◌, ◌≤◌, length, IfOk, IfSome, None, Some};
+ghost use Rattle.std.specs.Prelude.{◌≡◌, ℕ, ◌+◌, ◌≤◌, length, IfOk, OnOk, IfSome, None, Some, false};
 ghost use Rattle.js_number.specs.Places.{IsLawful};
-ghost use Rattle.js_store.specs.State.{Grows, IsKnown, text};
-ghost use Rattle.eval_values.specs.Arguments.{second_of, end_in};
+ghost use Rattle.js_store.specs.State.{Grows, IsKnown, IsSettled, text};
+ghost use Rattle.eval_values.specs.Arguments.{first_of, second_of, end_in, is_undefined};
 ghost use Rattle.eval_members.specs.Arrays.{most_parts as most_of, split_into, split_most as split_out, split_call};
 ghost use Rattle.js_item.specs.Fine.{IsFine};
 ghost use Rattle.eval_values.specs.Seen.{all_seen, AllFine};
@@ -25,6 +25,8 @@ pub fn call_split<S: Strings>(
     requires args { AllFine (S.state store.old) S.number args.now }
     ensures grows { Grows (S.state store.old) (S.state store.new) }
     ensures fine { IfOk result (λ v. IsFine (S.state store.new) S.number v) }
+    ensures settled { OnOk result (is_undefined (first_of (all_seen (S.state store.old) S.number args.now)) ≡ false
+        → IsSettled (S.state store.new) (S.number s)) }
     ensures did { Does S.number (S.state store.old) (S.state store.new) result
         (split_call (S.state store.old).limit (text (S.state store.old) (S.number s))
         (all_seen (S.state store.old) S.number args.now)
@@ -56,6 +58,8 @@ fn split_most<S: Strings>(
     requires args { AllFine (S.state store.old) S.number args.now }
     ensures grows { Grows (S.state store.old) (S.state store.new) }
     ensures fine { IfOk result (λ v. IsFine (S.state store.new) S.number v) }
+    ensures settled { OnOk result (is_undefined (first_of (all_seen (S.state store.old) S.number args.now)) ≡ false
+        → IsSettled (S.state store.new) (S.number s)) }
     ensures did { Does S.number (S.state store.old) (S.state store.new) result
         (split_out (S.state store.old).limit (text (S.state store.old) (S.number s))
         (all_seen (S.state store.old) S.number args.now) most) }
@@ -97,6 +101,7 @@ fn split_by<S: Strings>(
     requires separator_known { IsKnown (S.state store.old) (S.number sep) }
     ensures grows { Grows (S.state store.old) (S.state store.new) }
     ensures fine { IfOk result (λ v. IsFine (S.state store.new) S.number v) }
+    ensures settled { OnOk result (IsSettled (S.state store.new) (S.number s)) }
     ensures did { (t : ℕ) → length (text (S.state store.old) (S.number s))
         + length (text (S.state store.old) (S.number sep)) ≤ t + 40 → Does S.number (S.state store.old)
         (S.state store.new) result

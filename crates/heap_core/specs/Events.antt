@@ -1,7 +1,6 @@
 -- The machine: where each event may come, and what it does. An event is one atomic step of one agent on one
 -- word, but for the making of the heap.
-use Rattle.std.specs.Prelude.{◌≡◌, ◌≢◌, ℕ, ◌+◌, ◌<◌, ◌≤◌, ◌⊎◌, ◌==◌, Bool, true, false, if◌then◌else◌, List,
-    [], ◌∷◌, ◌++◌, slice_index, slice_index_or, slice_set, replicate, Option, Result, Ok, Err}
+use Rattle.std.specs.Prelude.{◌≡◌, ◌≢◌, ℕ, ◌+◌, ◌<◌, ◌≤◌, ◌⊎◌, ◌==◌, Bool, true, false, if◌then◌else◌, List, [], ◌∷◌, ◌++◌, slice_index, slice_index_or, slice_set, replicate, Option, Result, Ok, Err}
 use Rattle.js_units.specs.declared.units.NoMemory.{NoMemory}
 use Rattle.js_header.specs.Form.{word_of}
 use Rattle.js_header.specs.declared.form.Form as form
@@ -11,10 +10,8 @@ use Rattle.heap_rule.specs.declared.size.HeapSize.{HeapSize}
 use Rattle.heap_core.specs.declared.event.Refusal.{Refusal}
 use Rattle.heap_core.specs.declared.event.Refusal.TheVariants.{NotEnabled, Memory}
 use Rattle.heap_core.specs.declared.event.Event.{Event}
-use Rattle.heap_core.specs.declared.event.Event.TheVariants.{Make, Split, Join, LoadCounter, Claim, StoreWord,
-    StoreLength, Birth, LoadHeader, LoadWord, Flatten, Thin, LoadSlot, TakeSlot}
-use Rattle.heap_rule.specs.Layout.{IsLawful, counter_at, slot_at, form_at, length_at, content_at,
-    word_count, IsBorn}
+use Rattle.heap_core.specs.declared.event.Event.TheVariants.{Make, Split, Join, LoadCounter, Claim, StoreWord, StoreLength, Birth, LoadHeader, LoadWord, Flatten, Thin, LoadSlot, TakeSlot}
+use Rattle.heap_rule.specs.Layout.{IsLawful, counter_at, slot_at, form_at, length_at, content_at, word_count, IsBorn}
 use Rattle.heap_rule.specs.Contents.{units_of}
 use Rattle.heap_rule.specs.Maps.{Has, HasKey}
 use Rattle.heap_rule.specs.HeaderMoves.{MayFlatten, flattened, MayThin, thinned}
@@ -80,8 +77,10 @@ module _ (s : Core) where
 
   -- the machine after the split
   abbrev pub after_split : ℕ → ℕ → Core
-  after_split j give = record s { views = slice_set s.views j (left_after_split (view_at s j) give)
-      ++ right_after_split (view_at s j) give ∷ [] }
+  after_split j give = record s {
+    views = slice_set s.views j (left_after_split (view_at s j) give)
+        ++ right_after_split (view_at s j) give ∷ [];
+  }
 
   -- joining: the other agent is spent
   abbrev pub CanJoin : ℕ → ℕ → Type 0

@@ -1,15 +1,11 @@
 -- Which kind of step on a word each event is: an event does to the machine what its kind does to the word and
 -- to the agent's view.
-use Rattle.std.specs.Prelude.{◌≡◌, ℕ, true, false, if◌then◌else◌, List, [], slice_index, slice_set, Option,
-    Some, None, IfSome}
+use Rattle.std.specs.Prelude.{◌≡◌, ℕ, true, false, if◌then◌else◌, List, [], slice_index, slice_set, Option, Some, None, IfSome}
 use Rattle.heap_rule.specs.declared.view.View.{View}
 use Rattle.heap_rule.specs.Learning.{learned}
-use Rattle.heap_rule.specs.Kinds.{Kind, load_counter, claim, store_word, store_length, birth, load_form,
-    load_length, load_word, flatten, thin, load_slot, take_slot, MayCome, place_of, access_of, left_by,
-    view_after, learns}
+use Rattle.heap_rule.specs.Kinds.{Kind, load_counter, claim, store_word, store_length, birth, load_form, load_length, load_word, flatten, thin, load_slot, take_slot, MayCome, place_of, access_of, left_by, view_after, learns}
 use Rattle.heap_core.specs.declared.event.Event.{Event}
-use Rattle.heap_core.specs.declared.event.Event.TheVariants.{Make, Split, Join, LoadCounter, Claim, StoreWord,
-    StoreLength, Birth, LoadHeader, LoadWord, Flatten, Thin, LoadSlot, TakeSlot}
+use Rattle.heap_core.specs.declared.event.Event.TheVariants.{Make, Split, Join, LoadCounter, Claim, StoreWord, StoreLength, Birth, LoadHeader, LoadWord, Flatten, Thin, LoadSlot, TakeSlot}
 use Rattle.heap_core.specs.Core.{Core, core}
 use Rattle.heap_core.specs.Events.{LiveAt, Enabled, after}
 
@@ -61,8 +57,8 @@ abbrev pub stepped : Core → ℕ → View → Kind → List ℕ → Core
 stepped s j v k names = core s.size s.agents
     (slice_set s.words (place_of s.size k) (left_by (access_of k) (slice_index s.words (place_of s.size k))))
     (slice_set s.views j
-        (if learns k then learned (view_after v k (slice_index s.words (place_of s.size k))) names
-        else view_after v k (slice_index s.words (place_of s.size k))))
+    (if learns k then learned (view_after v k (slice_index s.words (place_of s.size k))) names
+    else view_after v k (slice_index s.words (place_of s.size k))))
 
 -- each enabled event on a word is a step of its kind by a live view, at which the kind may come
 abbrev pub EventsAreSteps : Type 0

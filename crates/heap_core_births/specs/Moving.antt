@@ -15,7 +15,7 @@ abbrev pub Spells : View → List ℕ → Bool → ℕ → Type 0
 Spells v us wide start =
     (start < 2 ^ 29) × ((c : ℕ) → start ≤ c → c < start + words_over wide (length us) → HasKey v.own_words c)
     × ((o : ℕ) → length us ≤ o → o < words_over wide (length us) * lane_count wide
-        → lane_in (shown v) wide start o ≡ 0)
+    → lane_in (shown v) wide start o ≡ 0)
     × (span (shown v) wide start 0 (length us) ≡ us)
 
 abbrev pub SpellsUnits : View → ℕ → Bool → ℕ → Type 0

@@ -1,7 +1,6 @@
 -- What a session that interns leaves, by the plan of the header: after settling, and for a string that was settled from the beginning.
-use Rattle.std.proofs.Common.{◌≡◌, ℕ, ◌⊎◌, ⊎_elim, inl, inr, List, ap, Result, Ok, Err}
+use Rattle.std.proofs.Common.{ℕ, inl, List, Result, Ok, Err}
 use Rattle.js_store.specs.declared.faults.StoreFault.{StoreFault}
-use Rattle.heap_rule.specs.declared.size.Counters.{Counters}
 use Rattle.heap_rule.specs.declared.view.View.{View}
 use Rattle.heap_rule.specs.Sound.{IsPossible}
 use Rattle.heap_rule.specs.Views.{IsSettled}

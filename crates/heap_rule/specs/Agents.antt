@@ -53,8 +53,17 @@ left_after_split v give = record v { share = v.share - give; giving = 0 }
 
 -- the view of the agent that was split off
 abbrev pub right_after_split : View → ℕ → View
-right_after_split v give = record v { share = give; seen = history v; mine = []; used = nothing_used;
-    own_ids = empty; own_words = empty; form_loads = 0; slot_loads = empty; giving = 0 }
+right_after_split v give = record v {
+  share = give;
+  seen = history v;
+  mine = [];
+  used = nothing_used;
+  own_ids = empty;
+  own_words = empty;
+  form_loads = 0;
+  slot_loads = empty;
+  giving = 0;
+}
 
 -- the share that a running split is about to give: a note of the agent's own, of which the rule says nothing
 abbrev pub noted : View → ℕ → View

@@ -1,7 +1,6 @@
 -- How a string comes to be: own content words and an own length are stored, and then its form word is, which
 -- is its birth.
-use Rattle.std.specs.Prelude.{◌≡◌, ℕ, ◌+◌, ◌-◌, ◌*◌, ◌^◌, ◌<◌, ◌≤◌, ◌⊎◌, ◌==◌, nat_le, ◌&&◌, Bool,
-    if◌then◌else◌, List, [], ◌++◌, take, drop, length, unwrap_or, Option, Some, None}
+use Rattle.std.specs.Prelude.{◌≡◌, ℕ, ◌+◌, ◌-◌, ◌*◌, ◌^◌, ◌<◌, ◌≤◌, ◌⊎◌, ◌==◌, nat_le, ◌&&◌, Bool, if◌then◌else◌, List, [], ◌++◌, take, drop, length, unwrap_or, Option, Some, None}
 use Rattle.std.specs.FinMap.{get, insert, remove, keys}
 use Rattle.js_units.specs.Lanes.{words_over, lane_count}
 use Rattle.js_header.specs.declared.form.Form.{Form}
@@ -73,7 +72,7 @@ Fits v i n (Flat wide start fixed) = (start < 2 ^ 29)
     × (n ≡ 0 → start ≡ 0)
 Fits v i n (Cons wide left right) = (left < i) × (right < i) × (13 ≤ n)
     × ((a : List ℕ) × (b : List ℕ) × Has v.units left a × Has v.units right b × (1 ≤ length a)
-        × (1 ≤ length b) × (length a + length b ≡ n) × IsNarrow wide (a ++ b))
+    × (1 ≤ length b) × (length a + length b ≡ n) × IsNarrow wide (a ++ b))
 Fits v i n (Sliced wide parent offset) = (parent < i) × (13 ≤ n) × IsParent v parent
     × ((us : List ℕ) × (shown_part v parent offset n ≡ Some us) × IsNarrow wide us)
 Fits v i n _ = ⊥
@@ -95,8 +94,11 @@ freeze_form v n _ = v
 -- the string i is no longer own, and its form, length and units are known
 abbrev pub born_with : View → ℕ → ℕ → Form → View
 born_with v i n f = let w : View = freeze_form v n f in record w {
-    own_ids = remove v.own_ids i; units = insert v.units i (units_for v n f); forms = insert v.forms i f;
-    lengths = insert v.lengths i n }
+  own_ids = remove v.own_ids i;
+  units = insert v.units i (units_for v n f);
+  forms = insert v.forms i f;
+  lengths = insert v.lengths i n;
+}
 
 -- birth: a plain store of the form word
 abbrev pub born : View → ℕ → Form → View

@@ -1,7 +1,6 @@
 -- Flattening a Cons and thinning a string to an internalized one: the two compare-exchanges that move a
 -- header.
-use Rattle.std.specs.Prelude.{◌≡◌, ℕ, ◌+◌, ◌*◌, ◌^◌, ◌<◌, ◌≤◌, ◌==◌, false, if◌then◌else◌, List, [], length,
-    unwrap_or, Option, Some, None}
+use Rattle.std.specs.Prelude.{◌≡◌, ℕ, ◌+◌, ◌*◌, ◌^◌, ◌<◌, ◌≤◌, ◌==◌, false, if◌then◌else◌, List, [], length, unwrap_or, Option, Some, None}
 use Rattle.std.specs.FinMap.{get, insert}
 use Rattle.js_units.specs.Lanes.{words_over, lane_count}
 use Rattle.js_header.specs.Form.{word_of, form_of}
@@ -26,7 +25,7 @@ MayFlatten v i old (Flat wide start false) = Has v.forms i old × IsCons old × 
     × ((us : List ℕ) × Has v.units i us
     × ((c : ℕ) → start ≤ c → c < start + words_over wide (length us) → HasKey v.own_words c)
     × ((o : ℕ) → length us ≤ o → o < words_over wide (length us) * lane_count wide
-        → lane_in (shown v) wide start o ≡ 0)
+    → lane_in (shown v) wide start o ≡ 0)
     × (span (shown v) wide start 0 (length us) ≡ us))
 MayFlatten v i old _ = ⊥
 
@@ -35,7 +34,7 @@ MayFlatten v i old _ = ⊥
 abbrev pub flattened : View → ℕ → Form → Form → ℕ → View
 flattened v i old new x = if x == word_of old
     then (let w : View = freeze_form v (length (unwrap_or (get v.units i) [])) new
-        in record w { forms = insert v.forms i new })
+    in record w { forms = insert v.forms i new })
     else seen_form v i (form_of x)
 
 -- thinning: the string was seen as a Sliced, or as a Flat that is not fixed, and t is in a slot and has the

@@ -1,16 +1,14 @@
 -- The kinds of step that an agent makes on one word of the heap: where each may come, which word it is on,
 -- what that word becomes, and what the agent's view becomes. Here x is the word found. (Making, splitting and
 -- joining are no steps on a word: their conditions and views are in `Agents`.)
-use Rattle.std.specs.Prelude.{◌≡◌, ℕ, ◌+◌, ◌<◌, ◌≤◌, ◌==◌, Bool, true, false, if◌then◌else◌, List, [], ◌∷◌,
-    ◌++◌, slice_index, slice_set, replicate, Option}
+use Rattle.std.specs.Prelude.{◌≡◌, ℕ, ◌+◌, ◌<◌, ◌≤◌, ◌==◌, Bool, true, false, if◌then◌else◌, List, [], ◌∷◌, ◌++◌, slice_index, slice_set, replicate, Option}
 use Rattle.js_header.specs.Form.{word_of}
 use Rattle.js_header.specs.declared.form.Form.{Form}
 use Rattle.js_header.specs.declared.form.Form.TheVariants.{Thin}
 use Rattle.heap_rule.specs.declared.view.View.{View}
 use Rattle.heap_rule.specs.declared.size.HeapSize.{HeapSize}
 use Rattle.heap_rule.specs.declared.size.Counter.{Counter}
-use Rattle.heap_rule.specs.Layout.{IsLawful, counter_at, slot_at, form_at, length_at, content_at,
-    word_count, IsBorn}
+use Rattle.heap_rule.specs.Layout.{IsLawful, counter_at, slot_at, form_at, length_at, content_at, word_count, IsBorn}
 use Rattle.heap_rule.specs.Contents.{units_of}
 use Rattle.heap_rule.specs.Maps.{HasKey}
 use Rattle.heap_rule.specs.Views.{IsKnown}
@@ -131,7 +129,7 @@ abbrev pub KindsKeep : Type 0
 KindsKeep = (z : HeapSize) (agents : ℕ) (W : List ℕ) (vs : List View) (j : ℕ) (v : View) (e : Kind)
     (names : List ℕ) → IsSound z agents W vs → At vs j v → v.live ≡ true → MayCome v e
     → Keeps z agents W (slice_set W (place_of z e) (left_by (access_of e) (slice_index W (place_of z e))))
-        (slice_set vs j (learned (view_after v e (slice_index W (place_of z e))) names))
+    (slice_set vs j (learned (view_after v e (slice_index W (place_of z e))) names))
 
 -- the heap is made, all words 0, with one agent that has the whole share
 abbrev pub MakingKeeps : Type 0

@@ -1,7 +1,6 @@
 -- Loading a slot of the string table and claiming one. The word of a slot is 0 where it is free, else an id
 -- plus 1.
-use Rattle.std.specs.Prelude.{◌≢◌, ℕ, zero, suc, ◌+◌, ◌/◌, ◌<◌, ◌⊎◌, Bool, true, List, [], ◌∷◌, ◌++◌,
-    slice_index, length, unwrap_or, Option, Some, None}
+use Rattle.std.specs.Prelude.{◌≢◌, ℕ, zero, suc, ◌+◌, ◌/◌, ◌<◌, ◌⊎◌, Bool, true, List, [], ◌∷◌, ◌++◌, slice_index, length, unwrap_or, Option, Some, None}
 use Rattle.std.specs.FinMap.{get, insert}
 use Rattle.js_units.specs.Lanes.{lane_count}
 use Rattle.js_header.specs.declared.form.Form.TheVariants.{Flat}
@@ -45,8 +44,9 @@ entered v k (Some us) = v.mine ++ (us, unwrap_or (get v.slots k) 0) ∷ []
 -- slot k was loaded with the word x: its id is seen there, the load counts, and an entry is in the history
 abbrev pub loaded_slot : View → ℕ → Option (List ℕ) → ℕ → View
 loaded_slot v k entry x = let w : View = with_slot v k x in record w {
-    slot_loads = insert v.slot_loads k (added_loads (unwrap_or (get v.slot_loads k) 0) 1);
-    mine = entered v k entry }
+  slot_loads = insert v.slot_loads k (added_loads (unwrap_or (get v.slot_loads k) 0) 1);
+  mine = entered v k entry;
+}
 
 -- the string i is known not to have the units us: by its length, by its units, or by one lane of a frozen
 -- word
@@ -54,8 +54,8 @@ abbrev pub Differs : View → List ℕ → ℕ → Type 0
 Differs v us i = ((n : ℕ) × Has v.lengths i n × (n ≢ length us))
     ⊎ (((ws : List ℕ) × Has v.units i ws × (ws ≢ us))
     ⊎ ((wide : Bool) × (start : ℕ) × (fixed : Bool) × (o : ℕ) × (x : ℕ)
-        × Has v.forms i (Flat wide start fixed) × (o < length us)
-        × Has v.frozen (start + o / lane_count wide) x × (lane_in (λ _. x) wide start o ≢ slice_index us o)))
+    × Has v.forms i (Flat wide start fixed) × (o < length us)
+    × Has v.frozen (start + o / lane_count wide) x × (lane_in (λ _. x) wide start o ≢ slice_index us o)))
 
 -- the slot is known to be used by such a string
 abbrev pub IsShutAt : View → List ℕ → ℕ → Type 0
@@ -67,8 +67,8 @@ abbrev pub MayTakeSlot : View → ℕ → ℕ → Type 0
 MayTakeSlot v k i = (k < v.sizes.slots)
     × ((wide : Bool) × (start : ℕ) × Has v.forms i (Flat wide start true))
     × ((us : List ℕ) × Has v.units i us
-        × ((j : ℕ) → j < v.sizes.slots → rank us v.sizes.slots j < rank us v.sizes.slots k
-            → (t : ℕ) × Has v.slots j t × Differs v us t))
+    × ((j : ℕ) → j < v.sizes.slots → rank us v.sizes.slots j < rank us v.sizes.slots k
+    → (t : ℕ) × Has v.slots j t × Differs v us t))
 
 -- the compare-exchange of the slot from 0
 abbrev pub took_slot : View → ℕ → ℕ → ℕ → View

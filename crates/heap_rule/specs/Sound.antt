@@ -1,7 +1,6 @@
 -- The rule that every atomic step keeps, for the words of a heap and the views of its agents. A spent view,
 -- of an agent that was joined, is excepted.
-use Rattle.std.specs.Prelude.{◌≡◌, ◌≢◌, ℕ, ◌+◌, ◌*◌, ◌<◌, ◌≤◌, ◌⊎◌, Bool, true, if◌then◌else◌, List, ◌++◌,
-    Contains, take, drop, length, sum_by, Some}
+use Rattle.std.specs.Prelude.{◌≡◌, ◌≢◌, ℕ, ◌+◌, ◌*◌, ◌<◌, ◌≤◌, ◌⊎◌, Bool, true, if◌then◌else◌, List, ◌++◌, Contains, take, drop, length, sum_by, Some}
 use mathlib.Core.Option.{some}
 use lib.ListN.{get_elem?}
 use Rattle.std.specs.Ordering.{nat_cmp}
@@ -13,8 +12,7 @@ use Rattle.js_header.specs.declared.form.Form.TheVariants.{Unborn, Flat, Cons, S
 use Rattle.heap_rule.specs.declared.view.View.{View}
 use Rattle.heap_rule.specs.declared.size.HeapSize.{HeapSize}
 use Rattle.heap_rule.specs.declared.size.Counters.{Counters}
-use Rattle.heap_rule.specs.Layout.{MAX, IsLawful, word_count, next_id, next_word, slot, form,
-    length_word, content, IsBorn}
+use Rattle.heap_rule.specs.Layout.{MAX, IsLawful, word_count, next_id, next_word, slot, form, length_word, content, IsBorn}
 use Rattle.heap_rule.specs.Contents.{span, lane_in, units_of}
 use Rattle.heap_rule.specs.Maps.{Has, HasKey}
 use Rattle.heap_rule.specs.Forms.{IsSolidForm, IsLater, IsNarrow}
@@ -82,7 +80,7 @@ module _ (z : HeapSize) (W : List ℕ) (vs : List View) where
   Stands i (Flat wide start fixed) =
       ((c : ℕ) → start ≤ c → c < start + words_over wide (length_word z W i) → IsKept W vs c)
       × ((o : ℕ) → length_word z W i ≤ o → o < words_over wide (length_word z W i) * lane_count wide
-          → lane_in (content z W) wide start o ≡ 0)
+      → lane_in (content z W) wide start o ≡ 0)
       × IsNarrow wide (units_of z W i) × (length_word z W i ≡ 0 → start ≡ 0)
   Stands i (Cons wide left right) = (left < i) × (right < i) × IsBorn z W left × IsBorn z W right
       × (1 ≤ length (units_of z W left)) × (1 ≤ length (units_of z W right))
@@ -118,7 +116,7 @@ module _ (z : HeapSize) (W : List ℕ) (vs : List View) where
   Shows i (Flat wide start fixed) = (units_of z W i ≡ span (content z W) wide start 0 (length_word z W i))
       × ((c : ℕ) → start ≤ c → c < start + words_over wide (length_word z W i) → IsKept W vs c)
       × ((o : ℕ) → length_word z W i ≤ o → o < words_over wide (length_word z W i) * lane_count wide
-          → lane_in (content z W) wide start o ≡ 0)
+      → lane_in (content z W) wide start o ≡ 0)
       × IsNarrow wide (units_of z W i) × (length_word z W i ≡ 0 → start ≡ 0)
   Shows i (Cons wide left right) =
       IsBorn z W left × IsBorn z W right × (units_of z W i ≡ units_of z W left ++ units_of z W right)

@@ -26,7 +26,7 @@ IsSettled v i = (f : Form) × Has v.forms i f × (IsCons f → ⊥)
 abbrev pub LeadsTo : View → ℕ → ℕ → ℕ → Type 0
 LeadsTo v s i offset = (((s ≡ i) ⊎ Has v.forms s (Thin i)) × (offset ≡ 0))
     ⊎ ((wide : Bool) × (parent : ℕ) × Has v.forms s (Sliced wide parent offset)
-        × ((parent ≡ i) ⊎ Has v.forms parent (Thin i)))
+    × ((parent ≡ i) ⊎ Has v.forms parent (Thin i)))
 
 -- a length by which the units of i are known to be there: its own, or where a Sliced of i ends, or one of a
 -- string that forwards to i

@@ -1,6 +1,5 @@
 -- The lines of a schedule, by their fields. A line names an event of the machine, as plain data.
-use Rattle.std.specs.Prelude.{◌≡◌, ⊤, ℕ, ◌+◌, ◌-◌, ◌^◌, min, Bool, true, false, ◌&&◌, ◌==◌, nat_le, nat_lt,
-    if◌then◌else◌, List, [], ◌∷◌, drop, length, slice_index_or, Option, None, Some, Result, option_map}
+use Rattle.std.specs.Prelude.{◌≡◌, ⊤, ℕ, ◌+◌, ◌-◌, ◌^◌, min, Bool, true, false, ◌&&◌, ◌==◌, nat_le, nat_lt, if◌then◌else◌, List, [], ◌∷◌, drop, length, slice_index_or, Option, None, Some, Result, option_map}
 use Rattle.std.proofs.Common.{Vec, Global}
 use Rattle.js_header.specs.Form.{form_of}
 use Rattle.js_header.specs.declared.form.Form.{Form}
@@ -268,7 +267,7 @@ checked (Some m) = if_small m
 abbrev pub making_of : List Field → Option Making
 making_of fs = if (length fs == 5) && is_heap (field_at fs 0)
     then checked (of_four (λ ids words slots agents. record
-        { size = record { ids = ids; words = words; slots = slots }; agents = agents })
+    { size = record { ids = ids; words = words; slots = slots }; agents = agents })
     (place_at fs 1) (place_at fs 2) (place_at fs 3) (place_at fs 4))
     else None
 

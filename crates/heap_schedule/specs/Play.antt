@@ -1,6 +1,5 @@
 -- Playing: where the event of a line may come, what it does to the machine, and which word it finds.
-use Rattle.std.specs.Prelude.{◌≡◌, ⊤, None, Result, Ok, Err, ℕ, ◌≤◌, List, [], ◌∷◌, drop, length, replicate,
-    slice_index, take, Option, IsSome, option_and_then}
+use Rattle.std.specs.Prelude.{◌≡◌, ⊤, None, Result, Ok, Err, ℕ, ◌≤◌, List, [], ◌∷◌, drop, length, replicate, slice_index, take, Option, IsSome, option_and_then}
 use Rattle.std.specs.FinMap.{get}
 use Rattle.heap_rule.specs.Agents.{first_view}
 use Rattle.heap_rule.specs.Layout.{content_at, form_at, slot_at, word_count}
@@ -8,12 +7,9 @@ use Rattle.heap_core.specs.declared.event.Event.{Event}
 use Rattle.heap_core.specs.declared.event.Refusal.{Refusal}
 use Rattle.heap_core.specs.declared.event.Refusal.TheVariants.{NotEnabled, Memory}
 use Rattle.heap_core.specs.Core.{Core}
-use Rattle.heap_core.specs.Events.{IsSoundCore, CanFlatten, CanLoadHeader, CanLoadSlot, CanLoadWord,
-    CanTakeSlot, CanThinTo, Enabled, after, after_flatten, after_load_header, after_load_slot,
-    after_load_word, after_take_slot, after_thin, found, header_at, view_at}
+use Rattle.heap_core.specs.Events.{IsSoundCore, CanFlatten, CanLoadHeader, CanLoadSlot, CanLoadWord, CanTakeSlot, CanThinTo, Enabled, after, after_flatten, after_load_header, after_load_slot, after_load_word, after_take_slot, after_thin, found, header_at, view_at}
 use Rattle.heap_schedule.specs.declared.line.Making.{Making}
-use Rattle.heap_schedule.specs.Lines.{Turn, plain, loads_header, loads_word, flattens, thins, loads_slot,
-    takes_slot, enters, turn_of}
+use Rattle.heap_schedule.specs.Lines.{Turn, plain, loads_header, loads_word, flattens, thins, loads_slot, takes_slot, enters, turn_of}
 
 -- the units that the view has of the string that it saw in the slot
 abbrev pub entry_in : Core → ℕ → ℕ → Option (List ℕ)
@@ -77,8 +73,12 @@ pub record EndsAfter (ts : List Turn) (s : Core) (n : ℕ) : Type 0 where
 
 -- the machine that the first line makes
 abbrev pub made : Making → Core
-made m = record { size = m.size; agents = m.agents; words = replicate (word_count m.size) 0;
-    views = first_view m.size m.agents ∷ [] }
+made m = record {
+  size = m.size;
+  agents = m.agents;
+  words = replicate (word_count m.size) 0;
+  views = first_view m.size m.agents ∷ [];
+}
 
 -- an event that loads the slot with that entry, or why there is none
 abbrev pub IsEntering : Core → ℕ → ℕ → List ℕ → Result Event Refusal → Type 0

@@ -34,7 +34,7 @@ second_of _ = 0
 abbrev pub IsOfKindBy : (Step (Unit {0}) → Sat → ℕ → Sat → Type 0) → (View → Kind) → Type 0
 IsOfKindBy tells e = (slots : ℕ) (me me' : Sat) (x : ℕ)
     → tells (step slots (place_of me.0.sizes (e me.0)) (first_of (access_of (e me.0)))
-        (second_of (access_of (e me.0))) none) me x me' → me'.0 ≡ view_on_heap me.0 (e me.0) x
+    (second_of (access_of (e me.0))) none) me x me' → me'.0 ≡ view_on_heap me.0 (e me.0) x
 
 -- the same for one kind, whatever the view is
 abbrev pub IsOfKind : (Step (Unit {0}) → Sat → ℕ → Sat → Type 0) → Kind → Type 0

@@ -70,7 +70,7 @@ LoadedCounter st me x me' = Stays me me'
 abbrev pub Claimed : Step (Unit {0}) → Sat → ℕ → Sat → Type 0
 Claimed st me x me' = Stays me me'
     × ((k : Counter) (want : ℕ) → st.word ≡ counter_at k → st.second ≡ st.first + want
-        → (me'.0 ≡ claimed me.0 k st.first want x) × FoundCounter me.0 k x)
+    → (me'.0 ≡ claimed me.0 k st.first want x) × FoundCounter me.0 k x)
 
 -- the store of an own content word
 abbrev pub StoredWord : Step (Unit {0}) → Sat → ℕ → Sat → Type 0
@@ -86,14 +86,14 @@ StoredLength st me x me' =
 abbrev pub GaveBirth : Step (Unit {0}) → Sat → ℕ → Sat → Type 0
 GaveBirth st me x me' = Stays me me' × KeepsKnown me.0 me'.0
     × ((i : ℕ) (f : Form) → st.word ≡ form_at me.0.sizes i
-        → st.first ≡ word_of f → IsInRange f → me'.0 ≡ born me.0 i f)
+    → st.first ≡ word_of f → IsInRange f → me'.0 ≡ born me.0 i f)
 
 -- the load of a form word: the word that is found is that of a form, and the string is born
 abbrev pub LoadedForm : Step (Unit {0}) → Sat → ℕ → Sat → Type 0
 LoadedForm st me x me' = Stays me me' × KeepsKnown me.0 me'.0
     × ((f : Form) × (form_of x ≡ Some f) × (f ≡ Unborn → ⊥))
     × ((i : ℕ) → st.word ≡ form_at me.0.sizes i
-        → (me'.0 ≡ learned_all (loaded_form me.0 i x)) × FoundForm me.0 i x)
+    → (me'.0 ≡ learned_all (loaded_form me.0 i x)) × FoundForm me.0 i x)
 
 -- the load of a length word: the length is at most the greatest one
 abbrev pub LoadedLength : Step (Unit {0}) → Sat → ℕ → Sat → Type 0
@@ -104,27 +104,27 @@ LoadedLength st me x me' = Stays me me' × KeepsKnown me.0 me'.0 × (x ≤ MAX) 
 abbrev pub LoadedWord : Step (Unit {0}) → Sat → ℕ → Sat → Type 0
 LoadedWord st me x me' = Stays me me' × KeepsKnown me.0 me'.0 × (me'.0.forms ≡ me.0.forms)
     × ((c : ℕ) → st.word ≡ content_at me.0.sizes c
-        → (me'.0 ≡ learned_all (loaded_word me.0 c x)) × (x ≡ shown me'.0 c))
+    → (me'.0 ≡ learned_all (loaded_word me.0 c x)) × (x ≡ shown me'.0 c))
 
 -- the compare-exchange of a form word to that of a Flat: the string is settled afterwards, whoever settled it
 abbrev pub FlattenedForm : Step (Unit {0}) → Sat → ℕ → Sat → Type 0
 FlattenedForm st me x me' = Stays me me' × KeepsKnown me.0 me'.0
     × ((i : ℕ) (old new : Form) → st.word ≡ form_at me.0.sizes i
-        → st.first ≡ word_of old → st.second ≡ word_of new → IsInRange old → IsInRange new
-        → (me'.0 ≡ learned_all (flattened me.0 i old new x)) × IsSettled me'.0 i)
+    → st.first ≡ word_of old → st.second ≡ word_of new → IsInRange old → IsInRange new
+    → (me'.0 ≡ learned_all (flattened me.0 i old new x)) × IsSettled me'.0 i)
 
 -- the compare-exchange of a form word to that of a Thin: the string forwards to t afterwards, whoever did it
 abbrev pub ThinnedForm : Step (Unit {0}) → Sat → ℕ → Sat → Type 0
 ThinnedForm st me x me' = Stays me me' × KeepsKnown me.0 me'.0
     × ((i t : ℕ) (old : Form) → st.word ≡ form_at me.0.sizes i
-        → st.first ≡ word_of old → st.second ≡ word_of (Thin t) → IsInRange old → t < 2 ^ 29
-        → (me'.0 ≡ learned_all (thinned me.0 i old t x)) × Has me'.0.forms i (Thin t))
+    → st.first ≡ word_of old → st.second ≡ word_of (Thin t) → IsInRange old → t < 2 ^ 29
+    → (me'.0 ≡ learned_all (thinned me.0 i old t x)) × Has me'.0.forms i (Thin t))
 
 -- a load of a slot, with the entry that the view has for the history
 abbrev pub SawSlot : (View → ℕ → Option (List ℕ)) → Step (Unit {0}) → Sat → ℕ → Sat → Type 0
 SawSlot entry st me x me' = Stays me me' × KeepsKnown me.0 me'.0 × (me'.0.forms ≡ me.0.forms)
     × ((k : ℕ) → st.word ≡ slot_at me.0.sizes k
-        → (me'.0 ≡ learned_all (loaded_slot me.0 k (entry me.0 k) x)) × FoundSlot me.0 k x)
+    → (me'.0 ≡ learned_all (loaded_slot me.0 k (entry me.0 k) x)) × FoundSlot me.0 k x)
 
 -- a load of a slot that enters no call in the history
 abbrev pub LoadedSlot : Step (Unit {0}) → Sat → ℕ → Sat → Type 0
@@ -138,7 +138,7 @@ EnteredSlot = SawSlot entry_in
 abbrev pub TookSlot : Step (Unit {0}) → Sat → ℕ → Sat → Type 0
 TookSlot st me x me' = Stays me me' × KeepsKnown me.0 me'.0 × (me'.0.forms ≡ me.0.forms)
     × ((k i : ℕ) → st.word ≡ slot_at me.0.sizes k → st.second ≡ i + 1
-        → (me'.0 ≡ learned_all (took_slot me.0 k i x)) × FoundSlot me.0 k x)
+    → (me'.0 ≡ learned_all (took_slot me.0 k i x)) × FoundSlot me.0 k x)
 
 -- a note of the share that a running split is about to give
 abbrev pub Noted : Step (Unit {0}) → Sat → ℕ → Sat → Type 0

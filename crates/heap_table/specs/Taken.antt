@@ -1,8 +1,7 @@
 -- The view that the table gives to an agent that takes over another's. It is the joined view where that has
 -- all that both have, by a test; else its share is 0, which no sound state allows. So whoever learns that it
 -- stands in a sound state learns that the two agree. No contract cites it.
-use Rattle.std.specs.Prelude.{ℕ, ◌+◌, Bool, true, false, ◌&&◌, ◌==◌, not, if◌then◌else◌, Option,
-    Some, None, bytes_eq}
+use Rattle.std.specs.Prelude.{ℕ, ◌+◌, Bool, true, false, ◌&&◌, ◌==◌, not, if◌then◌else◌, Option, Some, None, bytes_eq}
 use Rattle.std.specs.Bool.{beq}
 use Rattle.std.specs.List.{list_all}
 use Rattle.std.specs.Ordering.{nat_cmp}
@@ -45,7 +44,7 @@ abbrev pub has_all : View → View → Bool
 has_all v w = fits_all bytes_eq v.units w.units && (fits_all same_number v.lengths w.lengths
     && (fits_all fits_form v.forms w.forms && (fits_all same_number v.frozen w.frozen
     && (fits_all same_number v.slots w.slots
-        && (fits_all same_number v.own_ids w.own_ids && fits_all same_number v.own_words w.own_words)))))
+    && (fits_all same_number v.own_ids w.own_ids && fits_all same_number v.own_words w.own_words)))))
 
 abbrev pub agree : View → View → Bool
 agree v b = has_all v (joined v b) && has_all b (joined v b)

@@ -1,6 +1,5 @@
 -- What comes next from a place on: the first token, the end, or a fault.
-use Rattle.std.specs.Prelude.{◌≡◌, ◌⊎◌, ℕ, ◌<◌, ◌≤◌, List, [], ◌∷◌, length, Result, Ok, Err,
-    Option, Some, None}
+use Rattle.std.specs.Prelude.{◌≡◌, ◌⊎◌, ℕ, ◌<◌, ◌≤◌, List, [], ◌∷◌, length, Result, Ok, Err, Option, Some, None}
 use Rattle.std.specs.Str.{IsCharBoundary}
 use Rattle.js_lex.specs.Tokens.{Skip, TokenOf, Fault, ElementAt, Lexes, Fails}
 use Rattle.js_lex.specs.declared.token.Token.{Token}

@@ -1,11 +1,9 @@
 -- What the code reads at the front of a string literal's inside, for the contracts of private functions. No
 -- public contract cites this file.
-use Rattle.std.specs.Prelude.{ℕ, ◌+◌, ◌*◌, List, [], ◌∷◌, Option, Some, None, Bool, nat_le, ◌==◌, not, ◌&&◌,
-    ◌||◌, if◌then◌else◌}
+use Rattle.std.specs.Prelude.{ℕ, ◌+◌, ◌*◌, List, [], ◌∷◌, Option, Some, None, Bool, nat_le, ◌==◌, not, ◌&&◌, ◌||◌, if◌then◌else◌}
 use Rattle.std.specs.Str.{chars}
 use Rattle.js_units.specs.Text.{utf16_of}
-use Rattle.js_literal.specs.Literal.{hex_value, letter_unit, begins_digit, Kind, Unclosed, RawLineEnd,
-    BadEscape, CodePointTooLarge, LegacyOctal}
+use Rattle.js_literal.specs.Literal.{hex_value, letter_unit, begins_digit, Kind, Unclosed, RawLineEnd, BadEscape, CodePointTooLarge, LegacyOctal}
 use Rattle.js_literal.specs.declared.front.LiteralFront.{LiteralFront}
 use Rattle.js_literal.specs.declared.front.LiteralFront.TheVariants as code
 use Rattle.js_literal.specs.declared.front.PieceUnits.{PieceUnits}

@@ -6,3 +6,4 @@ pub mod Uses
 mod Decimals
 pub mod Lengths
 pub mod Orders
+pub mod Settled

@@ -1,5 +1,5 @@
 -- Elements whose indexes differ have one order, and `ordered` gives it.
-use Rattle.std.proofs.Common.{inl, inr, arith, ◌≡◌, ℕ, zero, suc, ◌+◌, ◌<◌, ◌≤◌, cond, true, false, Option, Some, None, List, [], ◌∷◌, ◌++◌, map, filter, length, get_or, refl, sym, ap, subst, ◌∙◌}
+use Rattle.std.proofs.Common.{inl, inr, arith, ◌≡◌, ℕ, zero, suc, ◌+◌, ◌<◌, ◌≤◌, cond, true, false, Option, Some, None, List, [], ◌∷◌, ◌++◌, map, filter, length, get_or, refl, sym, ap, subst, ◌∙◌, Bool}
 use Rattle.std.specs.Prelude.{◌⊎◌, IsSome, Contains, bytes_eq}
 use Rattle.std.specs.Option.{is_none}
 use Rattle.std.specs.List.{IsDistinct, AllByRecursion}
@@ -13,6 +13,7 @@ use Rattle.std.proofs.lemmas.Slice.Eq.{bytes_eq-Decides}
 use Rattle.std.proofs.lemmas.List.{map-id}
 use Rattle.js_object.specs.Keys.{index_of, key_index, index_in, entered, put_off, indexes, others, ordered, entries, keys_of, own_keys, unit_keys}
 use Rattle.js_store.specs.State.{State, text}
+use Rattle.js_texts.specs.Texts.{Every}
 use Rattle.js_item.specs.Contents.{Content, Fields, no_fields, field}
 use Rattle.js_item.specs.Fine.{strings_of, NoKey, KeysDiffer}
 use Rattle.js_object.specs.Json.{part_index}
@@ -285,3 +286,51 @@ module _ {F R : Type 0} (s : State F) (name : R → ℕ) where
 
   pub members_order : (fs : Fields R) (ms : List (R × Content R)) → ms ≡ ordered (index_in s name) (entries fs) → KeysDiffer (strings_of s) name fs → IsTheOrder (index_in s name) (entries fs) ms
   members_order fs ms e d = subst (IsTheOrder (index_in s name) (entries fs)) (sym e) (the_order (index_in s name) (entries fs) (members_differ fs d))
+
+  pub members_in_order : (fs : Fields R) (ms : List (R × Content R)) → ms ≡ ordered (index_in s name) (entries fs) → KeysDiffer (strings_of s) name fs → IsInOrder (index_in s name) (entries fs) ms
+  members_in_order fs ms e d = (members_order fs ms e d).in_order
+
+-- what holds of each element in the order holds of each one
+module _ {X : Type 0} (P : X → Type 0) (index : X → Option ℕ) where
+  every_from : (ys : List X) → ((x : X) → In x ys → P x) → Every P ys
+  every_from [] h = tt
+  every_from (y ∷ ys) h = (h y (inl refl), every_from ys (λ x i. h x (inr i)))
+
+  every_to : (ys : List X) → Every P ys → (x : X) → In x ys → P x
+  every_to [] h x i = absurd i
+  every_to (y ∷ ys) h x (inl e) = subst P e h.0
+  every_to (y ∷ ys) h x (inr i) = every_to ys h.1 x i
+
+  in_left : (xs ys : List X) (x : X) → In x xs → In x (xs ++ ys)
+  in_left [] ys x i = absurd i
+  in_left (z ∷ xs) ys x (inl e) = inl e
+  in_left (z ∷ xs) ys x (inr i) = inr (in_left xs ys x i)
+
+  in_right : (xs ys : List X) (x : X) → In x ys → In x (xs ++ ys)
+  in_right [] ys x i = i
+  in_right (z ∷ xs) ys x i = inr (in_right xs ys x i)
+
+  in_filter : (xs : List X) (x : X) → is_none (index x) ≡ true → In x xs → In x (filter (λ q. is_none (index q)) xs)
+  in_filter [] x e i = absurd i
+  in_filter (z ∷ xs) x e (inl f) = head (is_none (index z)) (ap (λ q. is_none (index q)) f ∙ e)
+    where
+      head : (b : Bool) → b ≡ true → In x (cond b (z ∷ filter (λ q. is_none (index q)) xs) (filter (λ q. is_none (index q)) xs))
+      head true t = inl f
+      head false t = cc
+  in_filter (z ∷ xs) x e (inr i) = pick (is_none (index z)) (in_filter xs x e i)
+    where
+      pick : (b : Bool) → In x (filter (λ q. is_none (index q)) xs) → In x (cond b (z ∷ filter (λ q. is_none (index q)) xs) (filter (λ q. is_none (index q)) xs))
+      pick true h = inr h
+      pick false h = h
+
+  split_on : (o : Option ℕ) → (is_none o ≡ true) ⊎ IsSome o
+  split_on (Some n) = inr refl
+  split_on None = inl refl
+
+  pub every_in_order : (xs ys : List X) → IsInOrder index xs ys → Every P ys → Every P xs
+  every_in_order xs ys o h =
+      let all : Every P (o.first ++ filter (λ q. is_none (index q)) xs) = subst (Every P) o.split h in
+      every_from xs (λ x i. every_to (o.first ++ filter (λ q. is_none (index q)) xs) all x (elim (split_on (index x)) [
+        | inl n ↦ in_right o.first (filter (λ q. is_none (index q)) xs) x (in_filter xs x n i)
+        | inr k ↦ in_left o.first (filter (λ q. is_none (index q)) xs) x (in_of o.first x ((o.indexed x).1 (in_contains xs x i, k)))
+      ]))

@@ -90,7 +90,7 @@ module _ {R : Type 0} (s : Strings) (name : R → ℕ) where
   entries_fine n no_fields m h = tt
   entries_fine n (field key value rest) m h = ((h.0, h.1, omega arith), entries_fine n rest (omega arith) h.2)
 
-  lent_at : (P : R × Content R → Type 0) (ms : List (Bor (Member R))) (i : ℕ) (m : Bor (Member R)) → i < length ms → m ≡ get_or ms i m → Every P (map lent_entry ms) → P (lent_entry m)
+  pub lent_at : (P : R × Content R → Type 0) (ms : List (Bor (Member R))) (i : ℕ) (m : Bor (Member R)) → i < length ms → m ≡ get_or ms i m → Every P (map lent_entry ms) → P (lent_entry m)
   lent_at P [] i m h e k = absurd (omega arith)
   lent_at P (n ∷ ms) zero m h e k = let Q : Bor (Member R) → Type 0 = λ q. P (lent_entry q) in subst Q (sym e) k.0
   lent_at P (n ∷ ms) (suc i) m h e k = lent_at P ms i m (omega arith) e k.1

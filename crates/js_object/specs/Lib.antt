@@ -4,3 +4,4 @@ pub mod Json
 pub mod Use
 pub mod Order
 pub mod Laws
+pub mod Settled

@@ -2,12 +2,13 @@
 ghost use Rattle.std.specs.Prelude.{◌≡◌, ◌++◌, ◌∷◌, [], ◌≤◌, length, OnOk, IfErr};
 ghost use Rattle.js_number.specs.Places.{IsLawful};
 ghost use Rattle.js_store.specs.State.{text as text_of};
-ghost use Rattle.js_texts.specs.Texts.{AllKnown, texts, settle_most, full_fault_of};
+ghost use Rattle.js_texts.specs.Texts.{AllKnown, AllSettled, texts, settle_most, full_fault_of};
 ghost use Rattle.js_store.specs.Faults.{Uses};
 ghost use Rattle.js_store.specs.declared.faults.StoreFault.TheVariants.{Memory};
 ghost use Rattle.js_object.specs.Use.{settle_in, settle_fields};
 ghost use Rattle.js_json.specs.Quoting.{quoted, list_text};
-ghost use Rattle.js_item.specs.Fine.{strings_of, KeyFine};
+ghost use Rattle.js_item.specs.Fine.{strings_of, KeyFine, FineOf, FineFields};
+ghost use Rattle.js_object.specs.Settled.{SettledIn, SettledFields};
 ghost use Rattle.js_object.specs.Readable.{Readable, ReadableFields};
 ghost use Rattle.js_object.specs.Json.{text_json, json_of, number_json, closed};
 ghost use Rattle.js_item.specs.Seen.{says};
@@ -33,6 +34,8 @@ pub(crate) fn append_item<S: Strings>(
     requires { Readable (strings_of (S.state store.old)) S.number (content item.now) }
     ensures added { OnOk result
         (text.new ≡ text.old ++ text_json (says (S.state store.old) S.number) (content item.now)) }
+    ensures settled { OnOk result (FineOf (strings_of (S.state store.old)) S.number (content item.now)
+        → SettledIn (S.state store.new) S.number (content item.now)) }
     ensures uses { Uses (S.state store.old) (S.state store.new) (full_fault_of result) 0
         (settle_in (S.state store.old) S.number (content item.now)) }
 {
@@ -60,6 +63,8 @@ pub(crate) fn append_object<S: Strings>(
     requires { ReadableFields (strings_of (S.state store.old)) S.number of.now }
     ensures added { OnOk result
         (text.new ≡ text.old ++ json_of (says (S.state store.old) S.number) of.now) }
+    ensures settled { OnOk result (FineFields (strings_of (S.state store.old)) S.number of.now
+        → SettledFields (S.state store.new) S.number of.now) }
     ensures uses { Uses (S.state store.old) (S.state store.new) (full_fault_of result) 0
         (settle_fields (S.state store.old) S.number of.now) }
 {
@@ -131,6 +136,7 @@ fn append_list<S: Strings>(
     requires { AllKnown (S.state store.old) S.number list.now }
     ensures added { OnOk result
         (text.new ≡ text.old ++ list_text (texts (S.state store.old) S.number list.now)) }
+    ensures settled { OnOk result (AllSettled (S.state store.new) S.number list.now) }
     ensures uses { Uses (S.state store.old) (S.state store.new) (full_fault_of result) 0
         (settle_most (S.state store.old) S.number list.now) }
 {

@@ -1,11 +1,12 @@
 // Objects as strings of JSON text.
-ghost use Rattle.std.specs.Prelude.{◌+◌, ◌*◌, length, IfOk};
+ghost use Rattle.std.specs.Prelude.{◌+◌, ◌*◌, length, IfOk, OnOk};
 ghost use Rattle.js_store.specs.State.{Has};
 ghost use Rattle.js_store.specs.Faults.{Uses};
 ghost use Rattle.js_texts.specs.Answers.{ThrowsLong, full_of};
 ghost use Rattle.js_texts.specs.Use.{made_ids, made_words};
 ghost use Rattle.js_object.specs.Use.{settle_fields};
-ghost use Rattle.js_item.specs.Fine.{strings_of, Bounded};
+ghost use Rattle.js_item.specs.Fine.{strings_of, Bounded, FineFields};
+ghost use Rattle.js_object.specs.Settled.{SettledFields};
 ghost use Rattle.js_object.specs.Readable.{ReadableFields};
 ghost use Rattle.js_object.specs.Json.{json_of};
 ghost use Rattle.js_item.specs.Seen.{says};
@@ -19,7 +20,8 @@ use js_units::Units;
 use std::alloc::Global;
 
 /// The JSON text of an object. Its length is found before anything of that size is made: of a text
-/// that is too long nothing is made.
+/// that is too long nothing is made. Where the keys of each object differ, each string of its values is
+/// settled afterwards.
 #[tactic(auto, using(crate::proofs::Readable::fields_still, crate::proofs::Texts::object_still, crate::proofs::Uses::settle_fields_still, js_texts::proofs::Lengths::made_is, js_texts::proofs::Lengths::made_id))]
 pub fn stringify<S: Strings>(
     alloc: Global,
@@ -30,6 +32,8 @@ pub fn stringify<S: Strings>(
     requires bounded { Bounded of.now }
     ensures value { IfOk result
         (λ r. Has (S.state store.new) (S.number r) (json_of (says (S.state store.old) S.number) of.now)) }
+    ensures settled { OnOk result (FineFields (strings_of (S.state store.old)) S.number of.now
+        → SettledFields (S.state store.new) S.number of.now) }
     ensures throws { ThrowsLong result (S.state store.old).limit
         (length (json_of (says (S.state store.old) S.number) of.now)) }
     ensures uses { Uses (S.state store.old) (S.state store.new) (full_of result)

@@ -9,8 +9,7 @@ use Rattle.run_sources.specs.declared.stop.ScriptsFault.{ScriptsFault}
 use Rattle.run_sources.specs.declared.stop.ScriptsFault.TheVariants as stop
 use Rattle.run_sources.specs.Program.{Name}
 use Rattle.js_run.specs.Moment.{Sinks, Ended}
-use Rattle.js_run.specs.Verdict.{Verdict, Report, Refusal, report_of, kept_of, unread_line, large_line,
-    refused_line, memory_line}
+use Rattle.js_run.specs.Verdict.{Verdict, Report, Refusal, report_of, kept_of, unread_line, large_line, refused_line, memory_line}
 use Rattle.js_run.specs.Ending.{IsEnd}
 
 abbrev pub stop_report : ScriptsFault → Report

@@ -1,7 +1,6 @@
 -- Each status by itself: when it comes, what was written then, and what is kept. All of it follows from the
 -- outcome.
-use Rattle.std.specs.Prelude.{◌≡◌, ◌⊎◌, ℕ, ◌-◌, ◌^◌, ◌≤◌, ◌<◌, List, [], ◌∷◌, ◌++◌, length,
-    Option, None, Some}
+use Rattle.std.specs.Prelude.{◌≡◌, ◌⊎◌, ℕ, ◌-◌, ◌^◌, ◌≤◌, ◌<◌, List, [], ◌∷◌, ◌++◌, length, Option, None, Some}
 use Rattle.run_sources.specs.Texts.{Named}
 use Rattle.js_io.specs.FilesState.{FilesState}
 use Rattle.js_io.specs.declared.files.TheConstants.{FILE_MAX}
@@ -23,8 +22,7 @@ use Rattle.run_program.specs.declared.ran.Ran.{Ran}
 use Rattle.run_program.specs.Ran.{IsRan, sizes_by, state_kept}
 use Rattle.js_run.specs.Asked.{AreTexts, names_of, setup_of}
 use Rattle.js_run.specs.Meant.{all_flows, status_meant, out_meant, report_meant}
-use Rattle.js_run.specs.Verdict.{WasRun, Refused, report_of, status_of, ends_of, out_of, err_of, words_line,
-    unread_line, large_line, refused_line, memory_line}
+use Rattle.js_run.specs.Verdict.{WasRun, Refused, report_of, status_of, ends_of, out_of, err_of, words_line, unread_line, large_line, refused_line, memory_line}
 use Rattle.js_run.specs.Moment.{Moment, Ended}
 use Rattle.js_run.specs.Cause.{OfTexts, names_in}
 use Rattle.js_run.specs.Ending.{TakesAll, IsTold, IsCutAtOut, IsCutAtErr, IsEnd}

@@ -1,7 +1,6 @@
 -- What code units are, and the text of a list of them (ECMA-262, "The String Type", "CodePointAt",
 -- "String.prototype.toWellFormed").
-use Rattle.std.specs.Prelude.{ℕ, ◌+◌, ◌-◌, ◌*◌, ◌/◌, ◌%◌, Bool, ◌&&◌, ◌||◌, nat_le, nat_lt, ◌==◌,
-    if◌then◌else◌, List, [], ◌∷◌, encode_utf8_all}
+use Rattle.std.specs.Prelude.{ℕ, ◌+◌, ◌-◌, ◌*◌, ◌/◌, ◌%◌, Bool, ◌&&◌, ◌||◌, nat_le, nat_lt, ◌==◌, if◌then◌else◌, List, [], ◌∷◌, encode_utf8_all}
 
 -- a leading surrogate, D800 to DBFF, and a trailing one, DC00 to DFFF
 abbrev pub is_lead : ℕ → Bool

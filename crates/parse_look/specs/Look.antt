@@ -9,11 +9,7 @@ use Rattle.parse_syntax.specs.declared.token.Word.TheVariants as word
 use Rattle.eval_tree.specs.declared.tree.Op.{Op}
 use Rattle.eval_tree.specs.declared.tree.Builtin.{Builtin}
 use Rattle.eval_tree.specs.declared.tree.Builtin.TheVariants as builtin
-use Rattle.parse_syntax.specs.Terminals.{Ident, or_op, and_op, equal_op, compare_op, sum_op, else_word,
-    if_word, string_word, symbol_word, json_word, object_word, uri_function, point, from_word,
-    symbol_function, stringify_word, keys_word, directive, let_word, const_word, print_word, for_word,
-    opening, closing, close_bracket, open_brace, close_brace, comma, semicolon, colon, question, less,
-    assign_mark, increment, nought}
+use Rattle.parse_syntax.specs.Terminals.{Ident, or_op, and_op, equal_op, compare_op, sum_op, else_word, if_word, string_word, symbol_word, json_word, object_word, uri_function, point, from_word, symbol_function, stringify_word, keys_word, directive, let_word, const_word, print_word, for_word, opening, closing, close_bracket, open_brace, close_brace, comma, semicolon, colon, question, less, assign_mark, increment, nought}
 use Rattle.parse_syntax.specs.Grammar.{pair_of}
 use Rattle.parse_look.specs.declared.look.Level.{Level}
 use Rattle.parse_look.specs.declared.look.Level.TheVariants as level

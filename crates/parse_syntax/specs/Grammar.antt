@@ -1,23 +1,15 @@
 -- The grammar of scripts, one line a production.
-use Rattle.std.specs.Prelude.{ℕ, zero, suc, Bool, true, false, List, [], ◌∷◌, ◌++◌, Option,
-    Some, None, get_or}
-use Rattle.parse_syntax.specs.Lang.{Lang, One, Then, Bind, Mapped, Nothing, Either, Many, Never,
-    if_room, ◌▸◌, ◌◂◌}
+use Rattle.std.specs.Prelude.{ℕ, zero, suc, Bool, true, false, List, [], ◌∷◌, ◌++◌, Option, Some, None, get_or}
+use Rattle.parse_syntax.specs.Lang.{Lang, One, Then, Bind, Mapped, Nothing, Either, Many, Never, if_room, ◌▸◌, ◌◂◌}
 use Rattle.parse_syntax.specs.declared.token.GrammarToken.{GrammarToken}
 use Rattle.eval_tree.specs.declared.tree.Op.{Op}
 use Rattle.eval_tree.specs.declared.tree.Method.{Method}
 use Rattle.eval_tree.specs.declared.tree.Builtin.{Builtin}
 use Rattle.eval_tree.specs.declared.tree.Builtin.TheVariants as builtin
-use Rattle.parse_syntax.specs.Terminals.{Ident, directive, let_word, const_word, print_word, if_word,
-    else_word, for_word, string_word, symbol_word, json_word, object_word, uri_function, name, the_name,
-    member_word, property_word, method, key, from_word, symbol_function, stringify_word, keys_word, opening,
-    closing, open_bracket, close_bracket, open_brace, open_literal, close_brace, comma, point, semicolon,
-    question, colon, less, assign_mark, assign_op, increment, sign, or_op, and_op, equal_op, compare_op,
-    sum_op, nought, bound_number, simple}
+use Rattle.parse_syntax.specs.Terminals.{Ident, directive, let_word, const_word, print_word, if_word, else_word, for_word, string_word, symbol_word, json_word, object_word, uri_function, name, the_name, member_word, property_word, method, key, from_word, symbol_function, stringify_word, keys_word, opening, closing, open_bracket, close_bracket, open_brace, open_literal, close_brace, comma, point, semicolon, question, colon, less, assign_mark, assign_op, increment, sign, or_op, and_op, equal_op, compare_op, sum_op, nought, bound_number, simple}
 use Rattle.parse_syntax.specs.Tables.{Tables}
 use Rattle.eval_tree.specs.Tree as tree
-use Rattle.eval_tree.specs.Tree.{ExprTree, LinkTree, StepTree, links, steps, exprs, StmtTree, BlockTree,
-    block_of, ArmTree, arms, stmts}
+use Rattle.eval_tree.specs.Tree.{ExprTree, LinkTree, StepTree, links, steps, exprs, StmtTree, BlockTree, block_of, ArmTree, arms, stmts}
 
 -- the trees of expressions
 

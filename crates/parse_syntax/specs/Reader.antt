@@ -1,6 +1,5 @@
 -- Readers: what reading from the front gives.
-use Rattle.std.specs.Prelude.{ℕ, zero, suc, List, [], ◌∷◌, ◌++◌, length, Bool, true, false, cond,
-    Option, Some, None}
+use Rattle.std.specs.Prelude.{ℕ, zero, suc, List, [], ◌∷◌, ◌++◌, length, Bool, true, false, cond, Option, Some, None}
 use Rattle.parse_syntax.specs.Lang.{first_of}
 
 -- what is wrong at a token: it can't stand there, or it could but for the limit on nesting

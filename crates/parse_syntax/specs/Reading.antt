@@ -2,23 +2,14 @@
 use Rattle.std.specs.Prelude.{ℕ, zero, suc, Bool, true, false, cond, List, [], ◌∷◌, Option, Some, None}
 use Rattle.js_lex.specs.declared.token.Mark.TheVariants as mark
 use Rattle.parse_syntax.specs.Lang.{first_of, second_of}
-use Rattle.parse_syntax.specs.Reader.{Reader, wrong, map_by, and_then, and_bind, one_of, choose, all_of,
-    succeed, opens, is_some, heads, heads_two, allowed}
+use Rattle.parse_syntax.specs.Reader.{Reader, wrong, map_by, and_then, and_bind, one_of, choose, all_of, succeed, opens, is_some, heads, heads_two, allowed}
 use Rattle.parse_syntax.specs.declared.token.GrammarToken.{GrammarToken}
 use Rattle.parse_syntax.specs.declared.token.GrammarToken.TheVariants as token
 use Rattle.eval_tree.specs.declared.tree.Op.{Op}
 use Rattle.eval_tree.specs.Tree.{ExprTree, StepTree, StmtTree, BlockTree, ArmTree, block}
 use Rattle.parse_syntax.specs.Tables.{Tables}
-use Rattle.parse_syntax.specs.Terminals.{Ident, directive, let_word, const_word, print_word, if_word,
-    else_word, for_word, string_word, symbol_word, json_word, object_word, uri_function, name, the_name,
-    member_word, property_word, method, key, from_word, symbol_function, stringify_word, keys_word, opening,
-    closing, open_bracket, close_bracket, open_brace, open_literal, close_brace, comma, point, semicolon,
-    question, colon, less, assign_mark, assign_op, increment, sign, or_op, and_op, equal_op, compare_op,
-    sum_op, nought, bound_number, simple}
-use Rattle.parse_syntax.specs.Grammar.{list_of, none_of, single_of, pair_of, index_of, method_of, object_of,
-    builtin_of, uri_of, plain_string, post_of, unary_of, link_of, chain_of, branches_of, cond_of, inside_of,
-    no_inside, print_of, arm_of, more_of, if_of, header_of, let_of, const_of, assign_of, for_of,
-    Which, Whole, Operand}
+use Rattle.parse_syntax.specs.Terminals.{Ident, directive, let_word, const_word, print_word, if_word, else_word, for_word, string_word, symbol_word, json_word, object_word, uri_function, name, the_name, member_word, property_word, method, key, from_word, symbol_function, stringify_word, keys_word, opening, closing, open_bracket, close_bracket, open_brace, open_literal, close_brace, comma, point, semicolon, question, colon, less, assign_mark, assign_op, increment, sign, or_op, and_op, equal_op, compare_op, sum_op, nought, bound_number, simple}
+use Rattle.parse_syntax.specs.Grammar.{list_of, none_of, single_of, pair_of, index_of, method_of, object_of, builtin_of, uri_of, plain_string, post_of, unary_of, link_of, chain_of, branches_of, cond_of, inside_of, no_inside, print_of, arm_of, more_of, if_of, header_of, let_of, const_of, assign_of, for_of, Which, Whole, Operand}
 
 -- expressions
 

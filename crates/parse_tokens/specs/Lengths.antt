@@ -1,7 +1,6 @@
 -- The words that can't be names, by their length, for the contracts of private functions. No public contract
 -- cites this file.
-use Rattle.std.specs.Prelude.{ℕ, Bool, true, false, List, [], ◌∷◌, ◌++◌, length, nat_eq,
-    filter, if◌then◌else◌}
+use Rattle.std.specs.Prelude.{ℕ, Bool, true, false, List, [], ◌∷◌, ◌++◌, length, nat_eq, filter, if◌then◌else◌}
 use Rattle.parse_tokens.specs.Words.{reserved_words, kept_words}
 
 -- those of n letters, in the order of the two lists

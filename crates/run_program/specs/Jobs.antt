@@ -1,6 +1,5 @@
 -- What jobs leave that were run on one heap: each outcome in its job's place, and what all did together.
-use Rattle.std.specs.Prelude.{◌≡◌, ℕ, ◌+◌, ◌<◌, ◌≤◌, List, [], ◌∷◌, ◌++◌, length, map, max, All, Contains,
-    Option, Some, None, IsSome, IsTrue}
+use Rattle.std.specs.Prelude.{◌≡◌, ℕ, ◌+◌, ◌<◌, ◌≤◌, List, [], ◌∷◌, ◌++◌, length, map, max, All, Contains, Option, Some, None, IsSome, IsTrue}
 use Rattle.std.specs.List.{concat}
 use Rattle.js_store.specs.State.{State, Has, Grows}
 use Rattle.js_store.specs.Faults.{ids_wanted, words_wanted}

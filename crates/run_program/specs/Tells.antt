@@ -15,8 +15,7 @@ use Rattle.heap_intern.specs.Counting.{different}
 use Rattle.heap_intern.specs.Sessions.{SessionFrame}
 use Rattle.heap_intern.specs.Shares.{IsWhole}
 use Rattle.run_program.specs.Jobs.{Part}
-use Rattle.run_program.specs.Fits.{FitsIds, FitsWords, FitsSlots, Fits, count_different, all_meant,
-    ids_needed, words_needed, lists_interned}
+use Rattle.run_program.specs.Fits.{FitsIds, FitsWords, FitsSlots, Fits, count_different, all_meant, ids_needed, words_needed, lists_interned}
 use Rattle.run_program.specs.Files.{RunFile, AreRun, AreFilesOf, IsAsMeant, IsOwnEnd, means_of}
 
 -- A file ended Full for ids: all ids of the heap are claimed, and the files need more.

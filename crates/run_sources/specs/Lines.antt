@@ -34,7 +34,7 @@ repeat_line a c =
 abbrev pub symbol_line : ℕ → ℕ → List ℕ
 symbol_line a b =
     codes "if (Symbol.for(w" ++ (decimal a ++ (codes " + w" ++ (decimal b ++ (codes ") === Symbol.for(w"
-        ++ (decimal b ++ (codes " + w" ++ (decimal a ++ codes ")) { n = n + 1; }\n")))))))
+    ++ (decimal b ++ (codes " + w" ++ (decimal a ++ codes ")) { n = n + 1; }\n")))))))
 
 -- `n = n + all.replaceAll(',', wA).length;`
 abbrev pub replace_line : ℕ → List ℕ

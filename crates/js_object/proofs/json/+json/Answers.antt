@@ -8,6 +8,7 @@ use Rattle.js_item.specs.Seen.{says}
 use Rattle.js_object.proofs.Readable.{readable_keys}
 use Rattle.js_object.proofs.Texts.{key_fine, item_ready, item_smaller, turn_shown, skip_turn, json_end}
 use Rattle.js_object.proofs.Uses.{key_uses, item_uses, words_shown, words_skipped, all_uses, none_told}
+use Rattle.js_object.proofs.Settled.{lent_told, lent_passed, lent_end, on_ok_always}
 use Rattle.js_object.proofs.json.+json.Goals as goal
 use Rattle.js_object.proofs.json.+json.Goals.{append_object-then-is_shown+in_ok-append_key+in_ok-append_item, append_object-else-is_shown}
 
@@ -53,6 +54,7 @@ append_object-loop-member-preserved g t c =
             ids = (words_shown a b (state w.append_key.new.store) g.S.Strings.number i.grows (grows_trans i.grows k.uses.step.grows) c.args.of.now c.requires ms order c.loop-member.member-index c.member-item.result c.loop-member-test.true c.member-item.is i.ids i.words (state w.append_item.new.store) k.uses.step v.uses.step).0;
             words = (words_shown a b (state w.append_key.new.store) g.S.Strings.number i.grows (grows_trans i.grows k.uses.step.grows) c.args.of.now c.requires ms order c.loop-member.member-index c.member-item.result c.loop-member-test.true c.member-item.is i.ids i.words (state w.append_item.new.store) k.uses.step v.uses.step).1;
             history = v.uses.history ∙ (k.uses.history ∙ i.history);
+            settled = lent_told a g.S.Strings.number c.args.of.now ms order c.loop-member.member-index c.member-item.result c.loop-member-test.true c.member-item.is b (state w.append_key.new.store) (state w.append_item.new.store) (grows_trans i.grows k.uses.step.grows) (grows_trans k.uses.step.grows v.uses.step.grows) i.settled v.settled;
           })
       | append_object-else-is_shown w ↦ rw (w.store-is, w.text-is, w.sep-is) (record {
         made = skip_turn (says a g.S.Strings.number) c.loop-member.text c.loop-member.sep ms c.loop-member.member-index c.member-item.result c.loop-member-test.true c.member-item.is (sym c.is_shown.ensures ∙ w.if-is_shown.false) ∙ i.made;
@@ -60,6 +62,7 @@ append_object-loop-member-preserved g t c =
         ids = i.ids;
         words = words_skipped a b b g.S.Strings.number i.grows i.grows c.args.of.now c.requires ms order c.loop-member.member-index c.member-item.result c.loop-member-test.true c.member-item.is i.ids i.words;
         history = i.history;
+        settled = lent_passed a g.S.Strings.number c.args.of.now ms order c.loop-member.member-index c.member-item.result c.loop-member-test.true c.member-item.is b (sym c.is_shown.ensures ∙ w.if-is_shown.false) i.settled;
       })
     ]
 
@@ -117,3 +120,10 @@ append_object-returns-clause-uses g t c =
       no_slots = tt;
       history = i.history;
     })
+
+pub append_object-returns-clause-settled : goal.append_object-returns-clause-settled
+append_object-returns-clause-settled g t c =
+    let a = g.S.Strings.state c.args.store.now in
+    let ms = c.deref-member-items.result.now in
+    let order : map lent_entry ms ≡ ordered (index_in a g.S.Strings.number) (entries c.args.of.now) = rw c.deref-member-items.ensures.value c.in_ok-members.ensures.value in
+    on_ok_always c.append_end.result _ (lent_end a g.S.Strings.number c.args.of.now ms order (g.S.Strings.state c.loop-member.store) c.loop-member.member-index c.loop-member-test.false c.loop-member.auto.member-index-end c.loop-member.invariant.settled)

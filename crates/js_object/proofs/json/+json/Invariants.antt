@@ -1,10 +1,12 @@
-use Rattle.std.proofs.Common.{◌≡◌, ◌≤◌, ◌+◌, ◌*◌, ◌++◌, drop}
+use Rattle.std.proofs.Common.{◌≡◌, ◌≤◌, ◌+◌, ◌*◌, ◌++◌, drop, take}
 use Rattle.js_store.specs.State.{Grows}
 use Rattle.js_item.specs.Contents.{count, count_in}
 use Rattle.js_item.specs.Views.{content}
 use Rattle.js_object.specs.Json.{braced}
 use Rattle.js_item.specs.Seen.{says}
 use Rattle.js_object.proofs.Texts.{lent_shown}
+use Rattle.js_item.specs.Fine.{strings_of, FineFields}
+use Rattle.js_object.proofs.Settled.{SettledLent}
 use Rattle.js_object.proofs.Uses.{lent_settle}
 use Rattle.js_object.proofs.json.+json.Given as goal
 
@@ -25,4 +27,5 @@ invariant-append_object-loop-member g l =
       ids : (state l.store).used_ids ≤ a.used_ids;
       words : (state l.store).used_words + lent_settle a g.S.Strings.number (drop l.member-index l.member-items) ≤ a.used_words + lent_settle a g.S.Strings.number l.member-items;
       history : (state l.store).history ≡ a.history;
+      settled : FineFields (strings_of a) g.S.Strings.number l.fn.of → SettledLent g.S.Strings.number (state l.store) (take l.member-index l.member-items);
     }

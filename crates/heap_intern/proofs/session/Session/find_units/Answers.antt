@@ -1,4 +1,4 @@
-use Rattle.std.proofs.Common.{◌∙◌, ℕ, true, List, [], ◌∷◌, None, Some, ap, arith}
+use Rattle.std.proofs.Common.{ℕ, true, List, [], ◌∷◌, None, ap, arith}
 use Rattle.js_header.specs.declared.form.Form.TheVariants.{Flat}
 use Rattle.js_store.specs.Limits.{limit_units}
 use Rattle.heap_rule.specs.declared.view.View.{View}

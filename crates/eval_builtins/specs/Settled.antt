@@ -1,0 +1,29 @@
+-- Which strings a call of a built-in function has read: they are settled once it gave a value.
+use Rattle.std.specs.Prelude.{ℕ, List, [], ◌∷◌}
+use Rattle.js_store.specs.State.{State, IsSettled}
+use Rattle.js_item.specs.declared.item.Item.{Item}
+use Rattle.js_item.specs.declared.item.Item.TheVariants as item
+use Rattle.js_item.specs.Views.{content}
+use Rattle.js_object.specs.Settled.{SettledIn}
+use Rattle.eval_tree.specs.declared.tree.Builtin.{Builtin}
+use Rattle.eval_tree.specs.declared.tree.Builtin.TheVariants.{String, Stringify}
+
+-- the strings of the first argument, at every level
+abbrev pub FirstSettled : {F R : Type 0} → State F → (R → ℕ) → List (Item R) → Type 0
+FirstSettled s name [] = Unit {0}
+FirstSettled s name (v ∷ vs) = SettledIn s name (content v)
+
+-- the key of a symbol that was made a string
+abbrev pub ShownSettled : {F R : Type 0} → State F → (R → ℕ) → Item R → Type 0
+ShownSettled s name (item.Symbol k) = IsSettled s (name k)
+ShownSettled s name _ = Unit {0}
+
+abbrev pub FirstShownSettled : {F R : Type 0} → State F → (R → ℕ) → List (Item R) → Type 0
+FirstShownSettled s name [] = Unit {0}
+FirstShownSettled s name (v ∷ vs) = ShownSettled s name v
+
+-- what `JSON.stringify` or `String` was given
+abbrev pub ArgumentsSettled : {F R : Type 0} → Builtin → State F → (R → ℕ) → List (Item R) → Type 0
+ArgumentsSettled Stringify s name vs = FirstSettled s name vs
+ArgumentsSettled String s name vs = FirstShownSettled s name vs
+ArgumentsSettled f s name vs = Unit {0}

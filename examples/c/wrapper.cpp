@@ -1,0 +1,97 @@
+// Each call of jsstr.hpp, and what it answers where it is refused: agents that are moved, split and joined,
+// strings made, cut, read and interned, keys in a map. throwing.cpp has the form that throws.
+#include "jsstr.hpp"
+#include <cstdio>
+#include <cstdlib>
+#include <string>
+#include <thread>
+#include <unordered_map>
+#include <vector>
+
+#define CHECK(c) do { if (!(c)) { std::printf("line %d: %s\n", __LINE__, #c); std::exit(1); } } while (0)
+
+using namespace jsstr::literals;
+using jsstr::status;
+
+static_assert(!std::is_copy_constructible_v<jsstr::agent> && !std::is_copy_assignable_v<jsstr::agent>);
+static_assert(std::is_nothrow_move_constructible_v<jsstr::agent> && std::is_nothrow_move_assignable_v<jsstr::agent>);
+static_assert(!std::is_convertible_v<jsstr_id, jsstr::string> && !std::is_convertible_v<jsstr::string, jsstr::key>);
+static_assert(std::is_convertible_v<jsstr::key, jsstr::string> && sizeof(jsstr::key) == sizeof(jsstr_id));
+static_assert(u"length"_js.units == u"length");
+
+static void makes_and_reads(jsstr::agent &agent) {
+  jsstr::string hello = agent.from(u"hello"_js).value(), world = agent.from_utf8(" w\xC3\xB6rld \xF0\x9F\x98\x80").value();
+  jsstr::string both = agent.concat(hello, world).value();
+  CHECK(agent.length(both).value() == 14);
+  CHECK(agent.units(both).value() == u"hello w\u00F6rld \U0001F600");
+  CHECK(agent.utf8(both).value() == "hello w\xC3\xB6rld \xF0\x9F\x98\x80");
+  jsstr::string lead = agent.slice(both, 12, 13).value();
+  CHECK(agent.units(lead).value() == std::u16string(1, char16_t(0xD83D)));
+  CHECK(agent.utf8(lead).value() == "\xEF\xBF\xBD");
+  CHECK(agent.utf8(agent.from(std::u16string(u"\xDC00\xD800\x20AC\xD800")).value()).value() == "\xEF\xBF\xBD\xEF\xBF\xBD\xE2\x82\xAC\xEF\xBF\xBD");
+  CHECK(agent.units(agent.from_latin1("\xE9").value()).value() == u"\u00E9");
+  CHECK(agent.length(agent.from_latin1({}).value()).value() == 0 && agent.length(agent.from(std::u16string_view()).value()).value() == 0);
+  CHECK(agent.compare(hello, world).value() > 0 && agent.compare(hello, hello).value() == 0);
+  CHECK(agent.equal(agent.slice(both, 0, 5).value(), hello).value());
+  CHECK(agent.starts_with(both, world, 5).value() && !agent.starts_with(both, world).value());
+  CHECK(agent.index_of(both, world).value() == 5u && !agent.index_of(hello, world).value());
+  CHECK(agent.last_index_of(both, hello).value() == 0u);
+  char16_t three[3];
+  CHECK(agent.read(both, 1, three, 3) && std::u16string_view(three, 3) == u"ell");
+  CHECK(agent.settle(both).value().id() == both.id());
+}
+
+static void interns(jsstr::agent &agent) {
+  std::unordered_map<jsstr::key, int> counts;
+  for (const char *word : {"one", "two", "one", "three", "one"}) counts[agent.intern(agent.from_utf8(word).value()).value()]++;
+  CHECK(counts.size() == 3 && counts[agent.intern(u"one"_js).value()] == 3);
+  CHECK(agent.intern(std::u16string_view(u"two")).value() != agent.intern(u"one"_js).value());
+}
+
+static void splits_and_joins(jsstr::agent &agent) {
+  jsstr::key name = agent.intern(u"name"_js).value();
+  std::vector<jsstr::agent> parts;
+  for (int i = 0; i < 3; i++) parts.push_back(agent.split().value());
+  CHECK(agent.share().value() == 1 && agent.totals().error().why == status::bad_argument);
+  CHECK(agent.split().error().why == status::bad_argument);
+  std::vector<std::thread> threads;
+  for (jsstr::agent &part : parts)
+    threads.emplace_back([&part, name] { CHECK(part.intern(u"name"_js).value() == name); });
+  for (std::thread &thread : threads) thread.join();
+  CHECK(parts[0].join(std::move(agent)).error().why == status::bad_argument && agent);
+  CHECK(agent.join(std::move(agent)).error().why == status::bad_argument && agent);
+  for (jsstr::agent &part : parts) {
+    CHECK(agent.join(std::move(part)));
+    CHECK(!part && part.length(name).error().why == status::bad_argument);
+    CHECK(agent.join(std::move(part)).error().why == status::bad_argument && part.join(std::move(part)).error().why == status::bad_argument);
+  }
+  CHECK(agent.share().value() == 4 && agent.totals().value().ids > 0);
+}
+
+static void refuses() {
+  CHECK(jsstr::agent::make({0, 1, 1}).error().why == status::bad_size);
+  jsstr::agent small = jsstr::agent::make({1, 1, 1}, 1, 100).value();
+  const jsstr::refusal bytes = small.from_utf8("a\xC0\x80").error();
+  CHECK(bytes.why == status::not_utf8 && bytes.at == 1 && std::string(bytes.name()) == "JSSTR_NOT_UTF8");
+  const jsstr::refusal words = small.from(u"nine units"_js).error();
+  CHECK(words.why == status::no_words && words.at == 0 && words.want == 2 && words.end == 1);
+  jsstr::string only = small.from(u"a"_js).value();
+  CHECK(small.from(u""_js).error().why == status::no_ids && small.intern(u""_js).error().why == status::no_ids);
+  CHECK(small.slice(only, 1, 0).error().why == status::bad_argument);
+  CHECK(!jsstr::string() && only && small.length(jsstr::string()).error().why == status::bad_argument);
+  CHECK(small.length(only).error().why == status::done && small.length(only).value_or(7) == 1 && small.length({}).value_or(7) == 7);
+  jsstr::agent moved = std::move(small);
+  CHECK(moved && !small && moved.length(only).value() == 1);
+  moved = jsstr::agent::make({4, 4, 4}).value();
+  CHECK(moved.length(only).error().why == status::bad_argument);
+}
+
+int main() {
+  jsstr::agent agent = jsstr::agent::make({4096, 8192, 1031}, 4).value();
+  makes_and_reads(agent);
+  interns(agent);
+  splits_and_joins(agent);
+  CHECK(agent.count_interned().value() == 4);
+  refuses();
+  std::puts("jsstr.hpp: each call answered as it should");
+}

@@ -1,0 +1,2 @@
+// What an engine costs that does nothing.
+print(1);

@@ -1,0 +1,379 @@
+// The string heap of jsstr for C++17: this header alone, over jsstr.h and libjsstr.a.
+//
+//     jsstr::agent agent = jsstr::agent::make({65536, 262144, 65537}).value();
+//     jsstr::string s = agent.from_utf8("caf\xC3\xA9").value();
+//     jsstr::key k = agent.intern(s).value();
+//
+// A call that may be refused answers a jsstr::result, which has a value or says why not, as std::expected
+// does; value() throws jsstr::failure where there is none. With JSSTR_THROW defined before this header is
+// included, such a call answers the value itself and throws. In a program that is compiled without exceptions
+// both end it by std::abort.
+//
+// What jsstr.h says of a call holds here. Each call is the form that tests its condition: where it fails, the
+// status is bad_argument, and no string and no heap has changed. This header is tested, and not proved.
+#ifndef JSSTR_HPP
+#define JSSTR_HPP
+#include "jsstr.h"
+#include <cstddef>
+#include <cstdint>
+#include <cstdlib>
+#include <functional>
+#include <memory>
+#include <new>
+#include <optional>
+#include <stdexcept>
+#include <string>
+#include <string_view>
+#include <utility>
+#include <variant>
+
+namespace jsstr {
+
+/// Why a call has no value.
+enum class status : std::uint32_t {
+  done = JSSTR_DONE,
+  no_memory = JSSTR_NO_MEMORY,
+  bad_size = JSSTR_BAD_SIZE,
+  no_ids = JSSTR_NO_IDS,
+  no_words = JSSTR_NO_WORDS,
+  no_slots = JSSTR_NO_SLOTS,
+  too_long = JSSTR_TOO_LONG,
+  none = JSSTR_NONE,
+  not_utf8 = JSSTR_NOT_UTF8,
+  bad_argument = JSSTR_BAD_ARGUMENT
+};
+
+/// A refusal: its status, and the numbers that jsstr.h gives beside it, else 0.
+struct refusal {
+  status why = status::done;
+  std::uint32_t at = 0, want = 0, end = 0;
+
+  /// The name that jsstr.h has for the status.
+  const char *name() const noexcept { return jsstr_status_name(static_cast<std::uint32_t>(why)); }
+};
+
+/// A refusal as an exception.
+class failure : public std::runtime_error {
+public:
+  explicit failure(const refusal &what) : std::runtime_error(what.name()), told(what) {}
+  const refusal &why() const noexcept { return told; }
+
+private:
+  refusal told;
+};
+
+/// A string of a heap, or none. Two strings with equal units may have different numbers, so these don't
+/// compare: agent::equal does, and keys do.
+class string {
+public:
+  constexpr string() noexcept = default;
+  constexpr explicit string(jsstr_id id) noexcept : number(id) {}
+  constexpr jsstr_id id() const noexcept { return number; }
+  constexpr explicit operator bool() const noexcept { return number != JSSTR_NO_STRING; }
+
+private:
+  jsstr_id number = JSSTR_NO_STRING;
+};
+
+/// An interned string: of all strings of its heap with equal units there is one, so keys compare by number.
+/// The order is that of numbers, which is no order of units.
+class key : public string {
+public:
+  using string::string;
+  friend constexpr bool operator==(key a, key b) noexcept { return a.id() == b.id(); }
+  friend constexpr bool operator!=(key a, key b) noexcept { return a.id() != b.id(); }
+  friend constexpr bool operator<(key a, key b) noexcept { return a.id() < b.id(); }
+};
+
+/// Units that stand in the program: u"length"_js.
+struct literal {
+  std::u16string_view units;
+};
+
+inline namespace literals {
+constexpr literal operator""_js(const char16_t *units, std::size_t count) noexcept { return {{units, count}}; }
+} // namespace literals
+
+/// How many ids, words and slots a heap has for all its life. Take a prime number of slots, at least 2.6 for
+/// each string that is to be interned.
+struct size {
+  std::uint32_t ids, words, slots;
+};
+
+/// How many ids and words were used, by all agents of a heap.
+struct use {
+  std::uint32_t ids, words;
+};
+
+/// What a call answers that has no value of its own.
+struct nothing {};
+
+// What depends on how a file is compiled has a name of its own there, so that one program may have files that
+// are compiled in either way.
+#if defined(JSSTR_THROW) && defined(__cpp_exceptions)
+inline namespace throwing {
+#elif defined(JSSTR_THROW)
+inline namespace aborting {
+#elif defined(__cpp_exceptions)
+inline namespace answering {
+#else
+inline namespace answering_or_aborting {
+#endif
+
+/// A value, or a refusal.
+template <class T> class [[nodiscard]] result {
+public:
+  result(T value) : held(std::in_place_index<0>, std::move(value)) {}
+  result(refusal why) : held(std::in_place_index<1>, why) {}
+
+  bool has_value() const noexcept { return held.index() == 0; }
+  explicit operator bool() const noexcept { return has_value(); }
+
+  /// The value; where there is none, jsstr::failure is thrown.
+  T &value() & { return has_value() ? *std::get_if<0>(&held) : fail(); }
+  const T &value() const & { return has_value() ? *std::get_if<0>(&held) : fail(); }
+  T value() && { return std::move(value()); }
+  T value_or(T other) && { return has_value() ? std::move(value()) : std::move(other); }
+
+  /// The refusal; its status is `done` where there is a value.
+  refusal error() const noexcept { return has_value() ? refusal{} : *std::get_if<1>(&held); }
+
+private:
+  std::variant<T, refusal> held;
+
+  [[noreturn]] T &fail() const {
+#if defined(__cpp_exceptions)
+    throw failure(error());
+#else
+    std::abort();
+#endif
+  }
+};
+
+#if defined(JSSTR_THROW)
+template <class T> using answer = T;
+#else
+template <class T> using answer = result<T>;
+#endif
+
+/// An agent of a heap, by which one thread at a time makes, reads and interns strings. It can be moved, also
+/// to another thread, and is never copied. Its handle has a cache line of its own, since each call writes there.
+///
+/// A string may be given to the agent that made it, to agents that were split off from that one later, and to
+/// the one into which it was joined; else the call answers bad_argument.
+class agent {
+public:
+  static constexpr std::uint32_t max_length = JSSTR_MAX_LENGTH;
+
+  /// A heap, with its first agent, which has the whole share: `agents`, 1 to 64.
+  static answer<agent> make(size of, std::uint32_t agents = 1, std::uint32_t limit = max_length) {
+    return filled([&](jsstr_agent *out) { return jsstr_make({of.ids, of.words, of.slots}, agents, limit, out); });
+  }
+
+  agent(agent &&) noexcept = default;
+  agent &operator=(agent &&) noexcept = default;
+
+  /// Whether there is an agent: not after it was moved from or joined.
+  explicit operator bool() const noexcept { return line != nullptr; }
+
+  /// An agent of the same heap with `give` of the share, which knows all that this one knows.
+  answer<agent> split(std::uint32_t give = 1) {
+    return filled([&](jsstr_agent *out) { return jsstr_split(handle(), give, out); });
+  }
+
+  /// Takes over an agent that was split off from this one, with all that it has and knows. Where it is
+  /// refused, `other` stays what it was.
+  answer<nothing> join(agent &&other) {
+    if (!line || !other.line || &other == this) return given(refused<nothing>(JSSTR_BAD_ARGUMENT));
+    const std::uint32_t code = jsstr_join(handle(), other.handle());
+    if (code == JSSTR_DONE) other.line.reset();
+    return given(done(code));
+  }
+
+  answer<std::uint32_t> share() { return given(number(jsstr_share(handle()))); }
+
+  answer<string> from(std::u16string_view units) { return given(made<string>(from_units(units))); }
+  answer<string> from(literal text) { return from(text.units); }
+  answer<string> from_latin1(std::string_view bytes) {
+    return given(made<string>(jsstr_from_latin1(handle(), data(bytes), bytes.size())));
+  }
+  answer<string> from_utf8(std::string_view bytes) {
+    return given(made<string>(jsstr_from_utf8(handle(), data(bytes), bytes.size())));
+  }
+
+  answer<string> concat(string a, string b) { return given(made<string>(jsstr_concat(handle(), a.id(), b.id()))); }
+  answer<string> slice(string s, std::uint32_t from, std::uint32_t to) {
+    return given(made<string>(jsstr_slice(handle(), s.id(), from, to)));
+  }
+  answer<string> settle(string s) { return given(made<string>(jsstr_settle(handle(), s.id()))); }
+  answer<std::uint32_t> length(string s) { return given(number(jsstr_length(handle(), s.id()))); }
+
+  /// The units of s from number `from` on, `count` of them, into `out`.
+  answer<nothing> read(string s, std::uint32_t from, char16_t *out, std::size_t count) {
+    return given(done(jsstr_read(handle(), s.id(), from, reinterpret_cast<std::uint16_t *>(out), count)));
+  }
+
+  /// All units of s.
+  answer<std::u16string> units(string s) { return given(units_of(s)); }
+
+  /// The UTF-8 of s, with U+FFFD in the place of each unpaired surrogate (String.prototype.toWellFormed).
+  answer<std::string> utf8(string s) {
+    const result<std::u16string> read = units_of(s);
+    return given(read ? result<std::string>(utf8_of(read.value())) : result<std::string>(read.error()));
+  }
+
+  /// Below 0, 0 or above 0, as the units of a come before those of b, are the same, or come after them.
+  answer<int> compare(string a, string b) {
+    const jsstr_order found = jsstr_compare(handle(), a.id(), b.id());
+    return given(found.status == JSSTR_DONE ? result<int>(found.order) : refused<int>(found.status));
+  }
+  answer<bool> equal(string a, string b) { return given(truth(jsstr_equal(handle(), a.id(), b.id()))); }
+  answer<bool> starts_with(string hay, string needle, std::uint32_t at = 0) {
+    return given(truth(jsstr_starts_with(handle(), hay.id(), needle.id(), at)));
+  }
+  answer<std::optional<std::uint32_t>> index_of(string hay, string needle, std::uint32_t from = 0) {
+    return given(place(jsstr_index_of(handle(), hay.id(), needle.id(), from)));
+  }
+  answer<std::optional<std::uint32_t>> last_index_of(string hay, string needle, std::uint32_t limit = max_length) {
+    return given(place(jsstr_last_index_of(handle(), hay.id(), needle.id(), limit)));
+  }
+
+  /// The one string of the heap's string table with the units of s.
+  answer<key> intern(string s) { return given(made<key>(jsstr_intern(handle(), s.id()))); }
+
+  /// The same of units: a string is made of them, and then interned.
+  answer<key> intern(std::u16string_view units) {
+    const jsstr_answer s = from_units(units);
+    return given(made<key>(s.status == JSSTR_DONE ? jsstr_intern(handle(), s.id) : s));
+  }
+  answer<key> intern(literal text) { return intern(text.units); }
+
+  /// What all agents used, and how many different lists of units were interned: this one must have the whole
+  /// share.
+  answer<use> totals() {
+    const jsstr_used found = jsstr_totals(handle());
+    return given(found.status == JSSTR_DONE ? result<use>(use{found.ids, found.words}) : refused<use>(found.status));
+  }
+  answer<std::uint32_t> count_interned() { return given(number(jsstr_count_interned(handle()))); }
+
+  /// The handle, for the calls of jsstr.h. It stays this agent's: don't copy, free or join it by hand.
+  jsstr_agent *handle() noexcept { return line ? &line->handle : &none(); }
+
+private:
+  struct alignas(64) owned {
+    jsstr_agent handle{};
+    owned() = default;
+    owned(const owned &) = delete;
+    owned &operator=(const owned &) = delete;
+    ~owned() {
+      if (handle.at) jsstr_free(&handle);
+    }
+  };
+  std::unique_ptr<owned> line;
+
+  explicit agent(std::unique_ptr<owned> handle) noexcept : line(std::move(handle)) {}
+
+  // A handle that is zero, with which each call answers bad_argument.
+  static jsstr_agent &none() noexcept {
+    static thread_local jsstr_agent zero{};
+    return zero;
+  }
+
+  template <class Fill> static answer<agent> filled(Fill fill) {
+    std::unique_ptr<owned> handle(new (std::nothrow) owned);
+    const std::uint32_t code = handle ? fill(&handle->handle) : std::uint32_t{JSSTR_NO_MEMORY};
+    return given(code == JSSTR_DONE ? result<agent>(agent(std::move(handle))) : refused<agent>(code));
+  }
+
+  template <class T> static answer<T> given(result<T> told) {
+#if defined(JSSTR_THROW)
+    return std::move(told).value();
+#else
+    return told;
+#endif
+  }
+
+  template <class T> static result<T> refused(std::uint32_t code) { return refusal{static_cast<status>(code)}; }
+  static result<nothing> done(std::uint32_t code) { return code == JSSTR_DONE ? result<nothing>(nothing{}) : refused<nothing>(code); }
+  template <class T> static result<T> made(const jsstr_answer &a) {
+    if (a.status == JSSTR_DONE) return T(a.id);
+    return refusal{static_cast<status>(a.status), a.at, a.want, a.end};
+  }
+  static result<std::uint32_t> number(const jsstr_number &n) {
+    return n.status == JSSTR_DONE ? result<std::uint32_t>(n.value) : refused<std::uint32_t>(n.status);
+  }
+  static result<bool> truth(const jsstr_truth &t) {
+    return t.status == JSSTR_DONE ? result<bool>(t.holds) : refused<bool>(t.status);
+  }
+  static result<std::optional<std::uint32_t>> place(const jsstr_place &p) {
+    using found = std::optional<std::uint32_t>;
+    if (p.status == JSSTR_NONE) return found();
+    return p.status == JSSTR_DONE ? result<found>(found(p.at)) : refused<found>(p.status);
+  }
+
+  // A pointer that isn't null, also where there are no units.
+  static const std::uint16_t *data(std::u16string_view units) noexcept {
+    static constexpr std::uint16_t empty = 0;
+    return units.empty() ? &empty : reinterpret_cast<const std::uint16_t *>(units.data());
+  }
+  static const std::uint8_t *data(std::string_view bytes) noexcept {
+    static constexpr std::uint8_t empty = 0;
+    return bytes.empty() ? &empty : reinterpret_cast<const std::uint8_t *>(bytes.data());
+  }
+
+  jsstr_answer from_units(std::u16string_view units) { return jsstr_from_units(handle(), data(units), units.size()); }
+
+  result<std::u16string> units_of(string s) {
+    const jsstr_number length = jsstr_length(handle(), s.id());
+    if (length.status != JSSTR_DONE) return refused<std::u16string>(length.status);
+    std::u16string read(length.value, u'\0');
+    const std::uint32_t code = jsstr_read(handle(), s.id(), 0, reinterpret_cast<std::uint16_t *>(read.data()), read.size());
+    if (code != JSSTR_DONE) return refused<std::u16string>(code);
+    return read;
+  }
+
+  static std::string utf8_of(std::u16string_view units) {
+    std::string out;
+    out.reserve(units.size());
+    for (std::size_t i = 0; i < units.size(); i++) {
+      char32_t c = units[i];
+      const bool leads = c >= 0xD800 && c < 0xDC00, is_surrogate = c >= 0xD800 && c < 0xE000;
+      if (leads && i + 1 < units.size() && units[i + 1] >= 0xDC00 && units[i + 1] < 0xE000) {
+        c = (c - 0xD800) * 0x400 + (units[++i] - 0xDC00u) + 0x10000;
+      } else if (is_surrogate) {
+        c = 0xFFFD;
+      }
+      append(out, c);
+    }
+    return out;
+  }
+
+  static void append(std::string &out, char32_t c) {
+    const auto put = [&](char32_t byte) { out.push_back(static_cast<char>(byte)); };
+    const auto tail = [&](int shift) { put(0x80 | (c >> shift & 0x3F)); };
+    if (c < 0x80) {
+      put(c);
+    } else if (c < 0x800) {
+      put(0xC0 | c >> 6);
+      tail(0);
+    } else if (c < 0x10000) {
+      put(0xE0 | c >> 12);
+      tail(6);
+      tail(0);
+    } else {
+      put(0xF0 | c >> 18);
+      tail(12);
+      tail(6);
+      tail(0);
+    }
+  }
+};
+
+} // inline namespace
+
+} // namespace jsstr
+
+template <> struct std::hash<jsstr::key> {
+  std::size_t operator()(jsstr::key k) const noexcept { return std::hash<jsstr_id>()(k.id()); }
+};
+#endif
