@@ -144,6 +144,8 @@ fn report(full: TextFull) -> JsAnswer
 pub(crate) fn of_text(answer: Result<JsStr, TextFull>) -> JsAnswer
     ensures value { result ≡ text_answer answer }
     ensures told { result.status ≢ reports.BAD_ARGUMENT }
+    ensures memory { result.status ≢ reports.NO_MEMORY }
+    ensures whole { result.status ≡ reports.DONE → result ≡ reports.done result.id }
 {
     match answer {
         Ok(s) => done(s),

@@ -6,7 +6,7 @@ ghost use Rattle.heap_rule.specs.Layout.{MAX};
 ghost use Rattle.heap_rule.specs.Maps.{Has};
 ghost use Rattle.heap_rule.specs.Views.{IsSettled};
 ghost use Rattle.heap_text.specs.declared.faults.TextFull as text_full;
-ghost use Rattle.heap_text.specs.Texts.{Told};
+ghost use Rattle.heap_text.specs.Texts.{Told, Uses};
 ghost use Rattle.heap_agents.specs.Ready.{Goes, IsReady, Knows, size_in, view_in};
 ghost use Rattle.jsstr_c.specs.Decoded.{decoded};
 ghost use Rattle.jsstr_c.specs.Handles.{IsHandle};
@@ -27,13 +27,19 @@ pub extern "C" fn jsstr_from_utf8(alloc: Global, agent: &mut JsAgent, bytes: &[u
     ensures handle { IsHandle agent.new }
     ensures bad { result.status ≡ reports.BAD_ARGUMENT
         ↔ ¬ (IsReady agent.old.at.value × (length bytes.now ≤ MAX)) }
-    ensures unchanged { result.status ≡ reports.BAD_ARGUMENT → agent.new.at.value ≡ agent.old.at.value }
+    ensures unchanged { result.status ≡ reports.BAD_ARGUMENT
+        → (result ≡ reports.bad_argument) × (agent.new.at.value ≡ agent.old.at.value) }
+    ensures memory { result.status ≡ reports.NO_MEMORY → agent.new.at.value ≡ agent.old.at.value }
+    ensures whole { result.status ≡ reports.DONE → result ≡ reports.done result.id }
     ensures goes { result.status ≢ reports.BAD_ARGUMENT → Goes agent.old.at.value agent.new.at.value }
     ensures marked { result.status ≡ reports.DONE → Knows agent.new.at.value result.id }
     ensures utf8 { result.status ≡ reports.DONE → IsUtf8 bytes.now }
     ensures units { result.status ≡ reports.DONE
         → Has (view_in agent.new.at.value).units result.id (decoded bytes.now) }
     ensures settled { result.status ≡ reports.DONE → IsSettled (view_in agent.new.at.value) result.id }
+    ensures used { result.status ≡ reports.DONE
+        → Uses (view_in agent.old.at.value) (view_in agent.new.at.value) 1
+        (words_over (is_wide (decoded bytes.now)) (length (decoded bytes.now))) }
     ensures malformed { ¬ (IsUtf8 bytes.now) → result.status ≢ reports.BAD_ARGUMENT
         → (n : ℕ) × (result ≡ reports.not_utf8 n) × IsValidUpTo bytes.now n
         × (agent.new.at.value ≡ agent.old.at.value) }

@@ -34,7 +34,9 @@ pub extern "C" fn jsstr_from_units(alloc: Global, agent: &mut JsAgent, units: &[
     ensures handle { IsHandle agent.new }
     ensures bad { result.status ≡ reports.BAD_ARGUMENT
         ↔ ¬ (IsReady agent.old.at.value × (length units.now ≤ MAX)) }
-    ensures unchanged { result.status ≡ reports.BAD_ARGUMENT → agent.new.at.value ≡ agent.old.at.value }
+    ensures unchanged { result.status ≡ reports.BAD_ARGUMENT
+        → (result ≡ reports.bad_argument) × (agent.new.at.value ≡ agent.old.at.value) }
+    ensures whole { result.status ≡ reports.DONE → result ≡ reports.done result.id }
     ensures goes { result.status ≢ reports.BAD_ARGUMENT → Goes agent.old.at.value agent.new.at.value }
     ensures marked { result.status ≡ reports.DONE → Knows agent.new.at.value result.id }
     ensures units { result.status ≡ reports.DONE
@@ -61,12 +63,18 @@ pub extern "C" fn jsstr_from_latin1(alloc: Global, agent: &mut JsAgent, bytes: &
     ensures handle { IsHandle agent.new }
     ensures bad { result.status ≡ reports.BAD_ARGUMENT
         ↔ ¬ (IsReady agent.old.at.value × (length bytes.now ≤ MAX)) }
-    ensures unchanged { result.status ≡ reports.BAD_ARGUMENT → agent.new.at.value ≡ agent.old.at.value }
+    ensures unchanged { result.status ≡ reports.BAD_ARGUMENT
+        → (result ≡ reports.bad_argument) × (agent.new.at.value ≡ agent.old.at.value) }
+    ensures memory { result.status ≡ reports.NO_MEMORY → agent.new.at.value ≡ agent.old.at.value }
+    ensures whole { result.status ≡ reports.DONE → result ≡ reports.done result.id }
     ensures goes { result.status ≢ reports.BAD_ARGUMENT → Goes agent.old.at.value agent.new.at.value }
     ensures marked { result.status ≡ reports.DONE → Knows agent.new.at.value result.id }
     ensures units { result.status ≡ reports.DONE
         → Has (view_in agent.new.at.value).units result.id bytes.now }
     ensures settled { result.status ≡ reports.DONE → IsSettled (view_in agent.new.at.value) result.id }
+    ensures used { result.status ≡ reports.DONE
+        → Uses (view_in agent.old.at.value) (view_in agent.new.at.value) 1
+        (words_over (is_wide bytes.now) (length bytes.now)) }
     ensures refused { result.status ≢ reports.DONE → result.status ≢ reports.BAD_ARGUMENT
         → (result ≡ reports.no_memory)
         ⊎ ((f : text_full.TextFull) × (result ≡ text_report f)

@@ -1,9 +1,9 @@
 // How heaps and agents are made and given back.
-ghost use Rattle.std.specs.Prelude.{ℕ, ◌≡◌, ◌≢◌, ◌+◌, ◌≤◌, ◌<◌, None, Err};
+ghost use Rattle.std.specs.Prelude.{ℕ, ◌≡◌, ◌≢◌, ◌⊎◌, ◌+◌, ◌≤◌, ◌<◌, None, Err};
 ghost use Rattle.heap_rule.specs.Agents.{MayJoin, first_view, joined, left_after_split, right_after_split};
 ghost use Rattle.heap_rule.specs.Layout.{MAX};
 ghost use Rattle.heap_table.specs.MayMake.{MayMake};
-ghost use Rattle.heap_agents.specs.Ready.{HasInterned, IsBeside, IsReady, Knows, MarksStay, giver_in, number_in, share_in, view_in};
+ghost use Rattle.heap_agents.specs.Ready.{HasInterned, IsBeside, IsReady, Knows, MarksStay, giver_in, limit_in, number_in, share_in, view_in};
 ghost use Rattle.jsstr_c.specs.Handles.{IsHandle};
 ghost use Rattle.jsstr_c.specs.Reports.{size_for};
 ghost use Rattle.jsstr_c.specs.Reports as reports;
@@ -29,7 +29,9 @@ pub extern "C" fn jsstr_make_unchecked(
     ensures view { result ≡ reports.DONE → view_in out.new.at.value ≡ first_view (size_for size) agents }
     ensures lawful { result ≡ reports.DONE → MayMake (size_for size) agents × (limit ≤ MAX) }
     ensures refused { result ≡ reports.BAD_SIZE → ¬ (MayMake (size_for size) agents × (limit ≤ MAX)) }
+    ensures limit { result ≡ reports.DONE → limit_in out.new.at.value ≡ limit }
     ensures unmade { result ≢ reports.DONE → out.new.at.value ≡ None }
+    ensures statuses { (result ≡ reports.DONE) ⊎ ((result ≡ reports.BAD_SIZE) ⊎ (result ≡ reports.NO_MEMORY)) }
     ensures told { result ≢ reports.BAD_ARGUMENT }
     ensures handle { IsHandle out.old → IsHandle out.new }
 {
@@ -87,6 +89,7 @@ pub extern "C" fn jsstr_split_unchecked(
     ensures giver { result ≡ reports.DONE → giver_in out.new.at.value ≡ number_in agent.old.at.value }
     ensures out_handle { IsHandle out.old → IsHandle out.new }
     ensures told { result ≢ reports.BAD_ARGUMENT }
+    ensures statuses { (result ≡ reports.DONE) ⊎ (result ≡ reports.NO_MEMORY) }
     ensures refused { result ≢ reports.DONE
         → (agent.new.at.value ≡ agent.old.at.value) × (out.new.at.value ≡ None) }
 {

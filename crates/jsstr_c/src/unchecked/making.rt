@@ -34,6 +34,8 @@ pub extern "C" fn jsstr_from_units_unchecked(
     ensures goes { Goes agent.old.at.value agent.new.at.value }
     ensures marked { result.status ≡ reports.DONE → Knows agent.new.at.value result.id }
     ensures told { result.status ≢ reports.BAD_ARGUMENT }
+    ensures memory { result.status ≢ reports.NO_MEMORY }
+    ensures whole { result.status ≡ reports.DONE → result ≡ reports.done result.id }
     ensures units { result.status ≡ reports.DONE
         → Has (view_in agent.new.at.value).units result.id units.now }
     ensures settled { result.status ≡ reports.DONE → IsSettled (view_in agent.new.at.value) result.id }
@@ -64,21 +66,31 @@ pub extern "C" fn jsstr_from_latin1_unchecked(
     ensures goes { Goes agent.old.at.value agent.new.at.value }
     ensures marked { result.status ≡ reports.DONE → Knows agent.new.at.value result.id }
     ensures told { result.status ≢ reports.BAD_ARGUMENT }
+    ensures unchanged { result.status ≡ reports.NO_MEMORY → agent.new.at.value ≡ agent.old.at.value }
+    ensures whole { result.status ≡ reports.DONE → result ≡ reports.done result.id }
     ensures units { result.status ≡ reports.DONE
         → Has (view_in agent.new.at.value).units result.id bytes.now }
     ensures settled { result.status ≡ reports.DONE → IsSettled (view_in agent.new.at.value) result.id }
+    ensures used { result.status ≡ reports.DONE
+        → Uses (view_in agent.old.at.value) (view_in agent.new.at.value) 1
+        (words_over (is_wide bytes.now) (length bytes.now)) }
     ensures refused { result.status ≢ reports.DONE → (result ≡ reports.no_memory)
         ⊎ ((f : text_full.TextFull) × (result ≡ text_report f)
         × Told (view_in agent.new.at.value) (size_in agent.old.at.value)
         (words_over (is_wide bytes.now) (length bytes.now)) f) }
 {
     let mut held = agent.take(alloc);
-    let answer = match latin1_units(alloc, bytes) {
-        Ok(units) => of_text(held.from_units(units.as_slice())),
-        Err(refusal) => refusal,
-    };
-    agent.put(held);
-    answer
+    match latin1_units(alloc, bytes) {
+        Ok(units) => {
+            let answer = held.from_units(units.as_slice());
+            agent.put(held);
+            of_text(answer)
+        }
+        Err(refusal) => {
+            agent.put(held);
+            refusal
+        }
+    }
 }
 
 /// The units of one string, and then those of another.
