@@ -18,7 +18,7 @@
 //! makes and interns these. `repeat` repeats a unit to the greatest length, which a session does by ropes
 //! alone, and settles nothing.
 //!
-//! Anything else ends with 3, and want of room or memory with 6.
+//! Anything else ends with 3, and lack of room or memory with 6.
 #![tactic(auto)]
 
 mod flat;

@@ -22,14 +22,14 @@ from_throws vs = throwing (from_row vs 0) RangeError
 abbrev pub point_out : List Val → Num → Out Num
 point_out vs n = if is_code_point n then gave n free else from_throws vs
 
--- an argument as a number, and then what is taken of it
+-- an argument as a number, and then what is used of it
 abbrev pub number_out : (Num → Out Num) → ℕ → List Val → Val → Out Num
 number_out taken at vs v = converts (from_row vs 0) (to_number at v) taken
 
 abbrev pub made : List Val → List ℕ → Out Val
 made vs u = needing (from_row vs (length u)) (text u)
 
--- a call of such a function: each argument in turn as a number, and then the string of these; no text spells a call of more
+-- a call of such a function: each argument in turn as a number, and then the string of these; no source text spells a call of more
 -- than 2^20 arguments
 abbrev pub from_numbers : (Num → Out Num) → (List Num → List ℕ) → ℕ → List Val → Out Val
 from_numbers taken units at vs =

@@ -1,4 +1,4 @@
--- Numbers that a function of the String constructor takes, by the code's names of these functions.
+-- Numbers that a function of the String constructor uses, by the code's names of these functions.
 use Rattle.std.specs.Prelude.{◌≡◌, ℕ, true, List, map}
 use Rattle.js_number.specs.declared.Num.{Num}
 use Rattle.js_number.specs.Arith.{modulo}
@@ -16,12 +16,12 @@ use Rattle.eval_values.specs.Outcome.{Out, gave, free}
 use Rattle.eval_builtins.specs.Codes.{point_out, from_numbers}
 use Rattle.eval_values.specs.Ran.{Did}
 
--- a number that a function of the String constructor takes
+-- a number that a function of the String constructor uses
 abbrev pub IsFor : Codes → Num → Type 0
 IsFor CharCodes n = IsLawful n
 IsFor CodePoints n = is_code_point n ≡ true
 
--- what is taken of a number, and the units of the numbers
+-- what is used of a number, and the units of the numbers
 abbrev pub taken_of : Codes → List Val → Num → Out Num
 taken_of CharCodes vs n = gave n free
 taken_of CodePoints vs n = point_out vs n
@@ -33,7 +33,7 @@ units_of CodePoints ns = code_units_of ns
 abbrev pub codes_call : Codes → ℕ → List Val → Out Val
 codes_call which at vs = from_numbers (taken_of which vs) (units_of which) at vs
 
--- numbers that a function of the String constructor takes
+-- numbers that a function of the String constructor uses
 abbrev pub GivesNumber : {F : Type 0} → State F → State F → Codes → Result Num Stop → Out Num → Type 0
 GivesNumber a b which r o = Did a b (λ s n. n) (λ s n. IsFor which n) r o
 

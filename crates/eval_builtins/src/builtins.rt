@@ -19,7 +19,7 @@ use js_store::Strings;
 use std::alloc::Global;
 
 /// A call of a built-in function with all its arguments; `at` is the byte offset of its first
-/// word.
+/// identifier.
 pub fn call_builtin<S: Strings>(
     alloc: Global,
     store: &mut S,

@@ -73,7 +73,7 @@ fn numbers<S: Strings>(
     Ok(numbers)
 }
 
-// An argument as a number, where it is one that the function takes.
+// An argument as a number, where it is one that the function uses.
 fn number<S: Strings>(
     store: &mut S,
     at: u32,

@@ -13,7 +13,7 @@ use js_item::Object;
 use js_store::Strings;
 use std::alloc::Global;
 
-/// `Object.keys` with all its arguments; `at` is the byte offset of its first word.
+/// `Object.keys` with all its arguments; `at` is the byte offset of its first identifier.
 pub(crate) fn call_keys<S: Strings>(
     alloc: Global,
     store: &mut S,

@@ -2,7 +2,7 @@
 //! the String Constructor", "Properties of the Symbol Constructor", "JSON.stringify", "Object.keys",
 //! "URI Handling Functions"), over any store of strings.
 //!
-//! What each call means stands in `specs/Builtins.antt`, a line for each function, and what it
+//! What each call means is defined in `specs/Builtins.antt`, a line for each function, and what it
 //! cites.
 #![tactic(auto)]
 

@@ -76,7 +76,7 @@ fn string_of<S: Strings>(
     }
 }
 
-// The length is told before anything of that size is read or made.
+// The length is known before anything of that size is read or made.
 fn show_symbol<S: Strings>(alloc: Global, store: &mut S, key: S::Ref) -> Result<Value<S::Ref>, Stop>
     requires { IsKnown (S.state store.old) (S.number key) }
     ensures grows { Grows (S.state store.old) (S.state store.new) }

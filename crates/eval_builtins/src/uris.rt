@@ -64,7 +64,7 @@ fn uri_of<S: Strings>(
     give_uri(alloc, store, which, text)
 }
 
-// The string, of which settling takes as much as that of t units may.
+// The string, of which settling may use as much as that of t units does.
 fn give_uri<S: Strings>(
     alloc: Global,
     store: &mut S,

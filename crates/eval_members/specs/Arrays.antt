@@ -1,4 +1,4 @@
--- Elements of values, and methods that take arrays or give them.
+-- Elements of values, and methods that read arrays or give them.
 use Rattle.std.specs.Prelude.{ℕ, ◌+◌, List, [], ◌∷◌, length, Option, Some, None, if◌then◌else◌, slice_get, pos, negsuc}
 use Rattle.js_number.specs.declared.Num.{Num}
 use Rattle.js_number.specs.declared.Num.TheVariants.{Int, NaN, PosInf, NegInf}
@@ -86,7 +86,7 @@ abbrev pub join_call : ℕ → List (List ℕ) → List Val → Out Val
 join_call limit us vs = converting (parts (length us) (list_units us + all_units vs)) (separator_of limit (first_of vs)) (λ w. joined_with limit (list_units us + first_text_units vs) us w)
 
 -- a method that was called on an array, where the operands of the call have t units. The profile leaves out what arrays have
--- besides `join`, and of the other words arrays know nothing (ECMA-262, "Properties of the Array Prototype Object")
+-- besides `join`, and of the other identifiers arrays know nothing (ECMA-262, "Properties of the Array Prototype Object")
 abbrev pub list_call : Method → ℕ → ℕ → ℕ → List (List ℕ) → List Val → Out Val
 list_call Join at limit t us vs = join_call limit us vs
 list_call At at limit t us vs = refuses at

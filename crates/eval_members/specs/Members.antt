@@ -95,7 +95,7 @@ string_call Trim at limit t u vs = limited limit t (trimmed u)
 string_call TrimEnd at limit t u vs = limited limit t (trimmed_end u)
 string_call TrimStart at limit t u vs = limited limit t (trimmed_start u)
 
--- a call of a method on a value, with all its arguments, of which the method takes those that its definition names
+-- a call of a method on a value, with all its arguments, of which the method uses those that its definition names
 abbrev pub called : Method → ℕ → ℕ → Val → List Val → Out Val
 called m at limit (text u) vs = string_call m at limit (length u + all_units (operands m vs)) u (operands m vs)
 called m at limit (list us) vs = list_call m at limit (list_units us + all_units (operands m vs)) us (operands m vs)

@@ -1,4 +1,4 @@
--- The arguments that a method takes: those that its definition names; further ones are ignored.
+-- The arguments that a method uses: those that its definition names; further ones are ignored.
 use Rattle.std.specs.Prelude.{ℕ, List, length, take}
 use Rattle.eval_tree.specs.declared.tree.Method.{Method}
 use Rattle.eval_tree.specs.Methods.{most_taken}

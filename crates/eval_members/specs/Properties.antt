@@ -41,11 +41,11 @@ property at key fs = bind (key_out key) (λ k. got at k (own k fs))
 abbrev pub plain_property : List ℕ → Fields (List ℕ) → Out Val
 plain_property key fs = bind (key_out key) (λ k. needing nothing (unwrap_or (own k fs) undefined))
 
--- the same of a key that a script spells; no text spells one that is longer than a string may be
+-- the same of a key that a script spells; no source text spells one that is longer than a string may be
 abbrev pub spelled_property : ℕ → ℕ → List ℕ → Fields (List ℕ) → Out Val
 spelled_property at limit key fs = if nat_le (length key) limit then property at key fs else throwing nothing RangeError
 
--- a property of a value by a word behind a point, other than `length` and `description` ("Property Accessors")
+-- a property of a value by an identifier behind a point, other than `length` and `description` ("Property Accessors")
 abbrev pub property_of : ℕ → ℕ → List ℕ → Val → Out Val
 property_of at limit key undefined = throwing nothing TypeError
 property_of at limit key null = throwing nothing TypeError

@@ -21,7 +21,7 @@ NamesPlace place u (into n) = IsSome (place n (length u))
 NamesPlace place u (fails e) = ⊥
 
 -- The string n that a method was called on, by its units u and the arguments vs. A method that reads one unit reads the string
--- where there is such a place, and `split` where a separator is given; `concat`, `repeat` and the pads take it as it is.
+-- where there is such a place, and `split` where a separator is given; `concat`, `repeat` and the pads use it as it is.
 abbrev pub StringSettled : {F : Type 0} → Method → ℕ → State F → ℕ → List ℕ → List Val → Type 0
 StringSettled At at s n u vs = NamesPlace relative_place u (to_number at (first_of vs)) → IsSettled s n
 StringSettled CharAt at s n u vs = NamesPlace exact_place u (to_number at (first_of vs)) → IsSettled s n

@@ -140,7 +140,7 @@ fn nth<S: Strings>(_store: &S, list: &[S::Ref], place: u64) -> Value<S::Ref>
 }
 
 /// A method that was called on an array with all its arguments; `at` is the byte offset of its
-/// word.
+/// identifier.
 pub fn call_list<S: Strings>(
     alloc: Global,
     store: &mut S,

@@ -29,7 +29,7 @@ pub enum Cut {
     Substr,
 }
 
-/// A method that takes white space away.
+/// A method that trims white space.
 #[derive(Clone, Copy, Debug, PartialEq, Eq)]
 pub enum Trim {
     Both,

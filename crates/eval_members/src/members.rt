@@ -92,7 +92,7 @@ pub fn present<S: Strings>(_store: &S, value: &Value<S::Ref>) -> Result<(), Stop
     }
 }
 
-/// A method of a value, called with all its arguments; `at` is the byte offset of its word.
+/// A method of a value, called with all its arguments; `at` is the byte offset of its identifier.
 pub fn call<S: Strings>(
     alloc: Global,
     store: &mut S,

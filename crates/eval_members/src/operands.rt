@@ -1,4 +1,4 @@
-// The arguments that a method takes: those that its definition names; further ones are ignored.
+// The arguments that a method uses: those that its definition names; further ones are ignored.
 ghost use Rattle.std.specs.Prelude.{◌≡◌};
 ghost use Rattle.eval_members.specs.Operands.{operands as operands_of};
 ghost use Rattle.eval_values.specs.Seen.{all_seen, AllFine};
@@ -7,7 +7,7 @@ use eval_tree::Method;
 use eval_values::Value;
 use js_store::Strings;
 
-// The first ones of these, as many as a method takes.
+// The first ones of these, as many as a method uses.
 fn taken<T>(method: Method, args: &[T]) -> &[T]
     ensures { result.now ≡ operands_of method args.now }
 {
@@ -18,7 +18,7 @@ fn taken<T>(method: Method, args: &[T]) -> &[T]
     &args[..most]
 }
 
-// The arguments of a call that its method takes.
+// The arguments of a call that its method uses.
 #[tactic(auto, using(crate::proofs::Taken::seen_taken, crate::proofs::Taken::fine_taken))]
 pub(crate) fn operands<'a, S: Strings>(
     _store: &S,

@@ -16,8 +16,8 @@ use js_store::Strings;
 use js_texts::copied;
 use std::alloc::Global;
 
-/// The property of a value by a word behind a point, other than `length` and `description`; `at` is
-/// the byte offset of the word.
+/// The property of a value by an identifier behind a point, other than `length` and `description`; `at` is
+/// the byte offset of the identifier.
 pub fn read_property<S: Strings>(
     alloc: Global,
     store: &mut S,
@@ -260,7 +260,7 @@ fn is_inherited(key: &[u16]) -> bool
         || is_word(key, b"__lookupSetter__")
 }
 
-// Whether these are the units of a word of ASCII characters.
+// Whether these are the units of an identifier of ASCII characters.
 fn is_word(units: &[u16], word: &[u8]) -> bool
     ensures { result ≡ bytes_eq units.now word.now }
 {

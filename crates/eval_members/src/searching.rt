@@ -24,7 +24,7 @@ use js_store::Strings;
 use js_texts::MethodFault;
 use std::alloc::Global;
 
-/// A method that takes a string and a number.
+/// A method on a string and a number.
 #[derive(Clone, Copy, Debug, PartialEq, Eq)]
 pub enum Search {
     Includes,

@@ -36,7 +36,7 @@ pub fn call_split<S: Strings>(
     split_most(alloc, store, s, args, most_parts(most))
 }
 
-// How many parts are wanted at most.
+// How many parts are requested at most.
 fn most_parts(most: Option<Num>) -> u32
     requires { IfSome most IsLawful }
     ensures { result ≡ most_of most }

@@ -17,7 +17,7 @@ few = 8
 abbrev pub NoneBefore : List (List ℕ) → ℕ → ℕ → Type 0
 NoneBefore ns k i = (j : ℕ) (n : List ℕ) → few ≤ j → j < i → slice_get ns j ≡ Some n → key_of n ≡ k → ⊥
 
--- of the names before place m, those of a key stand from this place on, or there is none; the first few are
+-- of the names before place m, those of a key are from this place on, or there is none; the first few are
 -- left out
 abbrev pub StandFrom : List (List ℕ) → ℕ → ℕ → Option ℕ → Type 0
 StandFrom ns k m (Some i) = (i ≤ length ns) × NoneBefore ns k i

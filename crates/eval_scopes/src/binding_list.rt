@@ -19,7 +19,7 @@ pub struct Binding<T> {
     pub value: T,
 }
 
-/// Bindings in the order of their declarations. Contracts see them as a list. A mask tells of most names
+/// Bindings in the order of their declarations. Contracts see them as a list. A mask shows of most names
 /// that none is there. The first few are looked at one after another; behind them a name is sought from
 /// the first one on that has its key, so that thousands of names cost little.
 #[derive(Drop)]
@@ -27,7 +27,7 @@ pub struct BindingList<T> {
     // those in use, and behind them what was left in place for later ones of the same names
     all: Vec<Binding<T>>,
     used: usize,
-    // behind the first few, the place from which the names of a key stand
+    // behind the first few, the place from which the names of a key begin
     first: Index,
     mask: Mask,
 }
@@ -45,7 +45,7 @@ impl<T> Model for BindingList<T> {
 }
 
 impl<T: Drop> BindingList<T> {
-    /// No binding. It takes no memory.
+    /// No binding. It allocates nothing.
     pub fn new(alloc: Global) -> BindingList<T>
         ensures { result ≡ [] }
     {
@@ -77,7 +77,7 @@ impl<T: Drop> BindingList<T> {
         self.position_in_list(name)
     }
 
-    // The same where the mask doesn't tell.
+    // The same where the mask doesn't decide.
     #[inline(always)]
     fn position_in_list(&self, name: &Name) -> Option<usize>
         ensures { MatchOption result (bound_in (bounds_of self.now) name.now ≡ None)
@@ -126,7 +126,7 @@ impl<T: Drop> BindingList<T> {
     }
 
     /// One more binding, behind the others; unchanged on refusal. Where one of this name was left in
-    /// place, it takes no memory.
+    /// place, it allocates nothing.
     pub(crate) fn bind(&mut self, name: &Name, constant: bool, value: T) -> Result<(), NoMemory>
         ensures added { OnOk result (bounds_of self.new ≡ bounds_of self.old
             ++ record { name = name.now; constant = constant; value = value } ∷ []) }

@@ -10,8 +10,8 @@ use eval_tree::{Name, Names};
 use js_units::NoMemory;
 use std::alloc::Global;
 
-/// The blocks that were entered. Those that have a frame stand in their order, and each frame tells how
-/// many blocks without one stand right outside it.
+/// The blocks that were entered. Those that have a frame are in their order, and each frame says how
+/// many blocks without one are right outside it.
 #[derive(Drop)]
 pub struct Blocks<'a, T> {
     frames: Frames<'a, T>,
@@ -20,7 +20,7 @@ pub struct Blocks<'a, T> {
 }
 
 impl<'a, T: Drop> Blocks<'a, T> {
-    /// No block. It takes no memory.
+    /// No block. It allocates nothing.
     pub fn new(alloc: Global) -> Blocks<'a, T>
         ensures { blocks_of result ≡ [] }
     {

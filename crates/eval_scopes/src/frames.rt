@@ -1,5 +1,5 @@
 // Frames: the blocks that were entered and have one. Those that were left stay in their places, so that
-// one that is entered there later takes their memory over.
+// one that is entered there later reuses their memory.
 ghost use Rattle.std.specs.Prelude.{◌≡◌, ◌<◌, ◌≤◌, ◌+◌, ◌∷◌, [], true, false, length, map, reverse, take, unwrap_or, List, OnOk, OnErr};
 ghost use Rattle.eval_scopes.specs.Bindings.{Bound, declare, all_but_first};
 ghost use Rattle.eval_scopes.specs.Seen.{bounds_of, names_of, frame_of, outsides_of, hollows, with_hollows, stacked, put_in, InBlock, IsOnly};
@@ -12,7 +12,7 @@ use std::alloc::Global;
 use std::marker::Model;
 
 /// A block that was entered: the names that it declares, those that were evaluated, and how many blocks
-/// without a frame stand right outside it. A turn of a `for` has no names beside the one that is bound.
+/// without a frame are right outside it. A turn of a `for` has no names beside the one that is bound.
 #[derive(Drop)]
 pub struct Frame<'a, T> {
     pub names: Option<Declared<'a>>,
@@ -31,7 +31,7 @@ impl<'a, T: Drop> Frame<'a, T> {
         self.bound.clear();
     }
 
-    // The same with a turn of a `for`. Where the one before was a turn of the same name, it takes no memory.
+    // The same with a turn of a `for`. After a turn of the same name, it allocates nothing.
     fn enter_turn(&mut self, outside: usize, name: &Name, value: T) -> Result<(), NoMemory>
         ensures frame { OnOk result (frame_of self.new ≡ record {
           names = [];
@@ -81,7 +81,7 @@ impl<'a, T> Model for Frames<'a, T> {
 }
 
 impl<'a, T: Drop> Frames<'a, T> {
-    /// No frame. It takes no memory.
+    /// No frame. It allocates nothing.
     pub fn new(alloc: Global) -> Frames<'a, T>
         ensures { result ≡ [] }
     {
@@ -166,7 +166,7 @@ impl<'a, T: Drop> Frames<'a, T> {
         Ok(())
     }
 
-    // The innermost block is left: how many without a frame stand right outside it.
+    // The innermost block is left: how many without a frame are right outside it.
     pub(crate) fn leave(&mut self) -> usize
         ensures { hollows result (stacked self.new) ≡ all_but_first (stacked self.old) }
     {

@@ -17,7 +17,7 @@ use std::marker::Model;
 /// As many names are looked at one after another, before an index is asked for those behind them.
 pub(crate) const FEW: usize = 8;
 
-/// For each key the place from which names with this key stand. It is one pointer, and none as long
+/// For each key the place from which names with this key begin. It is one pointer, and null as long
 /// as no key has a place, so that a block of few names costs nothing. Contracts see the entries.
 #[derive(Drop)]
 pub struct Index {
@@ -33,7 +33,7 @@ impl Model for Index {
 }
 
 impl Index {
-    /// No key. It takes no memory.
+    /// No key. It allocates nothing.
     pub(crate) fn new() -> Index
         ensures { result ≡ [] }
     {
@@ -98,7 +98,7 @@ fn index_key(map: &mut BTreeMap<u64, usize>, key: u64, place: usize) -> Result<(
 }
 
 /// The names that a block declares. Contracts see them as a list. As in `BindingList`, those behind the first
-/// few are sought by their keys, and a mask tells of most names that they aren't there.
+/// few are sought by their keys, and a mask shows of most names that they aren't there.
 #[derive(Drop)]
 pub struct Declared<'a> {
     names: &'a Names,
@@ -119,7 +119,7 @@ impl<'a> Model for Declared<'a> {
 }
 
 impl<'a> Declared<'a> {
-    /// These names. A few of them take no memory.
+    /// These names. A few of them allocate nothing.
     pub fn new(alloc: Global, names: &'a Names) -> Result<Declared<'a>, NoMemory>
         ensures { IfOk result (λ d. d ≡ names.now) }
     {
@@ -138,7 +138,7 @@ impl<'a> Declared<'a> {
         self.has_one(name)
     }
 
-    // The same where the mask doesn't tell.
+    // The same where the mask doesn't decide.
     #[inline(always)]
     fn has_one(&self, name: &Name) -> bool
         ensures { result ≡ is_among self.now name.now }

@@ -1,7 +1,7 @@
 //! Scopes: the blocks that a script has entered, over the names of its top (ECMA-262, "Declarative
 //! Environment Records"). Values are of any type, and no store is known here.
 //!
-//! What names mean stands in `specs/Bindings.antt`.
+//! What names mean is defined in `specs/Bindings.antt`.
 #![tactic(auto)]
 
 mod binding_list;

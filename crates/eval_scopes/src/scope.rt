@@ -17,7 +17,7 @@ pub struct Scope<'a, T> {
     pub top: BindingList<T>,
 }
 
-/// Where a binding stands.
+/// Where a binding is.
 #[derive(Clone, Copy)]
 pub enum Place {
     Top { index: usize },
@@ -25,7 +25,7 @@ pub enum Place {
 }
 
 impl<'a, T: Drop> Scope<'a, T> {
-    /// Where the binding of a name stands, in the innermost block that declares it. Where there is
+    /// Where the binding of a name is, in the innermost block that declares it. Where there is
     /// none, reading or assigning the name is a ReferenceError.
     pub fn place_of(&self, name: &Name) -> Option<Place>
         ensures { MatchOption result (meant (bindings_of self.now) name.now ≡ None)

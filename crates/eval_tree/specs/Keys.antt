@@ -1,4 +1,4 @@
--- The key of a name, by which most names are told apart, and all of up to seven bytes.
+-- The key of a name, by which most names are distinguished, and all of up to seven bytes.
 use Rattle.std.specs.Prelude.{ℕ, ◌+◌, ◌*◌, ◌%◌, ◌<◌, List, [], ◌∷◌, slice_index}
 
 abbrev pub key_of : List ℕ → ℕ

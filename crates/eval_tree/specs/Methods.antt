@@ -1,4 +1,4 @@
--- The methods: their names, and how many arguments each takes.
+-- The methods: their names, and how many arguments each uses.
 use Rattle.std.specs.Prelude.{ℕ, List, codes, Option, Some, None, if◌then◌else◌}
 use Rattle.std.specs.Str.{bytes_eq}
 use Rattle.eval_tree.specs.declared.tree.Method.{Method}
@@ -59,7 +59,7 @@ abbrev pub method_of : List ℕ → Option Method
 method_of letters = first_there (unit_method letters)
     (first_there (search_method letters) (first_there (part_method letters) (building_method letters)))
 
--- how many of n arguments a method takes at most
+-- how many of n arguments a method uses at most
 abbrev pub most_taken : Method → ℕ → ℕ
 most_taken method.Concat n = n
 most_taken method.IsWellFormed n = 0

@@ -38,7 +38,7 @@ mutual
     no_links : Links
     link : (at : ℕ) (op : Op) (right : ExprTree) (rest : Links) → Links
 
-  -- what stands behind an operand, from left to right: reads of properties, calls of methods, and indexes
+  -- what follows an operand, from left to right: reads of properties, calls of methods, and indexes
   pub data Steps : Type 0 where
     no_steps : Steps
     length_step : (rest : Steps) → Steps
@@ -174,12 +174,12 @@ mutual
   pub data BlockTree : Type 0 where
     block_of : (names : List (List ℕ)) (body : Stmts) → BlockTree
 
-  -- the statements of a block or of a script, in the order of the text
+  -- the statements of a block or of a script, in source order
   pub data Stmts : Type 0 where
     no_stmts : Stmts
     stmt : (first : StmtTree) (rest : Stmts) → Stmts
 
-  -- the conditions of an if statement in the order of the text, each with the block that it guards
+  -- the conditions of an if statement in source order, each with the block that it guards
   pub data Arms : Type 0 where
     no_arms : Arms
     arm : (test : ExprTree) (body : BlockTree) (rest : Arms) → Arms
@@ -227,7 +227,7 @@ block_tree = fold-Block StmtTree ArmTree BlockTree stmt_layer arm_layer block_la
 abbrev pub stmts_tree : List Stmt → Stmts
 stmts_tree ss = stmts (map stmt_tree ss)
 
--- a script: its literals in the order of the text, its statements, and the names that it declares at its top
+-- a script: its literals in source order, its statements, and the names that it declares at its top
 pub record Tree : Type 0 where
   pub literals : List (List ℕ)
   pub body : Stmts

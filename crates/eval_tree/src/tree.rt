@@ -11,7 +11,7 @@ use std::marker::Model;
 ///
 /// `literals` has one entry for each string token that is no key of an object literal, in the order of
 /// the text, without the directive. In the whole tree an `at` is a byte offset in the file: that of the
-/// operator, of the word after a point, of the `[`, of the first word of a built-in call, of the `{` of an
+/// operator, of the identifier after a point, of the `[`, of the first token of a built-in call, of the `{` of an
 /// object literal, or of the name that is declared or assigned; of an `Append` that of its `+=`, and
 /// `name_at` that of its name.
 #[derive(Drop)]
@@ -126,7 +126,7 @@ pub enum Expr {
         which: Builtin,
         args: Vec<Expr>,
     },
-    /// An object literal: the units of each key and the value's expression, in the order of the text.
+    /// An object literal: the units of each key and the value's expression, in source order.
     Object {
         at: u32,
         members: Vec<(Units, Expr)>,
@@ -157,7 +157,7 @@ pub enum PostStep {
         at: u32,
         index: Expr,
     },
-    /// A read of a property by its name, of which `key` has the units; `at` is the place of the word.
+    /// A read of a property by its name, of which `key` has the units; `at` is the place of the identifier.
     Property {
         at: u32,
         key: Units,
@@ -226,7 +226,7 @@ impl Method {
         building_method(letters)
     }
 
-    /// How many of `count` arguments it takes at most: those that its definition names.
+    /// How many of `count` arguments it uses at most: those that its definition names.
     pub fn most_taken(self, count: usize) -> usize
         ensures { result ≡ methods.most_taken self count }
     {
@@ -354,7 +354,7 @@ pub enum Builtin {
 }
 
 /// A name. Contracts see it as the list of its bytes. Its key, a number that most names have alone,
-/// tells names apart before their bytes are compared, and a name of up to seven bytes has its key alone.
+/// distinguishes names before their bytes are compared, and a name of up to seven bytes has its key alone.
 #[derive(Drop)]
 pub struct Name {
     key: u64,
@@ -458,7 +458,7 @@ impl Model for Names {
 }
 
 impl Names {
-    /// No name. It takes no memory.
+    /// No name. It allocates nothing.
     pub fn new(alloc: Global) -> Names
         ensures { result ≡ [] }
     {

@@ -27,7 +27,7 @@ abbrev pub some_number : Converted Num → Converted (Option Num)
 some_number (into n) = into (Some n)
 some_number (fails e) = fails e
 
--- a number, where undefined is none: an end or a count that isn't told
+-- a number, where undefined is none: an end or a count that isn't given
 abbrev pub end_in : ℕ → Val → Converted (Option Num)
 end_in at undefined = into None
 end_in at null = some_number (to_number at null)

@@ -29,7 +29,7 @@ GivesTexts name a b r o = Did a b (λ s v. texts_seen s name v.items) (λ s v. A
 abbrev pub Tells : {F A : Type 0} → State F → State F → Result A Stop → Out A → Type 0
 Tells a b r o = Did a b (λ s v. v) (λ s v. Unit {0}) r o
 
--- what settling the strings of values takes at most
+-- what settling the strings of values uses at most
 abbrev pub string_words : List Val → ℕ
 string_words [] = 0
 string_words (v ∷ vs) = wide_words (text_units v) + string_words vs

@@ -71,7 +71,7 @@ texts_of (symbol k) = []
 texts_of (list us) = us
 texts_of (object fs) = []
 
--- a number as it is written, or a count of elements; no text spells one past the range, and no array has as many
+-- a number as it is written, or a count of elements; no source text spells one past the range, and no array has as many
 abbrev pub number_of : ℕ → Val
 number_of n = if nat_le n 9007199254740991 then number (Int (pos n)) else undefined
 

@@ -38,7 +38,7 @@ pub record InternsSome {F : Type 0} (b : State F) (f : StoreFault) (old : List (
   pub interns : Interns old b.history done
   pub next : NextShut b f left
 
--- a part was done, and then the store refused, or memory was wanting
+-- a part was done, and then the store refused, or memory ran out
 pub record Cut {F : Type 0} (a b : State F) (f : StoreFault) (l : Ledger) : Type 0 where
   pub grows : Grows a b
   pub honest : Honest b (full_only f)

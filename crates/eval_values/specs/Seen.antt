@@ -1,4 +1,4 @@
--- What the values of the code stand for in a store, and when they may be used; of one value, `js_item` says so.
+-- What the values of the code denote in a store, and when they may be used; of one value, `js_item` says so.
 use Rattle.std.specs.Prelude.{◌≡◌, ◌⊎◌, ℕ, List, map, Option, Some, None}
 use Rattle.js_number.specs.declared.Num.{Num}
 use Rattle.js_number.specs.Places.{IsLawful}
@@ -32,7 +32,7 @@ IsWritten (item.Symbol r) n = ⊥
 IsWritten (item.List v) n = ⊥
 IsWritten (item.Object fs) n = ⊥
 
--- an end that is told is a lawful number
+-- an end that is given is a valid number
 abbrev pub LawfulEnd : Option Num → Type 0
 LawfulEnd (Some n) = IsLawful n
 LawfulEnd None = Unit {0}

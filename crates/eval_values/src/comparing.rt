@@ -20,7 +20,7 @@ use js_store::{StoreFault, Strings};
 use std::alloc::Global;
 use std::cmp::Ordering;
 
-/// `===` of two values, at the byte offset `at`. Two strings are settled, unless the store tells one
+/// `===` of two values, at the byte offset `at`. Two strings are settled, unless the store reports one
 /// number of both: then nothing is read.
 pub fn is_same<S: Strings>(
     store: &mut S,
@@ -217,7 +217,7 @@ fn same_texts<S: Strings>(store: &mut S, a: S::Ref, b: S::Ref) -> Result<bool, S
     Ok(js_search::equal(store, a, b))
 }
 
-// Whether the store tells one number of both, so that they name one string.
+// Whether the store reports one number for both, so that they name one string.
 fn is_one<S: Strings>(store: &S, a: S::Ref, b: S::Ref) -> bool
     ensures { result ≡ true → S.number a ≡ S.number b }
 {

@@ -26,7 +26,7 @@ use js_texts::MethodFault;
 use js_units::Units;
 use std::alloc::Global;
 
-/// ToString of a value. A text that is made here is settled, and short.
+/// ToString of a value. A string that is made here is settled, and short.
 pub fn to_text<S: Strings>(
     alloc: Global,
     store: &mut S,

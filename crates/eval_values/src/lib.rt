@@ -1,7 +1,7 @@
 //! The values of a script over any store of strings, their conversions (ECMA-262, "Type
 //! Conversion") and operators, and the arguments of calls.
 //!
-//! What a conversion or an operator means stands in `specs/`, on values with lists of units where
+//! What a conversion or an operator means is defined in `specs/`, on values with lists of units where
 //! the code has references into the store: `specs/Outcome.antt`, with the outcome of an evaluation
 //! and its ledger, and what cites it. `specs/Ran.antt` says when a result of the code is the outcome
 //! that is meant.

@@ -239,8 +239,8 @@ fn join_strings<S: Strings>(
     join(store, a, b)
 }
 
-// Two strings joined, unless they are longer together than a string may be. The lengths are told
-// first, so what can't be joined takes nothing of the store.
+// Two strings joined, unless they are longer together than a string may be. The lengths are added
+// first, so what can't be joined uses nothing of the store.
 fn join<S: Strings>(store: &mut S, a: S::Ref, b: S::Ref) -> Result<Value<S::Ref>, Stop>
     requires left { IsKnown (S.state store.old) (S.number a) }
     requires right { IsKnown (S.state store.old) (S.number b) }

@@ -1,4 +1,4 @@
--- What interning units that stand in no string, and looking for them in the string table, leave and answer.
+-- What interning units that are in no string, and looking for them in the string table, leave and answer.
 use Rattle.std.specs.Prelude.{◌≡◌, ℕ, List, Option, Some, None, Result, Ok, Err, IfOk, IfSome}
 use Rattle.heap_rule.specs.Maps.{Has}
 use Rattle.heap_table.specs.Known.{KeepsKnown}

@@ -58,7 +58,7 @@ Searches None _ = ⊥
 Searches (Some x) None = ⊥
 Searches (Some x) (Some y) = Searched x y
 
--- the agent may use this id: no other is answered by a call, nor taken over
+-- the agent may use this id: no other is answered by a call, nor comes from a join
 abbrev pub Knows : Option Held → ℕ → Type 0
 Knows None i = ⊥
 Knows (Some x) i = IsIn x.known i

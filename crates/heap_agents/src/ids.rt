@@ -1,4 +1,4 @@
-// A set of numbers below a bound that is told when it is made, a bit for each: what an agent of the heap
+// A set of numbers below a bound that is given when it is made, a bit for each: what an agent of the heap
 // keeps of the ids that it may use.
 ghost use Rattle.std.specs.Prelude.{◌≡◌, ◌↔◌, ◌⊎◌, ℕ, ◌<◌, IfOk, IsTrue};
 ghost use Rattle.heap_agents.specs.Sets.{Covers, IsIn};

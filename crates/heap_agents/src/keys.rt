@@ -1,4 +1,4 @@
-// Units that stand in no string: interning them, and looking for them in the string table.
+// Units that are in no string: interning them, and looking for them in the string table.
 ghost use Rattle.std.specs.Prelude.{◌≡◌, ◌≤◌, ℕ, Some, IfOk, IfSome, length};
 ghost use Rattle.heap_rule.specs.Layout.{MAX};
 ghost use Rattle.heap_rule.specs.Maps.{Has};
@@ -86,7 +86,7 @@ fn find_units_by(reader: &mut Reader, units: &[u16]) -> Option<u32>
 }
 
 impl Held {
-    /// The one string of the table with these units. No string is made first: where it stands there,
+    /// The one string of the table with these units. No string is made first: where it is there,
     /// nothing is used.
     pub fn intern_units(&mut self, units: &[u16]) -> Result<u32, TableFull>
         requires held { IsHeld self.old }
@@ -98,7 +98,7 @@ impl Held {
         Ok(id)
     }
 
-    /// The one string of the table with these units, if it stands there. It uses nothing, also on a
+    /// The one string of the table with these units, if it is there. It uses nothing, also on a
     /// full heap.
     pub fn find_units(&mut self, units: &[u16]) -> Option<u32>
         requires held { IsHeld self.old }

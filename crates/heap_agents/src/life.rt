@@ -230,7 +230,7 @@ impl Held {
         self.giver
     }
 
-    /// Whether both are agents of one heap, as far as a step can tell: the agents of a heap count their
+    /// Whether both are agents of one heap, as far as a step can show: the agents of a heap count their
     /// numbers together, so that one of them sees that another one counts. Of one heap it is always true.
     pub fn counts_with(&self, other: &Held) -> bool {
         let before = other.numbers.load(Ordering::SeqCst);

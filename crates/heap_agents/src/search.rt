@@ -142,7 +142,7 @@ impl Held {
         equal(&mut self.member, a, b)
     }
 
-    /// Whether the units of `needle` stand in `hay` at place `at`, both settled.
+    /// Whether the units of `needle` occur in `hay` at place `at`, both settled.
     pub fn starts_with(&mut self, hay: JsStr, needle: JsStr, at: u32) -> bool
         requires held { IsHeld self.old }
         requires left { IsReadable (view_by self.old) hay.id }
@@ -158,7 +158,7 @@ impl Held {
         starts_with(&mut self.member, hay, needle, at)
     }
 
-    /// The least place at or after `from` at which `needle` stands in `hay`, both settled.
+    /// The least place at or after `from` at which `needle` occurs in `hay`, both settled.
     pub fn index_of(&mut self, hay: JsStr, needle: JsStr, from: u32) -> Option<u32>
         requires held { IsHeld self.old }
         requires left { IsReadable (view_by self.old) hay.id }
@@ -175,7 +175,7 @@ impl Held {
         index_of(&mut self.member, hay, needle, from)
     }
 
-    /// The greatest place at most `limit` at which `needle` stands in `hay`, both settled.
+    /// The greatest place at most `limit` at which `needle` occurs in `hay`, both settled.
     pub fn last_index_of(&mut self, hay: JsStr, needle: JsStr, limit: u32) -> Option<u32>
         requires held { IsHeld self.old }
         requires left { IsReadable (view_by self.old) hay.id }

@@ -16,7 +16,7 @@ use heap_read::Window;
 use heap_text::{JsStr, Text};
 use js_units::{word_and_lane, words_for};
 
-/// How the words of a string show its units: unit i stands `lane + i` lanes behind the lowest lane of
+/// How the words of a string show its units: unit i is `lane + i` lanes behind the lowest lane of
 /// word number 0, a word has 4 lanes where it is wide and else 8, and the string has `len` units. `count`
 /// words were given.
 #[derive(Clone, Copy)]
@@ -93,7 +93,7 @@ pub(crate) fn show(member: &mut HeapAgent, s: JsStr, at: u32, into: &mut [u64]) 
 
 impl Held {
     /// The content words of a settled string from word number `at` on, as many as there are and as there
-    /// is room for, and where its units stand in them, by loads alone.
+    /// is room for, and where its units are in them, by loads alone.
     pub fn window(&mut self, s: JsStr, at: u32, into: &mut [u64]) -> Shown
         requires held { IsHeld self.old }
         requires known { HasKey (view_by self.old).units s.id }

@@ -71,7 +71,7 @@ header_at z i true = length_at z i
 header_at z i false = form_at z i
 
 module _ (s : Core) where
-  -- splitting: `give` of the share goes to a new agent, whose view stands at the end
+  -- splitting: `give` of the share goes to a new agent, whose view is at the end
   abbrev pub CanSplit : ℕ → ℕ → Type 0
   CanSplit j give = LiveAt s j (λ v. (1 ≤ give) × (give < v.share))
 
@@ -121,7 +121,7 @@ module _ (s : Core) where
   CanMove j i P F names =
       LiveAt s j (λ v. P v × MayLearn (F v (slice_index s.words (form_at s.size i))) names)
 
-  -- the machine after that compare-exchange: it leaves the new word where the old one stood, and any other as
+  -- the machine after that compare-exchange: it leaves the new word where the old one was, and any other as
   -- it is
   abbrev pub after_move : ℕ → ℕ → form.Form → form.Form → (View → ℕ → View) → List ℕ → Core
   after_move j i old new F names =
@@ -202,7 +202,7 @@ after s (Thin j i old t names) = after_thin s j i old t names.items
 after s (LoadSlot j k entry names) = after_load_slot s j k entry names.items
 after s (TakeSlot j k i names) = after_take_slot s j k i names.items
 
--- the word that an event finds, which is the one that stood there before it: for splitting and joining the
+-- the word that an event finds, which is the one that was there before it: for splitting and joining the
 -- number in word 0; a making finds none, and its answer is 0
 abbrev pub place_of : HeapSize → Event → ℕ
 place_of z (LoadCounter j k) = counter_at k
@@ -218,7 +218,7 @@ place_of z (LoadSlot j k entry names) = slot_at z k
 place_of z (TakeSlot j k i names) = slot_at z k
 place_of z _ = 0
 
--- the word that stood there before the event, and 0 for a making
+-- the word that was there before the event, and 0 for a making
 abbrev pub found : Core → Event → ℕ
 found s (Make z agents) = 0
 found s e = slice_index s.words (place_of s.size e)
@@ -236,7 +236,7 @@ abbrev pub Became : Core → Core → ℕ → Core → Result ℕ NoMemory → T
 Became s a x t (Ok y) = (t ≡ a) × (y ≡ x)
 Became s a x t (Err e) = t ≡ s
 
--- an event that is enabled was made, or memory was wanting and nothing changed
+-- an event that is enabled was made, or memory ran out and nothing changed
 abbrev pub Made : Core → Event → Core → Result ℕ NoMemory → Type 0
 Made s e t r = Became s (after s e) (found s e) t r
 

@@ -20,7 +20,7 @@ impl Machine {
     ghost use Rattle.heap_core.specs.Core.{core_of};
     ghost use Rattle.heap_core.specs.Events.{HasNoHeap, LiveAt, view_at, looked, stored};
 
-    /// No heap yet. It takes no memory.
+    /// No heap yet. It allocates nothing.
     pub(crate) fn new(alloc: Global) -> Machine
         ensures { HasNoHeap (core_of result) }
     {
@@ -36,7 +36,7 @@ impl Machine {
         }
     }
 
-    /// Whose memory the words and the views take.
+    /// The allocator of the words and the views.
     pub(crate) fn alloc(&self) -> Global {
         *self.words.allocator()
     }

@@ -36,7 +36,7 @@ impl Model for CoreState {
 }
 
 impl CoreState {
-    /// A machine without a heap. It takes no memory.
+    /// A machine without a heap. It allocates nothing.
     pub fn new(alloc: Global) -> CoreState
         ensures { HasNoHeap result }
     {

@@ -40,6 +40,6 @@ IsCut p f = (wide : Bool) × (offset : ℕ) × (f ≡ Sliced wide p offset)
 abbrev pub HasPart : View → ℕ → ℕ → ℕ → Bool → Type 0
 HasPart v p o n wide = (us : List ℕ) × (shown_part v p o n ≡ Some us) × IsNarrow wide us
 
--- one of two forms that come after one another stands, `old` or a later one
+-- one of two forms that come after one another is there,`old` or a later one
 abbrev pub Stays : Form → Form → Type 0
 Stays old stands = (old ≡ stands) ⊎ IsLater old stands

@@ -36,7 +36,7 @@ abbrev pub with_load : View → ℕ → View
 with_load v k =
     record v { slot_loads = insert v.slot_loads k (added_loads (unwrap_or (get v.slot_loads k) 0) 1) }
 
--- loading a slot, and claiming one, each with what is learned; x is the word that stands there
+-- loading a slot, and claiming one, each with what is learned; x is the word that is there
 abbrev pub MayLoad : View → ℕ → Option (List ℕ) → List ℕ → ℕ → Type 0
 MayLoad v k entry names x =
     (k < v.sizes.slots) × MayEnter v k entry × MayLearn (loaded_slot v k entry x) names

@@ -1,5 +1,5 @@
 // What a load adds to a view, and which units of strings follow from the view afterwards. The
-// tests take no memory, so that a load can be refused before anything changes.
+// tests allocate nothing, so that a load can be refused before anything changes.
 ghost use Rattle.std.specs.Prelude.{◌≡◌, ℕ, ◌+◌, ◌<◌, ◌^◌, ◌↔◌, IsTrue, IsSome, Some, is_some};
 ghost use Rattle.std.specs.FinMap.{get, insert, contains_key};
 ghost use Rattle.heap_rule.specs.Maps.{with_run_of};
@@ -12,7 +12,7 @@ use js_units::words_for;
 
 /// What a load adds to a view: the form or the length of a string, a frozen word, or nothing new,
 /// as a load of an own word does. `Turned` is what a compare-exchange of a header adds: the form
-/// that stands from then on, and the run of own words that is frozen by it, empty where none is.
+/// that holds from then on, and the run of own words that is frozen by it, empty where none is.
 #[derive(Clone, Copy)]
 pub enum Load {
     SeenForm {
@@ -36,7 +36,7 @@ pub enum Load {
     Own,
 }
 
-/// What the key has once `value` stands at `at`.
+/// What the key has once `value` is at `at`.
 fn get_with<X: Copy>(map: &IdMap<X>, key: u32, at: u32, value: X) -> Option<X>
     ensures { result ≡ get (insert map.now at value) key }
 {
@@ -137,7 +137,7 @@ impl Load {
         true
     }
 
-    // Whether the string `other`, by its form afterwards, tells the units of `id`.
+    // Whether the string `other`, by its form afterwards, shows the units of `id`.
     fn tells(&self, view: &View, id: u32, other: u32) -> bool
         ensures { result ≡ tells (loaded_by view.now self.now) id other
             (get (loaded_by view.now self.now).forms other) }
@@ -176,7 +176,7 @@ impl Load {
         }
     }
 
-    // Whether any string tells them.
+    // Whether any string shows them.
     fn any_tells(&self, view: &View, id: u32) -> bool
         ensures { IsTrue result ↔
             ((j : ℕ)

@@ -228,7 +228,7 @@ pub fn has_units(view: &View, id: u32, us: &[u16]) -> bool
 }
 
 /// Whether the slot may be loaded, and the units of all these strings follow from
-/// the view afterwards, whatever stands in the slot.
+/// the view afterwards, whatever is in the slot.
 pub fn may_load(view: &View, slot: u32, entry: &Option<Units>, names: &[u32]) -> bool
     requires { HasRoom view.now }
     ensures { (x : ℕ) → IsTrue result ↔ MayLoad view.now slot entry.now names.now x }
@@ -256,7 +256,7 @@ pub fn may_take(view: &View, slot: u32, id: u32, names: &[u32]) -> bool
     Load::Own.justifies_all(view, names)
 }
 
-// What stands in a slot is seen and met.
+// What is in a slot is seen and met.
 fn see(view: &mut View, slot: u32, word: u64) -> Result<(), NoMemory>
     requires { word < 2 ^ 32 }
     ensures { OnOk result (view.new ≡ with_slot view.old slot word) }

@@ -1,6 +1,6 @@
 //! The program `heap_example`: two threads make strings on one heap, and one agent reads both.
 //!
-//! It is short enough to be copied by whoever takes the heap into an engine; `docs/EMBEDDING.md`
+//! It is short enough to be copied by whoever builds the heap into an engine; `docs/EMBEDDING.md`
 //! goes through it call by call. A refusal is printed, and the program ends with 1.
 #![tactic(auto)]
 

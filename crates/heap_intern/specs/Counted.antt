@@ -22,7 +22,7 @@ abbrev pub number_of : Option JsStr → Option ℕ
 number_of (Some s) = Some s.id
 number_of None = None
 
--- An id is wanted only for a slot that was found free behind slots that were compared with the units, and so are words, but for those of a string
+-- An id is requested only for a slot that was found free behind slots that were compared with the units, and so are words, but for those of a string
 -- that had to be settled, which were refused before any slot was loaded.
 abbrev pub FoundFree : View → View → List ℕ → Option StoreFault → Type 0
 FoundFree v w us (Some (Full (Ids at want end))) = IsOpen w us
@@ -31,7 +31,7 @@ FoundFree v w us (Some (Full (Words at want end))) = IsOpen w us
     × IsNoRoom v w w.sizes us (text.Words (record { at = at; want = want; end = end })) wide)
 FoundFree v w us _ = Unit {0}
 
--- What the call used went for the header of the plan. The answer stands in the table, and a refusal is one of the string table.
+-- What the call used went for the header of the plan. The answer is in the table, and a refusal is one of the string table.
 abbrev pub LeavesBy : View → View → List ℕ → Plan → Result JsStr StoreFault → Type 0
 LeavesBy v w us plan (Ok s) = HasLeft v w us plan × StandsAt w us s.id
 LeavesBy v w us plan (Err f) = (full : TableFull) × (f ≡ fault_in_table full) × IsRefused v w us plan full

@@ -9,6 +9,6 @@ use Rattle.heap_intern.specs.Settled.{is_settled}
 abbrev pub IsRecent : View → ℕ → Type 0
 IsRecent v id = HasKey v.units id × IsTrue (is_settled (get v.forms id))
 
--- at each place stands such a number, or 0
+-- at each place is such a number, or 0
 abbrev pub AreRecent : View → List ℕ → Type 0
 AreRecent v ids = (k : ℕ) → 0 < slice_index ids k → IsRecent v (slice_index ids k)

@@ -7,7 +7,7 @@ use Rattle.heap_table.specs.declared.heap.Heap.{Heap}
 use Rattle.js_store.specs.State.{Sizes, State}
 use Rattle.heap_intern.specs.Sessions.{SessionFrame, table_of}
 
--- the sizes of a heap, as a store tells them
+-- the sizes of a heap, as a store reports them
 abbrev pub sizes_of : Heap → Sizes
 sizes_of h = record { ids = (size_of h).ids; words = (size_of h).words; slots = (size_of h).slots }
 
@@ -27,7 +27,7 @@ abbrev pub right_by : State SessionFrame → ℕ → State SessionFrame
 right_by s give = record s { used_ids = 0; used_words = 0; frame = record s.frame { share = give; seen = s.history } }
 
 -- joining b into a: two sessions of one heap with one limit; b was split off with calls that a knows by now, among which are those that a was
--- split off with, so that no call stands in the history twice
+-- split off with, so that no call is in the history twice
 pub record MayJoin (a b : State SessionFrame) : Type 0 where
   pub table : b.frame.table ≡ a.frame.table
   pub sizes : b.sizes ≡ a.sizes
@@ -53,7 +53,7 @@ pub record IsJoined (a b c : State SessionFrame) : Type 0 where
   pub limit : c.limit ≡ a.limit
   pub frame : c.frame ≡ record a.frame { share = a.frame.share + b.frame.share }
 
--- both counters were read: each stood at what was used, and the session that has used all of it
+-- both counters were read: each was what was used, and the session that has used all of it
 abbrev pub total_by : State SessionFrame → State SessionFrame
 total_by s = record s { low_ids = s.used_ids; low_words = s.used_words }
 

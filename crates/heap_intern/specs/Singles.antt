@@ -9,6 +9,6 @@ use Rattle.heap_intern.specs.Settled.{is_settled}
 abbrev pub IsSingle : View → ℕ → ℕ → Type 0
 IsSingle v unit id = Has v.units id (unit ∷ []) × IsTrue (is_settled (get v.forms id))
 
--- at the place of each unit stands such a number, or 0
+-- at the place of each unit is such a number, or 0
 abbrev pub AreSingles : View → List ℕ → Type 0
 AreSingles v ids = (unit : ℕ) → 0 < slice_index ids unit → IsSingle v unit (slice_index ids unit)

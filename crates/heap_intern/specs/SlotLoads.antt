@@ -11,7 +11,7 @@ use Rattle.heap_intern.specs.declared.table.faults.TableFull.{TableFull}
 abbrev pub loads_at : View → ℕ → ℕ
 loads_at v k = unwrap_or (get v.slot_loads k) 0
 
--- a count after n loads more, one by one; it stands still at the end of its type
+-- a count after n loads more, one by one; it stops at the end of its type
 abbrev pub counted_on : ℕ → ℕ → ℕ
 counted_on a zero = a
 counted_on a (suc n) = added_loads (counted_on a n) 1

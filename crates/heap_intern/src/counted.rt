@@ -21,8 +21,8 @@ impl<'h> Session<'h> {
     /// As `intern` of a store, and counts each load of a slot of the string table. No slot is
     /// loaded twice but the one that answers: once more after its units were compared, which
     /// enters the call in the history. The header of `s` then forwards to the answer, unless it is
-    /// a fixed Flat. The table is told to be full exactly where every slot was found used with other
-    /// units: where an id or words were wanted, a slot was found free, or none was loaded.
+    /// a fixed Flat. The table is reported full exactly where every slot was found used with other
+    /// units: where an id or words were requested, a slot was found free, or none was loaded.
     pub fn intern_counted<L: Ledger>(
         &mut self,
         s: JsStr,

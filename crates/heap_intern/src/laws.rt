@@ -5,7 +5,7 @@ ghost use Rattle.heap_intern.specs.Whole.{WholeHasAll};
 use crate::session::Session;
 
 /// A session that has the whole share used all that was ever claimed, and every interned string
-/// stands in its history.
+/// is in its history.
 pub fn whole_has_all(_session: &Session)
     ensures { WholeHasAll (state_in _session.now) }
 {}

@@ -1,4 +1,4 @@
-// The short strings that a session made lately, so that a key which is read again takes no new one.
+// The short strings that a session made lately, so that a key which is read again needs no new one.
 ghost use Rattle.std.specs.Prelude.{◌≡◌, ◌+◌, ◌<◌, ◌≤◌, length, IfSome};
 ghost use Rattle.heap_rule.specs.declared.view.View.{View};
 ghost use Rattle.heap_intern.specs.Recent.{AreRecent, IsRecent};
@@ -9,7 +9,7 @@ use js_units::hash_units;
 // An odd number whose product with another depends on all its bits in the upper ones.
 const MIX: u64 = 11400714819323198485;
 
-// Which of the places a list of units has, and what tells most other lists there from it.
+// Which of the places a list of units has, and what distinguishes it from most other lists there.
 #[derive(Clone, Copy)]
 pub(crate) struct Mark {
     pub(crate) hash: u32,

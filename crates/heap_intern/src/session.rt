@@ -17,8 +17,8 @@ use js_store::Limit;
 ///
 /// It keeps a word of each of the two strings that it read last, so that a run of reads
 /// costs few loads, the strings of single units below 256 that it made, so that such a string
-/// takes an id and a content word once, and 64 of the short strings that it made last, so that
-/// these take nothing when they are made again.
+/// uses an id and a content word once, and 64 of the short strings that it made last, so that
+/// these use nothing when they are made again.
 #[derive(Drop)]
 pub struct Session<'h> {
     pub(crate) text: Text<'h>,

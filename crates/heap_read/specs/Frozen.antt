@@ -8,7 +8,7 @@ use Rattle.heap_rule.specs.Maps.{Has, HasKey}
 use Rattle.heap_read.specs.declared.source.HeldWord.{HeldWord}
 use Rattle.heap_read.specs.declared.string.Window.{Window}
 
--- a string that is a fixed Flat: it stands in a slot, or another forwards to it
+-- a string that is a fixed Flat: it is in a slot, or another forwards to it
 abbrev pub IsFixedBy : View → ℕ → Type 0
 IsFixedBy v i = ((k : ℕ) × Has v.slots k i) ⊎ ((j : ℕ) × Has v.forms j (Thin i))
 

@@ -18,7 +18,7 @@ abbrev pub target_loads : Form → ℕ
 target_loads (Thin target) = 1
 target_loads _ = 0
 
--- n forms were loaded in between; the count stands still at the end of its type
+-- n forms were loaded in between; the count stops at the end of its type
 abbrev pub LoadsForms : View → View → ℕ → Type 0
 LoadsForms v w n = (l j : ℕ) → v.form_loads ≡ added_loads l j → w.form_loads ≡ added_loads l (j + n)
 

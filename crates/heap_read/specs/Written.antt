@@ -37,7 +37,7 @@ pub record ShowsOn (w : Window) (us : List ℕ) (i word : ℕ) : Type 0 where
   pub each : (k : ℕ) → (w.offset + i) % lane_count w.wide + k < lane_count w.wide → i + k < w.len
       → lane_of w.wide word ((w.offset + i) % lane_count w.wide + k) ≡ slice_index us (i + k)
 
--- The first `count` of these words are those of a list from word number `at` on, where unit i stands `lane + i` lanes behind the lowest lane of word
+-- The first `count` of these words are those of a list from word number `at` on, where unit i is `lane + i` lanes behind the lowest lane of word
 -- number 0.
 pub record ShowsFrom (wide : Bool) (lane : ℕ) (us : List ℕ) (at count : ℕ) (words : List ℕ) : Type 0 where
   pub each : (i : ℕ) → i < length us → at ≤ (lane + i) / lane_count wide → (lane + i) / lane_count wide < at + count

@@ -1,4 +1,4 @@
-// Lanes that are taken out of a word, put above others and changed in width, by shifts.
+// Lanes that are cut out of a word, put above others and changed in width, by shifts.
 ghost use Rattle.std.specs.Prelude.{◌≡◌, ◌↔◌, ℕ, ◌+◌, ◌-◌, ◌^◌, ◌<◌, ◌≤◌, IsTrue, true, false};
 ghost use Rattle.js_units.specs.Lanes.{lane_base, lane_count, lane_of};
 ghost use Rattle.heap_read.specs.Filling.{IsPlaced};

@@ -128,7 +128,7 @@ impl<'h> Reader<'h> {
         self.solid_window(of, form)
     }
 
-    /// A window on all units of a fixed Flat, a string that stands in a slot of the string table or to
+    /// A window on all units of a fixed Flat, a string that is in a slot of the string table or to
     /// which another forwards. No form that was seen is another one afterwards.
     pub fn fixed_window(&mut self, id: u32) -> Window
         requires met { IsKnown (view_in self.old) id }

@@ -74,7 +74,7 @@ abbrev pub sum_of_loads : Option ℕ → ℕ → ℕ
 sum_of_loads lower n = added_loads (unwrap_or lower 0) n
 
 -- joining b into v: b was split off with calls that v knows by now, and among which are those that v was
--- split off with, so that no call stands in the history twice
+-- split off with, so that no call is in the history twice
 abbrev pub MayJoin : View → View → Type 0
 MayJoin v b = (b.live ≡ true) × StartsWith b.seen v.seen × StartsWith (history v) b.seen
 

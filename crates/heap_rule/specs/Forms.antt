@@ -28,7 +28,7 @@ abbrev pub is_thin : Form → Bool
 is_thin (Thin target) = true
 is_thin _ = false
 
--- the second form may come to stand after the first: Cons, Flat not fixed, Thin; or Sliced, Thin
+-- the second form may come after the first: Cons, Flat not fixed, Thin; or Sliced, Thin
 abbrev pub is_later : Form → Form → Bool
 is_later (Cons wide left right) (Flat w start false) = true
 is_later (Cons wide left right) (Thin target) = true
@@ -36,7 +36,7 @@ is_later (Flat wide start false) (Thin target) = true
 is_later (Sliced wide parent offset) (Thin target) = true
 is_later _ _ = false
 
--- the form g may come to stand after the form f
+-- the form g may come after the form f
 abbrev pub IsLater : Form → Form → Type 0
 IsLater f g = IsTrue (is_later f g)
 

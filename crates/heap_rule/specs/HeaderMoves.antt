@@ -13,7 +13,7 @@ use Rattle.heap_rule.specs.Forms.{IsCons}
 use Rattle.heap_rule.specs.Views.{shown}
 use Rattle.heap_rule.specs.Births.{freeze_form}
 
--- the form that stands after a compare-exchange of a header; only a load meets the ids that it names
+-- the form that is there after a compare-exchange of a header; only a load meets the ids that it names
 abbrev pub seen_form : View → ℕ → Option Form → View
 seen_form v i None = v
 seen_form v i (Some f) = record v { forms = insert v.forms i f }
@@ -29,7 +29,7 @@ MayFlatten v i old (Flat wide start false) = Has v.forms i old × IsCons old × 
     × (span (shown v) wide start 0 (length us) ≡ us))
 MayFlatten v i old _ = ⊥
 
--- the compare-exchange of the form word from a Cons to a Flat: it stands and its words are frozen, or the
+-- the compare-exchange of the form word from a Cons to a Flat: it is there and its words are frozen, or the
 -- form that was found is seen
 abbrev pub flattened : View → ℕ → Form → Form → ℕ → View
 flattened v i old new x = if x == word_of old

@@ -39,7 +39,7 @@ module _ (v : View) (i : ℕ) where
       else (if right == i then split_by false (get v.units j) (get v.lengths left) else None)
   by_cons j _ = None
 
-  -- whether the string j tells them by its form
+  -- whether the string j shows them by its form
   abbrev pub tells : ℕ → Option Form → Bool
   tells j o = is_some (by_thin j o) || is_some (by_cons j o)
 
@@ -49,7 +49,7 @@ module _ (v : View) (i : ℕ) where
       if all_frozen v start (words_over wide n) then Some (span (frozen_word v) wide start 0 n) else None
   by_flat _ _ = None
 
-  -- by the first of these ways that tells, and in it by the string j with the least id
+  -- by the first of these ways that shows them, and in it by the string j with the least id
   unfoldable pub justified : Option (List ℕ)
   justified = first_some (first_in (λ j. by_thin j (get v.forms j)) (keys v.forms))
       (first_some (first_in (λ j. by_cons j (get v.forms j)) (keys v.forms))

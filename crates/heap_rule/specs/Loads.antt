@@ -21,7 +21,7 @@ abbrev pub with_form : View → ℕ → Option Form → View
 with_form v i None = v
 with_form v i (Some f) = record v { forms = insert v.forms i f; met = met_ids v.met f }
 
--- a count of loads stands still at the end of its type
+-- a count of loads stops at the end of its type
 abbrev pub added_loads : ℕ → ℕ → ℕ
 added_loads a b = min (a + b) (2 ^ 64 - 1)
 

@@ -32,7 +32,7 @@ module _ {X : Type 0} where
   with_run_of other m k zero = m
   with_run_of other m k (suc n) = with_run_of other (put_some m k (get other k)) (suc k) n
 
--- one map laid over another: what stands at a key is f of what the lower one has there and what the upper one
+-- one map laid over another: what is at a key is f of what the lower one has there and what the upper one
 -- has
 module _ {X : Type 0} (f : Option X → X → X) where
   -- the map m with f of what it has at the key k and an upper value, if there is one

@@ -38,7 +38,7 @@ module _ (v : View) (us : List ℕ) where
   other_lane wide start o = passes (λ x. not (lane_in (λ _. x) wide start o == slice_index us o))
       (get v.frozen (start + o / lane_count wide))
 
-  -- a lane of the Flat is known to be another unit than that of the list; no other form tells
+  -- a lane of the Flat is known to be another unit than that of the list; no other form shows that
   abbrev pub other_flat : Form → Bool
   other_flat Unborn = false
   other_flat (Flat wide start fixed) = any_below (other_lane wide start) (length us)

@@ -74,7 +74,7 @@ module _ (z : HeapSize) (W : List ℕ) (vs : List View) where
   -- A Cons: two born strings with smaller ids, neither empty, at least 13 units, and narrow as a Flat is.
   -- A Sliced: a born parent with a smaller id that is Flat or Thin and long enough, at least 13 units, and
   -- narrow as a Flat is.
-  -- A Thin: a fixed Flat with the same units, which stands in a slot.
+  -- A Thin: a fixed Flat with the same units, which is in a slot.
   abbrev pub Stands : ℕ → Form → Type 0
   Stands i Unborn = ⊥
   Stands i (Flat wide start fixed) =
@@ -103,7 +103,7 @@ module _ (z : HeapSize) (W : List ℕ) (vs : List View) where
     pub short : length_word z W i ≤ MAX
     pub stands : Stands i now
 
-  -- What a form that was seen still says of its string, whatever form stands by now: all that it asks of its
+  -- What a form that was seen still says of its string, whatever form is now there: all that it asks of its
   -- string and that never changes.
   -- A Flat: its words, which change no more, show the units, their lanes past the length are 0, and an empty
   -- one starts at 0.
@@ -129,7 +129,7 @@ module _ (z : HeapSize) (W : List ℕ) (vs : List View) where
   Shows i (Thin target) = IsBorn z W target × (units_of z W target ≡ units_of z W i)
       × ((wide : Bool) × (start : ℕ) × (form_of (form z W target) ≡ Some (Flat wide start true)))
 
-  -- the form that stands now is the one that was seen, or a later one
+  -- the form that is there now is the one that was seen, or a later one
   pub record KnowsForm (i : ℕ) (f : Form) : Type 0 where
     pub born : IsBorn z W i
     pub now : Form
@@ -172,7 +172,7 @@ module _ (z : HeapSize) (W : List ℕ) (vs : List View) where
   Recalls v = (u : List ℕ) (i : ℕ) → Contains (history v) (u, i)
       → ((k : ℕ) × Has v.slots k i) × (u ≡ units_of z W i)
 
-  -- each used slot stands in a call of some live view's own
+  -- each used slot is in a call of some live view's own
   abbrev pub AreEntered : Type 0
   AreEntered = (k i : ℕ) → k < z.slots → slot z W k ≡ i + 1
       → (j : ℕ) × (v : View) × (u : List ℕ) × At vs j v × (v.live ≡ true) × Contains v.mine (u, i)
@@ -216,7 +216,7 @@ abbrev pub StandsIn : View → Type 0
 StandsIn v = (z : HeapSize) × (agents : ℕ) × (W : List ℕ) × (vs : List View) × (j : ℕ) × IsSound z agents W vs
     × At vs j v × (v.live ≡ true)
 
--- all that the rule says of a live view alone: some sound state has it; which one is not told, so a value may
+-- all that the rule says of a live view alone: some sound state has it; which one is not said, so a value may
 -- keep this of its view
 abbrev pub IsPossible : View → Type 0
 IsPossible v = ∥ StandsIn v ∥₁
@@ -227,10 +227,10 @@ pub record IsWithin (v : View) : Type 0 where
   pub ids : (i : ℕ) → HasKey v.own_ids i → i < v.sizes.ids
   pub words : (c : ℕ) → HasKey v.own_words c → c < v.sizes.words
 
--- the histories of all live views, taken together, give each list of units one id and each id one list
+-- the histories of all live views, together, give each list of units one id and each id one list
 abbrev pub AreLegal : List View → Type 0
 AreLegal vs = EachLive vs (λ _ v. EachLive vs (λ _ w. Agree (history v) (history w)))
 
--- the born strings stand, whatever the views are
+-- the born strings are there, whatever the views are
 abbrev pub AreStanding : HeapSize → List ℕ → Type 0
 AreStanding z W = (vs : List View) × ((i : ℕ) → IsBorn z W i → IsStanding z W vs i)

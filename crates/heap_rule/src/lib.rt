@@ -3,7 +3,7 @@
 //! does to both, and the rule that every such step keeps.
 //!
 //! The definitions are in `specs/`, in reading order, and `docs/HEAP.md` explains them. The pure
-//! machine (`heap_core`) and the heap that threads share (`heap_table`) stand on this crate.
+//! machine (`heap_core`) and the heap that threads share (`heap_table`) build on this crate.
 #![tactic(auto)]
 
 mod maps;

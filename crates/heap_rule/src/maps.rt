@@ -30,7 +30,7 @@ impl<X> Model for IdMap<X> {
 }
 
 impl<X> IdMap<X> {
-    /// The empty map. It takes no memory.
+    /// The empty map. It allocates nothing.
     pub fn new(alloc: Global) -> Self
         ensures { result ≡ map.empty }
     {
@@ -75,7 +75,7 @@ impl<X: Drop> IdMap<X> {
         }
     }
 
-    /// Takes the key out.
+    /// Removes the key.
     pub fn remove(&mut self, key: u32)
         ensures { self.new ≡ map.remove self.old key }
     {
@@ -110,7 +110,7 @@ impl Model for History {
 }
 
 impl History {
-    /// No call. It takes no memory.
+    /// No call. It allocates nothing.
     pub fn new(alloc: Global) -> History
         ensures { result ≡ [] }
     {

@@ -112,7 +112,7 @@ fn later_form(seen: Option<&Form>, other: Form) -> Form
     }
 }
 
-// Whether the second form may come to stand after the first.
+// Whether the second form may come after the first.
 fn is_later(seen: Form, other: Form) -> bool
     ensures { result ≡ is_later seen other }
 {

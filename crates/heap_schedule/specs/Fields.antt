@@ -58,7 +58,7 @@ first_keyword (Some word) other = Some word
 abbrev pub keyword_of : List ℕ → Option Keyword
 keyword_of bs = first_keyword (shared_keyword bs) (first_keyword (own_keyword bs) (slot_keyword bs))
 
--- A number below 2^64, by its decimal text: no sign, no zero in front, and nothing else.
+-- A number below 2^64, by its decimal digits: no sign, no zero in front, and nothing else.
 abbrev pub number_of : List ℕ → Option ℕ
 number_of bs = if nat_lt (digits_value 10 bs) (2 ^ 64) && bytes_eq bs (decimal (digits_value 10 bs))
     then Some (digits_value 10 bs) else None

@@ -50,7 +50,7 @@ number_in (field.Number n) = Some n
 number_in (field.Keyword w) = None
 
 -- The number of a view, an id, a content word or a slot, or a count of such. All of these are below 2^32 - 1,
--- so a greater number, which names nothing, is taken as that one.
+-- so a greater number, which names nothing, is read as that one.
 abbrev pub place_in : Field → Option ℕ
 place_in (field.Number n) = Some (if nat_lt n 4294967295 then n else 4294967295)
 place_in (field.Keyword w) = None

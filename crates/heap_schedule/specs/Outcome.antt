@@ -1,4 +1,4 @@
--- How a call ends: why, with which status, and what each sink took.
+-- How a call ends: why, with which status, and what each sink received.
 use Rattle.std.specs.Prelude.{◌≡◌, ◌⊎◌, ℕ, ◌+◌, ◌≤◌, ◌==◌, not, if◌then◌else◌, List, [], ◌∷◌, ◌++◌, codes, decimal, length, slice_index, take, Option, None, Some}
 use Rattle.js_io.specs.Counts.{next_count}
 use Rattle.js_io.specs.declared.files.TheConstants.{FILE_MAX}
@@ -32,7 +32,7 @@ pub data Verdict : Type 0 where
 abbrev pub IsQuiet : FilesState → FilesState → Type 0
 IsQuiet old new = (new.faults ≡ old.faults) × (new.oversize ≡ old.oversize)
 
--- the file of this name was read, which isn't too large; its bytes are these where they are told
+-- the file of this name was read, which isn't too large; its bytes are these where they are reported
 pub record IsHeld (name : List ℕ) (old new : FilesState) (text : List ℕ) : Type 0 where
   pub bytes : Tells (old.held name) text
   pub small : length text ≤ FILE_MAX
@@ -54,7 +54,7 @@ HasCause words old new no_memory = (name : List ℕ) × (file_in words ≡ Some 
 HasCause words old new (was_played m ts n) = (text : List ℕ) × WasRead words old new text
     × (schedule_of text ≡ reads m ts) × WasPlayed ts (made m) n
 
--- nothing was played, and a line is told; or this was written
+-- nothing was played, and a line is reported; or this was written
 pub data Report : Type 0 where
   refusal : ℕ → List ℕ → Report
   printed : ℕ → List ℕ → List ℕ → Report
@@ -82,18 +82,18 @@ pub record Sinks : Type 0 where
 abbrev pub sinks : SinkState → SinkState → Sinks
 sinks out err = record { out = out; err = err }
 
--- the sink took all of these bytes, and no write failed
+-- the sink received all of these bytes, and no write failed
 pub record TakesAll (old new : SinkState) (bytes : List ℕ) : Type 0 where
   pub took : Takes old new bytes
   pub calm : new.faults ≡ old.faults
 
--- the sink took a prefix of these bytes, and then a write failed, the last one
+-- the sink received a prefix of these bytes, and then a write failed, the last one
 pub record TakesUntil (old new : SinkState) (bytes : List ℕ) : Type 0 where
   pub took : TakesPrefix old new bytes
   pub once : new.faults ≡ next_count old.faults
   pub counted : old.faults ≤ new.faults
 
--- out takes nothing, a line is told, and a write that fails there changes no status
+-- out receives nothing, a line is reported, and a write that fails there changes no status
 pub record IsTold (wanted : ℕ) (line : List ℕ) (code : ℕ) (old new : Sinks) : Type 0 where
   pub status : code ≡ wanted
   pub silent : TakesAll old.out new.out []
@@ -111,7 +111,7 @@ pub record IsCutAtOut (written : List ℕ) (code : ℕ) (old new : Sinks) : Type
   pub out : TakesUntil old.out new.out written
   pub err : TakesAll old.err new.err []
 
--- out took everything, a write to err failed, and nothing more was written
+-- out received everything, a write to err failed, and nothing more was written
 pub record IsCutAtErr (written told : List ℕ) (code : ℕ) (old new : Sinks) : Type 0 where
   pub status : code ≡ 7
   pub out : TakesAll old.out new.out written

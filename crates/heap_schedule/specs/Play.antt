@@ -36,7 +36,7 @@ played s (loads_slot j k entry names) = after_load_slot s j k entry names
 played s (takes_slot j k i names) = after_take_slot s j k i names
 played s (enters j k names) = after_load_slot s j k (entry_in s j k) names
 
--- the word that stood there before it
+-- the word that was there before it
 abbrev pub word_for : Core → Turn → ℕ
 word_for s (plain e) = found s e
 word_for s (loads_header j i len names) = slice_index s.words (header_at s.size i len)

@@ -28,7 +28,7 @@ abbrev pub turn_then : ℕ → Option Turn → Lines → Lines
 turn_then k None rest = refused k
 turn_then k (Some t) rest = onto t rest
 
--- what stands behind the last LF is a line without an end, and there is to be none
+-- what follows the last LF is a line without an end, and there is to be none
 abbrev pub open_line : ℕ → List ℕ → Lines
 open_line k [] = turns []
 open_line k (c ∷ cs) = refused k

@@ -142,7 +142,7 @@ fn keyword_of(bytes: &[u8]) -> Option<Keyword>
     slot_keyword(bytes)
 }
 
-// The number whose decimal text this is.
+// The number whose decimal digits this is.
 fn number_of(bytes: &[u8]) -> Option<u64>
     ensures { result ≡ number_of bytes.now }
 {
@@ -173,7 +173,7 @@ fn field_of(bytes: &[u8]) -> Option<Field>
     }
 }
 
-/// How many bytes stand before the first separator.
+/// How many bytes precede the first separator.
 pub(crate) fn piece_len(bytes: &[u8], separator: u8) -> usize
     ensures value { result ≡ prefix_len (differs separator) bytes.now }
     ensures within { result ≤ length bytes.now }
@@ -186,7 +186,7 @@ pub(crate) fn piece_len(bytes: &[u8], separator: u8) -> usize
     bytes.len()
 }
 
-/// What stands behind a separator.
+/// What follows a separator.
 pub(crate) fn behind(bytes: &[u8], at: usize) -> &[u8]
     requires { at < length bytes.now }
     ensures rest { result.now ≡ drop (at + 1) bytes.now }

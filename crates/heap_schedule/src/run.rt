@@ -44,7 +44,7 @@ fn write_both<O: Sink>(sink: &mut O, first: &[u8], second: &[u8]) -> Result<(), 
     }
 }
 
-// A number, and what stands behind it.
+// A number, and what follows it.
 fn write_number<O: Sink>(sink: &mut O, number: usize, behind: &[u8]) -> Result<(), Failed>
     ensures { WritesAll result (O.state sink.old) (O.state sink.new) (decimal number ++ behind.now) }
 {
@@ -62,7 +62,7 @@ fn begins_with_dash(name: &str) -> bool
     bytes[0] == b'-'
 }
 
-// The name of the file, where the words are lawful.
+// The name of the file, where the arguments are valid.
 fn file_name(words: &[String]) -> Option<&str>
     ensures { option_copied result ≡ file_in (map string_bytes words.now) }
 {
@@ -124,7 +124,7 @@ fn tell_play<O: Sink, E: Sink>(shown: &Shown, lines: usize, out: &mut O, err: &m
     }
 }
 
-// What is told in place of a play, whatever the other sink took. A fault of err changes no status.
+// What is reported in place of a play, whatever the other sink received. A fault of err changes no status.
 
 fn tell_memory<E: Sink>(err: &mut E) -> u8
     ensures { (out : SinkState) → IsEnd (report_of no_memory) result

@@ -31,7 +31,7 @@ fn add_found(out: &mut Vec<u8>, line: u64, word: u64) -> Result<(), NoMemory>
     add(out, b"\n")
 }
 
-// A line for each word; the first stands for line 2 of the schedule.
+// A line for each word; the first denotes line 2 of the schedule.
 #[tactic(auto, using(crate::proofs::Written::found_more))]
 fn add_found_lines(out: &mut Vec<u8>, found: &[u64]) -> Result<(), NoMemory>
     ensures { OnOk result (out.new.items ≡ out.old.items ++ found_lines found.now (length found.now)) }

@@ -1,4 +1,4 @@
--- What a compare-exchange of a header tells: the word that it found is that of the form it expects exactly
+-- What a compare-exchange of a header shows: the word that it found is that of the form it expects exactly
 -- where it is won.
 use Rattle.std.specs.Prelude.{◌≢◌, ℕ}
 use Rattle.js_header.specs.Form.{word_of}

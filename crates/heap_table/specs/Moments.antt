@@ -29,7 +29,7 @@ abbrev pub second_of : Access → ℕ
 second_of (exchanges old new) = new
 second_of _ = 0
 
--- what a play tells of a step on the word of a kind, with the operands of that kind: the view becomes what
+-- what a play says of a step on the word of a kind, with the operands of that kind: the view becomes what
 -- the kind makes of it by the word found; the kind may go by the view
 abbrev pub IsOfKindBy : (Step (Unit {0}) → Sat → ℕ → Sat → Type 0) → (View → Kind) → Type 0
 IsOfKindBy tells e = (slots : ℕ) (me me' : Sat) (x : ℕ)

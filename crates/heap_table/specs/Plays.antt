@@ -1,4 +1,4 @@
--- What each step of the table tells its caller. A step is given as the number of its word and two operands;
+-- What each step of the table reports to its caller. A step is given as the number of its word and two operands;
 -- so each says what it did for every counter, id or place that spells that number, and a caller puts in its
 -- own.
 use Rattle.std.specs.Prelude.{Some, None, Option, Bool, ◌≡◌, ℕ, ◌+◌, ◌^◌, ◌<◌, ◌≤◌, ◌⊎◌, List, Contains}
@@ -53,7 +53,7 @@ pub record FoundForm (v : View) (i x : ℕ) : Type 0 where
   pub solid : (j : ℕ) (wide : Bool) (offset : ℕ) → Has v.forms j (Sliced wide i offset)
       → IsSolidForm (form_of x)
 
--- what each step of one agent leaves as it is, and that the new view stands in a sound state
+-- what each step of one agent leaves as it is, and that the new view is in a sound state
 pub record Stays (me me' : Sat) : Type 0 where
   pub slots : me'.1 ≡ me.1
   pub sizes : me'.0.sizes ≡ me.0.sizes
@@ -66,7 +66,7 @@ abbrev pub LoadedCounter : Step (Unit {0}) → Sat → ℕ → Sat → Type 0
 LoadedCounter st me x me' = Stays me me'
     × ((k : Counter) → st.word ≡ counter_at k → (me'.0 ≡ loaded_counter me.0 k x) × FoundCounter me.0 k x)
 
--- the compare-exchange of a counter, from a number to one that is greater by what is wanted
+-- the compare-exchange of a counter, from a number to one that is greater by what is requested
 abbrev pub Claimed : Step (Unit {0}) → Sat → ℕ → Sat → Type 0
 Claimed st me x me' = Stays me me'
     × ((k : Counter) (want : ℕ) → st.word ≡ counter_at k → st.second ≡ st.first + want
@@ -144,6 +144,6 @@ TookSlot st me x me' = Stays me me' × KeepsKnown me.0 me'.0 × (me'.0.forms ≡
 abbrev pub Noted : Step (Unit {0}) → Sat → ℕ → Sat → Type 0
 Noted st me x me' = Stays me me' × (me'.0 ≡ noted me.0 st.first)
 
--- a step that changes nothing, and tells that the share is at most 64
+-- a step that changes nothing, and shows that the share is at most 64
 abbrev pub Looked : Step (Unit {0}) → Sat → ℕ → Sat → Type 0
 Looked st me x me' = Stays me me' × (me'.0 ≡ me.0) × (me.0.share ≤ 64)

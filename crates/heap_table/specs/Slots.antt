@@ -1,4 +1,4 @@
--- What the calls on slots tell.
+-- What the calls on slots report.
 use Rattle.std.specs.Prelude.{◌≢◌, ℕ, Bool, true, false, List, Option, None}
 use Rattle.heap_rule.specs.declared.view.View.{View}
 use Rattle.heap_rule.specs.Maps.{Has, HasKey}

@@ -1,6 +1,6 @@
 -- The view that the table gives to an agent that takes over another's. It is the joined view where that has
 -- all that both have, by a test; else its share is 0, which no sound state allows. So whoever learns that it
--- stands in a sound state learns that the two agree. No contract cites it.
+-- is in a sound state learns that the two agree. No contract cites it.
 use Rattle.std.specs.Prelude.{ℕ, ◌+◌, Bool, true, false, ◌&&◌, ◌==◌, not, if◌then◌else◌, Option, Some, None, bytes_eq}
 use Rattle.std.specs.Bool.{beq}
 use Rattle.std.specs.List.{list_all}
@@ -12,7 +12,7 @@ use Rattle.heap_rule.specs.declared.view.View.{View}
 use Rattle.heap_rule.specs.Agents.{joined}
 
 module _ {X : Type 0} (fits : X → X → Bool) where
-  -- what stands in the place of an entry fits it
+  -- what is in the place of an entry fits it
   abbrev pub fits_there : Option X → Option X → Bool
   fits_there None o = true
   fits_there (Some x) None = false

@@ -13,7 +13,7 @@ use crate::heap::Heap;
 use crate::rule::{Claims, LoadsCounter};
 use heap_rule::Counter;
 
-/// A counter that has no room: it stood at `at`, and `want` more pass `end`.
+/// A counter that has no room: it was `at`, and `want` more pass `end`.
 #[derive(Clone, Copy, Debug, PartialEq, Eq)]
 pub struct CounterFull {
     pub at: u32,
@@ -79,7 +79,7 @@ impl Agent {
 
     /// The next id, now this agent's own. It is greater than every id that the agent knew
     /// or owned.
-    /// Refused where the counter that was read last stands at its end.
+    /// Refused where the counter that was read last is at its end.
     pub fn claim_id(&mut self, heap: &Heap) -> Result<u32, CounterFull>
         requires { Belongs self.old heap.now }
         ensures belongs { Belongs self.new heap.now }

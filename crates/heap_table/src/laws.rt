@@ -15,7 +15,7 @@ use atomic_table::{Play, TableRule};
 use heap_rule::View;
 
 /// What the rule of the table says at every moment between two steps of any agents: the rule of
-/// the machine holds of its words and of the views of all its agents, and their histories, taken
+/// the machine holds of its words and of the views of all its agents, and their histories, all
 /// together, are legal. The call does nothing.
 pub fn every_moment()
     ensures sound { IsSoundTable ⟦<HeapRule as TableRule<(), View, HeapKey>>⟧.holds }

@@ -1,5 +1,5 @@
 // Loads of headers and content words. Each also learns every pair that the view's new data
-// justify, which takes nothing at run time.
+// justify, which uses nothing at run time.
 ghost use Rattle.std.specs.Prelude.{◌≡◌, ◌≢◌, ℕ, Bool, ◌⊎◌, ◌+◌, ◌*◌, ◌≤◌, ◌<◌, ◌^◌, Some};
 ghost use Rattle.heap_rule.specs.Forms.{IsCons, IsLater, IsSolid};
 ghost use Rattle.heap_rule.specs.Maps.{Has};

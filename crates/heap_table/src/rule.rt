@@ -1,8 +1,8 @@
-// The rule that the table keeps between any two steps, and what each step tells its caller.
+// The rule that the table keeps between any two steps, and what each step reports to its caller.
 use atomic_table::{Join, Play, Split, TableRule};
 use heap_rule::{HeapSize, View};
 
-/// What the table is told once, when it is made.
+/// What the table is given once, when it is made.
 #[derive(Clone, Copy)]
 pub struct HeapKey {
     pub size: HeapSize,
@@ -160,7 +160,7 @@ impl Split<View> for ByNote {
     ghost right = { λ v. right_after_split v v.giving };
 }
 
-/// A load that changes nothing: what the rule says of the view is told anew.
+/// A load that changes nothing: what the rule says of the view is learned anew.
 pub struct Looks;
 
 impl Play<(), View> for Looks {
@@ -171,7 +171,7 @@ impl Play<(), View> for Looks {
 
 /// The view of an agent that takes over what another has: the joined view. For the proof alone it
 /// is written as that view or, where the two do not agree, one that no rule allows; so the next
-/// load tells that they agree.
+/// load shows that they agree.
 pub struct TakesOver;
 
 impl Join<View> for TakesOver {

@@ -19,7 +19,7 @@ use Rattle.heap_text.specs.Texts.{IsSpared, Told, Uses}
 abbrev pub IsCopy : View → View → JsStr → List ℕ → Type 0
 IsCopy v w s us = Has w.units s.id us × ((start : ℕ) × Has w.forms s.id (Flat (is_wide us) start false)) × Uses v w 1 (words_over (is_wide us) (length us))
 
--- a call that was refused for want of ids or words: it told that there is no room, and no string has what it used
+-- a call that was refused for lack of ids or words: it reported that there is no room, and no string has what it used
 abbrev pub IsRefused : View → View → HeapSize → List ℕ → TextFull → Type 0
 IsRefused v w z us f = Told w z (words_over (is_wide us) (length us)) f × IsSpared v w (words_over (is_wide us) (length us)) f
 
@@ -62,7 +62,7 @@ IsPart v w s from t us = Has w.units t.id us
     × ((f : Form) × (wide : Bool) × Has w.forms s.id f × IsWideIn w f wide × Has w.forms t.id (Sliced wide (parent_of s.id f) (offset_of f + from)))
     × Uses v w 1 0
 
--- a call that was refused for want of an id, and used nothing
+-- a call that was refused for lack of an id, and used nothing
 abbrev pub IsNoId : View → View → HeapSize → TextFull → Type 0
 IsNoId v w z f = ((full : CounterFull) × (f ≡ Ids full)) × Told w z 0 f × IsSpared v w 0 f
 

@@ -1,4 +1,4 @@
--- What each call of a text keeps of it. That its agent is one of its heap is a fact of the type.
+-- What each call of a `Text` keeps of it. That its agent is one of its heap is a fact of the type.
 use Rattle.std.specs.Prelude.{◌≡◌}
 use Rattle.heap_text.specs.declared.text.Text.{Text}
 

@@ -27,7 +27,7 @@ pub record HasSides (w : View) (i : ℕ) (us : List ℕ) : Type 0 where
   pub joined : us ≡ front ++ back
 
 -- A Cons with this wide bit became flat. The content words that were claimed were not the agent's own before. They are those of the Flat, which has
--- the wide bit of the Cons; or they stay the agent's own, where another agent's Flat stands. What was own is so still.
+-- the wide bit of the Cons; or they stay the agent's own, where another agent's Flat is there. What was own is so still.
 pub record IsFlattened (v w : View) (i : ℕ) (us : List ℕ) (wide : Bool) : Type 0 where
   pub narrow : IsNarrow wide us
   pub used : Uses v w 0 (words_over wide (length us))

@@ -1,4 +1,4 @@
--- What a call on a text uses, and what a refusal tells.
+-- What a call on a `Text` uses, and what a refusal reports.
 use Rattle.std.specs.Prelude.{◌≡◌, ℕ, ◌+◌, ◌<◌, ◌≤◌}
 use Rattle.heap_rule.specs.declared.view.View.{View}
 use Rattle.heap_rule.specs.declared.size.HeapSize.{HeapSize}
@@ -11,17 +11,17 @@ use Rattle.heap_text.specs.declared.faults.TextFull.TheVariants.{Ids, Words}
 abbrev pub Uses : View → View → ℕ → ℕ → Type 0
 Uses v w ids words = (w.used.ids ≡ v.used.ids + ids) × (w.used.words ≡ v.used.words + words)
 
--- The counter that was read last has no room for what the call wanted of it: one id, or that many content words.
+-- The counter that was read last has no room for what the call requested of it: one id, or that many content words.
 abbrev pub Told : View → HeapSize → ℕ → TextFull → Type 0
 Told w z words (Ids f) = IsFull f 1 z.ids × (w.low.ids ≡ f.at)
 Told w z words (Words f) = IsFull f words z.words × (w.low.words ≡ f.at)
 
--- the content words that a report wants
+-- the content words that a report requests
 abbrev pub words_wanted : TextFull → ℕ
 words_wanted (Ids f) = 0
 words_wanted (Words f) = f.want
 
--- A refused call used no id, and the words that it used are, with those that its report wants, at most the words of its row. What was the agent's
+-- A refused call used no id, and the words that it used are, with those that its report requests, at most the words of its row. What was the agent's
 -- own is so still, and so are the words that the call claimed: the n words from `start` on, which were not its own before and are in no string.
 pub record IsSpared (v w : View) (words : ℕ) (f : TextFull) : Type 0 where
   pub used_ids : w.used.ids ≡ v.used.ids

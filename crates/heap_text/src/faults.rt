@@ -11,7 +11,7 @@ pub enum TextFull {
 /// Why two strings were not joined.
 #[derive(Clone, Copy, Debug, PartialEq, Eq)]
 pub enum JoinFault {
-    /// Together they are longer than the limit of the text. These are their lengths.
+    /// Together they are longer than the limit of the `Text`. These are their lengths.
     TooLong { left: u32, right: u32 },
     Full(TextFull),
 }

@@ -2,10 +2,10 @@
 //!
 //! A [`Text`] is a reader of the heap, by which it reads strings, with a limit of length; a [`JsStr`] is
 //! the number of a string there. Once made, a string never changes its code units. Joining makes a
-//! rope of two strings, and cutting a slice that stands on the string, unless the result is short.
+//! rope of two strings, and cutting a slice of the string, unless the result is short.
 //! Settling a rope copies its units once, for all who use it. A settled string is read by windows on
 //! its content words, which are those of a slice's parent, and of the interned string to which one
-//! forwards. No call takes a lock, waits or takes memory; a call that needs more ids or content words
+//! forwards. No call locks, waits or allocates; a call that needs more ids or content words
 //! than the heap has left answers a [`TextFull`].
 #![tactic(auto)]
 

@@ -25,7 +25,7 @@ use js_header::Form;
 const MIN_CONS: u32 = 13;
 
 impl<'h> Text<'h> {
-    /// A new string with these units: flat, and wide exactly where a unit is over 255. It takes
+    /// A new string with these units: flat, and wide exactly where a unit is over 255. It uses
     /// one id, and the content words that hold the units.
     pub fn make_flat(&mut self, units: &[u16]) -> Result<JsStr, TextFull>
         requires short { length units.now ≤ MAX }
@@ -56,7 +56,7 @@ impl<'h> Text<'h> {
     /// The units of one string followed by those of another. It is refused as too long exactly
     /// where that is longer than the limit. Where one side is empty, the answer is the other side.
     /// Fewer than 13 units make a new flat string, wide exactly where a unit is over 255; from 13
-    /// on the answer is a rope, which takes one id and no content word.
+    /// on the answer is a rope, which uses one id and no content word.
     pub fn concat(&mut self, a: JsStr, b: JsStr) -> Result<JsStr, JoinFault>
         requires known { HasKey (view_of self.old.reader.agent).units a.id
             × HasKey (view_of self.old.reader.agent).units b.id }
@@ -91,8 +91,8 @@ impl<'h> Text<'h> {
 
     /// The part of a settled string from unit `from` up to unit `to`. The whole part is the
     /// string itself. Fewer than 13 units make a new flat string, wide exactly where a unit is
-    /// over 255; from 13 on the answer is a slice, which takes one id and no content word. It
-    /// stands on the string, or, where that is a slice itself, on what that one stands on.
+    /// over 255; from 13 on the answer is a slice, which uses one id and no content word. Its
+    /// parent is the string, or, where that is a slice itself, the parent of that one.
     pub fn slice(&mut self, s: JsStr, from: u32, to: u32) -> Result<JsStr, TextFull>
         requires settled { IsSettled (view_of self.old.reader.agent) s.id }
         requires within { (us : List ℕ) × Has (view_of self.old.reader.agent).units s.id us × (from ≤ to)
@@ -163,7 +163,7 @@ fn side_forms(reader: &mut Reader, a: JsStr, b: JsStr) -> (Form, Form)
     (front, reader.form_now(b.id))
 }
 
-// Whether a string that was seen with this form is wide; of a Thin its target tells.
+// Whether a string that was seen with this form is wide; of a Thin its target says so.
 fn is_wide_side(reader: &mut Reader, of: u32, form: Form) -> bool
     requires seen { Has (view_in reader.old).forms of form }
     requires side { KnowsSide (view_in reader.old) form }
@@ -319,7 +319,7 @@ fn is_either(left: bool, right: bool) -> bool
     left || right
 }
 
-// The string on which a slice of the string `id` with this form stands.
+// The string that is the parent of a slice of the string `id` with this form.
 fn parent_of(id: u32, form: Form) -> u32
     ensures { result ≡ joins.parent_of id form }
 {

@@ -1,4 +1,4 @@
-// Texts for several threads on one heap, and what was used of the heap.
+// `Text`s for several threads on one heap, and what was used of the heap.
 ghost use Rattle.std.specs.Prelude.{◌≡◌, ◌+◌, ◌≤◌, ◌<◌};
 ghost use Rattle.heap_rule.specs.Agents.{MayJoin, joined, left_after_split, right_after_split};
 ghost use Rattle.heap_rule.specs.Claims.{loaded_counter};
@@ -11,7 +11,7 @@ use heap_read::Reader;
 use heap_rule::Counter;
 
 impl<'h> Text<'h> {
-    /// A text of a new agent of the same heap, for another thread: it has a part of the share and the
+    /// A `Text` of a new agent of the same heap, for another thread: it has a part of the share and the
     /// same limit, knows all that this one knows, and has used nothing.
     pub fn split(&mut self, give: u32) -> Text<'h>
         requires some { 1 ≤ give }

@@ -1,4 +1,4 @@
--- What an evaluation of a whole script promises: how it ended, and what stands in the store, the lines and
+-- What an evaluation of a whole script promises: how it ended, and what is in the store, the lines and
 -- the bindings.
 use Rattle.std.specs.Prelude.{◌≡◌, ℕ, ◌+◌, ◌≤◌, List, ◌++◌, Contains, Some}
 use Rattle.std.specs.List.{concat}
@@ -36,9 +36,9 @@ pub record Finished {F : Type 0} (a b : State F) (x y : List ℕ) (after : List 
   pub within_ids : b.used_ids ≤ a.used_ids + need_ids m
   pub within_words : b.used_words ≤ a.used_words + need_words m
 
--- the store was full or memory was wanting: a full store's report is true, the first ones of the lines were
+-- the store was full or memory ran out: a full store's report is true, the first ones of the lines were
 -- written whole, the history grew by the first ones of what is meant to be interned (on a full string table
--- the next one is shut), and what was used, with what a Full wanted besides, is at most the need
+-- the next one is shut), and what was used, with what a Full requested besides, is at most the need
 pub record Interrupted {F : Type 0} (a b : State F) (x y : List ℕ) (f : StoreFault) (m : Flow) : Type 0 where
   pub honest : Honest b (full_only f)
   pub lines : WroteSome x y m.lines

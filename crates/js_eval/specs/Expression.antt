@@ -57,7 +57,7 @@ operated GreaterEq at limit v w = truth_of is_at_least (order_out at limit v w)
 operated Plus at limit v w = plus at limit v w
 operated Minus at limit v w = difference_in at v w
 
--- an operator on a value and what stands on its right
+-- an operator on a value and what is on its right
 abbrev pub linked : Op → ℕ → ℕ → Val → Out Val → Out Val
 linked op at limit v right = if decides op v then gave v free else bind right (λ w. operated op at limit v w)
 

@@ -17,14 +17,14 @@ pub record WroteSome (x y : List ℕ) (lines : List (List ℕ)) : Type 0 where
   pub split : lines ≡ done ++ left
   pub written : y ≡ x ++ concat done
 
--- the lines were written, or the first ones of them where the store refused or memory was wanting
+-- the lines were written, or the first ones of them where the store refused or memory ran out
 abbrev pub Wrote : List ℕ → List ℕ → Result (Unit {0}) Stop → List (List ℕ) → Type 0
 Wrote x y (Ok v) ls = y ≡ x ++ concat ls
 Wrote x y (Err (Threw k)) ls = y ≡ x ++ concat ls
 Wrote x y (Err (Unsupported at)) ls = y ≡ x ++ concat ls
 Wrote x y (Err (Store f)) ls = WroteSome x y ls
 
--- the bindings are those that are meant, but where the store refused or memory was wanting
+-- the bindings are those that are meant, but where the store refused or memory ran out
 abbrev pub Leaves : Result (Unit {0}) Stop → Bindings Val → Bindings Val → Type 0
 Leaves (Ok v) after meant = after ≡ meant
 Leaves (Err (Threw k)) after meant = after ≡ meant
@@ -51,7 +51,7 @@ pub record WentTop {F : Type 0} (a b : State F) (x y : List ℕ) (r : Result (Un
   pub wrote : Wrote x y r f.lines
   pub leaves : LeavesTop r top f.bindings.top
 
--- the same evaluation, of whose value so much is told
+-- the same evaluation, of whose value so much is said
 abbrev pub told : {A B : Type 0} → (A → B) → Out A → Out B
 told of (gave x l) = gave (of x) l
 told of (ended e l) = ended e l

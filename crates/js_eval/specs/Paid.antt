@@ -1,4 +1,4 @@
--- The members of an object literal where each takes its share of what the literal needs. The sum of these
+-- The members of an object literal where each pays its share of what the literal needs. The sum of these
 -- shares is at most the row of the literal, so an evaluation of the members in this form is one in the form
 -- of the meaning (`proofs/Paying.antt`).
 use Rattle.std.specs.Prelude.{ℕ, ◌+◌, ◌*◌, List, [], ◌∷◌, length, nat_le, if◌then◌else◌, Result}

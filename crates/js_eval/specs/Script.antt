@@ -54,14 +54,14 @@ abbrev pub reached : Out (List ℕ) → ℕ → ℕ → ℕ
 reached (gave u l) converted plain = converted
 reached (ended e l) converted plain = plain
 
--- the same of all values: before the first whose conversion throws, the units of the texts; from it on, those
+-- the same of all values: before the first whose conversion throws, the units of the strings; from it on, those
 -- of the strings in the values
 abbrev pub reached_units : ℕ → List Val → ℕ
 reached_units limit [] = 0
 reached_units limit (v ∷ vs) =
     reached (to_string limit v) (text_units v + reached_units limit vs) (string_units v + all_units vs)
 
--- the line of a `print`: all its arguments, then their texts
+-- the line of a `print`: all its arguments, then their strings
 abbrev pub line_out : ℕ → List Val → Out (List ℕ)
 line_out limit vs = converting (parts (length vs) (reached_units limit vs)) (each (to_string limit) vs)
     (λ us. gave (line us) (cost (parts (length vs) (all_text_units vs))))
@@ -136,7 +136,7 @@ abbrev mutual
 abbrev pub turn_flow : List ℕ → BlockTree → Scope → ℕ → Bindings Val → Flow
 turn_flow x b s i bs = left (block_flow b (with_bindings s (turned x (number (Int (pos i))) bs)))
 
--- a literal is interned; no text spells one past the limit
+-- a literal is interned; no source text spells one past the limit
 abbrev pub literal_out : ℕ → List ℕ → Out (List ℕ)
 literal_out limit u =
     if nat_le (length u) limit

@@ -1,4 +1,4 @@
--- What the scope of the code stands for in a store, and when it may be used.
+-- What the scope of the code denotes in a store, and when it may be used.
 use Rattle.std.specs.Prelude.{ℕ, List, map}
 use Rattle.js_store.specs.State.{State}
 use Rattle.js_texts.specs.Texts.{Every, AllKnown, texts as texts_seen}

@@ -23,7 +23,7 @@ pub struct Context<'a, R> {
     pub scope: Scope<'a, Value<R>>,
 }
 
-/// The value of a name, where it stands in the scope.
+/// The value of a name, where it is in the scope.
 pub fn look_up<'a, S: Strings>(
     _store: &S,
     context: &'a Context<S::Ref>,
@@ -43,7 +43,7 @@ pub fn look_up<'a, S: Strings>(
     }
 }
 
-/// The value of a name, as its own. A string or a number takes no memory.
+/// The value of a name, as its own. A string or a number allocates nothing.
 pub fn read<S: Strings>(
     store: &S,
     context: &Context<S::Ref>,

@@ -15,6 +15,6 @@ pub enum End {
     Unsupported { at: u32 },
     /// The store was full.
     Full(FullReport),
-    /// Memory was wanting.
+    /// Memory ran out.
     Memory,
 }

@@ -31,7 +31,7 @@ impl<R> Model for Env<R> {
 }
 
 impl<R: Drop> Env<R> {
-    /// No binding. It takes no memory.
+    /// No binding. It allocates nothing.
     pub fn new(alloc: Global) -> Env<R>
         ensures { result ≡ [] }
     {

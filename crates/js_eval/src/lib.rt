@@ -1,7 +1,7 @@
 //! The evaluator of the whole language over blocks (ECMA-262, "ECMAScript Language: Expressions" and
 //! "Statements and Declarations").
 //!
-//! What a script means stands in `specs/`. `eval` prints whole lines alone, also before a throw.
+//! What a script means is defined in `specs/`. `eval` prints whole lines alone, also before a throw.
 #![tactic(auto)]
 
 mod context;

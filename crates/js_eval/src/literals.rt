@@ -16,7 +16,7 @@ use js_store::Strings;
 use js_units::Units;
 use std::alloc::Global;
 
-/// The interned strings of a script's literals, in the order of the text.
+/// The interned strings of a script's literals, in source order.
 pub fn intern_literals<S: Strings>(
     alloc: Global,
     store: &mut S,

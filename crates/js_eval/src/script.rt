@@ -36,7 +36,7 @@ use std::alloc::Global;
 use std::mem;
 
 /// Runs a script over a store, from the bindings of `env`: its literals are interned in the order
-/// of the text, and then its statements run. `env` has the bindings that they leave at the top, also
+/// of the source text, and then its statements run. `env` has the bindings that they leave at the top, also
 /// where they ended inside a block, and `lines` gains the lines that they print, which are whole
 /// after every end.
 pub fn eval<S: Strings>(

@@ -1,4 +1,4 @@
-// Short ways: an operator on two numbers that stand at hand, as names or as they are written. A value
+// Short ways: an operator on two numbers that are at hand, as names or as they are written. A value
 // behind a name is read in its place.
 ghost use Rattle.std.specs.Prelude.{◌≡◌, Ok, IfSome, false, true};
 ghost use Rattle.js_number.specs.Places.{IsLawful};

@@ -1,4 +1,4 @@
--- A string's form, and the one word that stands for it in the heap: tag, wide bit, fixed bit, and two fields
+-- A string's form, and the one word that denotes it in the heap: tag, wide bit, fixed bit, and two fields
 -- of 29 bits.
 use Rattle.std.specs.Prelude.{ℕ, ◌+◌, ◌*◌, ◌/◌, ◌%◌, ◌^◌, ◌<◌, ◌==◌, Bool, true, false, if◌then◌else◌, Option, Some, None}
 use Rattle.js_header.specs.declared.form.Form.{Form}

@@ -1,4 +1,4 @@
--- Counts of faults. A counter has 64 bits and stands still at its last value.
+-- Counts of faults. A counter has 64 bits and stops at its last value.
 use Rattle.std.specs.Prelude.{ℕ, ◌+◌, ◌-◌, ◌^◌, min}
 
 -- the count after one more fault: one higher, or the last value of the counter

@@ -4,18 +4,18 @@ use Rattle.std.specs.declared.option.Option.{Option}
 use Rattle.js_io.specs.Counts.{next_count}
 use Rattle.js_io.specs.declared.files.TheConstants.{FILE_MAX}
 
--- these bytes are the file's, where its bytes are told
+-- these bytes are the file's, where its bytes are reported
 abbrev pub Tells : Option (List ℕ) → List ℕ → Type 0
 Tells None bytes = ⊤
 Tells (Some held) bytes = bytes ≡ held
 
--- the file is too large: by its bytes where they are told, and then nothing is counted; or else one more such
+-- the file is too large: by its bytes where they are reported, and then nothing is counted; or else one more such
 -- file was counted
 abbrev pub IsTooLarge : Option (List ℕ) → ℕ → ℕ → Type 0
 IsTooLarge None before after = after ≡ next_count before
 IsTooLarge (Some held) before after = (FILE_MAX < length held) × (after ≡ before)
 
--- a source of files at one moment: the bytes of each name where they are told, how many reads failed,
+-- a source of files at one moment: the bytes of each name where they are reported, how many reads failed,
 -- how many files of untold bytes were too large, and the name of the last read that failed or found too large
 -- a file
 pub record FilesState : Type 0 where
@@ -24,7 +24,7 @@ pub record FilesState : Type 0 where
   pub oversize : ℕ
   pub blamed : List ℕ
 
--- a source that tells no bytes
+-- a source that reports no bytes
 abbrev pub untold_files : ℕ → ℕ → List ℕ → FilesState
 untold_files faults oversize blamed =
     record { held = λ name. None; faults = faults; oversize = oversize; blamed = blamed }

@@ -15,7 +15,7 @@ found [] name = None
 found (file ∷ files) name = if pointwise nat_eq (string_bytes file.name) name then Some file.bytes.items
     else found files name
 
--- a source that tells the bytes of its files
+-- a source that reports the bytes of its files
 abbrev pub told_files : List MemFile → ℕ → List ℕ → FilesState
 told_files files faults blamed = record { held = found files; faults = faults; oversize = 0; blamed = blamed }
 

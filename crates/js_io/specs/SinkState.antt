@@ -1,19 +1,19 @@
--- What a sink has taken, and how often a write to it failed.
+-- What a sink has received, and how often a write to it failed.
 use Rattle.std.specs.Prelude.{◌≡◌, ℕ, ◌≤◌, List, ◌∷◌, ◌++◌, None, Some, Result, OnOk, OnErr}
 use Rattle.std.specs.declared.option.Option.{Option}
 use Rattle.std.specs.Io.KnownBytes.{Appends}
 use Rattle.js_io.specs.Counts.{next_count}
 
--- a sink at one moment: all bytes that it took where they are told, and how many writes failed
+-- a sink at one moment: all bytes that it received where they are reported, and how many writes failed
 pub record SinkState : Type 0 where
   pub taken : Option (List ℕ)
   pub faults : ℕ
 
--- a sink that tells what it took
+-- a sink that reports what it received
 abbrev pub told_sink : List ℕ → ℕ → SinkState
 told_sink bytes faults = record { taken = Some bytes; faults = faults }
 
--- a sink that tells nothing of it
+-- a sink that reports nothing of it
 abbrev pub untold_sink : ℕ → SinkState
 untold_sink faults = record { taken = None; faults = faults }
 
@@ -21,15 +21,15 @@ untold_sink faults = record { taken = None; faults = faults }
 abbrev pub IsProperPrefix : List ℕ → List ℕ → Type 0
 IsProperPrefix prefix whole = (byte : ℕ) × (rest : List ℕ) × (whole ≡ prefix ++ byte ∷ rest)
 
--- the sink took these bytes
+-- the sink received these bytes
 abbrev pub Takes : SinkState → SinkState → List ℕ → Type 0
 Takes old new bytes = Appends old.taken new.taken bytes
 
--- the sink took a prefix of these bytes, and not all of them
+-- the sink received a prefix of these bytes, and not all of them
 abbrev pub TakesPrefix : SinkState → SinkState → List ℕ → Type 0
 TakesPrefix old new bytes = (prefix : List ℕ) × IsProperPrefix prefix bytes × Takes old new prefix
 
--- at Ok the sink took all of the bytes and no write failed; at Err it took a prefix of them, and the one
+-- at Ok the sink received all of the bytes and no write failed; at Err it received a prefix of them, and the one
 -- write of what was left failed. The count of faults never falls.
 pub record WritesAll {E : Type 0} (result : Result Unit E) (old new : SinkState)
     (bytes : List ℕ) : Type 0 where

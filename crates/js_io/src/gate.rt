@@ -1,7 +1,7 @@
 // The gate of the workers.
 
 /// A worker passes the gate before each script, and leaves it afterwards. Scripts have the numbers
-/// of their places among the words. A gate has no meaning for contracts: tests use it to hold a
+/// of their places among the arguments. A gate has no meaning for contracts: tests use it to hold a
 /// worker back.
 pub trait Gate {
     fn enter(&self, script: u32);

@@ -15,7 +15,7 @@ use std::rt::Files as OpenFiles;
 // How many bytes one read asks for.
 const PIECE: usize = 4096;
 
-/// The files of the process. They tell nothing of content, and count what fails.
+/// The files of the process. They report no content, and count what fails.
 #[derive(Drop)]
 pub struct HostFiles<'a, R: OpenFiles> {
     rt: &'a R,
@@ -35,7 +35,7 @@ enum Content {
 }
 
 impl<'a, R: OpenFiles> HostFiles<'a, R> {
-    /// The files that this runtime opens. It takes no memory.
+    /// The files that this runtime opens. It allocates nothing.
     pub fn new(rt: &'a R, alloc: Global) -> Self
         ensures { ⟦<HostFiles<'a, R> as Files>⟧.state result ≡ untold_files 0 0 [] }
     {
@@ -104,7 +104,7 @@ impl<R: OpenFiles> Files for HostFiles<'_, R> {
     }
 }
 
-/// The standard output of the process. It tells nothing of content, and counts what fails.
+/// The standard output of the process. It reports no content, and counts what fails.
 #[derive(Drop)]
 pub struct HostOut {
     stream: Stdout,
@@ -122,7 +122,7 @@ impl HostOut {
     }
 }
 
-/// The standard error of the process. It tells nothing of content, and counts what fails.
+/// The standard error of the process. It reports no content, and counts what fails.
 #[derive(Drop)]
 pub struct HostErr {
     stream: Stderr,
@@ -140,8 +140,8 @@ impl HostErr {
     }
 }
 
-// Writes once, and gives how many bytes were taken. None is a fault, and so is a write of some
-// bytes that takes none.
+// Writes once, and gives how many bytes were accepted. None is a fault, and so is a write of some
+// bytes that accepts none.
 fn write_some<W: Write>(stream: &mut W, piece: &[u8]) -> Option<usize>
     ensures bound { IfSome result (λ count. count ≤ length piece.now) }
     ensures some { IfSome result (λ count. 0 < length piece.now → 0 < count) }

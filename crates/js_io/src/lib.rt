@@ -1,11 +1,11 @@
 //! The outside of the program: where files are read from ([`Files`]), where bytes are written to
 //! ([`Sink`]), and the gate that a worker passes before each script ([`Gate`]).
 //!
-//! Files and sinks have a written meaning: the bytes of a file and those that a sink took, where
-//! they are told, and counts of faults that never fall. A fault is answered exactly where its
-//! count took one step, so code over the traits can't make one up. There are implementations in
-//! memory ([`MemFiles`], [`MemSink`]), which tell all, over the runtime ([`HostFiles`],
-//! [`HostOut`], [`HostErr`]), which tell nothing of content, and a sink that keeps nothing
+//! Files and sinks have a written meaning: the bytes of a file and those that a sink received, where
+//! they are reported, and counts of faults that never fall. A fault is answered exactly where its
+//! count rose by one, so code over the traits can't make one up. There are implementations in
+//! memory ([`MemFiles`], [`MemSink`]), which report all, over the runtime ([`HostFiles`],
+//! [`HostOut`], [`HostErr`]), which report no content, and a sink that keeps nothing
 //! ([`NullSink`]).
 #![tactic(auto)]
 

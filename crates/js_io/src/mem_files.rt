@@ -15,7 +15,7 @@ struct MemFile {
     bytes: Vec<u8>,
 }
 
-/// Files in memory, which tell their bytes. To read a name that isn't there is a fault, and so is
+/// Files in memory, which report their bytes. To read a name that isn't there is a fault, and so is
 /// a call of `read` that [`MemFiles::fail_at`] named.
 #[derive(Debug, Drop)]
 pub struct MemFiles {
@@ -28,7 +28,7 @@ pub struct MemFiles {
 }
 
 impl MemFiles {
-    /// No files. It takes no memory.
+    /// No files. It allocates nothing.
     pub fn new(alloc: Global) -> Self
         ensures held { (name : List ℕ) → held_in result name ≡ None }
         ensures faults { faults_in result ≡ 0 }
@@ -145,7 +145,7 @@ impl Files for MemFiles {
     {
         let call = self.calls;
         self.calls = call.saturating_add(1);
-        // the name is copied first, so that a fault is always told with its name
+        // the name is copied first, so that a fault is always reported with its name
         let Ok(blamed) = String::from_str(self.alloc, name) else {
             return Err(ReadFault::Memory);
         };

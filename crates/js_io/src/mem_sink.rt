@@ -6,8 +6,8 @@ use crate::{Failed, Sink};
 use js_units::NoMemory;
 use std::alloc::Global;
 
-/// A sink in memory, which tells what it took. It reserves its room when it is made, so no write
-/// takes memory.
+/// A sink in memory, which reports what it received. It reserves its room when it is made, so no write
+/// allocates.
 #[derive(Debug, Drop)]
 pub struct MemSink {
     bytes: Vec<u8>,
@@ -23,7 +23,7 @@ impl MemSink {
     ghost use Rattle.std.specs.Prelude.{[], IfOk};
     ghost use Rattle.js_io.specs.MemSink.{sink_bytes, sink_faults, sink_left, sink_most};
 
-    /// A sink that takes at most `most` bytes a write, and `room` bytes in all.
+    /// A sink that accepts at most `most` bytes a write, and `room` bytes in all.
     pub fn new(alloc: Global, most: u32, room: u32) -> Result<Self, NoMemory>
         requires { 1 ≤ most }
         ensures bytes { IfOk result (λ sink. sink_bytes sink ≡ []) }
@@ -42,7 +42,7 @@ impl MemSink {
         }
     }
 
-    /// All bytes that it took.
+    /// All bytes that it received.
     pub fn taken(&self) -> &[u8]
         ensures { result.now ≡ sink_bytes self.now }
     {
@@ -59,7 +59,7 @@ impl Sink for MemSink {
 
     ghost state = { λ sink. told_sink sink.bytes.items sink.faults };
 
-    /// Takes as many bytes as the piece, `most` and the room left allow. It fails exactly where
+    /// Accepts as many bytes as the piece, `most` and the room left allow. It fails exactly where
     /// the piece isn't empty and no room is left.
     fn write(&mut self, piece: &[u8]) -> Result<usize, Failed>
         ensures bound { IfOk result (λ count. count ≤ length piece.now) }

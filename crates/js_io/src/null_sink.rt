@@ -4,12 +4,12 @@ ghost use Rattle.js_io.specs.SinkState.{untold_sink};
 
 use crate::{Failed, Sink};
 
-/// A sink that takes every piece whole, and keeps and tells nothing of it. No write to it fails.
+/// A sink that accepts every piece whole, and keeps and reports nothing of it. No write to it fails.
 #[derive(Clone, Copy, Debug)]
 pub struct NullSink;
 
 impl NullSink {
-    /// It takes no memory.
+    /// It allocates nothing.
     pub fn new() -> Self
         ensures { ⟦<NullSink as Sink>⟧.state result ≡ untold_sink 0 }
     {

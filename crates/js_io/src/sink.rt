@@ -10,12 +10,12 @@ pub struct Failed;
 
 /// A taker of bytes.
 pub trait Sink {
-    // All that callers see of a sink: the bytes that it took, where they are told, and how many
+    // All that callers see of a sink: the bytes that it received, where they are reported, and how many
     // writes failed.
     ghost state: { Self → SinkState };
 
-    /// Takes some bytes from the front of the piece, and says how many: at least one, unless the
-    /// piece is empty. A write that fails takes none.
+    /// Accepts some bytes from the front of the piece, and says how many: at least one, unless the
+    /// piece is empty. A write that fails accepts none.
     fn write(&mut self, piece: &[u8]) -> Result<usize, Failed>
         ensures bound { IfOk result (λ count. count ≤ length piece.now) }
         ensures some { IfOk result (λ count. 0 < length piece.now → 0 < count) }
@@ -27,7 +27,7 @@ pub trait Sink {
         ensures counted { (state self.old).faults ≤ (state self.new).faults };
 }
 
-/// Writes all of the bytes, or stops at the first write that fails, with a prefix of them taken.
+/// Writes all of the bytes, or stops at the first write that fails, with a prefix of them received.
 pub fn write_all<O: Sink>(sink: &mut O, bytes: &[u8]) -> Result<(), Failed>
     ensures { WritesAll result (O.state sink.old) (O.state sink.new) bytes.now }
 {

@@ -1,4 +1,4 @@
--- Contents as codes, by which proofs tell them apart.
+-- Contents as codes, by which proofs distinguish them.
 use Rattle.std.specs.Prelude.{◌≡◌, ℕ, refl}
 use Rattle.std.proofs.Common.{sym, ap, subst}
 use Rattle.std.specs.Coded.{Coded, coded_bool, coded_ℤ, coded_list}
@@ -28,7 +28,7 @@ num_tree NaN = gcons (gnum 1) gnil
 num_tree PosInf = gcons (gnum 2) gnil
 num_tree NegInf = gcons (gnum 3) gnil
 
--- the number in front of a code tells the case
+-- the number in front of a code says the case
 num_one : (m n : Num) → num_tree m ≡ num_tree n → m ≡ n
 num_one (Int z) (Int w) e = ap Int (coded_ℤ.inj z w (ap tail e))
 num_one (Int z) NaN e = let t : ◌≡◌ {A = ℕ} 0 1 = ap (λ g. num (head g)) e in cc

@@ -61,7 +61,7 @@ abbrev pub NoKey : {R : Type 0} → Strings → (R → ℕ) → List ℕ → Fie
 NoKey s name u no_fields = Unit {0}
 NoKey s name u (field key value rest) = (units_at s (name key) ≡ u → ⊥) × NoKey s name u rest
 
--- lawful numbers, known strings, symbols that were interned, and objects whose keys and values are fine, whose keys differ, and which are bounded
+-- valid numbers, known strings, symbols that were interned, and objects whose keys and values are fine, whose keys differ, and which are bounded
 abbrev mutual
   pub FineOf : {R : Type 0} → Strings → (R → ℕ) → Content R → Type 0
   FineOf s name undefined = Unit {0}

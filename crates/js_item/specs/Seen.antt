@@ -1,4 +1,4 @@
--- What items stand for in a store: contents whose strings are lists of units.
+-- What items denote in a store: contents whose strings are lists of units.
 use Rattle.std.specs.Prelude.{ℕ, List, map}
 use Rattle.js_store.specs.State.{State, text as text_of}
 use Rattle.js_item.specs.Contents.{Content, undefined, null, bool, number, text, symbol, list, object, Fields, no_fields, field}

@@ -6,7 +6,7 @@ use std::collections::HashMap;
 /// As many members are looked at one after another, before an index is asked.
 pub(crate) const FEW: u32 = 8;
 
-/// For the number of a key the place at which its member may stand, which the member's key must
+/// For the number of a key the place at which its member may be, which the member's key must
 /// confirm. It is one pointer, and none as long as no number has a place, so that an object of few
 /// members costs nothing.
 #[derive(Clone, Debug, Drop)]
@@ -15,7 +15,7 @@ pub(crate) struct Index {
 }
 
 impl Index {
-    /// No place. It takes no memory.
+    /// No place. It allocates nothing.
     pub(crate) fn new() -> Index {
         Index { places: None }
     }

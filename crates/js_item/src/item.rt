@@ -60,7 +60,7 @@ impl<R> Model for Object<R> {
 }
 
 impl<R: Copy> Object<R> {
-    /// An object with no member. It takes no memory.
+    /// An object with no member. It allocates nothing.
     pub fn new(alloc: Global) -> Object<R>
         ensures { result ≡ no_fields }
     {
@@ -108,7 +108,7 @@ impl<R: Copy> Object<R> {
         member.value = value;
     }
 
-    // What its vector takes memory from.
+    // The allocator of its vector.
     pub(crate) fn alloc(&self) -> Global {
         *self.members.allocator()
     }

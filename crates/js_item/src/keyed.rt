@@ -13,7 +13,7 @@ use js_units::NoMemory;
 
 impl<R: Copy> Object<R> {
     /// The place of the member whose key has the units of `key`, if there is one. It compares
-    /// numbers alone, and where the store tells these and there is such a member, as many in a large
+    /// numbers alone, and where the store reports these and there is such a member, as many in a large
     /// object as in a small one.
     pub fn find<S: Strings<Ref = R>>(&self, store: &mut S, key: R) -> Option<u32>
         requires few { width self.now < 4294967296 }

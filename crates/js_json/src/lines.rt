@@ -24,7 +24,7 @@ impl Model for Lines {
 }
 
 impl Lines {
-    /// No line. It takes no memory.
+    /// No line. It allocates nothing.
     pub fn new(alloc: Global) -> Lines
         ensures { result ≡ [] }
     {

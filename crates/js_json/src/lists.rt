@@ -58,7 +58,7 @@ pub fn list_len<S: Strings>(
         (settle_most (S.state store.old) S.number parts.now) }
 {
     let len = rest_len(alloc, store, parts)?;
-    // the comma that it counts before the first element takes the place of the first bracket
+    // the comma that it counts before the first element replaces the first bracket
     Ok(if len < 2 { 2 } else { len })
 }
 

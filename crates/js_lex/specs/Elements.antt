@@ -1,4 +1,4 @@
--- Blanks, comments and words, on characters (ECMA-262, "White Space", "Line Terminators", "Comments", "Names
+-- Blanks, comments and identifiers, on characters (ECMA-262, "White Space", "Line Terminators", "Comments", "Names
 -- and Keywords").
 use Rattle.std.specs.Prelude.{ℕ, List, [], ◌∷◌, Bool, false, Option, Some, None, ◌==◌, ◌&&◌, ◌||◌, if◌then◌else◌}
 use Rattle.js_units.specs.Text
@@ -17,7 +17,7 @@ is_line_end c = c == 10 || c == 13 || c == 0x2028 || c == 0x2029
 abbrev pub is_word_part : ℕ → Bool
 is_word_part c = is_word_start c || is_digit c
 
--- what follows the longest run of word parts
+-- what follows the longest run of identifier parts
 abbrev pub after_word : List ℕ → List ℕ
 after_word [] = []
 after_word (c ∷ s) = if is_word_part c then after_word s else c ∷ s

@@ -1,4 +1,4 @@
--- What is told of a lexical fault: where it stands, and in which words.
+-- The report of a lexical fault: where it is, and with which message.
 use Rattle.std.specs.Prelude.{ℕ, List, [], codes}
 use Rattle.js_literal.specs.Faults.{literal_offset, literal_words, number_offset, number_words}
 use Rattle.js_lex.specs.declared.token.LexFault.{LexFault}
@@ -13,7 +13,7 @@ lexical_offset (lexical.Literal f) = literal_offset f
 lexical_offset (lexical.Number f) = number_offset f
 lexical_offset lexical.Memory = 0
 
--- the words in which a lexical fault is told
+-- the message with which a lexical fault is reported
 abbrev pub lexical_words : LexFault → List ℕ
 lexical_words (lexical.NotUtf8 at) = codes "not utf-8"
 lexical_words (lexical.BadCharacter at) = codes "bad character"

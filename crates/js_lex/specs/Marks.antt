@@ -1,4 +1,4 @@
--- The marks and their spelling (ECMA-262, "Punctuators"); of those that stand in front the longest is the
+-- The marks and their spelling (ECMA-262, "Punctuators"); of those that are in front the longest is the
 -- token.
 use Rattle.std.specs.Prelude.{◌≡◌, ℕ, ◌≤◌, List, ◌++◌, codes, length}
 use Rattle.js_lex.specs.declared.token.Mark.{Mark}
@@ -33,12 +33,12 @@ spelling Question = codes "?"
 spelling Colon = codes ":"
 spelling Assign = codes "="
 
--- the mark stands in front, rest follows it, and no longer one stands there
+-- the mark is in front, rest follows it, and no longer one is there
 pub record IsLongest (s : List ℕ) (m : Mark) (rest : List ℕ) : Type 0 where
   pub stands : s ≡ spelling m ++ rest
   pub longest : (n : Mark) (other : List ℕ) → s ≡ spelling n ++ other
       → length (spelling n) ≤ length (spelling m)
 
--- no mark stands in front
+-- no mark is in front
 abbrev pub HasNoMark : List ℕ → Type 0
 HasNoMark s = (m : Mark) (rest : List ℕ) → s ≡ spelling m ++ rest → ⊥

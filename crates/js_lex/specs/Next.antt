@@ -6,7 +6,7 @@ use Rattle.js_lex.specs.declared.token.Token.{Token}
 use Rattle.js_lex.specs.declared.token.LexFault.{LexFault}
 use Rattle.js_lex.specs.declared.token.LexFault.TheVariants.{Memory}
 
--- from one place up to another stands only what separates tokens
+-- from one place up to another there is only what separates tokens
 pub data Separates (text : List ℕ) (at : ℕ) : ℕ → Type 0 where
   nothing : Separates text at at
   more : (mid end : ℕ) → Separates text at mid → ElementAt text mid (Skip end) → Separates text at end
@@ -16,13 +16,13 @@ pub record IsNextToken (text : List ℕ) (at : ℕ) (t : Token) : Type 0 where
   pub apart : Separates text at t.from
   pub stands : ElementAt text t.from (TokenOf t.kind t.to)
 
--- the fault from a place on, before which no token stands
+-- the fault from a place on, before which there is no token
 pub record IsNextFault (text : List ℕ) (at : ℕ) (f : LexFault) : Type 0 where
   pub place : ℕ
   pub apart : Separates text at place
   pub stands : ElementAt text place (Fault f)
 
--- what comes next from a place on is told, unless memory ran out
+-- what comes next from a place on is reported, unless memory ran out
 abbrev pub GivesToken : List ℕ → ℕ → Result (Option Token) LexFault → Type 0
 GivesToken text at (Ok None) = Lexes text at []
 GivesToken text at (Ok (Some t)) = IsNextToken text at t

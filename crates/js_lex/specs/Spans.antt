@@ -25,7 +25,7 @@ IsWithin text t = (t.from < t.to) × (t.to ≤ length text)
 abbrev pub slice : List ℕ → ℕ → ℕ → List ℕ
 slice bytes from to = take (to - from) (drop from bytes)
 
--- a word start and then word parts
+-- an identifier start and then identifier parts
 abbrev pub is_word : List ℕ → Bool
 is_word [] = false
 is_word (c ∷ w) = is_word_start c && list_all is_word_part w
@@ -34,7 +34,7 @@ abbrev pub begins_word_part : List ℕ → Bool
 begins_word_part [] = false
 begins_word_part (c ∷ s) = is_word_part c
 
--- a word, which no word part follows
+-- an identifier, which no identifier part follows
 pub record IsWordAt (bytes : List ℕ) (from to : ℕ) : Type 0 where
   pub word : is_word (slice bytes from to) ≡ true
   pub rest : List ℕ

@@ -16,7 +16,7 @@ use Rattle.js_lex.specs.declared.token.TokenKind.TheVariants as kinds
 use Rattle.js_lex.specs.declared.token.LexFault.{LexFault}
 use Rattle.js_lex.specs.declared.token.LexFault.TheVariants as faults
 
--- what stands at a place: the end, what separates tokens, a token, or a fault; with the place behind it
+-- what is at a place: the end, what separates tokens, a token, or a fault; with the place behind it
 pub data Element : Type 0 where
   End : Element
   Skip : ℕ → Element
@@ -29,7 +29,7 @@ IsBad c s =
     (is_blank c ≡ false) × (is_word_start c ≡ false) × (is_quote c ≡ false) × (begins_number (c ∷ s) ≡ false)
     × ((c == 47 && begins_comment s) ≡ false) × HasNoMark (c ∷ s)
 
--- what stands at byte at of the text ("InputElementDiv", and the faults)
+-- what is at byte at of the text ("InputElementDiv", and the faults)
 pub data ElementAt (text : List ℕ) (at : ℕ) : Element → Type 0 where
   ended : StandsAt text at [] → ElementAt text at End
   blank : (c : ℕ) (s : List ℕ) (end : ℕ) → StandsAt text at (c ∷ s) → is_blank c ≡ true → StandsAt text end s

@@ -1,4 +1,4 @@
-// What stands at the front of a text: a blank, a comment, or what a token begins with.
+// What is at the front of a text: a blank, a comment, or what a token begins with.
 ghost use Rattle.std.specs.List.{prefix_len};
 ghost use Rattle.std.specs.Prelude.{◌≡◌, option_map};
 ghost use Rattle.std.specs.Str.{chars};
@@ -45,14 +45,14 @@ fn is_line_end(c: char) -> bool
     matches!(c, '\n' | '\r' | '\u{2028}' | '\u{2029}')
 }
 
-/// Whether the character may stand in a word behind its first.
+/// Whether the character may be in an identifier behind its first.
 fn is_word_part(c: char) -> bool
     ensures { result ≡ Elements.is_word_part c }
 {
     is_word_start(c) || c.is_ascii_digit()
 }
 
-/// How many bytes in front are word parts.
+/// How many bytes in front are identifier parts.
 fn word_len(bytes: &[u8]) -> usize
     ensures { result ≡ prefix_len Elements.is_word_part bytes.now }
 {
@@ -64,7 +64,7 @@ fn word_len(bytes: &[u8]) -> usize
     bytes.len()
 }
 
-/// What follows the longest run of word parts, which are ASCII.
+/// What follows the longest run of identifier parts, which are ASCII.
 fn after_word(text: &str) -> &str
     ensures { chars result.now ≡ Elements.after_word (chars text.now) }
 {
@@ -101,7 +101,7 @@ fn after_block(text: &str) -> Option<&str>
     None
 }
 
-/// What stands behind a slash.
+/// What follows a slash.
 fn comment(text: &str) -> Front<'_>
     ensures { lookahead_of result ≡ Reader.comment (chars text.now) }
 {
@@ -115,7 +115,7 @@ fn comment(text: &str) -> Front<'_>
     }
 }
 
-/// What stands at the front.
+/// What is at the front.
 #[tactic(auto, unfolding(crate::specs::Reader::front))]
 pub fn look_ahead(text: &str) -> Front<'_>
     ensures { lookahead_of result ≡ Reader.front (chars text.now) }

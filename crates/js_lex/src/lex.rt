@@ -29,7 +29,7 @@ pub fn source_text(bytes: &[u8]) -> Result<&str, LexFault>
 }
 
 /// The first token from a place on; `None` where only blanks and comments are left. The token
-/// behind it is the first from its `to` on. A fault is told only where no token stands before it.
+/// behind it is the first from its `to` on. A fault is reported only where no token precedes it.
 pub fn next_token(alloc: Global, text: &str, at: u32) -> Result<Option<Token>, LexFault>
     requires size { length text.now < 2 ^ 32 }
     requires cut { IsCharBoundary text.now at }
@@ -124,8 +124,8 @@ pub fn spans_in_order()
         → i + 1 < length ts → (slice_index_or ts i d).to ≤ (slice_index_or ts (i + 1) d).from }
 {}
 
-/// Each token's text is its slice of the bytes: a word's letters, a mark's spelling where no longer
-/// mark stands, and a literal from its first byte up to the byte behind it.
+/// Each token's text is its slice of the bytes: an identifier's letters, a mark's spelling where no longer
+/// mark is there, and a literal from its first byte up to the byte behind it.
 pub fn token_text()
     ensures { (bytes : List ℕ) (ts : List Token) → TokensOf bytes ts → All (IsSpelled bytes) ts }
 {}

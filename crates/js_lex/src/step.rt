@@ -1,4 +1,4 @@
-// One step of the lexer: what stands at a place, and the place behind it.
+// One step of the lexer: what is at a place, and the place behind it.
 ghost use Rattle.std.specs.Prelude.{◌≡◌, ◌<◌, ◌≤◌, ◌^◌, ◌⊎◌, ◌∷◌, length, IfOk, IfErr};
 ghost use Rattle.std.specs.Str.{chars, IsCharBoundary};
 ghost use Rattle.js_literal.specs.Place.{StandsAt};
@@ -65,7 +65,7 @@ fn number(text: &str, at: u32) -> Result<Next, LexFault>
     }
 }
 
-/// What stands at a place.
+/// What is at a place.
 pub fn step(alloc: Global, text: &str, at: u32) -> Result<Next, LexFault>
     requires size { length text.now < 2 ^ 32 }
     requires cut { IsCharBoundary text.now at }

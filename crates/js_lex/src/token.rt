@@ -74,7 +74,7 @@ pub enum TokenKind {
     Mark(Mark),
 }
 
-/// A token, and the bytes of the text that it takes: from `from` up to `to`.
+/// A token, and the bytes of the text that it has: from `from` up to `to`.
 #[derive(Drop)]
 pub struct Token {
     pub kind: TokenKind,
@@ -99,7 +99,7 @@ pub enum LexFault {
 }
 
 impl LexFault {
-    /// The byte offset at which it stands; 0 where memory ran out.
+    /// The byte offset at which it is; 0 where memory ran out.
     pub fn offset(self) -> u32
         ensures { result ≡ lexical_offset self }
     {
@@ -113,7 +113,7 @@ impl LexFault {
         }
     }
 
-    /// The words for it, in ASCII.
+    /// Its message, in ASCII.
     pub fn words(self) -> &'static [u8]
         ensures { result.now ≡ lexical_words self }
     {

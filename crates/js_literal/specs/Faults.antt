@@ -1,4 +1,4 @@
--- What is told of a fault of a literal: where it stands, and in which words.
+-- The report of a fault of a literal: where it is, and with which message.
 use Rattle.std.specs.Prelude.{ℕ, List, [], codes}
 use Rattle.js_literal.specs.declared.fault.LiteralFault.{LiteralFault}
 use Rattle.js_literal.specs.declared.fault.LiteralFault.TheVariants as literal
@@ -20,7 +20,7 @@ number_offset (number.Fraction at) = at
 number_offset (number.OtherForm at) = at
 number_offset (number.TooLarge at) = at
 
--- the words in which the fault of a string literal is told
+-- the message with which the fault of a string literal is reported
 abbrev pub literal_words : LiteralFault → List ℕ
 literal_words (literal.Unclosed at) = codes "unclosed string"
 literal_words (literal.RawLineEnd at) = codes "line end in string"
@@ -29,7 +29,7 @@ literal_words (literal.CodePointTooLarge at) = codes "code point too large"
 literal_words (literal.LegacyOctal at) = codes "legacy octal"
 literal_words literal.Memory = codes "out of memory"
 
--- the words in which the fault of a number literal is told
+-- the message with which the fault of a number literal is reported
 abbrev pub number_words : NumberFault → List ℕ
 number_words (number.Fraction at) = codes "fraction"
 number_words (number.OtherForm at) = codes "number form"

@@ -1,5 +1,5 @@
--- String literals in strict code, on characters (ECMA-262, "String Literals"): what may stand between two
--- quotes, what it stands for, and what is refused where.
+-- String literals in strict code, on characters (ECMA-262, "String Literals"): what may be between two
+-- quotes, what it denotes, and what is refused where.
 use Rattle.std.specs.Prelude.{◌≡◌, ℕ, ◌+◌, ◌-◌, ◌*◌, ◌<◌, ◌≤◌, List, [], ◌∷◌, ◌++◌, Bool, true, false, Option, Some, None, nat_le, ◌==◌, ◌&&◌, ◌||◌, if◌then◌else◌, option_and_then, length, slice_index}
 use Rattle.js_units.specs.Text.{utf16_of}
 use Rattle.js_literal.specs.Place.{StandsAt}
@@ -20,7 +20,7 @@ hex_value c = if is_digit c then Some (c - 48) else
     (if nat_le 65 c && nat_le c 70 then Some (c - 55) else
     (if nat_le 97 c && nat_le c 102 then Some (c - 87) else None))
 
--- the value of hexadecimal digits that stand behind a number with the value v
+-- the value of hexadecimal digits that follow a number with the value v
 abbrev pub hex_number : ℕ → List ℕ → Option ℕ
 hex_number v [] = Some v
 hex_number v (c ∷ cs) = option_and_then (λ d. hex_number (16 * v + d) cs) (hex_value c)
@@ -40,17 +40,17 @@ abbrev pub begins_line_feed : List ℕ → Bool
 begins_line_feed [] = false
 begins_line_feed (c ∷ cs) = c == 10
 
--- a character that stands for itself in a string in these quotes: any but the quote, the backslash, LF and CR
+-- a character that denotes itself in a string in these quotes: any but the quote, the backslash, LF and CR
 abbrev pub is_plain : ℕ → ℕ → Bool
 is_plain q c = if c == q then false
     else (if c == 92 then false else (if c == 10 then false else (if c == 13 then false else true)))
 
--- stands for itself after a backslash
+-- denotes itself after a backslash
 abbrev pub is_itself : ℕ → Bool
 is_itself c = if is_digit c || c == 120 || c == 117 then false
     else (if c == 10 || c == 13 || c == 0x2028 || c == 0x2029 then false else true)
 
--- what stands before rest, and its units: a character for itself, or a row of the table of escapes
+-- what precedes rest, and its units: a character for itself, or a row of the table of escapes
 -- ("SingleStringCharacter", "EscapeSequence", "LineContinuation", "static semantics: SV")
 pub data Piece (q : ℕ) : List ℕ → List ℕ → List ℕ → Type 0 where
   plain : (c : ℕ) (rest : List ℕ) → is_plain q c ≡ true → Piece q (c ∷ rest) (utf16_of c) rest
@@ -101,7 +101,7 @@ pub data IsBroken (q : ℕ) : List ℕ → Kind → List ℕ → Type 0 where
   here : (s : List ℕ) (f : Kind) → Breaks q s f → IsBroken q s f s
   later : (s mid us left : List ℕ) (f : Kind) → Piece q s us mid → IsBroken q mid f left → IsBroken q s f left
 
--- a string literal with these units stands at byte at and ends before byte end
+-- a string literal with these units is at byte at and ends before byte end
 pub record LiteralOf (text : List ℕ) (at : ℕ) (units : List ℕ) (end : ℕ) : Type 0 where
   pub q : ℕ
   pub s : List ℕ
@@ -132,6 +132,6 @@ pub record LiteralFaultOf (text : List ℕ) (at : ℕ) (fault : LiteralFault) : 
   pub shows : StandsAt text here_at left
   pub is_fault : fault ≡ fault_at kind at here_at
 
--- a quote stands at byte at
+-- a quote is at byte at
 abbrev pub BeginsString : List ℕ → ℕ → Type 0
 BeginsString text at = (at < length text) × (is_quote (slice_index text at) ≡ true)

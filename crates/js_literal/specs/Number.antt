@@ -17,7 +17,7 @@ abbrev pub after_digits : List ℕ → List ℕ
 after_digits [] = []
 after_digits (c ∷ cs) = if is_digit c then after_digits cs else c ∷ cs
 
--- the value of digits that stand behind a number with the value v
+-- the value of digits that follow a number with the value v
 abbrev pub decimal : ℕ → List ℕ → ℕ
 decimal v [] = v
 decimal v (c ∷ cs) = decimal (10 * v + (c - 48)) cs
@@ -60,7 +60,7 @@ number_at s =
     (if nat_lt 9007199254740991 (decimal 0 (digits_of s)) then Err TooLarge else
     Ok (decimal 0 (digits_of s), after_digits s)))))
 
--- a number literal with this value stands at byte at and ends before byte end
+-- a number literal with this value is at byte at and ends before byte end
 pub record NumberOf (text : List ℕ) (at value end : ℕ) : Type 0 where
   pub s : List ℕ
   pub rest : List ℕ
@@ -84,7 +84,7 @@ pub record NumberFaultOf (text : List ℕ) (at : ℕ) (fault : NumberFault) : Ty
   pub reads : number_at s ≡ Err kind
   pub is_fault : fault ≡ number_fault kind at
 
--- a digit stands at byte at, or a point and a digit
+-- a digit is at byte at, or a point and a digit
 abbrev pub BeginsNumber : List ℕ → ℕ → Type 0
 BeginsNumber text at = (at < length text) × ((is_digit (slice_index text at)
     || (slice_index text at == 46 && is_digit (slice_index text (at + 1)))) ≡ true)

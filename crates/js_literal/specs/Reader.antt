@@ -93,7 +93,7 @@ reading q [] = Break Unclosed
 reading q (c ∷ rest) = if c == q then Shut rest else (if c == 92 then escape_of rest
     else (if c == 10 || c == 13 then Break RawLineEnd else Take (utf16_of c) rest))
 
--- a printable character of ASCII that stands for itself: neither the quote nor a backslash
+-- a printable character of ASCII that denotes itself: neither the quote nor a backslash
 abbrev pub is_plain : ℕ → ℕ → Bool
 is_plain q c = nat_le 32 c && nat_le c 126 && not (c == q) && not (c == 92)
 

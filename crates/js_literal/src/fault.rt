@@ -1,4 +1,4 @@
-// Faults of literals, each with the byte of the text at which it stands.
+// Faults of literals, each with the byte of the text at which it is.
 ghost use Rattle.std.specs.Prelude.{◌≡◌};
 ghost use Rattle.js_literal.specs.Faults.{literal_offset, literal_words, number_offset, number_words};
 
@@ -19,7 +19,7 @@ pub enum LiteralFault {
     Memory,
 }
 
-/// Why a text has no number literal at a place. Each stands at the literal's first byte.
+/// Why a text has no number literal at a place. Each is at the literal's first byte.
 #[derive(Clone, Copy, Debug, PartialEq, Eq)]
 pub enum NumberFault {
     /// A point at the start, or behind the digits.
@@ -31,7 +31,7 @@ pub enum NumberFault {
 }
 
 impl LiteralFault {
-    /// The byte offset at which it stands; 0 where memory ran out.
+    /// The byte offset at which it is; 0 where memory ran out.
     pub fn offset(self) -> u32
         ensures { result ≡ literal_offset self }
     {
@@ -45,7 +45,7 @@ impl LiteralFault {
         }
     }
 
-    /// The words for it, in ASCII.
+    /// Its message, in ASCII.
     pub fn words(self) -> &'static [u8]
         ensures { result.now ≡ literal_words self }
     {
@@ -61,7 +61,7 @@ impl LiteralFault {
 }
 
 impl NumberFault {
-    /// The byte offset at which it stands.
+    /// The byte offset at which it is.
     pub fn offset(self) -> u32
         ensures { result ≡ number_offset self }
     {
@@ -72,7 +72,7 @@ impl NumberFault {
         }
     }
 
-    /// The words for it, in ASCII.
+    /// Its message, in ASCII.
     pub fn words(self) -> &'static [u8]
         ensures { result.now ≡ number_words self }
     {

@@ -1,4 +1,4 @@
-// What stands at the front of a string literal's inside: a character, an escape, the closing quote,
+// What is at the front of a string literal's inside: a character, an escape, the closing quote,
 // or what is refused.
 ghost use Rattle.std.specs.Prelude.{◌≡◌, ◌<◌, ◌≤◌, ◌+◌, ◌*◌, [], ◌∷◌, min, IfSome, option_map};
 ghost use Rattle.std.specs.List.{prefix_len};
@@ -153,7 +153,7 @@ fn braces(text: &str) -> LiteralFront<'_>
     }
 }
 
-/// What stands behind `\u`.
+/// What follows `\u`.
 fn unicode(text: &str) -> LiteralFront<'_>
     ensures { reading_of result ≡ Reader.unicode_of (chars text.now) }
 {
@@ -173,7 +173,7 @@ fn past_line_feed(text: &str) -> &str
     }
 }
 
-/// What stands behind a backslash and a character that is none of the six letters.
+/// What follows a backslash and a character that is none of the six letters.
 fn other_escape(c: char, text: &str) -> LiteralFront<'_>
     ensures { reading_of result ≡ Reader.other_escape c (chars text.now) }
 {
@@ -194,7 +194,7 @@ fn other_escape(c: char, text: &str) -> LiteralFront<'_>
     }
 }
 
-/// What stands behind a backslash.
+/// What follows a backslash.
 #[tactic(auto, unfolding(crate::specs::Reader::escape_of))]
 fn escape(text: &str) -> LiteralFront<'_>
     ensures { reading_of result ≡ escape_of (chars text.now) }
@@ -208,7 +208,7 @@ fn escape(text: &str) -> LiteralFront<'_>
     }
 }
 
-/// Whether the character stands for itself and is its own byte: printable ASCII, neither the quote
+/// Whether the character denotes itself and is its own byte: printable ASCII, neither the quote
 /// nor a backslash.
 fn is_plain(quote: char, c: char) -> bool
     ensures { result ≡ Reader.is_plain quote c }
@@ -238,7 +238,7 @@ pub fn split_plain(quote: char, text: &str) -> (&[u8], &str)
     (&bytes[..len], &text[len..])
 }
 
-/// What stands at the front of a literal's inside.
+/// What is at the front of a literal's inside.
 #[tactic(auto, unfolding(crate::specs::Reader::reading))]
 pub fn read_front(quote: char, text: &str) -> LiteralFront<'_>
     ensures { reading_of result ≡ reading quote (chars text.now) }

@@ -1,8 +1,8 @@
 //! String literals and number literals of a script in strict code (ECMA-262, "String Literals",
-//! "Numeric Literals"): [`read_string`] and [`read_number`] answer what stands at a byte of a
+//! "Numeric Literals"): [`read_string`] and [`read_number`] answer what is at a byte of a
 //! text, and the byte behind it, or the one fault with its place.
 //!
-//! What a literal is and where each fault stands are relations between a text and places in it.
+//! What a literal is and where each fault lies are relations between a text and places in it.
 //! [`one_string_answer`] and [`one_number_answer`] say that a place at which a literal begins has
 //! exactly one answer. The other functions read characters at the front of a text, for the crates
 //! that read tokens.

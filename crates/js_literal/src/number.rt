@@ -103,9 +103,9 @@ pub fn begins_number(c: char, rest: &str) -> bool
 }
 
 /// The number literal that begins at byte `at`: its value, and the byte behind it. The rules that
-/// refuse one are taken in this order, each at the literal's first byte: a point in front, a 0
+/// refuse one come in this order, each at the literal's first byte: a point in front, a 0
 /// that a digit follows, a point behind the digits, a letter, `_`, `$` or `\` behind them, and a
-/// value over 2^53 - 1. It takes no memory.
+/// value over 2^53 - 1. It allocates nothing.
 pub fn read_number(text: &str, at: u32) -> Result<(u64, u32), NumberFault>
     requires size { length text.now < 2 ^ 32 }
     requires number { BeginsNumber text.now at }

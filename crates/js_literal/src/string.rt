@@ -74,7 +74,7 @@ fn placed(refusal: PieceFault, at: u32, here: u32) -> LiteralFault
     }
 }
 
-/// The opening quote at byte `at`, and what stands behind it.
+/// The opening quote at byte `at`, and what follows it.
 fn open(text: &str, at: u32) -> (char, &str)
     requires { BeginsString text.now at }
     ensures starts { StandsAt text.now at (result.0 ∷ chars result.1.now) }
@@ -119,7 +119,7 @@ pub fn read_string(alloc: Global, text: &str, at: u32) -> Result<(Units, u32), L
     literal(alloc, text, at)
 }
 
-/// A place where a quote stands has one string literal or one fault, and not both.
+/// A place with a quote has one string literal or one fault, and not both.
 pub fn one_string_answer()
     ensures one_literal { (text : List ℕ) (at : ℕ) (us vs : List ℕ) (a b : ℕ) → IsUtf8 text
         → LiteralOf text at us a → LiteralOf text at vs b → (us ≡ vs) × (a ≡ b) }

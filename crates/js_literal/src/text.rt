@@ -27,7 +27,7 @@ pub fn hex_value(c: char) -> Option<u32>
     }
 }
 
-/// How many bytes the characters of the text take.
+/// How many bytes the characters of the text have.
 pub fn byte_len(text: &str) -> usize
     ensures { result ≡ length (encode_utf8_all (chars text.now)) }
 {

@@ -17,7 +17,7 @@ relative_place NegInf n = None
 abbrev pub at_of : List ℕ → Num → Option (List ℕ)
 at_of u i = option_map (λ k. slice_range u k (k + 1)) (relative_place i (length u))
 
--- the place of n that the number names as it stands
+-- the place of n that the number names without a conversion
 abbrev pub exact_place : Num → ℕ → Option ℕ
 exact_place (Int (pos k)) n = if nat_lt k n then Some k else None
 exact_place (Int (negsuc k)) n = None

@@ -5,7 +5,7 @@ use Rattle.js_number.specs.declared.Num.TheVariants.{NaN}
 use Rattle.js_number.specs.Places.{clamped}
 use Rattle.js_search.specs.Places.{stands, first, last}
 
--- "String.prototype.indexOf": the least place, from the one that the number names on, at which w stands
+-- "String.prototype.indexOf": the least place, from the one that the number names on, at which w occurs
 abbrev pub index_from : List ℕ → List ℕ → Num → Option ℕ
 index_from u w from = first u w (clamped from (length u))
 
@@ -18,11 +18,11 @@ abbrev pub limit_of : Num → ℕ → ℕ
 limit_of NaN n = n
 limit_of limit n = clamped limit n
 
--- "String.prototype.lastIndexOf": the greatest place, up to the one that the number names, at which w stands
+-- "String.prototype.lastIndexOf": the greatest place, up to the one that the number names, at which w occurs
 abbrev pub last_index_up_to : List ℕ → List ℕ → Num → Option ℕ
 last_index_up_to u w limit = last u w (limit_of limit (length u))
 
--- "String.prototype.startsWith": whether w stands at the place that the number names
+-- "String.prototype.startsWith": whether w occurs at the place that the number names
 abbrev pub starts_at : List ℕ → List ℕ → Num → Bool
 starts_at u w from = stands u w (clamped from (length u))
 

@@ -1,4 +1,4 @@
--- What the methods give that take white space away ("TrimString").
+-- What the methods give that trim white space ("TrimString").
 use Rattle.std.specs.Prelude.{ℕ, ◌-◌, List, length, take, drop, reverse}
 use Rattle.std.specs.List.{prefix_len}
 use Rattle.js_units.specs.Text.{is_blank}

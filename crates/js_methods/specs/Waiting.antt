@@ -7,7 +7,7 @@ abbrev pub IsLeadOrNone : Option ℕ → Type 0
 IsLeadOrNone None = Unit {0}
 IsLeadOrNone (Some v) = is_lead v ≡ true
 
--- what is left to add where that one stands before the rest
+-- what is left to add where that one precedes the rest
 abbrev pub well_after : Option ℕ → List ℕ → List ℕ
 well_after None us = well us
 well_after (Some v) us = well (v ∷ us)

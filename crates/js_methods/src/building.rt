@@ -79,7 +79,7 @@ fn units_of_points(alloc: Global, points: &[Num]) -> Result<Option<Units>, NoMem
     Ok(Some(units))
 }
 
-// Adds the units of a number that is a code point, and tells whether it is one.
+// Adds the units of a number that is a code point, and says whether it is one.
 fn push_point(units: &mut Units, point: Num) -> Result<bool, NoMemory>
     ensures told { IfOk result (λ r. r ≡ is_code_point point) }
     ensures added { IfOk result (λ r. IsTrue r → units.new ≡ units.old ++ code_units point) }

@@ -39,7 +39,7 @@ pub fn ends_with<S: Strings>(
     Ok(size <= end && js_search::stands_at(store, s, w, end - size))
 }
 
-/// Whether `w` stands in `s` at `from` or later ("String.prototype.includes").
+/// Whether `w` occurs in `s` at `from` or later ("String.prototype.includes").
 pub fn includes<S: Strings>(
     store: &mut S,
     s: S::Ref,
@@ -62,7 +62,7 @@ pub fn includes<S: Strings>(
     Ok(index_of(store, s, w, from)?.is_some())
 }
 
-/// The least place at `from` or later at which `w` stands in `s` ("String.prototype.indexOf").
+/// The least place at `from` or later at which `w` occurs in `s` ("String.prototype.indexOf").
 pub fn index_of<S: Strings>(
     store: &mut S,
     s: S::Ref,
@@ -87,7 +87,7 @@ pub fn index_of<S: Strings>(
     Ok(js_search::index_of(store, s, w, from.clamp_to(len)))
 }
 
-/// The greatest place at most `limit` at which `w` stands in `s`; NaN is no limit
+/// The greatest place at most `limit` at which `w` occurs in `s`; NaN is no limit
 /// ("String.prototype.lastIndexOf").
 pub fn last_index_of<S: Strings>(
     store: &mut S,
@@ -117,7 +117,7 @@ pub fn last_index_of<S: Strings>(
     Ok(js_search::last_index_of(store, s, w, most))
 }
 
-/// Whether `w` stands in `s` at `from` ("String.prototype.startsWith").
+/// Whether `w` occurs in `s` at `from` ("String.prototype.startsWith").
 pub fn starts_with<S: Strings>(
     store: &mut S,
     s: S::Ref,

@@ -1,4 +1,4 @@
-// Methods that take white space away.
+// Methods that trim white space.
 ghost use Rattle.std.specs.Prelude.{◌≡◌, ◌+◌, ◌*◌, ◌≤◌, ℕ, ◌-◌, length, drop, reverse, slice_range, IfOk, OnOk};
 ghost use Rattle.js_store.specs.State.{Has, IsKnown, IsSettled, text};
 ghost use Rattle.js_store.specs.Rows.{wide_words, cut_ids, cut_words};

@@ -1,4 +1,4 @@
--- What a lawful number is, and the place in 0..n that a number names.
+-- What a valid number is, and the place in 0..n that a number names.
 use Rattle.std.specs.Prelude.{ℕ, ◌+◌, ◌-◌, ◌≤◌, min, pos, negsuc, unsigned_abs}
 use Rattle.js_number.specs.declared.Num.{Num}
 use Rattle.js_number.specs.declared.Num.TheVariants.{Int, NaN, PosInf, NegInf}

@@ -2,8 +2,8 @@
 //! infinities, with the conversions, sums and order of ECMA-262 ("Abstract Operations", "Type
 //! Conversion"; "Numeric Types", "The Number Type"). -0 is the whole number 0.
 //!
-//! Each call is given lawful numbers and answers lawful ones. Only [`Num::to_text`] and
-//! [`append_text`] take memory.
+//! Each call is given valid numbers and answers valid ones. Only [`Num::to_text`] and
+//! [`append_text`] allocate.
 #![tactic(auto)]
 
 ghost use Rattle.std.specs.Prelude.{◌≡◌, ◌<ℤ◌, ◌++◌, ◌≤◌, pos, length, IfSome, OnOk, OnErr};
@@ -20,7 +20,7 @@ pub use text::append_text;
 /// The greatest whole number of the profile, 2^53 - 1 ("Number.MAX_SAFE_INTEGER").
 pub const MAX_SAFE: i64 = 9_007_199_254_740_991;
 
-/// A number. An `Int` of a lawful one has magnitude at most 2^53 - 1.
+/// A number. An `Int` of a valid one has magnitude at most 2^53 - 1.
 #[derive(Clone, Copy, Debug, PartialEq, Eq)]
 pub enum Num {
     Int(i64),
@@ -159,7 +159,7 @@ impl Num {
         }
     }
 
-    /// Adds the number's text in decimal digits, or nothing where memory is wanted
+    /// Adds the number in decimal digits, or nothing where memory runs out
     /// ("Number::toString").
     pub fn to_text(self, out: &mut Units) -> Result<(), NoMemory>
         requires { IsLawful self }

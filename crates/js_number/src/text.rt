@@ -1,9 +1,9 @@
-// Short texts as units.
+// Short strings as units.
 ghost use Rattle.std.specs.Prelude.{◌≡◌, ◌++◌, ◌≤◌, length, OnOk, OnErr};
 
 use js_units::{NoMemory, Units};
 
-/// Adds the bytes of a short text as units, all or none; of an ASCII text these are its code
+/// Adds the bytes of a short string as units, all or none; of ASCII these are its code
 /// points.
 #[tactic(auto, using(crate::proofs::Widened::next_unit))]
 pub fn append_text(out: &mut Units, text: &str) -> Result<(), NoMemory>

@@ -30,14 +30,14 @@ is_shown (symbol r) = false
 is_shown (list rs) = true
 is_shown (object fs) = true
 
--- what a member gives: the units of its key, and the text of its value, where it has one
+-- what a member gives: the units of its key, and the JSON text of its value, where it has one
 abbrev pub Part : Type 0
 Part = List ℕ × Option (List ℕ)
 
 abbrev pub part_index : Part → Option ℕ
 part_index p = index_of p.0
 
--- the quoted key, a colon and the value's text
+-- the quoted key, a colon and the value's JSON text
 abbrev pub more_shown : List ℕ → Option (List ℕ) → List (List ℕ) → List (List ℕ)
 more_shown key (Some u) us = (quoted key ++ 0x3A ∷ u) ∷ us
 more_shown key None us = us
@@ -51,7 +51,7 @@ abbrev pub object_json : List Part → List ℕ
 object_json ps = 0x7B ∷ delimited (λ u. u) 0x2C 0x7D (shown (ordered part_index ps))
 
 abbrev mutual
-  -- the text of an item that is shown, where the units of references are told
+  -- the JSON text of an item that is shown, where the units of references are known
   pub text_json : {R : Type 0} → (R → List ℕ) → Content R → List ℕ
   text_json say undefined = []
   text_json say null = codes "null"
@@ -67,11 +67,11 @@ abbrev mutual
   parts say no_fields = []
   parts say (field key value rest) = (say key, if is_shown value then Some (text_json say value) else None) ∷ parts say rest
 
--- the text of an object
+-- the JSON text of an object
 abbrev pub json_of : {R : Type 0} → (R → List ℕ) → Fields R → List ℕ
 json_of say fs = object_json (parts say fs)
 
--- the texts with a unit before each, a brace or else a comma, and the last brace
+-- JSON texts with a unit before each, a brace or else a comma, and the last brace
 abbrev pub closed : ℕ → List ℕ
 closed sep = if sep == 0x7B then 0x7B ∷ 0x7D ∷ [] else 0x7D ∷ []
 

@@ -1,5 +1,5 @@
 -- Array indexes, and the keys of an object in their order (ECMA-262, "OrdinaryOwnPropertyKeys"). What that
--- order is stands in `specs/Order.antt`; here is how the list that has it comes about.
+-- order is, is defined in `specs/Order.antt`; here is how the list that has it comes about.
 use Rattle.std.specs.Prelude.{ℕ, ◌+◌, ◌-◌, ◌*◌, Bool, false, not, ◌&&◌, ◌||◌, ◌==◌, nat_eq, nat_le, if◌then◌else◌, List, [], ◌∷◌, ◌++◌, length, Option, Some, None, map}
 use Rattle.std.specs.Str.{all_ascii_digits}
 use Rattle.std.specs.Ordering.{nat_cmp}
@@ -11,7 +11,7 @@ use Rattle.js_item.specs.Contents.{Content, Fields, no_fields, field}
 use Rattle.js_item.specs.declared.item.Member.{Member}
 use Rattle.js_item.specs.Views.{content}
 
--- the number that digits stand for, behind one that was read
+-- the number that digits denote, behind one that was read
 abbrev pub read_on : ℕ → List ℕ → ℕ
 read_on n [] = n
 read_on n (u ∷ us) = read_on (n * 10 + (u - 48)) us
@@ -21,7 +21,7 @@ abbrev pub has_form : List ℕ → Bool
 has_form [] = false
 has_form (u ∷ us) = (not (u == 48) || nat_eq (length us) 0) && nat_le (length us) 9 && all_ascii_digits (u ∷ us)
 
--- the number of an array index: decimal text of a number in 0..4294967294
+-- the number of an array index: decimal digits of a number in 0..4294967294
 abbrev pub index_of : List ℕ → Option ℕ
 index_of us = if has_form us && nat_le (read_on 0 us) 4294967294 then Some (read_on 0 us) else None
 

@@ -6,17 +6,17 @@ use Rattle.js_object.specs.Keys.{index_of, ordered, entries, keys_of, unit_keys}
 use Rattle.js_object.specs.Order.{IsTheOrder}
 use Rattle.js_object.specs.Json.{Part, part_index}
 
--- the keys of the members, as they stand
+-- the keys of the members, as they are
 abbrev pub standing_keys : Fields (List ℕ) → List (List ℕ)
 standing_keys fs = keys_of (entries fs)
 
--- an object's keys stand in the one order that they have
+-- an object's keys are in the one order that they have
 abbrev pub KeysInOrder : Type 0
 KeysInOrder =
     (fs : Fields (List ℕ)) → IsDistinct bytes_eq (standing_keys fs)
     → IsTheOrder index_of (standing_keys fs) (unit_keys fs)
 
--- the keys of the parts of a JSON text, as they stand
+-- the keys of the parts of a JSON text, as they are
 abbrev pub part_keys : List Part → List (List ℕ)
 part_keys ps = map (λ p. p.0) ps
 

@@ -1,5 +1,5 @@
 -- The order of an object's keys (ECMA-262, "OrdinaryOwnPropertyKeys"): first those that are array indexes,
--- ascending, and then the others in the order in which they stand. Elements are told by their indexes:
+-- ascending, and then the others in the order in which they come. Elements are known by their indexes:
 -- `index x` is the array index that the key of x is.
 use Rattle.std.specs.Prelude.{◌≡◌, ◌↔◌, ℕ, ◌+◌, ◌≤◌, List, [], ◌∷◌, ◌++◌, Option, Some, IsSome, Contains, filter}
 use Rattle.std.specs.Option.{is_none}

@@ -1,11 +1,11 @@
--- When an item may be told as JSON text.
+-- When an item may be serialized as JSON text.
 use Rattle.std.specs.Prelude.{ℕ}
 use Rattle.js_number.specs.Places.{IsLawful}
 use Rattle.js_texts.specs.Texts.{Every}
 use Rattle.js_item.specs.Contents.{Content, undefined, null, bool, number, text, symbol, list, object, Fields, no_fields, field}
 use Rattle.js_item.specs.Fine.{Strings, TextFine, KeyFine}
 
--- lawful numbers, known strings, and keys that are interned and settled, at every level
+-- valid numbers, known strings, and keys that are interned and settled, at every level
 abbrev mutual
   pub Readable : {R : Type 0} → Strings → (R → ℕ) → Content R → Type 0
   Readable s name undefined = Unit {0}

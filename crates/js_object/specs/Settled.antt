@@ -1,4 +1,4 @@
--- Which strings are settled once an object was told as JSON text: those of its values, at every level. Its keys
+-- Which strings are settled once an object was serialized as JSON text: those of its values, at every level. Its keys
 -- are settled before.
 use Rattle.std.specs.Prelude.{ℕ}
 use Rattle.js_store.specs.State.{State, IsSettled}

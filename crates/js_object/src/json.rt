@@ -23,7 +23,7 @@ use js_store::{StoreFault, Strings};
 use js_units::Units;
 use std::alloc::Global;
 
-/// Adds the text of an item; undefined and symbols add nothing.
+/// Adds the JSON text of an item; undefined and symbols add nothing.
 #[cycle(json)]
 pub(crate) fn append_item<S: Strings>(
     alloc: Global,
@@ -51,7 +51,7 @@ pub(crate) fn append_item<S: Strings>(
     }
 }
 
-/// Adds the text of an object: its members in the order of their keys, of which those whose value
+/// Adds the JSON text of an object: its members in the order of their keys, of which those whose value
 /// is undefined or a symbol are left out.
 #[cycle(json)]
 pub(crate) fn append_object<S: Strings>(

@@ -24,7 +24,7 @@ use js_store::{StoreFault, Strings};
 use js_units::Units;
 use std::alloc::Global;
 
-/// How many units the text of an item has.
+/// How many units the JSON text of an item has.
 #[cycle(json_len)]
 pub(crate) fn item_len<S: Strings>(
     alloc: Global,
@@ -51,7 +51,7 @@ pub(crate) fn item_len<S: Strings>(
     }
 }
 
-/// How many units the text of an object has.
+/// How many units the JSON text of an object has.
 #[cycle(json_len)]
 pub(crate) fn object_len<S: Strings>(
     alloc: Global,

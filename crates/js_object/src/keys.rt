@@ -21,7 +21,7 @@ use std::alloc::Global;
 use std::collections::BTreeMap;
 
 /// The keys: the array indexes in ascending order, and then the others in the order of the
-/// members. Want of memory is the only refusal.
+/// members. Lack of memory is the only refusal.
 #[tactic(auto, using(crate::proofs::Seen::keys_seen))]
 pub fn own_keys<S: Strings>(
     alloc: Global,
@@ -103,7 +103,7 @@ fn key_index<S: Strings>(alloc: Global, store: &mut S, key: S::Ref) -> Result<Op
     Ok(array_index(units.as_slice()))
 }
 
-// The number whose decimal text the units are, where it is an array index.
+// The number whose decimal digits the units are, where it is an array index.
 pub fn array_index(units: &[u16]) -> Option<u32>
     ensures value { result ≡ index_of units.now }
     ensures means { (n : ℕ) → n ≤ 4294967294 → (result ≡ Some n) ↔ (units.now ≡ decimal n) }

@@ -19,7 +19,7 @@ use js_texts::{Cause, MethodFault};
 use js_units::Units;
 use std::alloc::Global;
 
-/// The JSON text of an object. Its length is found before anything of that size is made: of a text
+/// The JSON text of an object. Its length is found before anything of that size is made: of one
 /// that is too long nothing is made. Where the keys of each object differ, each string of its values is
 /// settled afterwards.
 #[tactic(auto, using(crate::proofs::Readable::fields_still, crate::proofs::Texts::object_still, crate::proofs::Uses::settle_fields_still, js_texts::proofs::Lengths::made_is, js_texts::proofs::Lengths::made_id))]

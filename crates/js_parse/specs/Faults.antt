@@ -1,4 +1,4 @@
--- What is told of the fault of a text that is no script: where it stands, and in which words.
+-- The report of the fault of a text that is no script: where it is, and with which message.
 use Rattle.std.specs.Prelude.{ℕ, List, [], codes}
 use Rattle.js_lex.specs.Faults.{lexical_offset, lexical_words}
 use Rattle.js_parse.specs.declared.fault.ParseFault.{ParseFault}
@@ -14,7 +14,7 @@ fault_offset (fault.Duplicate at) = at
 fault_offset (fault.LoopName at) = at
 fault_offset fault.Memory = 0
 
--- the words in which the fault of a text that is no script is told
+-- the message with which the fault of a text that is no script is reported
 abbrev pub fault_words : ParseFault → List ℕ
 fault_words (fault.Lex f) = lexical_words f
 fault_words (fault.Unexpected at) = codes "unexpected"

@@ -1,4 +1,4 @@
--- All faults of names in the order of the text, as they are read. No public contract cites this file.
+-- All faults of names in source order, as they are read. No public contract cites this file.
 use Rattle.std.specs.Prelude.{ℕ, List, [], ◌∷◌, ◌++◌, Bool, true, false, Option, Some, None, if◌then◌else◌, nat_lt}
 use Rattle.std.specs.List.{list_any}
 use Rattle.std.specs.Str.{bytes_eq}

@@ -8,7 +8,7 @@ use Rattle.parse_syntax.specs.declared.token.GrammarToken.TheVariants as token
 use Rattle.parse_syntax.specs.Tables.{Tables}
 use Rattle.parse_syntax.specs.Terminals.{colon, place}
 
--- { or a comma, behind which a key stands where a colon follows it
+-- { or a comma, behind which there is a key where a colon follows it
 abbrev pub opens_entry : GrammarToken → Bool
 opens_entry (token.Mark at mark.OpenBrace l) = true
 opens_entry (token.Mark at mark.Comma l) = true
@@ -21,7 +21,7 @@ is_proto tables (token.Name at n p) = bytes_eq (get_or tables.names n []) (codes
 is_proto tables (token.Word at w n) = bytes_eq (get_or tables.names n []) (codes "__proto__")
 is_proto tables _ = false
 
--- among the tokens such a key stands at this place
+-- among the tokens such a key is at this place
 pub data HasProtoKey (tables : Tables) : List GrammarToken → ℕ → Type 0 where
   here : (b k c : GrammarToken) (ts : List GrammarToken) → opens_entry b ≡ true → is_proto tables k ≡ true
       → is_some (colon c) ≡ true → HasProtoKey tables (b ∷ k ∷ c ∷ ts) (place k)

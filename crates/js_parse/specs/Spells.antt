@@ -41,16 +41,16 @@ pub record Spells (r : Role) (outer : List (List ℕ)) (bytes : List ℕ) (scrip
 abbrev pub front_of : List GrammarToken → List GrammarToken → List GrammarToken
 front_of tokens rest = take (length tokens - length rest) tokens
 
--- of a point and a word the place of the word
+-- of a point and an identifier the place of the identifier
 abbrev pub pointed : List GrammarToken → Option ℕ
 pointed (p ∷ t ∷ []) = if is_some (point p) then (if is_word t then Some (place t) else None) else None
 pointed _ = None
 
--- the word behind a point that ends the front, where ( follows. Where it is a method, ( is never wrong
+-- the identifier behind a point that ends the front, where ( follows. Where it is a method, ( is never wrong
 abbrev pub called : List GrammarToken → GrammarToken → Option ℕ
 called front t = if is_some (opening t) then pointed (drop (length front - 2) front) else None
 
--- a token can't stand there: a word that is called so is at fault in its place
+-- a token isn't allowed there: an identifier that is called so is at fault in its place
 abbrev pub misplaced_at : Option ℕ → GrammarToken → ParseFault
 misplaced_at (Some at) t = fault.NotInProfile at
 misplaced_at None t = if is_word t then fault.NotInProfile (place t) else fault.Unexpected (place t)
@@ -62,7 +62,7 @@ misplaced Wrong front (t ∷ rest) end = misplaced_at (called front t) t
 misplaced TooDeep front [] end = fault.TooDeep end
 misplaced TooDeep front (t ∷ rest) end = fault.TooDeep (place t)
 
--- how a fault of a name or key is told; a key that is __proto__ isn't in the profile
+-- how a fault of a name or key is reported; a key that is __proto__ isn't in the profile
 abbrev pub misnamed : NameFault → ParseFault
 misnamed (Duplicate at) = fault.Duplicate at
 misnamed (LoopName at) = fault.LoopName at

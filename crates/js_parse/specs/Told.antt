@@ -1,4 +1,4 @@
--- How faults of tokens and of the grammar are told. No public contract cites this file.
+-- How faults of tokens and of the grammar are reported. No public contract cites this file.
 use Rattle.std.specs.Prelude.{◌≡◌, ◌⊎◌, ℕ, List, Option, None}
 use Rattle.js_lex.specs.declared.token.LexFault.{LexFault}
 use Rattle.js_lex.specs.declared.token.LexFault.TheVariants as lexical

@@ -19,12 +19,12 @@ pub enum Role {
 pub enum ParseFault {
     /// The first lexical fault, which comes before all others. It is never out of memory.
     Lex(LexFault),
-    /// The token can't stand there; at the end of the text, its length.
+    /// The token isn't allowed there; at the end of the text, its length.
     Unexpected { at: u32 },
-    /// The token can't stand there and is a word; or a word behind a point that is no method, before a `(`;
+    /// An identifier that isn't allowed there, or one behind a point that is no method, before a `(`;
     /// or a key of an object literal that is `__proto__`.
     NotInProfile { at: u32 },
-    /// The token could stand there, but for the limit on nesting.
+    /// The token would be allowed there, but for the limit on nesting.
     TooDeep { at: u32 },
     /// A name that is declared a second time in its block.
     Duplicate { at: u32 },
@@ -34,7 +34,7 @@ pub enum ParseFault {
 }
 
 impl ParseFault {
-    /// The byte offset at which it stands; 0 where memory ran out.
+    /// The byte offset at which it is; 0 where memory ran out.
     pub fn offset(self) -> u32
         ensures { result ≡ fault_offset self }
     {
@@ -49,7 +49,7 @@ impl ParseFault {
         }
     }
 
-    /// The words for it, in ASCII.
+    /// Its message, in ASCII.
     pub fn words(self) -> &'static [u8]
         ensures { result.now ≡ fault_words self }
     {

@@ -1,4 +1,4 @@
-// The fault of a token that can't stand where it stands.
+// The fault of a token that isn't allowed at its place.
 ghost use Rattle.std.specs.Prelude.{◌≡◌};
 ghost use Rattle.parse_syntax.specs.Reader.{Wrong, TooDeep, is_some};
 ghost use Rattle.parse_syntax.specs.Terminals as terminals;
@@ -26,7 +26,7 @@ pub(crate) fn place(token: &GrammarToken) -> u32
     }
 }
 
-// Whether a token that can't stand where it stands is a word.
+// Whether a token that isn't allowed at its place is an identifier.
 fn is_word(token: &GrammarToken) -> bool
     ensures { result ≡ terminals.is_word token.now }
 {
@@ -72,7 +72,7 @@ fn front<'a>(tokens: &'a [GrammarToken], rest: &[GrammarToken]) -> &'a [GrammarT
     &tokens[..count]
 }
 
-// Of two tokens that are a point and a word the place of the word.
+// Of two tokens that are a point and an identifier the place of the identifier.
 fn pointed(two: &[GrammarToken]) -> Option<u32>
     ensures { result ≡ definition.pointed two.now }
 {
@@ -91,7 +91,7 @@ fn pointed(two: &[GrammarToken]) -> Option<u32>
     }
 }
 
-// The word behind a point that ends the front, where `(` follows.
+// The identifier behind a point that ends the front, where `(` follows.
 fn called(front: &[GrammarToken], token: &GrammarToken) -> Option<u32>
     ensures { result ≡ definition.called front.now token.now }
 {
@@ -118,7 +118,7 @@ fn misplaced_at(called: Option<u32>, token: &GrammarToken) -> ParseFault
     }
 }
 
-// The fault at a token that can't stand there, or at the end.
+// The fault at a token that isn't allowed there, or at the end.
 fn wrong(tokens: &[GrammarToken], rest: &[GrammarToken], end: u32) -> ParseFault
     ensures { result ≡ misplaced Wrong (front_of tokens.now rest.now) rest.now end }
 {

@@ -30,7 +30,7 @@ impl<'a> NameSet<'a> {
         self.names.contains(letters)
     }
 
-    /// Puts a name in, and tells whether it was new.
+    /// Puts a name in, and says whether it was new.
     pub fn insert(&mut self, letters: &'a [u8]) -> Result<bool, NoMemory>
         ensures new { IfOk result (λ new. new ≡ not (walk.has self.old letters.now)) }
         ensures names { OnOk result (walk.has self.new ≡ marked true letters.now (walk.has self.old)) }
@@ -41,7 +41,7 @@ impl<'a> NameSet<'a> {
         }
     }
 
-    /// Takes a name out, and tells whether it was in.
+    /// Removes a name, and says whether it was in.
     pub fn remove(&mut self, letters: &[u8]) -> bool
         ensures had { result ≡ walk.has self.old letters.now }
         ensures names { walk.has self.new ≡ marked false letters.now (walk.has self.old) }
@@ -49,7 +49,7 @@ impl<'a> NameSet<'a> {
         self.names.remove(letters)
     }
 
-    /// Takes a name out where it was new.
+    /// Removes a name where it was new.
     pub fn leave(&mut self, letters: &[u8], new: bool)
         ensures { walk.has self.new ≡ (if new then marked false letters.now (walk.has self.old)
             else walk.has self.old) }
@@ -69,7 +69,7 @@ impl<'a> NameSet<'a> {
         Ok(())
     }
 
-    /// Takes names out, and gives those that were in.
+    /// Removes names, and gives those that were in.
     pub fn hide(&mut self, alloc: Global, names: &'a [Name]) -> Result<Vec<&'a [u8]>, NoMemory>
         ensures without { OnOk result (walk.has self.new ≡ all_marked false names.now (walk.has self.old)) }
         ensures again { IfOk result (λ hidden. all_marked true (letters_of hidden.items) (walk.has self.new)

@@ -37,7 +37,7 @@ fn read(alloc: Global, bytes: &[u8], role: Role, outer: &Names) -> Result<Script
 
 /// The script that the bytes spell, in a role and after a prelude that declares the `outer` names.
 ///
-/// Of several faults the first lexical one is told; where there is none, the one grammatical fault; where
+/// Of several faults the first lexical one is reported; where there is none, the one grammatical fault; where
 /// there is none of these, the fault of names and keys with the least offset. A lexical fault is never out of memory.
 pub fn parse(alloc: Global, bytes: &[u8], role: Role, outer: &Names) -> Result<Script, ParseFault>
     requires short { length bytes.now ≤ 1_048_576 }

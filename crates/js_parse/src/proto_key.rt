@@ -69,7 +69,7 @@ fn is_proto(tables: &Tables, key: GrammarToken) -> bool
     }
 }
 
-// The first of a fault and that of the key behind a token, where one stands there.
+// The first of a fault and that of the key behind a token, where one is there.
 fn behind(
     tables: &Tables,
     token: GrammarToken,

@@ -19,11 +19,11 @@ abbrev pub first_matches : ℕ → List ℕ → List ℕ → ℕ → List ℕ
 first_matches zero u w from = []
 first_matches (suc n) u w from = and_on (first u w from) (λ k. first_matches n u w (k + max 1 (length w)))
 
--- all matches: a text has at most one more than it has units
+-- all matches: a string has at most one more than it has units
 unfoldable pub matches : List ℕ → List ℕ → List ℕ
 matches u w = first_matches (suc (length u)) u w 0
 
--- places in a text of `len` units at which a needle of `size` units has room, each at or after the end of the one before it
+-- places in a string of `len` units at which a needle of `size` units has room, each at or after the end of the one before it
 abbrev pub InOrder : ℕ → ℕ → ℕ → List ℕ → Type 0
 InOrder len size from [] = from ≤ len
 InOrder len size from (k ∷ ks) = (from ≤ k) × (k + size ≤ len) × InOrder len size (k + size) ks

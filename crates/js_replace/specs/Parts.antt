@@ -1,4 +1,4 @@
--- The parts of a text (ECMA-262, "String.prototype.split").
+-- The parts of a string (ECMA-262, "String.prototype.split").
 use Rattle.std.specs.Prelude.{ℕ, ◌+◌, List, [], ◌∷◌, length, map, take, drop, slice_range, Option, Some, None}
 use Rattle.js_replace.specs.Matches.{matches}
 

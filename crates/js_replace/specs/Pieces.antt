@@ -1,4 +1,4 @@
--- What the pieces of a template stand for, into which the code cuts it, and how many units they have together.
+-- What the pieces of a template expand to, into which the code cuts it, and how many units they have together.
 use Rattle.std.specs.Prelude.{◌≡◌, ℕ, ◌+◌, ◌-◌, ◌*◌, ◌≤◌, List, [], ◌∷◌, length, take, drop}
 use Rattle.js_replace.specs.declared.pieces.Piece.{Piece}
 use Rattle.js_replace.specs.declared.pieces.Piece.TheVariants.{Plain, Match, Before, After}
@@ -15,7 +15,7 @@ piece_text After u at w = drop (at + length w) u
 abbrev pub pieces_of : Shape → ℕ
 pieces_of s = s.plain + s.matched + s.before + s.after
 
--- how many units they stand for at a match of `size` units, which stands at `at` in a text of `len` units
+-- how many units they expand to at a match of `size` units, which is at `at` in a string of `len` units
 abbrev pub len_of : Shape → ℕ → ℕ → ℕ → ℕ
 len_of s len at size = s.plain + s.matched * size + s.before * at + s.after * (len - at - size)
 

@@ -1,7 +1,7 @@
--- What a template stands for at a match (ECMA-262, "GetSubstitution", without captures).
+-- What a template expands to at a match (ECMA-262, "GetSubstitution", without captures).
 use Rattle.std.specs.Prelude.{ℕ, ◌+◌, ◌==◌, if◌then◌else◌, List, [], ◌∷◌, ◌++◌, length, take, drop, Option, Some, None}
 
--- what a dollar sign and the unit behind it stand for, where they are a reference: `$$` for a dollar sign, `$&` for the match w, which stands in u at `at`, "$`" for the part of u before it, and `$'` for the part after it. Without captures a digit or `<` makes none.
+-- what a dollar sign and the unit behind it expand to, where they are a reference: `$$` for a dollar sign, `$&` for the match w, which occurs in u at `at`, "$`" for the part of u before it, and `$'` for the part after it. Without captures a digit or `<` makes none.
 abbrev pub reference : ℕ → List ℕ → ℕ → List ℕ → Option (List ℕ)
 reference unit u at w =
     if unit == 0x24 then Some (0x24 ∷ [])
@@ -13,12 +13,12 @@ reference unit u at w =
 abbrev pub front_reference : ℕ → ℕ → List ℕ → ℕ → List ℕ → Option (List ℕ)
 front_reference first second u at w = if first == 0x24 then reference second u at w else None
 
--- what stands for a reference and for the rest behind it, or the unit itself, which isn't the first of one, and what stands for the rest behind that
+-- what expands to a reference and for the rest behind it, or the unit itself, which isn't the first of one, and what expands to the rest behind that
 abbrev pub by_front : Option (List ℕ) → ℕ → List ℕ → List ℕ → List ℕ
 by_front (Some text) unit behind_both behind_one = text ++ behind_both
 by_front None unit behind_both behind_one = unit ∷ behind_one
 
--- the template t at the match w, which stands in u at `at`
+-- the template t at the match w, which occurs in u at `at`
 abbrev pub substituted : List ℕ → List ℕ → ℕ → List ℕ → List ℕ
 substituted [] u at w = []
 substituted (c ∷ []) u at w = c ∷ []

@@ -68,7 +68,7 @@ fn found_places<S: Strings>(
     Ok(places)
 }
 
-// The least place from `from` on at which `w` stands; none where that is past the end.
+// The least place from `from` on at which `w` occurs; none where that is past the end.
 #[tactic(auto, using(crate::proofs::Finding::none_past))]
 fn next_place<S: Strings>(store: &mut S, s: S::Ref, w: S::Ref, from: u32) -> Option<u32>
     requires known { IsKnown (S.state store.old) (S.number s) }

@@ -1,4 +1,4 @@
-// The pieces of a template, and what stands for them at a match.
+// The pieces of a template, and what expands to them at a match.
 ghost use Rattle.std.specs.Prelude.{◌≡◌, ◌+◌, ◌*◌, ◌<◌, ◌≤◌, ◌++◌, ℕ, List, [], length, MatchOption, OnOk};
 ghost use Rattle.std.specs.Option.{option_map};
 ghost use Rattle.js_replace.specs.Substitution.{substituted, front_reference};
@@ -8,7 +8,7 @@ use js_units::{NoMemory, Units};
 
 const DOLLAR: u16 = 0x24;
 
-// A unit that stands for itself, or a reference to the match, to what is before it, or to what is
+// A unit that denotes itself, or a reference to the match, to what is before it, or to what is
 // after it.
 #[derive(Clone, Copy)]
 enum Piece {
@@ -54,7 +54,7 @@ fn reference(first: u16, second: u16) -> Option<Piece>
     }
 }
 
-// Adds what a piece stands for.
+// Adds what a piece expands to.
 fn push_piece(text: &mut Units, piece: Piece, s: &[u16], at: u32, w: &[u16]) -> Result<(), NoMemory>
     requires { at + length w.now ≤ length s.now }
     ensures added { OnOk result (text.new ≡ text.old ++ piece_text piece s.now at w.now) }
@@ -68,7 +68,7 @@ fn push_piece(text: &mut Units, piece: Piece, s: &[u16], at: u32, w: &[u16]) -> 
     }
 }
 
-/// How many pieces of each kind a template has, by which the length of what it stands for at a
+/// How many pieces of each kind a template has, by which the length of what it expands to at a
 /// match is known without another look at it.
 #[derive(Clone, Copy)]
 pub struct Shape {
@@ -118,8 +118,8 @@ impl Shape {
         shape
     }
 
-    /// How many units a template of this shape stands for at a match of `size` units, which
-    /// stands at `at` in a text of `len` units.
+    /// How many units a template of this shape expands to at a match of `size` units, which
+    /// is at `at` in a string of `len` units.
     #[tactic(auto, using(crate::proofs::Templates::product))]
     pub fn len_at(self, len: u32, at: u32, size: u32) -> u128
         requires within { at + size ≤ len }
@@ -134,7 +134,7 @@ impl Shape {
     }
 }
 
-/// Adds what the template stands for at the match `w`, which stands in `s` at `at`.
+/// Adds what the template expands to at the match `w`, which occurs in `s` at `at`.
 #[tactic(auto, using(crate::proofs::Templates::push_turn, crate::proofs::Templates::push_end))]
 pub fn push_substituted(
     text: &mut Units,

@@ -14,7 +14,7 @@ use js_texts::{Cause, MethodFault, copied};
 use js_units::{NoMemory, Units};
 use std::alloc::Global;
 
-/// The string with the first match of `w` replaced by the template, as it stands for that match;
+/// The string with the first match of `w` replaced by the template, as it expands to that match;
 /// the string itself where there is none ("String.prototype.replace").
 pub fn replace<S: Strings>(
     alloc: Global,
@@ -48,7 +48,7 @@ pub fn replace<S: Strings>(
     replaced(alloc, store, s, w, template, 1)
 }
 
-/// The string with each match of `w` replaced by the template, as it stands for that match
+/// The string with each match of `w` replaced by the template, as it expands to that match
 /// ("String.prototype.replaceAll"). A match is searched from the end of the one before it on, or
 /// one place further where `w` is empty.
 #[tactic(auto, using(crate::proofs::Finding::all_matches, crate::proofs::Replacements::all_is))]
@@ -239,7 +239,7 @@ fn result_units<S: Strings>(
     Ok(text)
 }
 
-// How many units a text of `len` units has once the template stands in the place of `size` units
+// How many units a string of `len` units has once the template replaces `size` units
 // at each of the places.
 fn replaced_len(template: &[u16], len: u32, size: u32, places: &[u32]) -> u128
     requires short { length template.now ≤ 536870888 }
@@ -257,7 +257,7 @@ fn replaced_len(template: &[u16], len: u32, size: u32, places: &[u32]) -> u128
     total + u128::from(len - from)
 }
 
-// Adds the text with the template in the place of `w` at each of the places.
+// Adds the units with the template in the place of `w` at each of the places.
 fn push_replaced(
     text: &mut Units,
     template: &[u16],

@@ -48,7 +48,7 @@ pub fn split<S: Strings>(
     }
 }
 
-// The string as the one part, unless none is wanted.
+// The string as the one part, unless none is requested.
 fn whole<S: Strings>(
     alloc: Global,
     store: &S,

@@ -1,4 +1,4 @@
-// What a template stands for at a match.
+// What a template expands to at a match.
 ghost use Rattle.std.specs.Prelude.{◌≡◌, ◌+◌, ◌≤◌, length, IfOk, OnOk};
 ghost use Rattle.js_store.specs.State.{Has, IsKnown, IsSettled, text};
 ghost use Rattle.js_store.specs.Faults.{Uses};
@@ -14,9 +14,9 @@ use js_texts::{Cause, MethodFault, read};
 use js_units::Units;
 use std::alloc::Global;
 
-/// The template as it stands for the match of `w`, which stands in `s` at `at`: `$$` gives a
+/// The template as it expands to the match of `w`, which occurs in `s` at `at`: `$$` gives a
 /// dollar sign, `$&` the match, `` $` `` the part of `s` before it and `$'` the part after it; all
-/// else stands for itself ("GetSubstitution", without captures).
+/// else denotes itself ("GetSubstitution", without captures).
 pub fn substitution<S: Strings>(
     alloc: Global,
     store: &mut S,
@@ -57,7 +57,7 @@ pub fn substitution<S: Strings>(
     Ok(js_texts::make(store, text.as_slice())?)
 }
 
-// How many units the template stands for.
+// How many units the template expands to.
 fn match_len<S: Strings>(store: &mut S, template: &[u16], s: S::Ref, at: u32, w: S::Ref) -> u128
     requires short { length template.now ≤ 536870888 }
     requires known { IsKnown (S.state store.old) (S.number s) }

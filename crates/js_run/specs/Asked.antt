@@ -1,4 +1,4 @@
--- What is to be run for a request: which texts, on which heap, and whether different strings are counted.
+-- What is to be run for a request: which sources, on which heap, and whether different strings are counted.
 use Rattle.std.specs.Prelude.{◌≡◌, ℕ, List, [], Bool, true, Option, None}
 use Rattle.heap_rule.specs.declared.size.HeapSize.{HeapSize}
 use Rattle.run_sources.specs.Texts.{Named, generated}
@@ -8,19 +8,19 @@ use Rattle.run_sources.specs.Program.{Name, Program, program_from}
 use Rattle.run_sources.specs.Reading.{AreRead}
 use Rattle.run_program.specs.declared.ran.Setup.{Setup}
 
--- the names of the files that are to be read: none where texts are made from a number
+-- the names of the files that are to be read: none where sources are generated from a number
 abbrev pub names_of : Asked → Program Name
 names_of (files prelude scripts) = record { prelude = prelude; scripts = scripts }
 names_of (made_from number) = record { prelude = None; scripts = [] }
 
--- The texts are those of the files, as far as files are told, and none is too large; or those that are made
+-- The sources are those of the files, as far as files are reported, and none is too large; or those that are generated
 -- from the number.
 abbrev pub AreTexts : Asked → (Name → Option (List ℕ)) → Program Named → Type 0
 AreTexts (files prelude scripts) held sources =
     AreRead held (record { prelude = prelude; scripts = scripts }) sources
 AreTexts (made_from number) held sources = sources ≡ program_from (generated number)
 
--- texts that are made from a number count as `--summary`
+-- sources that are generated from a number count as `--summary`
 abbrev pub is_counted : Asked → Bool → Bool
 is_counted (files prelude scripts) summary = summary
 is_counted (made_from number) summary = true

@@ -14,19 +14,19 @@ use Rattle.run_program.specs.Ran.{IsRan}
 use Rattle.js_run.specs.Asked.{AreTexts, names_of, setup_of}
 use Rattle.js_run.specs.Verdict.{Verdict, BadWords, NotRead, TooLarge, Refused, NoMemory, WasRun}
 
--- the names of these texts
+-- the names of these sources
 abbrev pub names_in : Program Named → Program Name
 names_in sources =
     record { prelude = option_map (λ s. s.name) sources.prelude; scripts = map (λ s. s.name) sources.scripts }
 
--- files of these names are what the texts spell, and were run so
+-- files of these names are what the sources spell, and were run so
 pub record IsRun (setup : Setup) (sources : Program Named) (names : Program Name) (ran : Ran) : Type 0 where
   pub named : names ≡ names_in sources
   pub trees : Program Tree
   pub spell : Spell sources trees
   pub program : IsRan setup trees.prelude trees.scripts ran
 
--- of texts that are run so
+-- of sources that are run so
 abbrev pub HasCauseOf : Setup → Program Named → Verdict → Type 0
 HasCauseOf setup sources BadWords = ⊥
 HasCauseOf setup sources (NotRead name) = ⊥
@@ -35,14 +35,14 @@ HasCauseOf setup sources (Refused name fault) = FirstRefused sources name fault
 HasCauseOf setup sources NoMemory = Unit {0}
 HasCauseOf setup sources (WasRun names ran) = IsRun setup sources names ran
 
--- all files were read, or the texts were made, and this became of them
+-- all files were read, or the sources were generated, and this became of them
 pub record OfTexts (request : Request) (old new : FilesState) (verdict : Verdict) : Type 0 where
   pub sources : Program Named
   pub texts : AreTexts request.asked old.held sources
   pub quiet : IsQuiet old new
   pub cause : HasCauseOf (setup_of request) sources verdict
 
--- of lawful words
+-- of valid arguments
 abbrev pub HasCauseIn : FilesState → FilesState → Request → Verdict → Type 0
 HasCauseIn old new request BadWords = ⊥
 HasCauseIn old new request (NotRead name) = IsUnread old new (in_order (names_of request.asked)) name
@@ -51,7 +51,7 @@ HasCauseIn old new request (Refused name fault) = OfTexts request old new (Refus
 HasCauseIn old new request NoMemory = IsQuiet old new
 HasCauseIn old new request (WasRun names ran) = OfTexts request old new (WasRun names ran)
 
--- of words that aren't lawful
+-- of arguments that aren't valid
 abbrev pub IsBadWords : FilesState → FilesState → Verdict → Type 0
 IsBadWords old new BadWords = IsQuiet old new
 IsBadWords old new NoMemory = IsQuiet old new
@@ -65,6 +65,6 @@ abbrev pub HasCauseBy : Option Request → FilesState → FilesState → Verdict
 HasCauseBy None old new verdict = IsBadWords old new verdict
 HasCauseBy (Some request) old new verdict = HasCauseIn old new request verdict
 
--- the verdict has its cause, by the words of the command line and by what the reads of files found
+-- the verdict has its cause, by the arguments of the command line and by what the reads of files found
 abbrev pub HasCause : List (List ℕ) → FilesState → FilesState → Verdict → Type 0
 HasCause words old new verdict = HasCauseBy (request_of words) old new verdict

@@ -1,22 +1,22 @@
--- The status, and what the sinks took.
+-- The status, and what the sinks received.
 use Rattle.std.specs.Prelude.{◌≡◌, ◌⊎◌, ℕ, ◌≤◌, List, []}
 use Rattle.js_io.specs.Counts.{next_count}
 use Rattle.js_io.specs.SinkState.{SinkState, Takes, TakesPrefix}
 use Rattle.js_run.specs.Moment.{Sinks}
 use Rattle.js_run.specs.Verdict.{Report, Refusal, Printed}
 
--- the sink took all of these bytes, and no write failed
+-- the sink received all of these bytes, and no write failed
 pub record TakesAll (old new : SinkState) (bytes : List ℕ) : Type 0 where
   pub took : Takes old new bytes
   pub calm : new.faults ≡ old.faults
 
--- the sink took a prefix of these bytes, and then a write failed, the last one
+-- the sink received a prefix of these bytes, and then a write failed, the last one
 pub record TakesUntil (old new : SinkState) (bytes : List ℕ) : Type 0 where
   pub took : TakesPrefix old new bytes
   pub once : new.faults ≡ next_count old.faults
   pub counted : old.faults ≤ new.faults
 
--- nothing was run: out takes nothing, a line is told, and a write that fails there changes no status
+-- nothing was run: out receives nothing, a line is reported, and a write that fails there changes no status
 pub record IsTold (wanted : ℕ) (line : List ℕ) (code : ℕ) (old new : Sinks) : Type 0 where
   pub status : code ≡ wanted
   pub silent : TakesAll old.out new.out []
@@ -34,7 +34,7 @@ pub record IsCutAtOut (written : List ℕ) (code : ℕ) (old new : Sinks) : Type
   pub out : TakesUntil old.out new.out written
   pub err : TakesAll old.err new.err []
 
--- out took everything, a write to err failed, and nothing more was written
+-- out received everything, a write to err failed, and nothing more was written
 pub record IsCutAtErr (written told : List ℕ) (code : ℕ) (old new : Sinks) : Type 0 where
   pub status : code ≡ 7
   pub out : TakesAll old.out new.out written

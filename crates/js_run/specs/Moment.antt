@@ -5,7 +5,7 @@ use Rattle.js_io.specs.SinkState.{SinkState}
 use Rattle.run_program.specs.declared.ran.Kept.{Kept}
 use Rattle.js_run.specs.declared.status.Status.{Status}
 
--- what both sinks have taken, and how many of their writes failed
+-- what both sinks have received, and how many of their writes failed
 pub record Sinks : Type 0 where
   pub out : SinkState
   pub err : SinkState

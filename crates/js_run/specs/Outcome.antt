@@ -6,13 +6,13 @@ use Rattle.js_run.specs.Moment.{Moment, Ended}
 use Rattle.js_run.specs.Cause.{HasCause}
 use Rattle.js_run.specs.Ending.{IsEnd}
 
--- what every call keeps: the files as they are told, and no count falls
+-- what every call keeps: the files as they are reported, and no count falls
 pub record Keeps (old new : Moment) : Type 0 where
   pub files : KeepsFiles old.files new.files
   pub out : old.sinks.out.faults ≤ new.sinks.out.faults
   pub err : old.sinks.err.faults ≤ new.sinks.err.faults
 
--- a call came to one verdict, which has its cause; what the sinks took, the status and what is kept are the
+-- a call came to one verdict, which has its cause; what the sinks received, the status and what is kept are the
 -- verdict's
 pub record Outcome (words : List (List ℕ)) (ended : Ended) (old new : Moment) : Type 0 where
   pub verdict : Verdict

@@ -27,11 +27,11 @@ use Rattle.js_run.specs.Moment.{Moment, Ended}
 use Rattle.js_run.specs.Cause.{OfTexts, names_in}
 use Rattle.js_run.specs.Ending.{TakesAll, IsTold, IsCutAtOut, IsCutAtErr, IsEnd}
 
--- no fault was counted, and the count doesn't stand at the last value of its counter
+-- no fault was counted, and the count isn't the last value of its counter
 abbrev pub NoFault : ℕ → ℕ → Type 0
 NoFault before after = (after ≤ before) × (after ≡ 2 ^ 64 - 1 → ⊥)
 
--- out of memory before anything was run: out took nothing, err its line, and nothing is kept
+-- out of memory before anything was run: out received nothing, err its line, and nothing is kept
 pub record IsWant (ended : Ended) (old new : Moment) : Type 0 where
   pub told : IsTold 6 memory_line ended.code old.sinks new.sinks
   pub kept : ended.kept ≡ None
@@ -46,7 +46,7 @@ Exactly status ended old new P = (ended.code ≡ status → P) × (P → OrWant 
 
 -- ---- 3
 
--- the contents of the files of these names are told
+-- the contents of the files of these names are reported
 abbrev pub AreTold : (Name → Option (List ℕ)) → List Name → Type 0
 AreTold held names = Every (λ name. (bytes : List ℕ) × (held name ≡ Some bytes)) names
 
@@ -57,7 +57,7 @@ pub record IsFileFault (words : List (List ℕ)) (old new : FilesState) : Type 0
   pub why : IsUnread old new (in_order (names_of request.asked)) new.blamed
       ⊎ IsLarge old new (in_order (names_of request.asked)) new.blamed
 
--- no read failed, and the first file that isn't told to have at most so many bytes is told to have more
+-- no read failed, and the first file that isn't reported to have at most so many bytes is reported to have more
 pub record IsToldLarge (words : List (List ℕ)) (old new : FilesState) : Type 0 where
   pub request : Request
   pub lawful : request_of words ≡ Some request
@@ -75,7 +75,7 @@ pub record IsToldLarge (words : List (List ℕ)) (old new : FilesState) : Type 0
 
 -- ---- 4
 
--- all files were read or the texts were made, and one of them is the first that spells no script
+-- all files were read or the sources were generated, and one of them is the first that spells no script
 pub record IsNoScript (words : List (List ℕ)) (old new : FilesState) : Type 0 where
   pub request : Request
   pub lawful : request_of words ≡ Some request
@@ -83,7 +83,7 @@ pub record IsNoScript (words : List (List ℕ)) (old new : FilesState) : Type 0 
   pub fault : ParseFault
   pub refused : OfTexts request old new (Refused name fault)
 
--- no read failed, all files are told and not too large, and one of the texts is the first that spells no
+-- no read failed, all files are reported and not too large, and one of the sources is the first that spells no
 -- script
 pub record IsToldRefused (words : List (List ℕ)) (old new : FilesState) : Type 0 where
   pub request : Request
@@ -115,7 +115,7 @@ pub data IsLine (words : List (List ℕ)) (code : ℕ) (old new : FilesState) : 
 abbrev pub IsRefusal : Ended → Type 0
 IsRefusal ended = (ended.code ≡ 2) ⊎ ((ended.code ≡ 3) ⊎ (ended.code ≡ 4))
 
--- out took nothing, and err the line; or, where a write to err failed, a prefix of it. Nothing is kept.
+-- out received nothing, and err the line; or, where a write to err failed, a prefix of it. Nothing is kept.
 pub record IsRefusalTold (words : List (List ℕ)) (ended : Ended) (old new : Moment) : Type 0 where
   pub line : List ℕ
   pub is : IsLine words ended.code old.files new.files line
@@ -124,7 +124,7 @@ pub record IsRefusalTold (words : List (List ℕ)) (ended : Ended) (old new : Mo
 
 -- ---- 0, 1, 5, 6 and 7
 
--- a program was run: all files were read or the texts were made, and they spell it
+-- a program was run: all files were read or the sources were generated, and they spell it
 pub record AreRun (words : List (List ℕ)) (old new : FilesState) : Type 0 where
   pub request : Request
   pub lawful : request_of words ≡ Some request
@@ -135,9 +135,9 @@ pub record AreRun (words : List (List ℕ)) (old new : FilesState) : Type 0 wher
   pub spell : Spell sources trees
 
 -- The program was run on the heap that is kept, the status is that of the first file that didn't end Done,
--- and all was written: out took exactly what the scripts printed, with the line `interned N` where it is
+-- and all was written: out received exactly what the scripts printed, with the line `interned N` where it is
 -- asked for, and err the lines of the files that didn't end Done.
--- What each file's end and lines are by its meaning, and what the heap holds, stands in `program`.
+-- What each file's end and lines are by its meaning, and what the heap holds, is in `program`.
 pub record Prints (words : List (List ℕ)) (status : ℕ) (ended : Ended) (old new : Moment) : Type 0 where
   pub run : AreRun words old.files new.files
   pub ran : Ran
@@ -147,7 +147,7 @@ pub record Prints (words : List (List ℕ)) (status : ℕ) (ended : Ended) (old 
   pub err : TakesAll old.sinks.err new.sinks.err (err_of (names_in run.sources) ran)
   pub kept : ended.kept ≡ Some ran.kept
 
--- the same where every file ended Done, which is status 0: all as it is meant, and err took nothing
+-- the same where every file ended Done, which is status 0: all as it is meant, and err received nothing
 pub record PrintsAll (words : List (List ℕ)) (ended : Ended) (old new : Moment) : Type 0 where
   pub prints : Prints words 0 ended old new
   pub meant : status_meant prints.run.request prints.run.trees ≡ 0
@@ -181,11 +181,11 @@ pub record PrintsFull (words : List (List ℕ)) (ended : Ended) (old new : Momen
       (state_kept (setup_of prints.run.request) prints.ran.kept)
       (all_flows prints.run.request prints.run.trees) prints.program.files
 
--- memory was wanting: before a file was run, or while the first one ran that didn't end Done
+-- memory ran out: before a file was run, or while the first one ran that didn't end Done
 abbrev pub IsMemory : List (List ℕ) → Ended → Moment → Moment → Type 0
 IsMemory words ended old new = IsWant ended old new ⊎ Prints words 6 ended old new
 
--- the program was run, and a write failed: one to out after a prefix of what it prints, and err took nothing;
+-- the program was run, and a write failed: one to out after a prefix of what it prints, and err received nothing;
 -- or one to err
 pub record IsCut (words : List (List ℕ)) (ended : Ended) (old new : Moment) : Type 0 where
   pub run : AreRun words old.files new.files
@@ -197,7 +197,7 @@ pub record IsCut (words : List (List ℕ)) (ended : Ended) (old new : Moment) : 
 
 -- ---- honest files
 
--- the words are lawful, all files are told and not too large, the texts spell a program, and no read failed
+-- the arguments are valid, all files are reported and not too large, the sources spell a program, and no read failed
 pub record IsHonest (words : List (List ℕ)) (old new : FilesState) : Type 0 where
   pub request : Request
   pub lawful : request_of words ≡ Some request
@@ -209,7 +209,7 @@ pub record IsHonest (words : List (List ℕ)) (old new : FilesState) : Type 0 wh
   pub calm : NoFault old.faults new.faults
 
 -- The program was run, and all was written, or a write failed. Where the stated needs fit the heap and memory
--- was wanting for no file, what is reported is what is meant.
+-- ran out for no file, what is reported is what is meant.
 pub record IsRanTo (request : Request) (names : Program Name) (trees : Program Tree) (ended : Ended)
     (old new : Moment) : Type 0 where
   pub ran : Ran
@@ -220,7 +220,7 @@ pub record IsRanTo (request : Request) (names : Program Name) (trees : Program T
       → Every (λ e. e ≡ Memory → ⊥) (ends_of ran)
       → report_of (WasRun names ran) ≡ report_meant request names trees ran.interned
 
--- the program was run; or memory was wanting before that
+-- the program was run; or memory ran out before that
 abbrev pub IsDone : (words : List (List ℕ)) (ended : Ended) (old new : Moment)
     → IsHonest words old.files new.files → Type 0
 IsDone words ended old new honest =

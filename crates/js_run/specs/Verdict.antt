@@ -14,8 +14,8 @@ use Rattle.run_program.specs.declared.ran.Ran.{Ran}
 use Rattle.run_program.specs.Ran.{outcomes_in}
 use Rattle.js_parse.specs.Faults.{fault_offset, fault_words}
 
--- what becomes of a call: the words are refused, a file can't be read or is too large, a text is refused,
--- memory is wanting, or files were run
+-- what becomes of a call: the arguments are refused, a file can't be read or is too large, a source is refused,
+-- memory runs out, or files were run
 pub data Verdict : Type 0 where
   BadWords : Verdict
   NotRead : Name → Verdict
@@ -47,14 +47,14 @@ out_of ran = printed_by ran.scripts.items ++ count_line ran.interned
 
 -- ---- the line of a file that didn't end Done
 
--- what is told of an error that nothing caught
+-- what is reported of an error that nothing caught
 abbrev pub kind_text : Kind → List ℕ
 kind_text RangeError = codes ": uncaught RangeError\n"
 kind_text TypeError = codes ": uncaught TypeError\n"
 kind_text ReferenceError = codes ": uncaught ReferenceError\n"
 kind_text UriError = codes ": uncaught URIError\n"
 
--- what is told of what had run out on the heap
+-- what is reported of what had run out on the heap
 abbrev pub full_text : FullReport → List ℕ
 full_text (Ids at want end) = codes ": heap full: ids\n"
 full_text (Words at want end) = codes ": heap full: words\n"
@@ -95,7 +95,7 @@ status_of (e ∷ es) = status_or e (status_of es)
 
 -- ---- the lines of refusals
 
--- the line of refused words
+-- the line of refused arguments
 abbrev pub words_line : List ℕ
 words_line = codes "jsstr: the words are refused\n"
 
@@ -107,12 +107,12 @@ unread_line name = name ++ codes ": cannot be read\n"
 abbrev pub large_line : Name → List ℕ
 large_line name = name ++ codes ": larger than 1048576 bytes\n"
 
--- the byte offset of the fault, and its words
+-- the byte offset of the fault, and its message
 abbrev pub refused_line : Name → ParseFault → List ℕ
 refused_line name fault = (name ++ (58 ∷ [] ++ (decimal (fault_offset fault) ++ codes ": refused: ")))
     ++ (fault_words fault ++ 10 ∷ [])
 
--- the line of memory that was wanting before anything was run
+-- the line where memory ran out before anything was run
 abbrev pub memory_line : List ℕ
 memory_line = codes "jsstr: out of memory\n"
 

@@ -1,8 +1,8 @@
-//! The top call of the program, [`run_words`]: it takes the words of the command line, files, two
+//! The top call of the program, [`run_words`]: it gets the arguments of the command line, files, two
 //! sinks and a gate, and answers the status and the heap that was used.
 //!
-//! Its contract says when each status comes, what each sink took and what the heap holds, for every
-//! list of words, all contents of files and every number of jobs. It never aborts, and it prints
+//! Its contract says when each status comes, what each sink received and what the heap holds, for every
+//! list of arguments, all contents of files and every number of jobs. It never aborts, and it prints
 //! nothing before all files were read and spell scripts.
 //!
 //! An engine that has sessions of its own runs scripts by [`run_group`] and [`run_all`].

@@ -47,15 +47,15 @@ fn run<R: Threads + Sync, F: Files, O: Sink, E: Sink, G: Gate + Sync>(
 /// | Status | Comes |
 /// |---|---|
 /// | 0 | all files were read and all ended Done, and everything was written |
-/// | 1 | the first file that didn't end Done threw, or met what the profile leaves out |
-/// | 2 | the words aren't lawful |
+/// | 1 | the first file that didn't end Done threw, or used an unsupported feature |
+/// | 2 | the arguments aren't valid |
 /// | 3 | a file can't be read, or has more than [`js_io::FILE_MAX`] bytes |
 /// | 4 | all files were read, and one spells no script |
 /// | 5 | the first file that didn't end Done found the heap full |
 /// | 6 | out of memory: before anything ran, or of the first file that didn't end Done |
 /// | 7 | a write of what the scripts print failed |
 ///
-/// With 0, 1, 5 and the second 6 what the scripts printed was written in the order of the words,
+/// With 0, 1, 5 and the second 6 what the scripts printed was written in the order of the arguments,
 /// also the lines before a script's end; then, where it is asked for, how many different strings
 /// were interned; and then a line for each file that didn't end Done, the prelude first. With these
 /// and 7 the heap is kept, with an agent that has the whole share. The gate is entered before each

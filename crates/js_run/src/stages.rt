@@ -1,4 +1,4 @@
-// What becomes of lawful words, one stage after the other.
+// What becomes of valid arguments, one stage after the other.
 ghost use Rattle.std.specs.Prelude.{◌≡◌, ◌≤◌, None, length, map};
 ghost use Rattle.heap_table.specs.MayMake.{MayMake};
 ghost use Rattle.run_sources.specs.Texts.{generated};
@@ -56,7 +56,7 @@ fn setup(plan: &Plan<'_>) -> Setup
     }
 }
 
-/// Tells why nothing was run.
+/// Reports why nothing was run.
 pub(crate) fn stopped<E: Sink>(stop: ScriptsFault<'_>, err: &mut E) -> Status
     ensures told { (out : SinkState) → IsEnd (stop_report stop.entry) result.code
         (sinks out (E.state err.old)) (sinks out (E.state err.new)) }
@@ -68,7 +68,7 @@ pub(crate) fn stopped<E: Sink>(stop: ScriptsFault<'_>, err: &mut E) -> Status
     }
 }
 
-// Runs the program that texts spell.
+// Runs the program that sources spell.
 fn run_scripts<R: Threads + Sync, O: Sink, E: Sink, G: Gate + Sync>(
     rt: &R,
     alloc: Global,
@@ -99,7 +99,7 @@ fn run_scripts<R: Threads + Sync, O: Sink, E: Sink, G: Gate + Sync>(
     }
 }
 
-// Parses the texts, and runs the program that they spell.
+// Parses the sources, and runs the program that they spell.
 fn run_sources<R: Threads + Sync, O: Sink, E: Sink, G: Gate + Sync>(
     rt: &R,
     alloc: Global,
@@ -121,7 +121,7 @@ fn run_sources<R: Threads + Sync, O: Sink, E: Sink, G: Gate + Sync>(
     }
 }
 
-// Makes texts from a number, and runs them.
+// Generates sources from a number, and runs them.
 fn run_made<R: Threads + Sync, O: Sink, E: Sink, G: Gate + Sync>(
     rt: &R,
     alloc: Global,
@@ -173,7 +173,7 @@ fn run_named_files<R: Threads + Sync, F: Files, O: Sink, E: Sink, G: Gate + Sync
     }
 }
 
-/// What becomes of lawful words.
+/// What becomes of valid arguments.
 pub(crate) fn run_plan<R: Threads + Sync, F: Files, O: Sink, E: Sink, G: Gate + Sync>(
     rt: &R,
     alloc: Global,

@@ -26,7 +26,7 @@ fn write_both<O: Sink>(sink: &mut O, first: &[u8], second: &[u8]) -> Result<(), 
     }
 }
 
-// A number, and what stands behind it.
+// A number, and what follows it.
 fn write_number<O: Sink>(sink: &mut O, number: u32, behind: &[u8]) -> Result<(), Failed>
     ensures { WritesAll result (O.state sink.old) (O.state sink.new) (decimal number ++ behind.now) }
 {
@@ -34,7 +34,7 @@ fn write_number<O: Sink>(sink: &mut O, number: u32, behind: &[u8]) -> Result<(),
     write_both(sink, digits.format(number).as_bytes(), behind)
 }
 
-// A name, and then what stands before a place, the place and what stands behind it.
+// A name, and then what precedes a place, the place and what follows it.
 fn write_place<O: Sink>(
     sink: &mut O,
     name: &str,
@@ -51,7 +51,7 @@ fn write_place<O: Sink>(
     }
 }
 
-// The words of an uncaught error, with the end of the line.
+// The message of an uncaught error, with the end of the line.
 fn kind_words(kind: Kind) -> &'static [u8]
     ensures { result.now ≡ kind_text kind }
 {
@@ -222,7 +222,7 @@ pub(crate) fn tell_ran<O: Sink, E: Sink>(
     }
 }
 
-/// Tells that the words are refused, whatever the other sink took, and gives the status.
+/// Reports that the arguments are refused, whatever the other sink received, and gives the status.
 pub(crate) fn tell_words<E: Sink>(err: &mut E) -> u8
     ensures { (out : SinkState) → IsEnd (report_of BadWords) result
         (sinks out (E.state err.old)) (sinks out (E.state err.new)) }
@@ -242,7 +242,7 @@ fn write_refusal<E: Sink>(err: &mut E, name: &str, fault: ParseFault) -> Result<
     }
 }
 
-/// Tells why nothing was run, whatever the other sink took, and gives the status.
+/// Reports why nothing was run, whatever the other sink received, and gives the status.
 pub(crate) fn tell_stop<E: Sink>(stop: ScriptsFault<'_>, err: &mut E) -> u8
     ensures { (out : SinkState) → IsEnd (stop_report stop.entry) result
         (sinks out (E.state err.old)) (sinks out (E.state err.new)) }

@@ -1,4 +1,4 @@
-// Places at which two units of a needle stand where they would, sought by blocks of the haystack.
+// Places at which two units of a needle occur where they would, sought by blocks of the haystack.
 ghost use Rattle.std.specs.Prelude.{◌≡◌, ◌↔◌, ℕ, ◌+◌, ◌<◌, ◌≤◌, IsTrue, None, length, slice_index};
 ghost use Rattle.std.specs.Int.{bit_at};
 ghost use Rattle.js_store.specs.State.{IsKnown, IsSettled, text};
@@ -48,7 +48,7 @@ pub(crate) fn pair_of<S: Strings>(store: &mut S, needle: S::Ref, size: u32) -> P
     }
 }
 
-// The least place from `from` on at which a pair may stand, where there is one. The block holds
+// The least place from `from` on at which a pair may occur, where there is one. The block holds
 // units of the haystack.
 pub(crate) fn next_pair<S: Strings>(
     store: &mut S,
@@ -84,7 +84,7 @@ pub(crate) fn next_pair<S: Strings>(
     None
 }
 
-// The greatest place before `end` at which a pair may stand, where there is one. The block holds
+// The greatest place before `end` at which a pair may occur, where there is one. The block holds
 // units of the haystack.
 pub(crate) fn previous_pair<S: Strings>(
     store: &mut S,
@@ -116,7 +116,7 @@ pub(crate) fn previous_pair<S: Strings>(
     None
 }
 
-// The least place from `from` on and before `end` at which a pair stands in a list, or `end`.
+// The least place from `from` on and before `end` at which a pair occurs in a list, or `end`.
 fn first_in(units: &[u16], pair: Pair, from: u32, end: u32) -> u32
     requires order { from ≤ end }
     requires room { end + pair.apart ≤ length units.now }
@@ -137,7 +137,7 @@ fn first_in(units: &[u16], pair: Pair, from: u32, end: u32) -> u32
     end
 }
 
-// The greatest place before `end` at which a pair stands in a list, where there is one.
+// The greatest place before `end` at which a pair occurs in a list, where there is one.
 fn last_in(units: &[u16], pair: Pair, end: u32) -> Option<u32>
     requires room { end + pair.apart ≤ length units.now }
     requires short { length units.now ≤ 256 }
@@ -155,7 +155,7 @@ fn last_in(units: &[u16], pair: Pair, end: u32) -> Option<u32>
     None
 }
 
-// Whether a pair stands at one of the eight places from `at` on.
+// Whether a pair occurs at one of the eight places from `at` on.
 #[inline(always)]
 fn has_some(units: &[u16], pair: Pair, at: u32) -> bool
     requires room { at + 8 + pair.apart ≤ length units.now }
@@ -167,7 +167,7 @@ fn has_some(units: &[u16], pair: Pair, at: u32) -> bool
     first & other != 0
 }
 
-// A bit for each of the eight places from `at` on, which is set where the unit stands there.
+// A bit for each of the eight places from `at` on, which is set where the unit occurs there.
 #[inline(always)]
 fn marks(units: &[u16], unit: u16, at: usize) -> u64
     requires { at + 8 ≤ length units.now }

@@ -10,7 +10,7 @@ const FIRST: u32 = 32;
 
 const SIZE: u32 = 256;
 
-// How far the units of `needle` from number `from` on and below `size` stand in `hay` behind place
+// How far the units of `needle` from number `from` on and below `size` occur in `hay` behind place
 // `place`: the number of the first that differs, or `size`.
 pub(crate) fn same_behind<S: Strings>(
     store: &mut S,

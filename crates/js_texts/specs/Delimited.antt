@@ -1,12 +1,12 @@
--- Texts between separators.
+-- Strings between separators.
 use Rattle.std.specs.Prelude.{ℕ, List, [], ◌∷◌, ◌++◌}
 
--- texts by f, with a unit before each, and one behind all
+-- strings by f, with a unit before each, and one behind all
 abbrev pub rest_of : (List ℕ → List ℕ) → ℕ → ℕ → List (List ℕ) → List ℕ
 rest_of f sep end [] = end ∷ []
 rest_of f sep end (u ∷ us) = sep ∷ f u ++ rest_of f sep end us
 
--- texts by f, with a unit between two, and one behind all
+-- strings by f, with a unit between two, and one behind all
 abbrev pub delimited : (List ℕ → List ℕ) → ℕ → ℕ → List (List ℕ) → List ℕ
 delimited f sep end [] = end ∷ []
 delimited f sep end (u ∷ us) = f u ++ rest_of f sep end us

@@ -19,7 +19,7 @@ AllKnown s name rs = Every (λ r. IsKnown s (name r)) rs
 abbrev pub AllSettled : {F R : Type 0} → State F → (R → ℕ) → List R → Type 0
 AllSettled s name rs = Every (λ r. IsSettled s (name r)) rs
 
--- what settling strings takes at most
+-- what settling strings uses at most
 abbrev pub settle_most : {F R : Type 0} → State F → (R → ℕ) → List R → ℕ
 settle_most s name [] = 0
 settle_most s name (r ∷ rs) = settle_words (s.settled (name r)) (length (text s (name r))) + settle_most s name rs

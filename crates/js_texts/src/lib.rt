@@ -1,9 +1,9 @@
 //! The units of strings of a store: of one string as a list, of several strings joined, and the
-//! words in which the crates above speak of several strings, one after another; and the faults of
+//! definitions by which the crates above speak of several strings, one after another; and the faults of
 //! methods ([`MethodFault`]).
 //!
 //! Each call keeps what the store knows and the history of interned strings, and never finds the
-//! string table full. [`read`] and [`join`] settle what they read; [`copied`] takes a settled string.
+//! string table full. [`read`] and [`join`] settle what they read; [`copied`] reads a settled string.
 #![tactic(auto)]
 
 mod faults;

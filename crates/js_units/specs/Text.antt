@@ -1,4 +1,4 @@
--- What code units are, and the text of a list of them (ECMA-262, "The String Type", "CodePointAt",
+-- What code units are, and what a list of them encodes (ECMA-262, "The String Type", "CodePointAt",
 -- "String.prototype.toWellFormed").
 use Rattle.std.specs.Prelude.{ℕ, ◌+◌, ◌-◌, ◌*◌, ◌/◌, ◌%◌, Bool, ◌&&◌, ◌||◌, nat_le, nat_lt, ◌==◌, if◌then◌else◌, List, [], ◌∷◌, encode_utf8_all}
 

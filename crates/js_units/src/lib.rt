@@ -2,8 +2,8 @@
 //! the growing list [`Units`], what a single unit is, the UTF-8 that a list is printed as, and
 //! how units lie in the 64-bit words of a heap; and characters off the front of a text.
 //!
-//! [`append_utf8`] and the calls of [`Units`] that add units or make room for them take memory;
-//! the others take none.
+//! [`append_utf8`] and the calls of [`Units`] that add units or make room for them allocate;
+//! the others do not.
 #![tactic(auto)]
 
 mod chars;

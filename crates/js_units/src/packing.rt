@@ -4,7 +4,7 @@ ghost use Rattle.js_units.specs.Lanes.{IsWordOf, hash_from, is_wide, words_over}
 
 use crate::words::{hash_step, lane_size, lanes};
 
-/// Whether a unit is over 255, so that the units take two-byte lanes.
+/// Whether a unit is over 255, so that the units need two-byte lanes.
 pub fn has_wide(units: &[u16]) -> bool
     ensures { result ≡ is_wide units.now }
 {

@@ -22,7 +22,7 @@ impl<T: Drop> From<AllocFailed<T>> for NoMemory {
 }
 
 /// A list of UTF-16 code units, a value of the String type (ECMA-262, "The String Type").
-/// Contracts see it as the list of its units. Any units may stand in it, unpaired surrogates
+/// Contracts see it as the list of its units. Any units may be in it, unpaired surrogates
 /// among them.
 #[derive(Debug, Drop)]
 pub struct Units {
@@ -38,7 +38,7 @@ impl Model for Units {
 }
 
 impl Units {
-    /// The empty list. It takes no memory.
+    /// The empty list. It allocates nothing.
     pub fn new(alloc: Global) -> Units
         ensures { result ≡ [] }
     {
@@ -79,7 +79,7 @@ impl Units {
         Ok(())
     }
 
-    /// Adds a unit for each byte, all or none: a text of Latin-1, ASCII among them.
+    /// Adds a unit for each byte, all or none: a string of Latin-1, ASCII among them.
     pub fn extend_from_latin1(&mut self, bytes: &[u8]) -> Result<(), NoMemory>
         ensures added { OnOk result (self.new ≡ self.old ++ bytes.now) }
         ensures unchanged { OnErr result (self.new ≡ self.old) }

@@ -9,7 +9,7 @@ use Rattle.js_uri.specs.declared.faults.UriFault.{UriFault}
 use Rattle.js_uri.specs.declared.faults.UriFault.TheVariants.{Malformed, RangeError, Store}
 use Rattle.js_uri.specs.Outcome.{Outcome}
 
--- the number stands for the list of the outcome, so there is one
+-- the number denotes the list of the outcome, so there is one
 abbrev pub HasOutcome : {F : Type 0} → State F → ℕ → Outcome → Type 0
 HasOutcome s n (Ok us) = Has s n us
 HasOutcome s n (Err at) = ⊥

@@ -1,4 +1,4 @@
--- Units with each escape as what it stands for (ECMA-262, "Decode").
+-- Units with each escape as what it denotes (ECMA-262, "Decode").
 use Rattle.std.specs.Prelude.{ℕ, zero, suc, ◌+◌, ◌-◌, ◌*◌, ◌%◌, Bool, nat_lt, nat_le, not, ◌&&◌, ◌||◌, ◌==◌, if◌then◌else◌, List, [], ◌∷◌, take, drop, length, Option, Some, None, Ok, Err, encode_utf8, bytes_eq}
 use Rattle.js_units.specs.Text.{is_lead, is_trail, utf16_of}
 use Rattle.js_uri.specs.Outcome.{Outcome, after}
@@ -62,7 +62,7 @@ abbrev pub utf8_point : Option (List ℕ) → Option ℕ
 utf8_point None = None
 utf8_point (Some bs) = spelled_by bs (bits bs)
 
--- units that stand for others: the others, and how many units these are
+-- units that denote others: the others, and how many units these are
 pub record Part : Type 0 where
   pub units : List ℕ
   pub taken : ℕ

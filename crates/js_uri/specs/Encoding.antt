@@ -15,7 +15,7 @@ escape b = 0x25 ∷ hex (b / 16) ∷ hex (b % 16) ∷ []
 abbrev pub escapes : ℕ → List ℕ
 escapes c = flat_map escape (encode_utf8 c)
 
--- what stands for a code point: its own units where it is to be kept, nothing for a surrogate that is in no pair
+-- what denotes a code point: its own units where it is to be kept, nothing for a surrogate that is in no pair
 abbrev pub encoded_point : (ℕ → Bool) → ℕ → Option (List ℕ)
 encoded_point keep c = if is_lead c || is_trail c then None else if keep c then Some (utf16_of c) else Some (escapes c)
 

@@ -4,12 +4,12 @@ use Rattle.std.specs.Prelude.{ℕ, ◌+◌, List, [], ◌++◌, length, Option, 
 abbrev pub Outcome : Type 0
 Outcome = Result (List ℕ) ℕ
 
--- n units that stand for others, before units that come to an outcome: its list goes behind the others, its place counts on
+-- n units that denote others, before units that come to an outcome: its list goes behind the others, its place counts on
 abbrev pub after : ℕ → List ℕ → Outcome → Outcome
 after n us (Ok vs) = Ok (us ++ vs)
 after n us (Err at) = Err (n + at)
 
--- the same where the n units stand for others only perhaps, and are malformed at the first of them if not
+-- the same where the n units denote others only perhaps, and are malformed at the first of them if not
 abbrev pub after_some : ℕ → Option (List ℕ) → Outcome → Outcome
 after_some n None r = Err 0
 after_some n (Some us) r = after n us r

@@ -58,7 +58,7 @@ pub fn encode_uri_component<S: Strings>(
 }
 
 /// The string with each escape, and each sequence of escapes that is the UTF-8 of a code point, as
-/// what it stands for, but for the escapes of `; / ? : @ & = + $ , #` ("decodeURI"). A `%` without
+/// what it denotes, but for the escapes of `; / ? : @ & = + $ , #` ("decodeURI"). A `%` without
 /// two hexadecimal digits is malformed, and so is the `%` at which escapes begin that are no
 /// well-formed UTF-8.
 pub fn decode_uri<S: Strings>(alloc: Global, store: &mut S, s: S::Ref) -> Result<S::Ref, UriFault>
@@ -79,7 +79,7 @@ pub fn decode_uri<S: Strings>(alloc: Global, store: &mut S, s: S::Ref) -> Result
 }
 
 /// The string with each escape, and each sequence of escapes that is the UTF-8 of a code point, as
-/// what it stands for ("decodeURIComponent"). What is malformed is so for [`decode_uri`], too.
+/// what it denotes ("decodeURIComponent"). What is malformed is so for [`decode_uri`], too.
 pub fn decode_uri_component<S: Strings>(
     alloc: Global,
     store: &mut S,

@@ -1,4 +1,4 @@
-// Units with each escape as what it stands for.
+// Units with each escape as what it denotes.
 ghost use Rattle.std.specs.Prelude.{◌≡◌, ℕ, Bool, ◌+◌, ◌*◌, ◌%◌, ◌^◌, ◌<◌, ◌≤◌, ◌++◌, ◌∷◌, [], length, drop, OnOk, IsOk, IfSome, Some, None, MatchOption, option_map, IsTrue, Ok};
 ghost use Rattle.js_uri.specs.Outcome.{measure, units as units_of};
 ghost use Rattle.js_uri.specs.Calls.{hold_of};
@@ -134,7 +134,7 @@ fn behind(units: &[u16], n: usize) -> &[u16]
     &units[n..]
 }
 
-// What the first units stand for: so many of them for themselves, or for a character.
+// What the first units denote: so many of them for themselves, or for a character.
 #[derive(Clone, Copy)]
 enum Piece {
     Same(usize),
@@ -142,7 +142,7 @@ enum Piece {
 }
 
 impl Piece {
-    // How many units it takes.
+    // How many units it replaces.
     fn taken(self) -> usize
         ensures { result ≡ taken_by self }
     {
@@ -162,7 +162,7 @@ impl Piece {
         }
     }
 
-    // Adds the units that it gives, where it stands in front of these.
+    // Adds the units that it gives, where it precedes these.
     fn push_to(self, units: &[u16], text: &mut Units) -> Result<(), NoMemory>
         requires { taken_by self ≤ length units.now }
         ensures added { OnOk result (text.new ≡ text.old ++ units_given self units.now) }
@@ -221,7 +221,7 @@ pub fn has_no_percent(units: &[u16]) -> bool
     true
 }
 
-// How many units the decoded text has, or the place of the first unit that is malformed.
+// How many units the decoded string has, or the place of the first unit that is malformed.
 pub fn decoded_len(units: &[u16], part: UriPart) -> Result<u128, u32>
     requires { length units.now < 2 ^ 32 }
     ensures { result ≡ measure (decoded units.now (hold_of part)) }
@@ -240,7 +240,7 @@ pub fn decoded_len(units: &[u16], part: UriPart) -> Result<u128, u32>
     Ok(len)
 }
 
-// Adds the decoded text of units of which none is malformed.
+// Adds the decoded string of units of which none is malformed.
 pub fn push_decoded(text: &mut Units, units: &[u16], part: UriPart) -> Result<(), NoMemory>
     requires { IsOk (decoded units.now (hold_of part)) }
     ensures added { OnOk result (text.new ≡ text.old ++ units_of (decoded units.now (hold_of part))) }

@@ -57,7 +57,7 @@ fn push_escapes(text: &mut Units, c: char) -> Result<(), NoMemory>
     Ok(())
 }
 
-// Adds what stands for a code point that is no surrogate.
+// Adds what denotes a code point that is no surrogate.
 fn push_point(text: &mut Units, point: u32, part: UriPart) -> Result<(), NoMemory>
     requires range { point < 0x110000 }
     requires some { IsSome (encoded_point (keep_of part) point) }
@@ -70,7 +70,7 @@ fn push_point(text: &mut Units, point: u32, part: UriPart) -> Result<(), NoMemor
     }
 }
 
-// How many units stand for a code point, nothing where it is a surrogate.
+// How many units denote a code point, nothing where it is a surrogate.
 fn point_len(point: u32, part: UriPart) -> Option<usize>
     requires { point < 0x110000 }
     ensures value { result ≡ option_map length (encoded_point (keep_of part) point) }
@@ -95,7 +95,7 @@ pub fn is_encoded(units: &[u16], part: UriPart) -> bool
     true
 }
 
-// How many units the encoded text has, or the place of the first unpaired surrogate.
+// How many units the encoded string has, or the place of the first unpaired surrogate.
 pub fn encoded_len(units: &[u16], part: UriPart) -> Result<u128, u32>
     requires { length units.now < 2 ^ 32 }
     ensures { result ≡ measure (encoded units.now (keep_of part)) }
@@ -112,7 +112,7 @@ pub fn encoded_len(units: &[u16], part: UriPart) -> Result<u128, u32>
     Ok(len)
 }
 
-// Adds the encoded text of units without an unpaired surrogate.
+// Adds the encoded string of units without an unpaired surrogate.
 pub fn push_encoded(text: &mut Units, units: &[u16], part: UriPart) -> Result<(), NoMemory>
     requires { IsOk (encoded units.now (keep_of part)) }
     ensures added { OnOk result (text.new ≡ text.old ++ units_of (encoded units.now (keep_of part))) }

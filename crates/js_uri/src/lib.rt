@@ -1,7 +1,7 @@
 //! The URI functions `encodeURI`, `encodeURIComponent`, `decodeURI` and `decodeURIComponent`
 //! (ECMA-262, "URI Handling Functions") over any store of strings.
 //!
-//! What each makes of a list of units stands in `specs/`, from the front: `encoded` and `decoded`,
+//! What each makes of a list of units is defined in `specs/`, from the front: `encoded` and `decoded`,
 //! with the sets of characters that are kept. Each call reads its string twice, first for the
 //! place that is malformed or for the length, so that a list that is too long is never made.
 //! For speed alone, a string of which nothing is escaped, or without a `%`, is the answer itself.

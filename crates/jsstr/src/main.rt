@@ -1,9 +1,9 @@
 //! The program `jsstr`: runs the scripts of files, each behind a prelude, in threads on one heap.
 //!
 //! All that it does is done by [`js_run::run_words`] over the files and the streams of the
-//! process, and it ends with the status of that call. Where the runtime refuses it the words of
+//! process, and it ends with the status of that call. Where the runtime refuses it the arguments of
 //! the command line, it ends with 6 when out of memory, and with 8 for any other cause, such as a
-//! word that isn't UTF-8; then it writes nothing.
+//! argument that isn't UTF-8; then it writes nothing.
 #![tactic(auto)]
 
 use js_io::{FreeGate, HostErr, HostFiles, HostOut};
@@ -15,7 +15,7 @@ const NO_MEMORY: u8 = 6;
 
 const NO_WORDS: u8 = 8;
 
-// The words of the command line, the program's name first.
+// The arguments of the command line, the program's name first.
 fn words(rt: &HostRuntime) -> io::Result<Vec<String>> {
     let mut words = Vec::new(rt.alloc());
     for word in env::args(rt)? {

@@ -20,7 +20,7 @@ Reaches o s n = Knows o s × ((us : List ℕ) → Has (view_in o).units s us →
 abbrev pub Follows : Option Held → Option Held → Type 0
 Follows o m = (m ≡ o) ⊎ Goes o m
 
--- by then the string wanted content words to be settled, and was refused them: r is the report
+-- by then the string needed content words to be settled, and was refused them: r is the report
 abbrev pub IsUnsettled : Option Held → Option Held → ℕ → JsAnswer → Type 0
 IsUnsettled o p s r = (m : Option Held) × Follows o m × ((us : List ℕ) → Has (view_in m).units s us
     → (f : TextFull) × (wide : Bool) × (r ≡ text_report f)
@@ -36,7 +36,7 @@ IsCutIn o p s from to r = (m : Option Held) × Goes o m × ((us : List ℕ) → 
 abbrev pub Sought : Option Held → Option Held → Type 0
 Sought o p = (m : Option Held) × Goes o m × Searches m p
 
--- one of two strings could not be settled, which is told by the status alone
+-- one of two strings could not be settled, which is reported by the status alone
 abbrev pub IsRefused : Option Held → Option Held → ℕ → ℕ → ℕ → Type 0
 IsRefused o p a b status =
     (r : JsAnswer) × (status ≡ r.status) × Goes o p × (IsUnsettled o p a r ⊎ IsUnsettled o p b r)

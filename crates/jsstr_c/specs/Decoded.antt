@@ -1,4 +1,4 @@
--- The units of a text that comes as UTF-8.
+-- The units of bytes of UTF-8.
 use Rattle.std.specs.Prelude.{◌≡◌, ◌⊎◌, ℕ, List, [], ◌∷◌, ◌++◌}
 use Rattle.std.specs.Str.{IsUtf8, IsValidUpTo, chars}
 use Rattle.js_units.specs.Text.{utf16_of}
@@ -14,6 +14,6 @@ utf16 (c ∷ cs) = utf16_of c ++ utf16 cs
 abbrev pub decoded : List ℕ → List ℕ
 decoded bytes = utf16 (chars bytes)
 
--- Why bytes gave no units: they are no UTF-8, which is told wherever it is so; or memory is wanting.
+-- Why bytes gave no units: they are no UTF-8, which is reported wherever it is so; or memory runs out.
 abbrev pub IsUndecoded : List ℕ → JsAnswer → Type 0
 IsUndecoded bytes r = ((IsUtf8 bytes → ⊥) × ((n : ℕ) × (r ≡ not_utf8 n) × IsValidUpTo bytes n)) ⊎ (IsUtf8 bytes × (r ≡ no_memory))

@@ -1,4 +1,4 @@
--- What interning units that stand in no string, and looking for them in the string table, leaves and answers.
+-- What interning units that are in no string, and looking for them in the string table, leaves and answers.
 use Rattle.std.specs.Prelude.{◌≡◌, ℕ, List, Option, Result}
 use Rattle.heap_intern.specs.declared.table.faults.TableFull.{TableFull}
 use Rattle.heap_agents.specs.declared.held.Held.{Held}

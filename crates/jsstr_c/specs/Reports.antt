@@ -1,4 +1,4 @@
--- The numbers of refusals, and what an answer tells of each.
+-- The numbers of refusals, and what an answer says of each.
 use Rattle.std.specs.Prelude.{ℕ, ℤ, pos, negsuc, Option, Some, None, Result, Ok, Err, false}
 use Rattle.std.specs.declared.cmp.Ordering.{Ordering}
 use Rattle.std.specs.declared.cmp.Ordering.TheVariants.{Less, Equal, Greater}
@@ -20,7 +20,7 @@ use Rattle.heap_agents.specs.declared.words.Shown.{Shown}
 abbrev pub DONE : ℕ
 DONE = 0
 
--- memory is wanting
+-- memory runs out
 abbrev pub NO_MEMORY : ℕ
 NO_MEMORY = 1
 
@@ -60,7 +60,7 @@ BAD_ARGUMENT = 9
 abbrev pub done : ℕ → JsAnswer
 done id = record { status = DONE; id = id; at = 0; want = 0; end = 0 }
 
--- a counter was full: its number, what was wanted and its end
+-- a counter was full: its number, what was requested and its end
 abbrev pub text_report : TextFull → JsAnswer
 text_report (Ids f) = record { status = NO_IDS; id = 0; at = f.at; want = f.want; end = f.end }
 text_report (Words f) = record { status = NO_WORDS; id = 0; at = f.at; want = f.want; end = f.end }
@@ -91,7 +91,7 @@ abbrev pub table_answer : Result ℕ TableFull → JsAnswer
 table_answer (Ok i) = done i
 table_answer (Err f) = table_report f
 
--- no string of the table has these units, and nothing else is told
+-- no string of the table has these units, and nothing else is reported
 abbrev pub none : JsAnswer
 none = record { status = NONE; id = 0; at = 0; want = 0; end = 0 }
 
@@ -100,7 +100,7 @@ abbrev pub found_answer : Option ℕ → JsAnswer
 found_answer (Some i) = done i
 found_answer None = none
 
--- memory is wanting, and nothing else is told
+-- memory runs out, and nothing else is reported
 abbrev pub no_memory : JsAnswer
 no_memory = record { status = NO_MEMORY; id = 0; at = 0; want = 0; end = 0 }
 
@@ -127,11 +127,11 @@ abbrev pub place_answer : Option ℕ → JsPlace
 place_answer (Some k) = record { status = DONE; at = k }
 place_answer None = record { status = NONE; at = 0 }
 
--- what is shown, and what an answer tells of it
+-- what is shown, and what an answer says of it
 abbrev pub words_answer : Shown → JsWords
 words_answer r = record { status = DONE; wide = r.wide; lane = r.lane; len = r.len; count = r.count }
 
--- what an answer tells of the words of a string
+-- what an answer says of the words of a string
 abbrev pub shown_by : JsWords → Shown
 shown_by r = record { wide = r.wide; lane = r.lane; len = r.len; count = r.count }
 

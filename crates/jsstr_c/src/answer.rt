@@ -100,7 +100,7 @@ pub struct JsPlace {
     pub at: u32,
 }
 
-/// A status, and at 0 how the content words of a string show its units: unit i stands `lane + i` lanes
+/// A status, and at 0 how the content words of a string show its units: unit i is `lane + i` lanes
 /// behind the lowest lane of word number 0, a word has 4 lanes where it is wide and else 8, the string
 /// has `len` units, and `count` words were written.
 #[repr(C)]

@@ -9,7 +9,7 @@ use crate::answer::{JsAnswer, no_memory, not_utf8};
 use js_units::{NoMemory, Units, split_char};
 use std::alloc::Global;
 
-// The units of bytes, one each; or the answer that memory is wanting.
+// The units of bytes, one each; or the answer that memory runs out.
 pub(crate) fn latin1_units(alloc: Global, bytes: &[u8]) -> Result<Units, JsAnswer>
     ensures units { IfOk result (λ units. units ≡ bytes.now) }
     ensures refused { IfErr result (λ r. r ≡ reports.no_memory) }
@@ -21,7 +21,7 @@ pub(crate) fn latin1_units(alloc: Global, bytes: &[u8]) -> Result<Units, JsAnswe
     }
 }
 
-// The units of the text whose UTF-8 the bytes are; or the answer why there are none.
+// The units that bytes of UTF-8 spell; or the answer why there are none.
 pub(crate) fn utf8_units(alloc: Global, bytes: &[u8]) -> Result<Units, JsAnswer>
     requires short { length bytes.now ≤ MAX }
     ensures utf8 { IfOk result (λ units. IsUtf8 bytes.now) }
@@ -38,7 +38,7 @@ pub(crate) fn utf8_units(alloc: Global, bytes: &[u8]) -> Result<Units, JsAnswer>
     }
 }
 
-// The units of a text, which are no more than its bytes.
+// The units of a `str`, which are no more than its bytes.
 fn units_of(alloc: Global, text: &str) -> Result<Units, NoMemory>
     ensures units { IfOk result (λ units. units ≡ decoded text.now) }
     ensures most { IfOk result (λ units. length units ≤ length text.now) }

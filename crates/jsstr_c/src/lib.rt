@@ -2,7 +2,7 @@
 //! call is there twice: [`checked`] tests the condition first, and answers `JSSTR_BAD_ARGUMENT` where it
 //! fails; [`unchecked`], whose names end so, leaves it to the caller.
 //!
-//! C holds an agent by a handle, [`agent::JsAgent`], with a pointer; behind it stand the agent, a counted
+//! C holds an agent by a handle, [`agent::JsAgent`], with a pointer; behind it are the agent, a counted
 //! reference to its heap, so that the heap goes with the last handle, and the marks of the strings that
 //! the agent may use. A string is its number. What a call answers is a [`answer::JsAnswer`]: a status,
 //! with the string or with the report.

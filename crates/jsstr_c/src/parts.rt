@@ -1,4 +1,4 @@
-// A box taken apart, so that its pointer can be handed on.
+// A box split into parts, so that its pointer can be handed on.
 ghost use Rattle.std.specs.Prelude.{◌≡◌};
 ghost use Rattle.std.specs.Box.Ownership.{box_owns};
 
@@ -17,7 +17,7 @@ impl<T, A: Allocator> Model for Parts<T, A> {
 }
 
 impl<T, A: Allocator> Parts<T, A> {
-    /// Takes a box apart.
+    /// Splits a box into parts.
     pub fn open(b: Box<T, A>) -> Parts<T, A>
     where
         T: Drop,

@@ -1,8 +1,8 @@
--- How a call ended: its status, and what both sinks took.
+-- How a call ended: its status, and what both sinks received.
 use Rattle.std.specs.Prelude.{◌≡◌}
 use Rattle.jsstr_cases.specs.declared.case.Ending.{Ending}
 
--- the status is the same, and each sink took the same bytes
+-- the status is the same, and each sink received the same bytes
 pub record IsSame (one other : Ending) : Type 0 where
   pub status : one.status ≡ other.status
   pub out : one.out.items ≡ other.out.items

@@ -32,7 +32,7 @@ impl Part {
         }
     }
 
-    // Whether this section may stand behind that one: files alone may be several.
+    // Whether this section may follow that one: files alone may be several.
     fn may_follow(self, last: Part) -> bool {
         match self {
             Part::File => last.place() <= 1,
@@ -41,7 +41,7 @@ impl Part {
     }
 }
 
-// The part that a section's head begins, and what stands behind one blank.
+// The part that a section's head begins, and what follows one blank.
 fn part_of(head: &str) -> Result<(Part, Option<&str>), Fault> {
     match head.split_once(' ') {
         Some(("file", name)) => Ok((Part::File, Some(name))),
@@ -111,7 +111,7 @@ impl Block {
         self.case
     }
 
-    /// Takes one more line, and says whether the block is whole with it.
+    /// Reads one more line, and says whether the block is whole with it.
     pub(crate) fn take(&mut self, alloc: Global, line: &str) -> Result<bool, Fault> {
         let Some(section) = line.strip_prefix("-- ") else {
             self.add(alloc, line)?;
@@ -201,7 +201,7 @@ impl Block {
         }
     }
 
-    // Puts the words behind the program's name.
+    // Puts the arguments behind the program's name.
     fn set_words(&mut self, alloc: Global, words: &str) -> Result<(), Fault> {
         self.case.words.truncate(1);
         for word in words.split(' ') {
@@ -215,7 +215,7 @@ impl Block {
         Ok(())
     }
 
-    // The word that is meant by this one.
+    // The argument that this one spells.
     fn word_of(&self, alloc: Global, word: &str) -> Result<String, Fault> {
         if !self.spelled {
             return Ok(String::from_str(alloc, word)?);
@@ -227,7 +227,7 @@ impl Block {
         }
     }
 
-    // An ending that is wanted has this status. Says whether the block is whole: else another ending may come.
+    // An ending that is expected has this status. Says whether the block is whole: else another ending may come.
     fn end(&mut self, alloc: Global, status: &str) -> Result<bool, Fault> {
         let more = status.strip_suffix(" or");
         let Ok(status) = more.unwrap_or(status).parse::<u8>() else {
@@ -241,7 +241,7 @@ impl Block {
     }
 }
 
-// The range that a word `FIRST..LAST` stands for.
+// The range that an argument `FIRST..LAST` spells.
 fn range_of(word: &str) -> Option<(u32, u32)> {
     let (first, last) = word.split_once("..")?;
     match (first.parse::<u32>(), last.parse::<u32>()) {

@@ -1,4 +1,4 @@
-// Calls below the program, by what they come to: the plan of a command line, the texts that are made from
+// Calls below the program, by their results: the plan of a command line, the sources generated from
 // a number, what these print over the plain store, and the laws of a heap on which nothing was run.
 
 use crate::case::Fault;
@@ -15,7 +15,7 @@ use run_program::{ends_tell, files_are_run};
 use run_sources::{GeneratedText, texts_from};
 use std::alloc::{AllocError, Global};
 
-/// What the call comes to that the second word names, with the words behind it.
+/// The result of the call that the second argument names, with the arguments behind it.
 pub(crate) fn told(alloc: Global, words: &[String]) -> Result<Vec<u8>, Fault> {
     let Some(call) = words.get(1) else {
         return Err(Fault::Form("no name of a call"));
@@ -40,7 +40,7 @@ fn number_in(words: &[String]) -> Result<u32, Fault> {
     }
 }
 
-// What the words behind the first ask for, or why they ask for nothing.
+// What the arguments behind the first ask for, or why they ask for nothing.
 fn plan(alloc: Global, words: &[String]) -> Result<Vec<u8>, Fault> {
     let told = match read_words(alloc, words) {
         Ok(plan) => asked(alloc, &plan)?,
@@ -72,7 +72,7 @@ fn hashed(before: u64, bytes: &[u8]) -> u64 {
     hash
 }
 
-// That of the texts in order, each behind its name and a line end.
+// That of the sources in order, each behind its name and a line end.
 fn hash(texts: &[GeneratedText]) -> u64 {
     let mut hash = START;
     for text in texts {
@@ -83,7 +83,7 @@ fn hash(texts: &[GeneratedText]) -> u64 {
     hash
 }
 
-// The first line of the texts from a number, and the hash of all of them.
+// The first line of the sources from a number, and the hash of all of them.
 fn texts(alloc: Global, number: u32) -> Result<Vec<u8>, Fault> {
     let texts = texts_from(alloc, number)?;
     let hash = hash(texts.as_slice());
@@ -97,7 +97,7 @@ fn texts(alloc: Global, number: u32) -> Result<Vec<u8>, Fault> {
     Ok(format!(in alloc; "{first}\n{hash}\n")?.into_bytes())
 }
 
-// The script of a text, where it is one.
+// The script of a source, where it is one.
 fn script(alloc: Global, text: &str, role: Role, outer: &Names) -> Option<Script> {
     if text.len() > 10_000 {
         return None;
@@ -119,7 +119,7 @@ fn lines_alone(alloc: Global, prelude: &Script, text: &str) -> Option<Lines> {
     Some(lines)
 }
 
-// What the texts from a number print, each behind the first of them.
+// What the sources from a number print, each behind the first of them.
 fn lines_made(alloc: Global, number: u32) -> Option<Vec<u8>> {
     let texts = texts_from(alloc, number).ok()?;
     let first = texts.first()?;
@@ -137,7 +137,7 @@ fn lines_made(alloc: Global, number: u32) -> Option<Vec<u8>> {
     Some(all)
 }
 
-// The same, where each text ends well.
+// The same, where each script ends well.
 fn prints(alloc: Global, number: u32) -> Result<Vec<u8>, Fault> {
     match lines_made(alloc, number) {
         Some(lines) => Ok(lines),

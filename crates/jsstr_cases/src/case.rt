@@ -13,14 +13,14 @@ pub(crate) const FILE: &str = "a.js";
 
 pub(crate) const SCHEDULE: &str = "a.sched";
 
-/// The programs that have the words, and what has them where a call is told.
+/// The programs that get the arguments, and what gets them in a case of a call.
 pub(crate) const RUNNER: &str = "jsstr";
 
 pub(crate) const PLAYER: &str = "jssched";
 
 pub(crate) const CALLS: &str = "calls";
 
-/// The status, and what both sinks took.
+/// The status, and what both sinks received.
 #[derive(Drop)]
 pub(crate) struct Ending {
     pub status: u8,
@@ -51,11 +51,11 @@ impl fmt::Display for Ending {
 #[derive(Clone, Copy)]
 pub(crate) enum Way {
     Once,
-    /// With each number of this range as the word at a place.
+    /// With each number of this range as the argument at a place.
     Each { place: usize, first: u32, last: u32 },
     /// And then with each sink cut before each byte, and behind the last one, by each number of bytes a write.
     Cut,
-    /// The same, where a write takes all that there is room for.
+    /// The same, where a write accepts all that there is room for.
     Ends,
     /// With a gate that holds the first script until the second one has entered.
     Held,
@@ -83,7 +83,7 @@ pub(crate) enum Repeats {
     None,
 }
 
-/// Files, the words of the command line with the program's name first, and what is wanted.
+/// Files, the arguments of the command line with the program's name first, and what is requested.
 #[derive(Drop)]
 pub(crate) struct Case {
     /// The number of the line that it begins on.

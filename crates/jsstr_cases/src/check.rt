@@ -1,4 +1,4 @@
-// Runs the cases of a file, and tells which differ.
+// Runs the cases of a file, and reports which differ.
 
 use crate::case::{Case, Repeats, Way};
 use crate::cut::check_cut;
@@ -38,7 +38,7 @@ where
     Ok(Tally::new().with(tell(rt, name, case.line, &case.wanted, &got)?))
 }
 
-// Runs the case with each number from the first to the last as the word at this place.
+// Runs the case with each number from the first to the last as the argument at this place.
 fn check_each<R>(
     rt: &R,
     name: &str,

@@ -17,8 +17,8 @@ fn first(bytes: &[u8], room: u32) -> &[u8] {
     bytes.get(..room as usize).unwrap_or(bytes)
 }
 
-// What is wanted where the sinks have room for so many bytes. Where words or files are refused, a
-// line that isn't taken to its end changes no status.
+// What is expected where the sinks have room for so many bytes. Where arguments or files are refused, a
+// line that isn't received to its end changes no status.
 fn cut(alloc: Global, wanted: &Ending, room: Room) -> Result<Ending, Fault> {
     let out = first(&wanted.out, room.out);
     let err = first(&wanted.err, room.err);
@@ -35,7 +35,7 @@ fn cut(alloc: Global, wanted: &Ending, room: Room) -> Result<Ending, Fault> {
     })
 }
 
-// The numbers of bytes that are wanted of `out` and of `err`.
+// The numbers of bytes that are expected of `out` and of `err`.
 fn lengths(wanted: &Ending) -> Result<(u32, u32), Fault> {
     let (out, err) = (wanted.out.len(), wanted.err.len());
     if out > 1000 || err > 1000 {
@@ -44,8 +44,8 @@ fn lengths(wanted: &Ending) -> Result<(u32, u32), Fault> {
     Ok((out as u32, err as u32))
 }
 
-/// Runs the case with sinks that take a few bytes a write, and so many in all: none, one, up to all that
-/// are wanted, those of `out` before those of `err`.
+/// Runs the case with sinks that accept a few bytes a write, and so many in all: none, one, up to all that
+/// are expected, those of `out` before those of `err`.
 pub(crate) fn check_cut<R>(rt: &R, name: &str, case: &mut Case, most: u32) -> Result<Tally>
 where
     R: AllocGlobal + Print + Sync + Threads,

@@ -38,7 +38,7 @@ impl CaseFile {
     }
 }
 
-/// Checks one file after another, each time the first that no thread has taken.
+/// Checks one file after another, each time the first that no thread has begun.
 pub(crate) fn check_those_left<R>(
     rt: &R,
     files: &[CaseFile],

@@ -27,7 +27,7 @@ pub(crate) fn case_of(alloc: Global, line: usize, text: &str) -> Result<Case, Fa
     })
 }
 
-/// The words that have the program take the one file.
+/// The arguments by which the program runs the one file.
 pub(crate) fn words(alloc: Global, program: &str, file: &str) -> Result<Vec<String>, Fault> {
     let mut words = Vec::new(alloc);
     words.push(String::from_str(alloc, program)?)?;
@@ -35,7 +35,7 @@ pub(crate) fn words(alloc: Global, program: &str, file: &str) -> Result<Vec<Stri
     Ok(words)
 }
 
-// The parts of a line: the script, and what stands behind `->` and behind `!`, each with the blanks round it.
+// The parts of a line: the script, and what follows `->` and behind `!`, each with the blanks round it.
 #[derive(Clone, Copy)]
 struct Wish<'a> {
     script: &'a str,
@@ -58,7 +58,7 @@ fn split_wish(text: &str) -> Option<Wish<'_>> {
     }
 }
 
-// The parts where `->` stands first, with this behind it.
+// The parts where `->` comes first, with this behind it.
 fn with_out<'a>(script: &'a str, rest: &'a str) -> Wish<'a> {
     let (out, err) = match rest.split_once("  !") {
         Some((out, err)) => (without_blanks(out), Some(err)),
@@ -95,7 +95,7 @@ fn wanted_of(alloc: Global, wish: Wish<'_>) -> Result<Ending, Fault> {
     Ok(Ending { status, out, err })
 }
 
-// What stands behind the one blank: it neither begins nor ends with another.
+// What follows the one blank: it neither begins nor ends with another.
 fn behind_blank(text: &str) -> Result<&str, Fault> {
     match text.strip_prefix(' ') {
         Some(text) if !text.is_empty() && !text.starts_with(' ') && !text.ends_with(' ') => Ok(

@@ -1,19 +1,19 @@
-//! The program `jsstr_cases [--once] FILE..`: runs each case of the case files that its words name, over
-//! files and sinks in memory, and compares the status and what both sinks took with what the case
-//! wants. It prints one line a file (`slice.cases 41`), one for each difference, and at last
+//! The program `jsstr_cases [--once] FILE..`: runs each case of the case files that its arguments name, over
+//! files and sinks in memory, and compares the status and what both sinks received with what the case
+//! expects. It prints one line a file (`slice.cases 41`), one for each difference, and at last
 //! `N cases, M differ`; it ends with 0 where none differs, and else with 1. A file that can't be
-//! read or isn't of the form is told on standard error with its line, and ends the program with 1.
-//! Four threads run the files, each the next that is left; a difference is told once it is found, and
+//! read or isn't of the form is reported on standard error with its line, and ends the program with 1.
+//! Four threads run the files, each the next that is left; a difference is reported once it is found, and
 //! the lines of the files come last, in their order. With `--once` no case is run again: neither with other
-//! sinks, nor with other numbers than the last one of a word `FIRST..LAST`.
+//! sinks, nor with other numbers than the last one of an argument `FIRST..LAST`.
 //!
-//! A case file is UTF-8, and its lines end in a line feed. Between cases stand empty lines, and
+//! A case file is UTF-8, and its lines end in a line feed. Between cases are empty lines, and
 //! comments, which begin with `#`.
 //!
 //! # A case of one line
 //!
-//! A script, two blanks or more, and what is wanted, which begins at the first two blanks that
-//! stand before `->` or `!`. The file is `a.js`, and the one word names it.
+//! A script, two blanks or more, and what is requested, which begins at the first two blanks that
+//! precede `->` or `!`. The file is `a.js`, and the one argument names it.
 //!
 //! ```text
 //! print('abcdef'.slice(-3, -1));                       -> de
@@ -28,17 +28,17 @@
 //!   end, or to two blanks or more and `!`. In it `\n` is a line feed, `\\` a backslash, `\xXX`
 //!   and `\uXXXX` the character of this code, and `\e` nothing (`-> \e` is an empty line). TEXT
 //!   neither begins nor ends with a blank: there it is written `\x20`.
-//! - `->` with nothing behind it: `out` takes nothing, as in a line that has no `->`. A line with
+//! - `->` with nothing behind it: `out` receives nothing, as in a line that has no `->`. A line with
 //!   neither `->` nor `!` isn't of the form.
 //! - `! TEXT`: what `err` has behind the file's name and before its line feed. TEXT that begins
-//!   with a digit stands behind `a.js:`, and the status is 4; `uncaught ..` and `unsupported ..`
-//!   stand behind `a.js: `, and the status is 1; no other TEXT is of the form. With no `!`, `err`
-//!   takes nothing, and the status is 0.
+//!   with a digit follows `a.js:`, and the status is 4; `uncaught ..` and `unsupported ..`
+//!   follow `a.js: `, and the status is 1; no other TEXT is of the form. With no `!`, `err`
+//!   receives nothing, and the status is 0.
 //! - `@` as the first character: in the script behind it `%XX` is the byte XX.
 //!
 //! # A block
 //!
-//! It carries several lines, several files, other words, and every byte, and goes from `== NAME`
+//! It carries several lines, several files, other arguments, and every byte, and goes from `== NAME`
 //! to `-- status N`.
 //!
 //! ```text
@@ -55,32 +55,32 @@
 //! ```
 //!
 //! Its sections come in this order: `-- file NAME`, none or more; `-- fail N`, where the read of this
-//! number is to fail, counted from 0; `-- words WORD ..`, the words behind the program's name, with one
+//! number is to fail, counted from 0; `-- words WORD ..`, the arguments behind the program's name, with one
 //! blank between two (`-- words` alone: none; `-- no words`: not even that name); `-- cut`, `-- ends` or `-- held`,
 //! where the case is run so; `-- out` and `-- err` (left out: nothing); and the status. The lines below
 //! `file`, `out` and `err` are their bytes, each with its line feed; `-- fill SIZE` behind those of a file
 //! adds line feeds until it has so many bytes. With `@` before the section's name (`-- @file a.js`,
-//! `-- @words ..`, `-- @out`, `-- @err`), `%XX` is the byte XX in its lines or words, and a `%` at
-//! the end of a line takes its line feed away, at the end of a word nothing (so `%` is the empty
-//! word). A line that begins with `-- ` or `== ` is written `%2D- ` or `%3D= `.
+//! `-- @words ..`, `-- @out`, `-- @err`), `%XX` is the byte XX in its lines or arguments, and a `%` at
+//! the end of a line removes its line feed, at the end of an argument nothing (so `%` is the empty
+//! argument). A line that begins with `-- ` or `== ` is written `%2D- ` or `%3D= `.
 //!
-//! With `-- cut` the case is run again with sinks that take 1, 2, 3 or 7 bytes a write, and so many in
-//! all: none, one, up to all that are wanted, those of `out` before those of `err`. Each run counts. What is
-//! wanted then follows: the first bytes, and the status 7 where files were run.
+//! With `-- cut` the case is run again with sinks that accept 1, 2, 3 or 7 bytes a write, and so many in
+//! all: none, one, up to all of these, those of `out` before those of `err`. Each run counts. What is
+//! expected then follows: the first bytes, and the status 7 where files were run.
 //! With `-- held` a gate holds the first script until the second has entered, and the case differs where
 //! its turns run out.
 //!
-//! With `-- ends` the case is run again with sinks that take so many bytes alone, in one write.
+//! With `-- ends` the case is run again with sinks that accept so many bytes alone, in one write.
 //!
-//! A block whose head is `== play: NAME` plays a schedule: its words are those of `jssched` and not of
+//! A block whose head is `== play: NAME` plays a schedule: its arguments are those of `jssched` and not of
 //! `jsstr`, and where it has none, `a.sched`.
 //!
-//! A block whose head is `== call: NAME` tells what one call comes to that no script shows. Its words are the
-//! call's name and what it is given: `plan WORD ..`, what these words of the command line ask for; `texts N`,
-//! the first line of the texts that are made from a number, and a hash of all; `prints N`, what these texts
+//! A block whose head is `== call: NAME` gives a call's result that no script shows. Its arguments are the
+//! call's name and what it is given: `plan WORD ..`, what these arguments request; `texts N`,
+//! the first line of the sources generated from a number, and a hash of all; `prints N`, what these scripts
 //! print over the plain store; `laws`, the ids and words that are used of a heap on which nothing was run.
 //!
-//! A word `FIRST..LAST` stands for each number from FIRST to LAST: the case is run once with each,
+//! An argument `FIRST..LAST` stands for each number from FIRST to LAST: the case is run once with each,
 //! and counts as so many. Where one of several endings may come, all but the last one end with
 //! `-- status N or`, and `out` and `err` of the next one follow.
 //!
@@ -99,9 +99,9 @@
 //!
 //! # The heap of a case
 //!
-//! The sizes of the heap that a case's words don't name are small, so that the heap is made at once; where
-//! it is full they are larger, and at last those that the program takes by itself. The run that doesn't
-//! find its heap full counts, or the last one. Words that name all three have the heap that they ask for.
+//! The sizes of the heap that a case's arguments don't name are small, so that the heap is made quickly; if
+//! it is full they are larger, and at last those that the program has by default. The run that doesn't
+//! find its heap full counts, or the last one. Arguments that name all three get the heap that they request.
 #![tactic(auto)]
 
 mod block;
@@ -129,7 +129,7 @@ use std::thread::map_indices;
 // In so many threads.
 const THREADS: usize = 4;
 
-// The word that asks for one run of each case.
+// The argument that requests one run of each case.
 const ONCE: &str = "--once";
 
 fn main(rt: HostRuntime) -> Result<ExitCode> {

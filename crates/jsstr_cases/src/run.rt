@@ -8,13 +8,13 @@ use js_run::run_words;
 use std::alloc::Global;
 use std::thread::Threads;
 
-/// So many bytes a sink takes where it is to take all.
+/// So many bytes a sink accepts where it is to accept all.
 pub(crate) const ROOM: u32 = 65_536;
 
-// The status that tells of a full heap.
+// The status of a full heap.
 const FULL: u8 = 5;
 
-// The options that tell the sizes of a heap, each with its value.
+// The options that set the sizes of a heap, each with its value.
 type Sizes = [(&'static str, &'static str); 3];
 
 // The sizes of heaps that are made at once, and in a moment.
@@ -30,7 +30,7 @@ const LARGER: Sizes = [
     ("--slots", "2048"),
 ];
 
-/// How many bytes the sinks take: of a write, and of all writes to each.
+/// How many bytes the sinks accept: of a write, and of all writes to each.
 #[derive(Clone, Copy)]
 pub(crate) struct Room {
     pub most: u32,
@@ -45,7 +45,7 @@ pub(crate) const AMPLE: Room = Room {
     err: ROOM,
 };
 
-/// What becomes of the words.
+/// What becomes of the arguments.
 pub(crate) fn run<R, G>(
     rt: &R,
     words: &[String],
@@ -113,7 +113,7 @@ where
     status.code
 }
 
-// Whether the words are those of this program.
+// Whether the arguments are those of this program.
 fn are_of(words: &[String], program: &str) -> bool {
     match words.first() {
         Some(name) => name.as_str() == program,
@@ -121,7 +121,7 @@ fn are_of(words: &[String], program: &str) -> bool {
     }
 }
 
-// Whether some word is this option, with its value or before it.
+// Whether some argument is this option, with its value or before it.
 fn names(words: &[String], option: &str) -> bool {
     for word in words {
         if word.starts_with(option) {
@@ -131,7 +131,7 @@ fn names(words: &[String], option: &str) -> bool {
     false
 }
 
-// The words, with those of these sizes of a heap that they don't name behind the first.
+// The arguments, with those of these sizes of a heap that they don't name behind the first.
 fn sized(alloc: Global, sizes: &Sizes, words: &[String]) -> Result<Vec<String>, Fault> {
     let mut all = Vec::new(alloc);
     if let Some((first, rest)) = words.split_first() {
@@ -149,8 +149,8 @@ fn sized(alloc: Global, sizes: &Sizes, words: &[String]) -> Result<Vec<String>, 
     Ok(all)
 }
 
-/// The same with room for all. What the words don't name of the heap's sizes is small, and where such a
-/// heap is full larger, before it is what the program takes by itself.
+/// The same with room for all. What the arguments don't name of the heap's sizes is small, and where such a
+/// heap is full larger, before it is the program's default.
 pub(crate) fn run_on_a_heap<R>(
     rt: &R,
     words: &[String],

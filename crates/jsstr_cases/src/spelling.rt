@@ -3,7 +3,7 @@
 use crate::case::Fault;
 use std::alloc::Global;
 
-/// The bytes of a text in which `%XX` stands for a byte.
+/// The bytes of a text in which `%XX` denotes a byte.
 pub(crate) fn bytes_of(alloc: Global, text: &str) -> Result<Vec<u8>, Fault> {
     let mut pieces = text.split('%');
     let mut bytes = Vec::new(alloc);
@@ -36,7 +36,7 @@ enum Reading {
     Code { value: u32, left: u8 },
 }
 
-/// The text that a wish for `out` stands for, with its line feed.
+/// The bytes that an expected `out` spells, with its line feed.
 pub(crate) fn text_of(alloc: Global, wish: &str) -> Result<Vec<u8>, Fault> {
     let mut text = String::new(alloc);
     let mut reading = Reading::Plain;

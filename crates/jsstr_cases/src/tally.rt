@@ -1,4 +1,4 @@
-// How many cases were run, and how many of them differ from what is wanted.
+// How many cases were run, and how many of them differ from what is requested.
 ghost use Rattle.std.specs.Prelude.{◌≡◌, ◌≤◌, ◌<◌, ◌↔◌, IsTrue, false};
 
 #[derive(Clone, Copy)]

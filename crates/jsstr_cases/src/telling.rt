@@ -1,9 +1,9 @@
-// Tells how a run differs from what is wanted.
+// Reports how a run differs from what is expected.
 
 use crate::case::Ending;
 use anyhow::Result;
 
-// Whether it is one of those that are wanted.
+// Whether it is one of those that are expected.
 fn is_wanted(got: &Ending, wanted: &[Ending]) -> bool {
     for wanted in wanted {
         if got.is(wanted) {

@@ -18,7 +18,7 @@ use Rattle.parse_look.specs.declared.look.Opener.TheVariants as opener
 use Rattle.parse_look.specs.declared.look.Fixed.{Fixed}
 use Rattle.parse_look.specs.declared.look.Fixed.TheVariants as fixed
 
--- a word or mark that is nothing but itself
+-- an identifier or mark that is nothing but itself
 abbrev pub terminal : Fixed → GrammarToken → Option (Unit {0})
 terminal fixed.OpenParen = opening
 terminal fixed.CloseParen = closing

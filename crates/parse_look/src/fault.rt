@@ -8,12 +8,12 @@ use js_units::NoMemory;
 use parse_syntax::GrammarToken;
 use std::alloc::{AllocError, AllocFailed};
 
-/// Why tokens are no script: at the first token of `rest`, or at the end of the text where there is none; or want
+/// Why tokens are no script: at the first token of `rest`, or at the end of the text where there is none; or lack
 /// of memory.
 #[derive(Clone, Copy)]
 pub enum Fault<'a> {
     Memory,
-    /// The token can't stand there.
+    /// The token isn't allowed there.
     Wrong { rest: &'a [GrammarToken] },
     /// It could, but for the limit on nesting.
     TooDeep { rest: &'a [GrammarToken] },

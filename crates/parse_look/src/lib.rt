@@ -1,4 +1,4 @@
-//! Looks at the next token, for the parser: which words and marks stand there, and the faults of
+//! Looks at the next token, for the parser: which identifiers and marks are there, and the faults of
 //! the grammar with their place.
 #![tactic(auto)]
 

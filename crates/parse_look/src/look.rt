@@ -18,7 +18,7 @@ use js_units::NoMemory;
 use parse_syntax::{GrammarToken, Property, Tables, Word};
 use std::alloc::Global;
 
-/// A word or mark that is nothing but itself.
+/// An identifier or mark that is nothing but itself.
 #[derive(Clone, Copy, Debug, PartialEq, Eq)]
 pub enum Fixed {
     OpenParen,
@@ -496,7 +496,7 @@ fn uri_function(tokens: &[GrammarToken]) -> Result<((u32, Builtin), &[GrammarTok
     }
 }
 
-/// The built-in function that is called, with the offset of its first word: `String`,
+/// The built-in function that is called, with the offset of its first identifier: `String`,
 /// `String . fromCharCode`, `String . fromCodePoint`, `Symbol . for`, `Symbol . keyFor`, `JSON . stringify`,
 /// `Object . keys`, or a URI handling function.
 pub fn called(tokens: &[GrammarToken]) -> Result<((u32, Builtin), &[GrammarToken]), Fault<'_>>
@@ -559,7 +559,7 @@ pub fn called(tokens: &[GrammarToken]) -> Result<((u32, Builtin), &[GrammarToken
     }
 }
 
-/// A name where it stands: its offset, and the number of its letters.
+/// A name where it is: its offset, and the number of its letters.
 #[derive(Clone, Copy, Debug, PartialEq, Eq)]
 pub struct Ident {
     pub at: u32,

@@ -1,4 +1,4 @@
-// Words, keys and properties, which look into the tables.
+// Identifiers, keys and properties, which look into the tables.
 ghost use Rattle.std.specs.Prelude.{◌≡◌, [], decimal, MatchOption, IfOk, false, get_or};
 ghost use Rattle.parse_syntax.specs.Reader.{Got, one_of, heads};
 ghost use Rattle.eval_tree.specs.Tree.{step_tree, of_property};
@@ -25,7 +25,7 @@ pub fn letters(alloc: Global, tables: &Tables, number: u32) -> Result<Name, NoMe
     }
 }
 
-// The letters of a word by its number.
+// The letters of an identifier by its number.
 fn letters_of(tables: &Tables, number: u32) -> &[u8]
     ensures { result.now ≡ get_or (tables_of tables.now).names number [] }
 {
@@ -64,7 +64,7 @@ fn decimal_text(alloc: Global, value: u64) -> Result<Units, NoMemory>
     units_of(alloc, buffer.format(value).as_bytes())
 }
 
-/// The key of a member of an object literal, which has to come next: a word, a string, or a number by its decimal text.
+/// The key of a member of an object literal, which has to come next: an identifier, a string, or a number by its decimal digits.
 pub fn key<'a>(
     alloc: Global,
     tables: &Tables,
@@ -103,7 +103,7 @@ pub fn property(alloc: Global, at: u32, letters: &[u8]) -> Result<PostStep, NoMe
     })
 }
 
-/// A word other than `length`, `description` and the methods: the read of the property of that name.
+/// An identifier other than `length`, `description` and the methods: the read of the property of that name.
 pub fn property_word<'a>(
     alloc: Global,
     tables: &Tables,

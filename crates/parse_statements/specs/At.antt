@@ -40,7 +40,7 @@ module _ (tables : Tables) where
       (choose (heads json_word) (read_json (inner n Whole))
       (choose (heads uri_function) (read_uri (inner n Whole)) (read_object_call (inner n Whole)))))
 
-  -- Key : E, what stands behind the { of an object literal, and the literal
+  -- Key : E, what follows the { of an object literal, and the literal
   unfoldable pub entry_at : ℕ → Reader GrammarToken (List ℕ × ExprTree)
   entry_at n = read_entry tables (inner n Whole)
 
@@ -53,7 +53,7 @@ module _ (tables : Tables) where
   unfoldable pub primary_at : ℕ → Reader GrammarToken ExprTree
   primary_at n = read_primary tables (has_room n) (inner n Whole)
 
-  -- what stands behind a point
+  -- what follows a point
   unfoldable pub member_at : ℕ → Reader GrammarToken StepTree
   member_at n = read_word tables (has_room n) (inner n Whole)
 

@@ -12,7 +12,7 @@ use parse_look::{Ident, letters};
 use parse_syntax::Tables;
 use std::alloc::{AllocError, Global};
 
-/// Adds an element; unchanged on refusal. Most lists of a tree have one: the first takes room for itself alone.
+/// Adds an element; unchanged on refusal. Most lists of a tree have one: the first allocates room for itself alone.
 pub(crate) fn add<T: Drop>(list: &mut Vec<T>, item: T) -> Result<(), NoMemory>
     ensures items { OnOk result (list.new.items ≡ list.old.items ++ item ∷ []) }
     ensures refused { OnErr result (list.new.items ≡ list.old.items) }
@@ -108,7 +108,7 @@ pub(crate) fn chain(alloc: Global, first: Expr, rest: Vec<Link>) -> Result<Expr,
     })
 }
 
-/// Without a step it is what stands before.
+/// Without a step it is what precedes.
 #[tactic(auto, using(eval_tree::proofs::Trees::tree_of_post))]
 pub(crate) fn post(alloc: Global, of: Expr, steps: Vec<PostStep>) -> Result<Expr, AllocError>
     ensures { IfOk result (λ e. expr_tree e ≡ post_of (expr_tree of) (map step_tree steps.items)) }

@@ -135,7 +135,7 @@ module _ (tables : Tables) where
   abbrev pub const_of : Ident → ExprTree → StmtTree
   const_of x init = tree.const_line x.at (letters x) init
 
-  -- an assignment to this name; where += stands at an offset, an append of the value
+  -- an assignment to this name; where += is at an offset, an append of the value
   abbrev pub assigned : Ident → Option ℕ → ExprTree → StmtTree
   assigned x None e = tree.assign x.at (letters x) e
   assigned x (Some at) e = tree.append at x.at (letters x) e

@@ -2,7 +2,7 @@
 use Rattle.std.specs.Prelude.{ℕ, zero, suc, List, [], ◌∷◌, ◌++◌, length, Bool, true, false, cond, Option, Some, None}
 use Rattle.parse_syntax.specs.Lang.{first_of}
 
--- what is wrong at a token: it can't stand there, or it could but for the limit on nesting
+-- what is wrong at a token: it isn't allowed there, or would be but for the limit on nesting
 pub data Kind : Type 0 where
   Wrong TooDeep : Kind
 

@@ -53,7 +53,7 @@ abbrev pub read_entries : Tables → Reader GrammarToken ExprTree
 read_entries tables e = and_then list_of (read_entry tables e)
     (all_of (heads comma) (and_then second_of (one_of comma) (read_entry tables e)))
 
--- what stands behind the { of an object literal
+-- what follows the { of an object literal
 abbrev pub read_members : Tables → Reader GrammarToken ExprTree
     → Reader GrammarToken (List (List ℕ × ExprTree))
 read_members tables e = choose (heads close_brace) (map_by none_of (one_of close_brace))
@@ -78,7 +78,7 @@ abbrev pub read_method_args : Bool → Reader GrammarToken ExprTree
 read_method_args room e =
     choose (heads opening) (opens room (heads opening) (map_by Some (read_args e))) (succeed None)
 
--- what stands behind a point
+-- what follows a point
 abbrev pub read_word : Tables → Bool → Reader GrammarToken ExprTree → Reader GrammarToken StepTree
 read_word tables room e =
     choose (heads member_word) (one_of member_word)

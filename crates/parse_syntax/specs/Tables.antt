@@ -1,8 +1,8 @@
--- What the numbers of tokens stand for.
+-- What the numbers of tokens denote.
 use Rattle.std.specs.Prelude.{ℕ, List}
 use Rattle.parse_syntax.specs.declared.token.Tables.{Tables as Kept}
 
--- by their numbers, the letters of words, and the units of the strings that are keys of members
+-- by their numbers, the letters of identifiers, and the units of the strings that are keys of members
 pub record Tables : Type 0 where
   pub names : List (List ℕ)
   pub keys : List (List ℕ)

@@ -1,4 +1,4 @@
--- What each token is to the grammar. A terminal is a function from a token to an optional value; so one word
+-- What each token is to the grammar. A terminal is a function from a token to an optional value; so one identifier
 -- may be a name at one place and a property at another.
 use Rattle.std.specs.Prelude.{ℕ, Bool, true, false, nat_eq, nat_lt, decimal, List, [], Option, Some, None, get_or}
 use Rattle.js_lex.specs.declared.token.Mark.TheVariants as mark
@@ -17,7 +17,7 @@ use Rattle.eval_tree.specs.Tree as tree
 use Rattle.eval_tree.specs.Tree.{ExprTree, StepTree}
 use Rattle.parse_syntax.specs.Tables.{Tables}
 
--- a name where it stands: its offset, and the number of its letters
+-- a name where it is: its offset, and the number of its letters
 pub record Ident : Type 0 where
   pub at : ℕ
   pub number : ℕ
@@ -27,59 +27,59 @@ abbrev pub when : {A : Type 0} → Bool → A → Option A
 when true x = Some x
 when false x = None
 
--- words
+-- identifiers
 
 -- the directive 'use strict' ("Directive Prologues and the Use Strict Directive")
 abbrev pub directive : GrammarToken → Option (Unit {0})
 directive (token.Directive at) = Some tt
 directive _ = None
 
--- the word let
+-- the keyword let
 abbrev pub let_word : GrammarToken → Option (Unit {0})
 let_word (token.Word at word.Let number) = Some tt
 let_word _ = None
 
--- the word const
+-- the keyword const
 abbrev pub const_word : GrammarToken → Option (Unit {0})
 const_word (token.Word at word.Const number) = Some tt
 const_word _ = None
 
--- the word print
+-- the keyword print
 abbrev pub print_word : GrammarToken → Option (Unit {0})
 print_word (token.Word at word.Print number) = Some tt
 print_word _ = None
 
--- the word if
+-- the keyword if
 abbrev pub if_word : GrammarToken → Option (Unit {0})
 if_word (token.Word at word.If number) = Some tt
 if_word _ = None
 
--- the word else
+-- the keyword else
 abbrev pub else_word : GrammarToken → Option (Unit {0})
 else_word (token.Word at word.Else number) = Some tt
 else_word _ = None
 
--- the word for
+-- the keyword for
 abbrev pub for_word : GrammarToken → Option (Unit {0})
 for_word (token.Word at word.For number) = Some tt
 for_word _ = None
 
--- the word String, Symbol, JSON or Object: its offset
+-- the identifier String, Symbol, JSON or Object: its offset
 abbrev pub string_word : GrammarToken → Option ℕ
 string_word (token.Word at word.String number) = Some at
 string_word _ = None
 
--- the word Symbol: its offset
+-- the identifier Symbol: its offset
 abbrev pub symbol_word : GrammarToken → Option ℕ
 symbol_word (token.Word at word.Symbol number) = Some at
 symbol_word _ = None
 
--- the word JSON: its offset
+-- the identifier JSON: its offset
 abbrev pub json_word : GrammarToken → Option ℕ
 json_word (token.Word at word.Json number) = Some at
 json_word _ = None
 
--- the word Object: its offset
+-- the identifier Object: its offset
 abbrev pub object_word : GrammarToken → Option ℕ
 object_word (token.Word at word.Object number) = Some at
 object_word _ = None
@@ -105,15 +105,15 @@ abbrev pub the_name : ℕ → GrammarToken → Option (Unit {0})
 the_name m (token.Name at n p) = when (nat_eq n m) tt
 the_name m _ = None
 
--- what stands behind a point
+-- what follows a point
 
--- the read that length or description is behind any value; none for other words
+-- the read that length or description is behind any value; none for other identifiers
 abbrev pub member_of : Property → Option StepTree
 member_of property.Length = Some tree.of_length
 member_of property.Description = Some tree.of_description
 member_of _ = None
 
--- the word length or description behind a point: the read that it is
+-- the identifier length or description behind a point: the read that it is
 abbrev pub member_word : GrammarToken → Option StepTree
 member_word (token.Name at n p) = member_of p
 member_word _ = None
@@ -123,70 +123,70 @@ abbrev pub method_at : ℕ → List ℕ → Property → Option ((ℕ × Method)
 method_at at letters (property.Method m) = Some ((at, m), letters)
 method_at at letters _ = None
 
--- a word that is the name of a method: its offset, the method and its letters
+-- an identifier that is the name of a method: its offset, the method and its letters
 abbrev pub method : Tables → GrammarToken → Option ((ℕ × Method) × List ℕ)
 method tables (token.Name at n p) = method_at at (get_or tables.names n []) p
 method tables _ = None
 
--- any other word behind a point, reserved words among them: the read of a property of that name
+-- any other identifier behind a point, reserved words among them: the read of a property of that name
 abbrev pub property_at : ℕ → List ℕ → Property → Option StepTree
 property_at at letters property.Length = None
 property_at at letters property.Description = None
 property_at at letters (property.Method m) = None
 property_at at letters _ = Some (tree.of_property at letters)
 
--- a word behind a point that is neither length nor description nor the name of a method: the read of the
+-- an identifier behind a point that is neither length nor description nor the name of a method: the read of the
 -- property of that name ("EvaluatePropertyAccessWithIdentifierKey")
 abbrev pub property_word : Tables → GrammarToken → Option StepTree
 property_word tables (token.Name at n p) = property_at at (get_or tables.names n []) p
 property_word tables (token.Word at w number) = Some (tree.of_property at (get_or tables.names number []))
 property_word tables _ = None
 
--- fromCharCode and fromCodePoint, as functions of String; none for other words
+-- fromCharCode and fromCodePoint, as functions of String; none for other identifiers
 abbrev pub from_of : Property → Option Builtin
 from_of property.FromCharCode = Some builtin.FromCharCode
 from_of property.FromCodePoint = Some builtin.FromCodePoint
 from_of _ = None
 
--- the word fromCharCode or fromCodePoint behind String and a point: the function ("Properties of the String
+-- the identifier fromCharCode or fromCodePoint behind String and a point: the function ("Properties of the String
 -- Constructor")
 abbrev pub from_word : GrammarToken → Option Builtin
 from_word (token.Name at n p) = from_of p
 from_word _ = None
 
--- keyFor, as a function of Symbol; none for other words
+-- keyFor, as a function of Symbol; none for other identifiers
 abbrev pub key_of : Property → Option Builtin
 key_of property.KeyFor = Some builtin.KeyFor
 key_of _ = None
 
--- the word for or keyFor behind Symbol and a point: the function ("Properties of the Symbol Constructor")
+-- the identifier for or keyFor behind Symbol and a point: the function ("Properties of the Symbol Constructor")
 abbrev pub symbol_function : GrammarToken → Option Builtin
 symbol_function (token.Word at word.For number) = Some builtin.SymbolFor
 symbol_function (token.Name at n p) = key_of p
 symbol_function _ = None
 
--- stringify, as a function of JSON; none for other words
+-- stringify, as a function of JSON; none for other identifiers
 abbrev pub stringify_of : Property → Option Builtin
 stringify_of property.Stringify = Some builtin.Stringify
 stringify_of _ = None
 
--- the word stringify behind JSON and a point: the function ("JSON.stringify")
+-- the identifier stringify behind JSON and a point: the function ("JSON.stringify")
 abbrev pub stringify_word : GrammarToken → Option Builtin
 stringify_word (token.Name at n p) = stringify_of p
 stringify_word _ = None
 
--- keys, as a function of Object; none for other words
+-- keys, as a function of Object; none for other identifiers
 abbrev pub keys_of : Property → Option Builtin
 keys_of property.Keys = Some builtin.Keys
 keys_of _ = None
 
--- the word keys behind Object and a point: the function ("Object.keys")
+-- the identifier keys behind Object and a point: the function ("Object.keys")
 abbrev pub keys_word : GrammarToken → Option Builtin
 keys_word (token.Name at n p) = keys_of p
 keys_word _ = None
 
--- the key of a member of an object literal (ECMA-262, "LiteralPropertyName"): the letters of any word, the
--- units of a string, or the decimal text of a number
+-- the key of a member of an object literal (ECMA-262, "LiteralPropertyName"): the letters of any identifier, the
+-- units of a string, or the decimal digits of a number
 abbrev pub key : Tables → GrammarToken → Option (List ℕ)
 key tables (token.Text at n k) = Some (get_or tables.keys n [])
 key tables (token.Number at n) = Some (decimal n)
@@ -328,7 +328,7 @@ abbrev pub bound_number : GrammarToken → Option ℕ
 bound_number (token.Number at n) = when (nat_lt n 1000001) n
 bound_number _ = None
 
--- a word that is an expression alone
+-- an identifier that is an expression alone
 abbrev pub constant : Word → Option ExprTree
 constant word.Undefined = Some tree.undefined
 constant word.Null = Some tree.null
@@ -339,7 +339,7 @@ constant word.Infinity = Some tree.infinity
 constant _ = None
 
 -- a token that is an expression alone. So is each string: whether it is a key shows only at the token behind
--- it, and in a whole script a key stands before the colon of a member alone
+-- it, and in a whole script a key precedes the colon of a member alone
 abbrev pub simple : Tables → GrammarToken → Option ExprTree
 simple tables (token.Text at n k) = Some (tree.literal n)
 simple tables (token.Number at n) = Some (tree.number n)
@@ -347,13 +347,13 @@ simple tables (token.Name at n p) = Some (tree.variable (get_or tables.names n [
 simple tables (token.Word at w number) = constant w
 simple tables _ = None
 
--- whether a token that can't stand where it stands is a word
+-- whether a token that isn't allowed at its place is an identifier
 abbrev pub is_word : GrammarToken → Bool
 is_word (token.Name at n p) = true
 is_word (token.Word at w number) = true
 is_word _ = false
 
--- where a token stands
+-- where a token is
 abbrev pub place : GrammarToken → ℕ
 place (token.Directive at) = at
 place (token.Text at n k) = at

@@ -3,7 +3,7 @@ use eval_tree::{Method, Name};
 use js_lex::Mark;
 use js_units::Units;
 
-/// A word that is no name.
+/// An identifier that is no name.
 #[derive(Clone, Copy, Debug, PartialEq, Eq)]
 pub enum Word {
     Let,
@@ -11,7 +11,7 @@ pub enum Word {
     Print,
     If,
     Else,
-    /// It begins a loop, and stands behind `Symbol` and a point.
+    /// It begins a loop, or follows `Symbol` and a point.
     For,
     Undefined,
     Null,
@@ -27,12 +27,12 @@ pub enum Word {
     EncodeUriComponent,
     DecodeUri,
     DecodeUriComponent,
-    /// Any other word that can't be a name. It stands behind a point, or is the key of a member.
+    /// Any other identifier that can't be a name. It follows a point, or is the key of a member.
     Reserved,
 }
 
-/// What a word that is a name means behind a point. `length`, `description` and a method that is called
-/// mean it behind any value, where each other word is the name of a property.
+/// What an identifier that is a name is behind a point. `length`, `description` and a method that is called
+/// mean it behind any value, where each other identifier is the name of a property.
 #[derive(Clone, Copy, Debug, PartialEq, Eq)]
 pub enum Property {
     Length,
@@ -53,8 +53,8 @@ pub enum Property {
 
 /// A token with the offset of its first byte.
 ///
-/// Two words have the same `number` exactly where their letters are the same. `after_line` tells whether a
-/// line end stands between the token and the one before it.
+/// Two identifiers have the same `number` exactly if their letters are the same. `after_line` says whether a
+/// line end is between the token and the one before it.
 #[derive(Clone, Copy, Debug, PartialEq, Eq)]
 pub enum GrammarToken {
     /// The first token of the text where it is a string that is spelled as the directive.
@@ -62,7 +62,7 @@ pub enum GrammarToken {
         at: u32,
     },
     /// A string, by its number among the script's literals, or among those that are keys of members where
-    /// it `is_key`: it stands behind a `{` or `,` and before a `:`.
+    /// it `is_key`: it follows a `{` or `,` and precedes a `:`.
     Text {
         at: u32,
         number: u32,
@@ -89,7 +89,7 @@ pub enum GrammarToken {
     },
 }
 
-/// What the numbers of a script's tokens stand for: the letters of words, and the units of the strings that are
+/// What the numbers of a script's tokens denote: the letters of identifiers, and the units of the strings that are
 /// keys of members.
 #[derive(Drop)]
 pub struct Tables {

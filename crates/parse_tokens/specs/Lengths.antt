@@ -1,4 +1,4 @@
--- The words that can't be names, by their length, for the contracts of private functions. No public contract
+-- The identifiers that can't be names, by their length, for the contracts of private functions. No public contract
 -- cites this file.
 use Rattle.std.specs.Prelude.{ℕ, Bool, true, false, List, [], ◌∷◌, ◌++◌, length, nat_eq, filter, if◌then◌else◌}
 use Rattle.parse_tokens.specs.Words.{reserved_words, kept_words}
@@ -7,12 +7,12 @@ use Rattle.parse_tokens.specs.Words.{reserved_words, kept_words}
 abbrev pub of_length : ℕ → List (List ℕ)
 of_length n = filter (λ w. nat_eq (length w) n) (reserved_words ++ kept_words)
 
--- words with a blank behind each
+-- identifiers with a blank behind each
 abbrev pub spaced : List (List ℕ) → List ℕ
 spaced [] = []
 spaced (w ∷ ws) = w ++ (32 ∷ spaced ws)
 
--- whether each word has n letters
+-- whether each identifier has n letters
 abbrev pub all_have : ℕ → List (List ℕ) → Bool
 all_have n [] = true
 all_have n (w ∷ ws) = if nat_eq (length w) n then all_have n ws else false

@@ -19,7 +19,7 @@ abbrev pub is_empty : {A : Type 0} → List A → Bool
 is_empty [] = true
 is_empty (x ∷ xs) = false
 
--- what stands before a place, behind these tokens
+-- what precedes a place, behind these tokens
 abbrev pub before_at : List GrammarToken → List (List ℕ) → List (List ℕ) → List (List ℕ) → ℕ → Before
 before_at tokens texts names keys end =
     record { first = is_empty tokens; end = end; names = names; texts = texts; keys = keys }
@@ -29,14 +29,14 @@ abbrev pub before_of : ScriptTokens → ℕ → Before
 before_of script end =
     before_at script.tokens.items script.literals.items script.names.items script.keys.items end
 
--- the text has these tokens, and this is what stands before its end
+-- the text has these tokens, and this is what precedes its end
 pub record Whole (text : List ℕ) (tokens : List GrammarToken) (last : Before) : Type 0 where
   pub lexed : List Lexed
   pub lexes : Lexes text 0 lexed
   pub tokens_are : tokens ≡ tokens_from text false nothing lexed
   pub last_is : last ≡ after_all text false nothing lexed
 
--- what completes the rest completes the whole, where { or a comma stands before the rest or not
+-- what completes the rest completes the whole, where { or a comma precedes the rest or not
 abbrev pub Goes : List ℕ → ℕ → List GrammarToken → Bool → Before → Type 0
 Goes text at done opened before = (ts : List Lexed) → Lexes text at ts
     → Whole text (done ++ tokens_from text opened before ts) (after_all text opened before ts)
@@ -56,7 +56,7 @@ abbrev pub ScannedTo : List ℕ → ScriptTokens → Type 0
 ScannedTo text script =
     Scanned text script.tokens.items script.literals.items script.names.items script.keys.items
 
--- these tokens, texts, names and keys
+-- these tokens, literals, names and keys
 abbrev pub IsScriptTokens : ScriptTokens → List GrammarToken → List (List ℕ) → List (List ℕ)
     → List (List ℕ) → Type 0
 IsScriptTokens script tokens texts names keys = (script.tokens.items ≡ tokens)

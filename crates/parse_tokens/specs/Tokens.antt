@@ -14,9 +14,9 @@ use Rattle.parse_syntax.specs.declared.token.GrammarToken.TheVariants as token
 use Rattle.parse_syntax.specs.declared.token.Word.{Word}
 use Rattle.parse_tokens.specs.Words.{word_of, property_of, is_in}
 
--- The number of a word is its place in the table of names, which has each word once in the order of the text.
+-- The number of an identifier is its place in the table of names, which has each identifier once in source order.
 
--- where the letters stand in a table, or its length
+-- where the letters are in a table, or its length
 abbrev pub place_in : List (List ℕ) → List ℕ → ℕ
 place_in names letters = position_or_len (bytes_eq letters) names
 
@@ -25,7 +25,7 @@ abbrev pub with_name : List (List ℕ) → List ℕ → List (List ℕ)
 with_name names letters = if nat_lt (place_in names letters) (length names) then names
     else names ++ letters ∷ []
 
--- what stands before a token
+-- what precedes a token
 pub record Before : Type 0 where
   -- no token
   pub first : Bool
@@ -36,11 +36,11 @@ pub record Before : Type 0 where
   pub texts : List (List ℕ)
   pub keys : List (List ℕ)
 
--- what stands before the first token
+-- what precedes the first token
 abbrev pub nothing : Before
 nothing = record { first = true; end = 0; names = []; texts = []; keys = [] }
 
--- whether a line end stands in these bytes of a text
+-- whether a line end is in these bytes of a text
 abbrev pub has_line_end : List ℕ → Bool
 has_line_end bytes = list_any is_line_end (chars bytes)
 
@@ -49,8 +49,8 @@ has_line_end bytes = list_any is_line_end (chars bytes)
 abbrev pub is_use_strict : List ℕ → Bool
 is_use_strict source = is_in source (codes "'use strict'" ∷ codes "\"use strict\"" ∷ [])
 
--- A string is the key of a member exactly where { or a comma stands before it and a colon behind it: no
--- statement has a label, and in a conditional a question mark stands before the operand that a colon follows.
+-- A string is the key of a member exactly where { or a comma precedes it and a colon follows it: no
+-- statement has a label, and in a conditional a question mark precedes the operand that a colon follows.
 
 -- the token is { or a comma
 abbrev pub opens_member : TokenKind → Bool
@@ -68,28 +68,28 @@ abbrev pub begins_colon : List Lexed → Bool
 begins_colon [] = false
 begins_colon (t ∷ ts) = is_colon t.kind
 
--- whether the token is a string that is a key, where { or a comma stands before it or not, and these tokens
+-- whether the token is a string that is a key, where { or a comma precedes it or not, and these tokens
 -- behind it
 abbrev pub is_key : Bool → TokenKind → List Lexed → Bool
 is_key opened (kinds.Text units) ts = if opened then begins_colon ts else false
 is_key opened _ ts = false
 
--- a string that is no key, after so many texts
+-- a string that is no key, after so many literals
 abbrev pub text_token : Bool → List (List ℕ) → List ℕ → ℕ → GrammarToken
 text_token first texts source at = if first then (if is_use_strict source then token.Directive at
     else token.Text at (length texts) false) else token.Text at (length texts) false
 
--- the texts behind a string that is no key: its units come last, but the directive is left out
+-- the literals behind a string that is no key: its units come last, but the directive is left out
 abbrev pub texts_after : Bool → List (List ℕ) → List ℕ → List ℕ → List (List ℕ)
 texts_after first texts source units =
     if first then (if is_use_strict source then texts else texts ++ units ∷ []) else texts ++ units ∷ []
 
--- a string, which is a key or not, after so many texts and keys
+-- a string, which is a key or not, after so many literals and keys
 abbrev pub string_token : Bool → Bool → List (List ℕ) → List (List ℕ) → List ℕ → ℕ → GrammarToken
 string_token key first texts keys source at = if key then token.Text at (length keys) true
     else text_token first texts source at
 
--- the texts behind a string, which is a key or not
+-- the literals behind a string, which is a key or not
 abbrev pub texts_with : Bool → Bool → List (List ℕ) → List ℕ → List ℕ → List (List ℕ)
 texts_with key first texts source units = if key then texts else texts_after first texts source units
 
@@ -97,7 +97,7 @@ texts_with key first texts source units = if key then texts else texts_after fir
 abbrev pub keys_with : Bool → List (List ℕ) → List ℕ → List (List ℕ)
 keys_with key keys units = if key then keys ++ units ∷ [] else keys
 
--- a word at an offset: one that is no name, or a name with what it means behind a point
+-- an identifier at an offset: one that is no name, or a name with what it means behind a point
 abbrev pub word_token : Option Word → List (List ℕ) → List ℕ → ℕ → GrammarToken
 word_token (Some w) names letters at = token.Word at w (place_in names letters)
 word_token None names letters at = token.Name at (place_in names letters) (property_of letters)
@@ -110,14 +110,14 @@ token_of before source at after_line key (kinds.Text units) =
 token_of before source at after_line key (kinds.Number value) = token.Number at value
 token_of before source at after_line key (kinds.Mark mark) = token.Mark at mark after_line
 
--- the table of names behind a token: a word is in it
+-- the table of names behind a token: an identifier is in it
 abbrev pub table_after : Before → List ℕ → TokenKind → List (List ℕ)
 table_after before source kinds.Word = with_name before.names source
 table_after before source (kinds.Text units) = before.names
 table_after before source (kinds.Number value) = before.names
 table_after before source (kinds.Mark mark) = before.names
 
--- the texts behind a token, which is a key or not
+-- the literals behind a token, which is a key or not
 abbrev pub literals_after : Bool → Before → List ℕ → TokenKind → List (List ℕ)
 literals_after key before source kinds.Word = before.texts
 literals_after key before source (kinds.Text units) = texts_with key before.first before.texts source units
@@ -131,12 +131,12 @@ keys_after key before (kinds.Text units) = keys_with key before.keys units
 keys_after key before (kinds.Number value) = before.keys
 keys_after key before (kinds.Mark mark) = before.keys
 
--- the grammar's token for a token of the text, which is a key or not, where this stands before it
+-- the grammar's token for a token of the text, which is a key or not, where this precedes it
 abbrev pub token_at : List ℕ → Before → Bool → Lexed → GrammarToken
 token_at bytes before key t =
     token_of before (slice bytes t.from t.to) t.from (has_line_end (slice bytes before.end t.from)) key t.kind
 
--- what stands before the token that follows this one
+-- what precedes the token that follows this one
 abbrev pub after : List ℕ → Before → Bool → Lexed → Before
 after bytes before key t = record {
   first = false;
@@ -146,13 +146,13 @@ after bytes before key t = record {
   keys = keys_after key before t.kind;
 }
 
--- the tokens, where { or a comma stands before them or not
+-- the tokens, where { or a comma precedes them or not
 abbrev pub tokens_from : List ℕ → Bool → Before → List Lexed → List GrammarToken
 tokens_from bytes opened before [] = []
 tokens_from bytes opened before (t ∷ ts) = token_at bytes before (is_key opened t.kind ts) t ∷
     tokens_from bytes (opens_member t.kind) (after bytes before (is_key opened t.kind ts) t) ts
 
--- what stands behind all these tokens, where { or a comma stands before them or not
+-- what follows all these tokens, where { or a comma precedes them or not
 abbrev pub after_all : List ℕ → Bool → Before → List Lexed → Before
 after_all bytes opened before [] = before
 after_all bytes opened before (t ∷ ts) =

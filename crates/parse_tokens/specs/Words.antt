@@ -1,4 +1,4 @@
--- Words (ECMA-262, "Keywords and Reserved Words"), and the names that mean something behind a point.
+-- Identifiers (ECMA-262, "Keywords and Reserved Words"), and the names that mean something behind a point.
 use Rattle.std.specs.Prelude.{ℕ, List, [], ◌∷◌, codes, Bool, true, false, Option, Some, None, if◌then◌else◌}
 use Rattle.std.specs.Str.{bytes_eq}
 use Rattle.eval_tree.specs.declared.tree.Method.{Method}
@@ -20,7 +20,7 @@ reserved_words =
     codes "throw" ∷ codes "true" ∷ codes "try" ∷ codes "typeof" ∷ codes "var" ∷ codes "void" ∷ codes "while" ∷
     codes "with" ∷ codes "yield" ∷ []
 
--- words of the standard and of its global environment and prototypes that the profile keeps back
+-- identifiers of the standard and of its global environment and prototypes that the profile keeps back
 abbrev pub kept_words : List (List ℕ)
 kept_words =
     codes "await" ∷ codes "print" ∷ codes "String" ∷ codes "Symbol" ∷ codes "JSON" ∷ codes "undefined" ∷
@@ -41,16 +41,16 @@ kept_words =
     codes "valueOf" ∷ codes "__proto__" ∷ codes "__defineGetter__" ∷ codes "__defineSetter__" ∷
     codes "__lookupGetter__" ∷ codes "__lookupSetter__" ∷ []
 
--- the letters are one of these words
+-- the letters are one of these identifiers
 abbrev pub is_in : List ℕ → List (List ℕ) → Bool
 is_in letters [] = false
 is_in letters (w ∷ ws) = if bytes_eq letters w then true else is_in letters ws
 
--- whether a word can't be a name
+-- whether an identifier can't be a name
 abbrev pub is_reserved : List ℕ → Bool
 is_reserved letters = if is_in letters reserved_words then true else is_in letters kept_words
 
--- a word by which a statement begins or goes on
+-- an identifier by which a statement begins or goes on
 abbrev pub statement_word : List ℕ → Option Word
 statement_word letters =
     if bytes_eq letters (codes "let") then Some word.Let
@@ -61,7 +61,7 @@ statement_word letters =
     else if bytes_eq letters (codes "for") then Some word.For
     else None
 
--- a word by which an operand begins
+-- an identifier by which an operand begins
 abbrev pub operand_word : List ℕ → Option Word
 operand_word letters =
     if bytes_eq letters (codes "undefined") then Some word.Undefined
@@ -80,7 +80,7 @@ operand_word letters =
     else if bytes_eq letters (codes "decodeURIComponent") then Some word.DecodeUriComponent
     else None
 
--- a word with a meaning of its own
+-- an identifier with a meaning of its own
 abbrev pub keyword_of : List ℕ → Option Word
 keyword_of letters = first_there (statement_word letters) (operand_word letters)
 
@@ -90,7 +90,7 @@ word_or (Some w) reserved = Some w
 word_or None true = Some word.Reserved
 word_or None false = None
 
--- what a word is where it can't be a name: the word itself if it has a meaning here, else Reserved; None for
+-- what an identifier is where it can't be a name: the identifier itself if it has a meaning here, else Reserved; None for
 -- a name
 abbrev pub word_of : List ℕ → Option Word
 word_of letters = word_or (keyword_of letters) (is_reserved letters)

@@ -1,8 +1,8 @@
 //! The tokens of the grammar, read from the bytes of a script: [`tokens`] answers them with the units
-//! of the script's texts and the table of its names, or the one lexical fault that comes first.
+//! of the script's string literals and the table of its names, or the one lexical fault that comes first.
 //!
-//! A word is a keyword, a word that can't be a name, or a name. A name has its place in the table of
-//! names as its number; the table has each name once, in the order of the text.
+//! An identifier is a keyword, another that can't be a name, or a name. A name has its place in the table of
+//! names as its number; the table has each name once, in source order.
 #![tactic(auto)]
 
 mod numbers;

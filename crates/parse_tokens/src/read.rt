@@ -22,8 +22,8 @@ use js_units::{NoMemory, Units, split_char};
 use parse_syntax::GrammarToken;
 use std::alloc::Global;
 
-/// The tokens of a script's bytes; the units of its texts that are no keys of members, in order, without the
-/// directive; its words, each once, in order; and the units of its texts that are keys, in order.
+/// The tokens of a script's bytes; the units of its string literals that are no keys of members, in order,
+/// without the directive; its identifiers, each once, and the units of literals that are keys, in order.
 #[derive(Drop)]
 pub struct ScriptTokens {
     pub tokens: Vec<GrammarToken>,
@@ -39,7 +39,7 @@ fn is_line_end(c: char) -> bool
     matches!(c, '\n' | '\r' | '\u{2028}' | '\u{2029}')
 }
 
-// Whether a line end stands in the text.
+// Whether a line end is in the text.
 fn any_line_end(text: &str) -> bool
     ensures { result ≡ has_line_end text.now }
 {
@@ -53,7 +53,7 @@ fn any_line_end(text: &str) -> bool
     false
 }
 
-// The number of a word, which is put into the table where it isn't in it.
+// The number of an identifier, which is put into the table where it isn't in it.
 fn number_of(
     alloc: Global,
     numbers: &mut Numbers,
@@ -77,7 +77,7 @@ fn number_of(
     }
 }
 
-// The token of a word.
+// The token of an identifier.
 fn word_token(
     alloc: Global,
     numbers: &mut Numbers,
@@ -120,7 +120,7 @@ fn is_use_strict(source: &[u8]) -> bool
     }
 }
 
-// The token of a text that is no key, whose units are put behind the others where it isn't the directive.
+// The token of a literal that is no key, whose units are put behind the others where it isn't the directive.
 fn text_token(
     first: bool,
     literals: &mut Vec<Units>,
@@ -148,7 +148,7 @@ fn text_token(
     })
 }
 
-// The token of a text, whose units are put behind those of the other keys where it is one.
+// The token of a string literal, whose units are put behind those of the other keys where it is one.
 fn string_token(
     key: bool,
     first: bool,
@@ -178,7 +178,7 @@ fn string_token(
     text_token(first, literals, source, at, units)
 }
 
-// The token of the grammar behind those that were read, whose text ended at a place.
+// The token of the grammar behind those that were read, the last of which ended at a place.
 fn next(
     alloc: Global,
     script: &mut ScriptTokens,
@@ -233,7 +233,7 @@ fn next(
     }
 }
 
-// Puts the token of the grammar behind those that were read, whose text ended at a place.
+// Puts the token of the grammar behind those that were read, the last of which ended at a place.
 fn add(
     alloc: Global,
     script: &mut ScriptTokens,
@@ -316,7 +316,7 @@ fn colon_follows(alloc: Global, text: &str, at: u32) -> Result<bool, LexFault>
     }
 }
 
-// Whether a token is a string that is a key, where `{` or a comma stands before it or not.
+// Whether a token is a string that is a key, where `{` or a comma precedes it or not.
 fn is_key(alloc: Global, text: &str, opened: bool, token: &js_lex::Token) -> Result<bool, LexFault>
     requires size { length text.now ≤ 1_048_576 }
     requires cut { IsCharBoundary text.now token.now.to }

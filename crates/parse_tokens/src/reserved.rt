@@ -1,16 +1,16 @@
-// Words that can't be names, by their length.
+// Identifiers that can't be names, by their length.
 ghost use Rattle.std.specs.Prelude.{◌≡◌, ℕ, List, length, true};
 ghost use Rattle.parse_tokens.specs.Words.{is_in, is_reserved};
 ghost use Rattle.parse_tokens.specs.Lengths.{of_length, spaced, all_have};
 
-/// Whether the word can't be a name.
+/// Whether the identifier can't be a name.
 pub(crate) fn is_reserved(letters: &[u8]) -> bool
     ensures { result ≡ is_reserved letters.now }
 {
     is_one_of(letters, words_of(letters.len()))
 }
 
-// Whether the letters are one of the words, of which each has as many letters and a blank behind it.
+// Whether the letters are one of the identifiers, of which each has as many letters and a blank behind it.
 fn is_one_of(letters: &[u8], words: &[u8]) -> bool
     ensures { (ws : List (List ℕ)) → all_have (length letters.now) ws ≡ true → words.now ≡ spaced ws
         → result ≡ is_in letters.now ws }
@@ -22,7 +22,7 @@ fn is_one_of(letters: &[u8], words: &[u8]) -> bool
     letters == word || is_one_of(letters, &behind[1..])
 }
 
-// The words of so many letters, with a blank behind each.
+// The identifiers of so many letters, with a blank behind each.
 fn words_of(count: usize) -> &'static [u8]
     ensures { result.now ≡ spaced (of_length count) }
 {

@@ -1,4 +1,4 @@
-// What a word is.
+// What an identifier is.
 ghost use Rattle.std.specs.Prelude.{◌≡◌};
 ghost use Rattle.parse_tokens.specs.Words as words;
 
@@ -6,7 +6,7 @@ use crate::reserved::is_reserved;
 use eval_tree::Method;
 use parse_syntax::{Property, Word};
 
-// A word by which a statement begins or goes on.
+// An identifier by which a statement begins or goes on.
 fn statement_word(letters: &[u8]) -> Option<Word>
     ensures { result ≡ words.statement_word letters.now }
 {
@@ -27,7 +27,7 @@ fn statement_word(letters: &[u8]) -> Option<Word>
     }
 }
 
-// A word by which an operand begins.
+// An identifier by which an operand begins.
 fn operand_word(letters: &[u8]) -> Option<Word>
     ensures { result ≡ words.operand_word letters.now }
 {
@@ -73,7 +73,7 @@ fn keyword(letters: &[u8]) -> Option<Word>
     operand_word(letters)
 }
 
-/// The word, where it is no name.
+/// The identifier, where it is no name.
 pub(crate) fn word_named(letters: &[u8]) -> Option<Word>
     ensures { result ≡ words.word_of letters.now }
 {

@@ -1,7 +1,7 @@
 //! A store that keeps each string as a plain list of code units: the plain program of [`Strings`],
 //! for programs without a shared heap and for tests.
 //!
-//! It is never full, and each of its calls may want memory. Every string is settled from the
+//! It is never full, and each of its calls may run out of memory. Every string is settled from the
 //! start, and nothing is counted as used.
 #![tactic(auto)]
 
@@ -33,7 +33,7 @@ pub struct PlainStore {
 }
 
 impl PlainStore {
-    /// The empty store, which makes strings up to this limit. It takes no memory.
+    /// The empty store, which makes strings up to this limit. It allocates nothing.
     pub fn new(alloc: Global, limit: Limit) -> PlainStore
         ensures known { (n : ℕ) → (⟦<PlainStore as Strings>⟧.state result).known n ≡ None }
         ensures history { (⟦<PlainStore as Strings>⟧.state result).history ≡ [] }
@@ -88,7 +88,7 @@ impl PlainStore {
     }
 }
 
-// Reads each unit, which tells that it is 16 bits wide: of a list the type tells it of no unit
+// Reads each unit, which says that it is 16 bits wide: of a list the type says so of no unit
 // that wasn't read. The loop does nothing, and a compiler leaves it out.
 fn read_each(units: &[u16])
     ensures { (k : ℕ) → k < length units.now → slice_index units.now k < 65536 }

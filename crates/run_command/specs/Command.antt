@@ -1,4 +1,4 @@
--- The command: its options with their defaults, and the words that name files.
+-- The command: its options with their defaults, and the arguments that name files.
 use Rattle.std.specs.Prelude.{List, [], ◌∷◌, ◌++◌, Bool, Some, codes, fold, pos}
 use Rattle.clap.specs.declared.builder.action.ArgAction.TheVariants.{Append, SetTrue}
 use Rattle.clap.specs.declared.builder.value_parser.ValueParser.TheVariants as parser
@@ -13,7 +13,7 @@ option_rule name = record (new_rule name) { long = Some name }
 abbrev pub number_rule : Text → Rule
 number_rule name = record (option_rule name) { parser = Some (parser.Signed (pos 0) (pos 4294967295)) }
 
--- the same, with the value that it has where the words give none
+-- the same, with the value that it has where the arguments give none
 abbrev pub defaulted_rule : Text → Text → Rule
 defaulted_rule name value = record (number_rule name) { defaults = value ∷ [] }
 
@@ -21,7 +21,7 @@ defaulted_rule name value = record (number_rule name) { defaults = value ∷ [] 
 abbrev pub flag_rule : Text → Rule
 flag_rule name = record (option_rule name) { action = Some SetTrue }
 
--- words that name files, each of them a use of the argument
+-- arguments that name files, each of them one value of `FILE`
 abbrev pub file_rule : Rule
 file_rule = record (new_rule (codes "FILE")) { action = Some Append }
 
@@ -29,7 +29,7 @@ file_rule = record (new_rule (codes "FILE")) { action = Some Append }
 abbrev pub job_rules : List Rule
 job_rules = option_rule (codes "prelude") ∷ defaulted_rule (codes "jobs") (codes "4") ∷ []
 
--- `--ids N`, `--heap-words N` and `--slots N`, with their defaults
+-- `--ids N`, `--heap-arguments N` and `--slots N`, with their defaults
 abbrev pub size_rules : List Rule
 size_rules = defaulted_rule (codes "ids") (codes "262144") ∷
     defaulted_rule (codes "heap-words") (codes "4194304") ∷
@@ -48,7 +48,7 @@ rules = job_rules ++ size_rules ++ other_rules ++ (file_rule ∷ [])
 abbrev pub command : App
 command = fold with_rule (new_app (codes "jsstr")) rules
 
--- the command gives matches for the words, of which the first is the program's name: it refuses none, and
+-- the command gives matches for the arguments, of which the first is the program's name: it refuses none, and
 -- none asks for help
 abbrev pub gives_matches : List Text → Bool
 gives_matches words = is_empty (fault_of command words)

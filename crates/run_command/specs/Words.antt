@@ -1,4 +1,4 @@
--- What the words of the command line ask for.
+-- What the arguments of the command line ask for.
 use Rattle.std.specs.Prelude.{◌≡◌, ◌==◌, ◌&&◌, ◌||◌, not, is_some, ◌+◌, ◌^◌, ◌<◌, ◌≤◌, ⊤, ℕ, Bool, false, List, [], ◌∷◌, Option, None, Some, codes, if◌then◌else◌, length, map, nat_le, pos, option_and_then, option_map, unwrap_or}
 use Rattle.std.specs.Option.{option_map_or}
 use Rattle.std.specs.Str.{bytes_eq}
@@ -16,11 +16,11 @@ use Rattle.run_command.specs.declared.plan.Input.TheVariants as input
 use Rattle.run_command.specs.declared.plan.WordsFault.{WordsFault}
 use Rattle.run_command.specs.declared.plan.WordsFault.TheVariants.{Refused, Memory}
 
--- a word that names a file, by its bytes
+-- an argument that names a file, by its bytes
 abbrev pub Name : Type 0
 Name = List ℕ
 
--- what is run: a prelude or none and the scripts, by the names of their files, or the texts that are made
+-- what is run: a prelude or none and the scripts, by the names of their files, or the sources that are generated
 -- from a number
 pub data Asked : Type 0 where
   files : Option Name → List Name → Asked
@@ -36,8 +36,8 @@ pub record Request : Type 0 where
 
 -- ---- values of options
 
--- the number that a text spells, where it is in the range: decimal digits, behind a sign or none, as the
--- command takes them
+-- the number that an argument spells, where it is in the range: decimal digits, behind a sign or none, as the
+-- command accepts them
 abbrev pub number_in : ℕ → ℕ → Text → Option ℕ
 number_in least most text = if is_signed_in (pos least) (pos most) text
     then Some (digits_value 10 (without_leading_sign text)) else None
@@ -88,7 +88,7 @@ summary_in rows = option_map_or (λ text. bytes_eq text (codes "true")) (one_of 
 
 -- ---- what is run
 
--- the words that name files, in order
+-- the arguments that name files, in order
 abbrev pub files_in : List Row → List Name
 files_in rows = unwrap_or (all_of (codes "FILE") rows) []
 
@@ -117,7 +117,7 @@ asked_in rows = if is_some (first_of (codes "generate") rows) then generated_in 
 
 -- ---- the whole
 
--- the request of these parts; none where a number is wanting
+-- the request of these parts; none where a number is missing
 abbrev pub request_by : Asked → Option ℕ → Option Sizes → Option Limit → Bool → Option Request
 request_by asked (Some jobs) (Some sizes) (Some limit) summary =
     Some (record { asked = asked; jobs = jobs; sizes = sizes; summary = summary; limit = limit })
@@ -131,9 +131,9 @@ request_with asked rows = request_by asked (jobs_in rows) (sizes_in rows) (limit
 abbrev pub request_in : List Row → Option Request
 request_in rows = option_and_then (λ asked. request_with asked rows) (asked_in rows)
 
--- lawful words: the command gives matches for them, each number is in its range, the limit is 32 or 64, the
+-- valid arguments: the command gives matches for them, each number is in its range, the limit is 32 or 64, the
 -- three sizes are not too much together, and either files are named, one or more but not too many, or there
--- is a number that texts are made from, with neither a file nor a prelude
+-- is a number that sources are generated from, with neither a file nor a prelude
 abbrev pub request_of : List Text → Option Request
 request_of words = if gives_matches words then request_in (matches_of command words) else None
 
@@ -154,7 +154,7 @@ request_for plan = record {
   limit = plan.limit;
 }
 
--- why there is no plan: the words ask for nothing that is lawful; out of memory says nothing
+-- why there is no plan: the arguments ask for nothing that is valid; out of memory says nothing
 abbrev pub IsRefusal : {T : Type 0} → Option T → WordsFault → Type 0
 IsRefusal asked Refused = asked ≡ None
 IsRefusal asked Memory = ⊤
@@ -164,7 +164,7 @@ abbrev pub IsSomeFiles : Asked → Type 0
 IsSomeFiles (files prelude scripts) = (1 ≤ length scripts) × (length scripts ≤ most_files)
 IsSomeFiles (made_from number) = number < 2 ^ 32
 
--- what holds of every request of lawful words
+-- what holds of every request of valid arguments
 pub record IsInRange (request : Request) : Type 0 where
   pub files : IsSomeFiles request.asked
   pub jobs : (1 ≤ request.jobs) × (request.jobs ≤ most_jobs)

@@ -1,4 +1,4 @@
-// The command, and what it finds in the words.
+// The command, and what it finds in the arguments.
 ghost use Rattle.std.specs.Prelude.{◌≡◌, false, fold, map, IfOk};
 ghost use Rattle.std.specs.String.{string_bytes};
 ghost use Rattle.clap.specs.Words.{FailsBy, HasMatchesOf, app_of, fault_of, rule_of, with_rule};
@@ -96,7 +96,7 @@ fn command<'a>(alloc: Global) -> Result<Command<'a>, AllocError>
     command.arg(files(alloc))
 }
 
-// What the command finds in the words.
+// What the command finds in the arguments.
 pub(crate) fn matches_for<'a>(alloc: Global, words: &'a [String]) -> Result<ArgMatches<'a>, Error>
     ensures found { IfOk result (HasMatchesOf command (map string_bytes words.entry.now)) }
     ensures kinds { FailsBy (fault_of command (map string_bytes words.entry.now)) result }

@@ -1,4 +1,4 @@
-//! The words of the command line: which of them are lawful, and what they ask for.
+//! The arguments of the command line: which of them are valid, and what they ask for.
 //!
 //! [`read_words`] answers a [`Plan`]. It opens no file and prints nothing.
 #![tactic(auto)]

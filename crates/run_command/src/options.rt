@@ -19,7 +19,7 @@ const TOGETHER_MAX: u64 = 536_870_912;
 // The most files that may be named.
 const FILES_MAX: usize = 4096;
 
-// The number of an option, where it is in the range. A sign and leading zeros are taken, as by the
+// The number of an option, where it is in the range. A sign and leading zeros are accepted, as by the
 // command.
 fn number_in(matches: &ArgMatches, id: &str, least: u32, most: u32) -> Option<u32>
     ensures { result ≡ number_of least most id.now (rows_of (found_of matches.now)) }
@@ -66,7 +66,7 @@ fn summary_in(matches: &ArgMatches) -> bool
     matches.get_one::<bool>("summary").unwrap_or(false)
 }
 
-// How many words name files.
+// How many arguments name files.
 fn file_count(matches: &ArgMatches) -> usize
     ensures { result ≡ length (files_in (rows_of (found_of matches.now))) }
 {
@@ -99,7 +99,7 @@ fn named<'a>(alloc: Global, matches: &ArgMatches<'a>) -> Result<Input<'a>, Words
     })
 }
 
-// A number to make texts from, with neither a prelude nor a file.
+// A number to generate sources from, with neither a prelude nor a file.
 fn generated(matches: &ArgMatches) -> Option<u32>
     ensures { option_map made_from result ≡ generated_in (rows_of (found_of matches.now)) }
 {

@@ -1,4 +1,4 @@
-// What lawful words ask for.
+// What valid arguments ask for.
 ghost use Rattle.std.specs.Prelude.{◌≡◌};
 ghost use Rattle.run_command.specs.declared.plan.WordsFault.TheVariants as fault;
 
@@ -13,7 +13,7 @@ pub enum Input<'a> {
         prelude: Option<&'a str>,
         scripts: Vec<&'a str>,
     },
-    /// The texts that are made from this number.
+    /// The sources that are generated from this number.
     Generated(u32),
 }
 
@@ -25,14 +25,14 @@ pub struct Sizes {
     pub slots: u32,
 }
 
-/// What the words ask for.
+/// What the arguments ask for.
 #[derive(Debug, Drop)]
 pub struct Plan<'a> {
     pub input: Input<'a>,
     /// How many scripts may run at one time.
     pub jobs: u32,
     pub sizes: Sizes,
-    /// Whether `--summary` was given. Texts that are made from a number count as if it were, but
+    /// Whether `--summary` was given. Sources that are generated from a number count as if it were, but
     /// it is not set for them.
     pub summary: bool,
     pub limit: Limit,
@@ -41,7 +41,7 @@ pub struct Plan<'a> {
 /// Why there is no plan.
 #[derive(Clone, Copy, Debug, PartialEq, Eq)]
 pub enum WordsFault {
-    /// The words are not lawful.
+    /// The arguments are not valid.
     Refused,
     /// No memory is left.
     Memory,

@@ -1,4 +1,4 @@
-// The words of the command line, read.
+// The arguments of the command line, read.
 ghost use Rattle.std.specs.Prelude.{◌≡◌, Some, map, IfOk, IfErr};
 ghost use Rattle.std.specs.String.{string_bytes};
 ghost use Rattle.clap.specs.Words.{kind_of};
@@ -22,7 +22,7 @@ fn refusal(error: &Error) -> WordsFault
     WordsFault::Refused
 }
 
-/// What the words of the command line ask for, of which the first is the program's name.
+/// What the arguments of the command line ask for, of which the first is the program's name.
 ///
 /// A request for help is refused, as is an option that is given twice.
 pub fn read_words<'a>(alloc: Global, words: &'a [String]) -> Result<Plan<'a>, WordsFault>

@@ -1,4 +1,4 @@
--- Files that were run on one heap, and what of them stands in the heap afterwards.
+-- Files that were run on one heap, and what of them is in the heap afterwards.
 use Rattle.std.specs.Prelude.{◌≡◌, ℕ, ◌+◌, ◌≤◌, List, [], ◌∷◌, map, Option, Some, None}
 use Rattle.js_store.specs.State.{State, Sizes}
 use Rattle.js_store.specs.Faults.{ids_wanted, words_wanted}

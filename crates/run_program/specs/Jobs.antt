@@ -46,7 +46,7 @@ fault_in (Unsupported at) = None
 fault_in (Full report) = Some (store.Full report)
 fault_in Memory = Some store.Memory
 
--- what a report says of a store at the moment when it came and at every later one: what was wanted passes the
+-- what a report says of a store at the moment when it came and at every later one: what was requested passes the
 -- end of the counter from a value that it had, and the end is the store's
 abbrev pub Reports : {F : Type 0} → State F → StoreFault → Type 0
 Reports s (store.Full (Ids at want end)) =
@@ -119,7 +119,7 @@ abbrev pub words_of : List Part → ℕ
 words_of [] = 0
 words_of (p ∷ ps) = p.words + words_of ps
 
--- Between two moments these jobs were run and nothing else. Each outcome stands in its job's place. What
+-- Between two moments these jobs were run and nothing else. Each outcome is in its job's place. What
 -- stays of the store stays: its heap, share, sizes and limit, the history at its split, and all that is
 -- known. The history is the one before, followed by what the jobs added, in their order, and what was used is
 -- what they used.
@@ -137,7 +137,7 @@ abbrev pub Runs : {F : Type 0} → State F → State F → List (Binding (Item J
     → List Outcome → Type 0
 Runs before after env jobs outcomes = RanJobs (means before env) before after jobs outcomes
 
--- what the jobs need together, and the greatest want that a report of theirs tells
+-- what the jobs need together, and the greatest request that one of their reports has
 abbrev pub ids_needed : (Job → Flow) → List Job → ℕ
 ids_needed mean [] = 0
 ids_needed mean (j ∷ js) = need_ids (mean j) + ids_needed mean js

@@ -19,11 +19,11 @@ use Rattle.run_program.specs.declared.ran.Ran.{Ran}
 use Rattle.run_program.specs.declared.ran.Setup.{Setup}
 use Rattle.run_program.specs.Meant.{prelude_meant, scripts_meant}
 
--- the sizes of the heap that is to be made, as a store tells them
+-- the sizes of the heap that is to be made, as a store reports them
 abbrev pub sizes_by : Setup → Sizes
 sizes_by setup = record { ids = setup.size.ids; words = setup.size.words; slots = setup.size.slots }
 
--- what the kept agent knows and has, as a store tells it
+-- what the kept agent knows and has, as a store reports it
 abbrev pub state_kept : Setup → Kept → State SessionFrame
 state_kept setup kept = state_by (view_of kept.agent) (limit_units setup.limit) (table_of kept.heap)
 
@@ -75,7 +75,7 @@ counted false n = None
 
 -- Files with these meanings were run on the kept heap, which was made with these sizes, and nothing else was
 -- done there: the prelude first, from no bindings, and where it ended Done each of the scripts, from the
--- bindings that the prelude is meant to leave. What they tell of the heap is said in `Tells`.
+-- bindings that the prelude is meant to leave. What they say of the heap is in `Tells`.
 pub record IsRan (setup : Setup) (prelude : Option Tree) (scripts : List Tree) (ran : Ran) : Type 0 where
   pub files : List RunFile
   pub are : AreFilesOf (prelude_by setup prelude) (scripts_by setup prelude scripts) files
@@ -88,7 +88,7 @@ pub record IsRan (setup : Setup) (prelude : Option Tree) (scripts : List Tree) (
   pub run : AreRun (sizes_by setup) (state_kept setup ran.kept) files
   pub tells : Tells (sizes_by setup) (state_kept setup ran.kept) (all_by setup prelude scripts) files
   -- the heap of these sizes, and the agent with the whole share, which has seen both counters where they
-  -- stand
+  -- are
   pub sizes : size_of ran.kept.heap ≡ setup.size
   pub belongs : Belongs ran.kept.agent ran.kept.heap
   pub agents : (view_of ran.kept.agent).agents ≡ setup.jobs

@@ -1,4 +1,4 @@
--- What the ends of files that were run tell of the heap that they leave, and of the needs of all files.
+-- What the ends of files that were run say of the heap that they leave, and of the needs of all files.
 use Rattle.std.specs.Prelude.{◌≡◌, ℕ, ◌+◌, ◌<◌, ◌≤◌, ◌⊎◌, List, ◌∷◌, ◌++◌, Contains, Option}
 use Rattle.std.specs.List.{concat}
 use Rattle.std.specs.Map.{keys_of}
@@ -66,7 +66,7 @@ pub record FirstLists (lists meant : List (List ℕ)) : Type 0 where
   pub left : List (List ℕ)
   pub split : meant ≡ lists ++ left
 
--- What one file tells. Its lines, and its lists in the history, are those of the meaning where its end is,
+-- What one file says. Its lines, and its lists in the history, are those of the meaning where its end is,
 -- and else the first ones of them.
 -- Where it ended neither Full nor out of memory, every string that one of its expressions gave is known.
 pub record FileTells {F : Type 0} (z : Sizes) (s : State F) (means : List Flow) (f : RunFile) : Type 0 where
@@ -81,7 +81,7 @@ pub record FileTells {F : Type 0} (z : Sizes) (s : State F) (means : List Flow) 
 abbrev pub IsMeantOrMemory : RunFile → Type 0
 IsMeantOrMemory f = IsAsMeant f ⊎ (f.end ≡ Memory)
 
--- What files tell that were run on a heap of these sizes, of all those with these meanings.
+-- What files say that were run on a heap of these sizes, of all those with these meanings.
 pub record Tells {F : Type 0} (z : Sizes) (s : State F) (means : List Flow)
     (files : List RunFile) : Type 0 where
   pub each : Every (FileTells z s means) files

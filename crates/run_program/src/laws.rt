@@ -16,8 +16,8 @@ pub fn files_are_run()
     ensures totals { TotalsRun }
 {}
 
-/// What the ends of all files that were run tell, by the last session, which has the whole share:
-/// where a full heap was told it was full, and the needs of the prelude and the scripts didn't fit.
+/// What the ends of all files that were run say, by the last session, which has the whole share:
+/// where a file ended with a full heap it was full, and the needs of the prelude and the scripts didn't fit.
 pub fn ends_tell(_session: &Session)
     ensures { WholeTells (state_in _session.now) }
 {}

@@ -4,11 +4,11 @@
 //! scripts from the bindings that the prelude left, in groups. Scripts and their outcomes are jobs:
 //! [`run_group`] runs jobs in order on one session, and [`run_all`] cuts them into groups, each in a
 //! thread with a session of its own, and joins the sessions afterwards. Whatever the cutting and
-//! however the threads take turns, each outcome stands in its job's place, and its script prints and
+//! however the threads take turns, each outcome is in its job's place, and its script prints and
 //! ends as it is meant, or ends Full or out of memory with the first ones of its lines.
 //!
 //! When the stated needs of scripts fit into a heap, and what the ends of files that were run on it
-//! tell, stands in `specs/`: where a full heap is told it was full, and the needs didn't fit.
+//! say, is defined in `specs/`: where a file ended with a full heap it was full, and the needs didn't fit.
 //! [`files_are_run`] and [`ends_tell`] do nothing, and state its laws.
 #![tactic(auto)]
 

@@ -1,4 +1,4 @@
-// A heap, the files on it, and what is told of it.
+// A heap, the files on it, and what is reported of it.
 ghost use Rattle.std.specs.Prelude.{◌≡◌, ◌≤◌, length, All, IfOk, None};
 ghost use Rattle.js_store.specs.Faults.{Uses};
 ghost use Rattle.js_store.specs.Limits.{limit_units};
@@ -79,7 +79,7 @@ fn run_on<R: Threads + Sync, G: Gate + Sync>(
 
 /// Runs a prelude, if there is one, from no bindings, and where it ended Done the scripts, each from
 /// the bindings that it left, on a heap of their own in `setup.jobs` groups. A script's number at
-/// the gate and in its outcome is its place. Memory is wanting only before anything runs; what finds
+/// the gate and in its outcome is its place. Memory runs out only before anything runs; what finds
 /// none later ends so itself.
 pub fn run_program<R: Threads + Sync, G: Gate + Sync>(
     rt: &R,

@@ -55,7 +55,7 @@ fn run_alone<R: Threads + Sync, G: Gate + Sync>(
 }
 
 // Runs a prelude, and where it ended Done the scripts from the bindings that it left. Else their
-// places are taken away.
+// places are removed.
 fn run_behind<R: Threads + Sync, G: Gate + Sync>(
     rt: &R,
     alloc: Global,

@@ -35,7 +35,7 @@ abbrev pub trees_for : Scripts → Program Tree
 trees_for scripts =
     record { prelude = option_map tree_of scripts.prelude; scripts = map tree_of scripts.scripts.items }
 
--- a text that isn't too long to be parsed
+-- a source that isn't too long to be parsed
 abbrev pub IsShort : Named → Type 0
 IsShort source = length source.text ≤ FILE_MAX
 
@@ -47,14 +47,14 @@ pub record AreShort (sources : Program Named) : Type 0 where
   pub prelude : IsPreludeShort sources.prelude
   pub scripts : All IsShort sources.scripts
 
--- the reads before this one were quiet and this one was not; or memory was wanting
+-- the reads before this one were quiet and this one was not; or memory ran out
 abbrev pub RefusesFile : FilesState → FilesState → List Name → ScriptsFault → Type 0
 RefusesFile old new names (stop.NotRead name) = IsUnread old new names name.now
 RefusesFile old new names (stop.TooLarge name) = IsLarge old new names name.now
 RefusesFile old new names stop.NoMemory = IsQuiet old new
 RefusesFile old new names _ = ⊥
 
--- the first text that is no script, for this fault; or memory was wanting
+-- the first source that is no script, for this fault; or memory ran out
 abbrev pub RefusesScript : Program Named → ScriptsFault → Type 0
 RefusesScript sources (stop.Refused name fault) = FirstRefused sources name.now fault
 RefusesScript sources stop.NoMemory = ⊤
@@ -62,7 +62,7 @@ RefusesScript sources _ = ⊥
 
 -- ---- of parts. No public contract cites these.
 
--- this read failed or found too large a file, and no other did; or memory was wanting
+-- this read failed or found too large a file, and no other did; or memory ran out
 abbrev pub RefusesRead : FilesState → FilesState → Name → ScriptsFault → Type 0
 RefusesRead old new name (stop.NotRead blamed) = (blamed.now ≡ name) × (new.faults ≡ next_count old.faults)
     × (new.oversize ≡ old.oversize) × (new.blamed ≡ name)
@@ -76,7 +76,7 @@ abbrev pub RefusesPrelude : FilesState → FilesState → Option Name → Script
 RefusesPrelude old new None s = ⊥
 RefusesPrelude old new (Some name) s = RefusesRead old new name s
 
--- the text is no script, for this fault; or memory was wanting
+-- the source is no script, for this fault; or memory ran out
 abbrev pub RefusesText : Role → List (List ℕ) → Named → ScriptsFault → Type 0
 RefusesText r outer source (stop.Refused refused fault) =
     (refused.now ≡ source.name) × script.Refused r outer source.text fault

@@ -15,7 +15,7 @@ unfoldable pub after : ℕ → ℕ → ℕ
 after zero x = x
 after (suc k) x = next (after k x)
 
--- the texts f 0, f 1 and so on, so many of them, put together
+-- the lists f 0, f 1 and so on, so many of them, put together
 unfoldable pub each : (ℕ → List ℕ) → ℕ → List ℕ
 each f zero = []
 each f (suc k) = each f k ++ f k

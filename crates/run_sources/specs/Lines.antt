@@ -9,7 +9,7 @@ digits j = decimal (j / 10) ++ decimal (j % 10)
 abbrev pub word_line : ℕ → List ℕ → List ℕ
 word_line i letters = codes "const w" ++ (decimal i ++ (codes " = '" ++ (letters ++ codes "';\n")))
 
--- all words with commas between them
+-- all strings with commas between them
 abbrev pub all_line : List ℕ
 all_line =
     codes "let all = w0 + ',' + w1 + ',' + w2 + ',' + w3 + ',' + w4 + ',' + w5 + ',' + w6 + ',' + w7"

@@ -1,9 +1,9 @@
--- A prelude or none, and scripts: by the names of their files, by their texts, or by their trees.
+-- A prelude or none, and scripts: by the names of their files, by their bytes, or by their trees.
 use Rattle.std.specs.Prelude.{ℕ, List, [], ◌∷◌, Option, None, Some}
 use Rattle.run_sources.specs.Texts.{Named}
 use Rattle.eval_tree.specs.Tree.{Tree}
 
--- a word that names a file, by its bytes
+-- an argument that names a file, by its bytes
 abbrev pub Name : Type 0
 Name = List ℕ
 
@@ -21,7 +21,7 @@ with_prelude (Some prelude) scripts = prelude ∷ scripts
 abbrev pub in_order : {T : Type 0} → Program T → List T
 in_order program = with_prelude program.prelude program.scripts
 
--- texts of which the first is the prelude
+-- sources of which the first is the prelude
 abbrev pub program_from : List Named → Program Named
 program_from [] = record { prelude = None; scripts = [] }
 program_from (prelude ∷ scripts) = record { prelude = Some prelude; scripts = scripts }

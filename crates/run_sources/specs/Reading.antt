@@ -7,7 +7,7 @@ use Rattle.js_io.specs.FilesState.{Tells, IsTooLarge, FilesState}
 use Rattle.js_io.specs.declared.files.TheConstants.{FILE_MAX}
 use Rattle.run_sources.specs.Program.{Name, Program}
 
--- the files are as they were, as far as they are told, and no count fell
+-- the files are as they were, as far as they are reported, and no count fell
 pub record KeepsFiles (old new : FilesState) : Type 0 where
   pub held : (name : Name) → new.held name ≡ old.held name
   pub faults : old.faults ≤ new.faults
@@ -19,14 +19,14 @@ pub record IsQuiet (old new : FilesState) : Type 0 where
   pub not_large : new.oversize ≡ old.oversize
   pub unblamed : new.blamed ≡ old.blamed
 
--- the file of this name has this text, as far as files are told. It is not too large: this is what keeps a
--- told file that is too large from being taken for one that was read.
+-- the file of this name has these bytes, as far as files are reported. It is not too large: this is what keeps a
+-- reported file that is too large from passing for one that was read.
 pub record IsRead (held : Name → Option (List ℕ)) (name : Name) (source : Named) : Type 0 where
   pub named : source.name ≡ name
   pub tells : Tells (held name) source.text
   pub small : length source.text ≤ FILE_MAX
 
--- files of these names have these texts, in order
+-- files of these names have these bytes, in order
 pub data Read (held : Name → Option (List ℕ)) : List Name → List Named → Type 0 where
   none : Read held [] []
   next : (name : Name) (names : List Name) (source : Named) (sources : List Named)

@@ -1,12 +1,12 @@
--- The texts that are made from a number: a prelude and 32 scripts. All that is drawn is drawn in the order of
--- the text, from the number as the first state.
+-- The sources that are generated from a number: a prelude and 32 scripts. All that is drawn is drawn in the order of
+-- the source, from the number as the first state.
 use Rattle.std.specs.Prelude.{◌+◌, ◌*◌, ◌≤◌, ◌++◌, ℕ, zero, suc, List, [], ◌∷◌, codes, length}
 use Rattle.std.specs.String.{string_bytes}
 use Rattle.run_sources.specs.Draws.{after, draw, each, listed, next}
 use Rattle.run_sources.specs.Lines.{all_line, digits, line, print_line, word_line}
 use Rattle.run_sources.specs.declared.texts.GeneratedText.{GeneratedText}
 
--- a word, drawn from state x on: 6 to 25 letters
+-- a string, drawn from state x on: 6 to 25 letters
 abbrev pub word_length : ℕ → ℕ
 word_length x = 6 + draw x 20
 
@@ -14,16 +14,16 @@ word_length x = 6 + draw x 20
 abbrev pub letter : ℕ → ℕ → List ℕ
 letter x j = (97 + draw (after j x) 26) ∷ []
 
--- the word that is drawn from state x on: first its length, and then its letters
+-- the string that is drawn from state x on: first its length, and then its letters
 abbrev pub word : ℕ → List ℕ
 word x = each (letter (next x)) (word_length x)
 
--- the state before word i
+-- the state before string i
 unfoldable pub before : ℕ → ℕ → ℕ
 before n zero = n
 before n (suc i) = after (word_length (before n i)) (next (before n i))
 
--- the prelude that is made from the number n: 16 words, and all of them with commas between them
+-- the prelude that is generated from the number n: 16 strings, and all of them with commas between them
 abbrev pub prelude : ℕ → List ℕ
 prelude n = each (λ i. word_line i (word (before n i))) 16 ++ all_line
 
@@ -37,12 +37,12 @@ abbrev pub script : ℕ → ℕ → List ℕ
 script j x =
     codes "let acc = '';\nlet n = 0;\n" ++ (each (λ l. drawn_line (after (4 * l) x)) 32 ++ print_line j)
 
--- a text with its name
+-- a source with its name
 pub record Named : Type 0 where
   pub name : List ℕ
   pub text : List ℕ
 
--- script j that is made from the number n, drawn behind the words of the prelude and the scripts before it
+-- script j that is generated from the number n, drawn behind the strings of the prelude and the scripts before it
 abbrev pub named_script : ℕ → ℕ → Named
 named_script n j = record { name = codes "gen-" ++ digits j; text = script j (after (128 * j) (before n 16)) }
 
@@ -50,10 +50,10 @@ named_script n j = record { name = codes "gen-" ++ digits j; text = script j (af
 abbrev pub generated : ℕ → List Named
 generated n = record { name = codes "gen-prelude"; text = prelude n } ∷ listed (named_script n) 32
 
--- what a text of the code is
+-- what a source of the code is
 abbrev pub named_for : GeneratedText → Named
 named_for text = record { name = string_bytes text.name; text = string_bytes text.text }
 
--- a text of at most 4,096 bytes
+-- a source of at most 4,096 bytes
 abbrev pub IsSmall : Named → Type 0
 IsSmall named = length named.text ≤ 4096

@@ -1,7 +1,7 @@
-//! The sources of a run: files that are read or texts that are made, and the scripts that they spell.
+//! The sources of a run: files that are read or scripts that are generated, and the scripts that they spell.
 //!
 //! [`read_sources`] reads a prelude and scripts. [`texts_from`] makes a large input from a number, a
-//! prelude and 32 scripts, the same on every machine, and [`made_sources`] takes them as sources.
+//! prelude and 32 scripts, the same on every machine, and [`made_sources`] gives them as sources.
 //! [`parse_sources`] gives the scripts. Each refusal has its cause in the contract.
 #![tactic(auto)]
 

@@ -1,4 +1,4 @@
-// The lines of the texts.
+// The lines of the sources.
 ghost use Rattle.std.specs.Prelude.{◌≡◌, ◌<◌, ◌^◌, ◌++◌, IfOk, codes};
 ghost use Rattle.std.specs.String.{string_bytes};
 ghost use Rattle.run_sources.specs.Lines.{digits, line, print_line, word_line};
@@ -9,14 +9,14 @@ use std::alloc::{AllocError, Global};
 pub(crate) const ALL_LINE: &str =
     "let all = w0 + ',' + w1 + ',' + w2 + ',' + w3 + ',' + w4 + ',' + w5 + ',' + w6 + ',' + w7 + ',' + w8 + ',' + w9 + ',' + w10 + ',' + w11 + ',' + w12 + ',' + w13 + ',' + w14 + ',' + w15;\n";
 
-/// The line of a word.
+/// The line of a string.
 pub(crate) fn word_line(alloc: Global, i: u32, letters: &str) -> Result<String, AllocError>
     ensures { IfOk result (λ text. string_bytes text ≡ word_line i letters.now) }
 {
     format!(in alloc; "const w{i} = '{letters}';\n")
 }
 
-/// The line of a kind, with the numbers of two words and one more.
+/// The line of a kind, with the numbers of two strings and one more.
 pub(crate) fn line(alloc: Global, kind: u32, a: u32, b: u32, c: u32) -> Result<String, AllocError>
     requires { c < 2 ^ 31 }
     ensures { IfOk result (λ text. string_bytes text ≡ line kind a b c) }

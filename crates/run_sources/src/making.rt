@@ -1,4 +1,4 @@
-// Texts that were made.
+// Sources that were generated.
 ghost use Rattle.std.specs.Prelude.{◌≡◌, map, IfOk};
 ghost use Rattle.std.specs.List.{All};
 ghost use Rattle.run_sources.specs.Texts.{named_for, IsSmall};
@@ -9,7 +9,7 @@ use crate::sources::{SourceText, Sources};
 use crate::texts::GeneratedText;
 use std::alloc::{AllocError, Global};
 
-// A text, under its name.
+// A source, under its name.
 fn made_source<'a>(alloc: Global, text: &'a GeneratedText) -> Result<SourceText<'a>, AllocError>
     ensures { IfOk result (λ source. source_for source ≡ named_for text.entry.now) }
 {
@@ -33,7 +33,7 @@ fn made_scripts<'a>(
     Ok(sources)
 }
 
-/// The texts, of which the first, if there is one, is the prelude.
+/// The sources, of which the first, if there is one, is the prelude.
 pub fn made_sources<'a>(
     alloc: Global,
     texts: &'a [GeneratedText],

@@ -1,4 +1,4 @@
-// Parses the texts.
+// Parses the sources.
 ghost use Rattle.std.specs.Prelude.{◌≡◌, map, option_map, IfOk, IfErr};
 ghost use Rattle.std.specs.List.{All};
 ghost use Rattle.eval_tree.specs.Tree.{tree_of};
@@ -13,7 +13,7 @@ use eval_tree::{Names, Script};
 use js_parse::{ParseFault, Role, parse};
 use std::alloc::Global;
 
-// The script that a text spells in a role, after a prelude that declares the outer names.
+// The script that a source spells in a role, after a prelude that declares the outer names.
 fn parse_text<'a>(
     alloc: Global,
     source: &SourceText<'a>,
@@ -53,7 +53,7 @@ fn parse_text<'a>(
     }
 }
 
-// The prelude that its text spells, if there is one.
+// The prelude that its source spells, if there is one.
 fn parse_prelude<'a>(
     alloc: Global,
     source: &Option<SourceText<'a>>,
@@ -73,7 +73,7 @@ fn parse_prelude<'a>(
     }
 }
 
-// The scripts that texts spell after a prelude that declares the outer names, in order.
+// The scripts that sources spell after a prelude that declares the outer names, in order.
 fn parse_scripts<'a>(
     alloc: Global,
     sources: &[SourceText<'a>],
@@ -92,7 +92,7 @@ fn parse_scripts<'a>(
     Ok(scripts)
 }
 
-// The scripts that texts spell after a prelude or none.
+// The scripts that sources spell after a prelude or none.
 fn parse_after<'a>(
     alloc: Global,
     sources: &[SourceText<'a>],
@@ -114,7 +114,7 @@ fn parse_after<'a>(
     }
 }
 
-/// The scripts that the texts spell, the prelude first and each script after the names that it declares.
+/// The scripts that the sources spell, the prelude first and each script after the names that it declares.
 pub fn parse_sources<'a>(alloc: Global, sources: &Sources<'a>) -> Result<Scripts, ScriptsFault<'a>>
     requires { AreShort (sources_for sources.now) }
     ensures spell { IfOk result (λ scripts. Spell (sources_for sources.now) (trees_for scripts)) }

@@ -5,7 +5,7 @@ ghost use Rattle.run_sources.specs.declared.stop.ScriptsFault.TheVariants as sto
 use js_parse::ParseFault;
 use std::alloc::{AllocError, AllocFailed};
 
-/// Why there are no scripts, with the word that names the file.
+/// Why there are no scripts, with the argument that names the file.
 #[derive(Clone, Copy, Debug)]
 pub enum ScriptsFault<'a> {
     /// The file can't be read.

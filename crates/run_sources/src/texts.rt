@@ -9,21 +9,21 @@ use crate::draws::Draws;
 use crate::lines::{ALL_LINE, line, print_line, script_name, word_line};
 use std::alloc::{AllocError, Global};
 
-/// How many words the prelude has, how many scripts there are, and how many drawn lines each has.
+/// How many strings the prelude has, how many scripts there are, and how many drawn lines each has.
 const WORDS: u32 = 16;
 
 const SCRIPTS: u32 = 32;
 
 const LINES: u32 = 32;
 
-/// A text, with the name that stands for it where a file's name would.
+/// A source, with a name in place of a file's.
 #[derive(Debug, Drop)]
 pub struct GeneratedText {
     pub name: String,
     pub text: String,
 }
 
-// A word.
+// A string.
 fn word(alloc: Global, draws: &mut Draws) -> Result<String, AllocError>
     ensures word { IfOk result (λ text. string_bytes text ≡ word draws.old.state) }
     ensures state { OnOk result
@@ -74,7 +74,7 @@ fn script(alloc: Global, draws: &mut Draws, j: u32) -> Result<String, AllocError
     Ok(text)
 }
 
-/// The texts that are made from a number: the prelude, and then the scripts in order.
+/// The sources that are generated from a number: the prelude, and then the scripts in order.
 pub fn texts_from(alloc: Global, n: u32) -> Result<Vec<GeneratedText>, AllocError>
     ensures made { IfOk result (λ texts. map named_for texts.items ≡ generated n) }
     ensures small { IfOk result (λ texts. All IsSmall (map named_for texts.items)) }

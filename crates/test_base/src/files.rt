@@ -8,7 +8,7 @@ use std::fs;
 use std::process::Abort;
 use std::test::Fail;
 
-// A text of so many bytes.
+// A file of so many bytes.
 fn text(alloc: Global, len: u32) -> Result<Vec<u8>, AllocError> {
     let mut bytes = Vec::new(alloc);
     for _byte in 0..len {
@@ -25,7 +25,7 @@ fn length<F: Files>(files: &mut F, alloc: Global, name: &str) -> Result<String, 
     }
 }
 
-// Whether each name of the rows is read in this order as its row wants.
+// Whether each name of the rows is read in this order as its row expects.
 fn check_reads<F: Files>(
     rt: &impl Abort,
     alloc: Global,
@@ -97,7 +97,7 @@ fn a_sink_that_keeps_nothing(rt: HostRuntime) -> Result<(), Fail> {
     Ok(())
 }
 
-// So many bytes a write and in all, what comes of writing `hello`, and what is taken.
+// So many bytes a write and in all, what comes of writing `hello`, and what is received.
 const WRITES: &str = "1 5 -> Ok(()) hello
 7 5 -> Ok(()) hello
 2 4 -> Err(Failed) hell

@@ -36,7 +36,7 @@ fn listed(alloc: Global, bytes: &[u8]) -> Result<String, LexFault> {
     Ok(list)
 }
 
-// What is told of a text, or of its fault.
+// What is reported of a text, or of its fault.
 fn told_of(alloc: Global, found: Result<String, LexFault>) -> Result<String, Fail> {
     match found {
         Ok(told) => Ok(told),
@@ -44,8 +44,8 @@ fn told_of(alloc: Global, found: Result<String, LexFault>) -> Result<String, Fai
     }
 }
 
-// Texts, or their bytes behind `#`, and their tokens. Words are as long as possible, and of marks the
-// longest is taken. Each blank stands there, of which a byte order mark is one; comments with each line
+// Texts, or their bytes behind `#`, and their tokens. Identifiers are as long as possible, and of marks the
+// longest counts. Each blank is there, of which a byte order mark is one; comments with each line
 // end, both forms at the end of the file; 2028 in a string, and the end of a line behind a backslash.
 const TOKENS: &str = r#" -> 
 print('a'); -> word 0 5; OpenParen 5 6; [97] 6 9; CloseParen 9 10; Semicolon 10 11; 
@@ -105,7 +105,7 @@ fn next(alloc: Global, bytes: &[u8], at: u32) -> Result<String, LexFault> {
     }
 }
 
-// A place and a text, and what comes next: from within a word; behind blanks and comments of both forms,
+// A place and a text, and what comes next: from within an identifier; behind blanks and both comments,
 // and not behind a token; a fault behind the token is of no matter yet; nothing between two characters.
 const NEXT: &str = r#"0  -> end
 0 #20 09 2f 2f 20 61 -> end

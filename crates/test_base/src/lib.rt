@@ -6,8 +6,8 @@
 //! below the program come to are cases of `jsstr_cases`. Nothing here reaches the evaluator, the program or
 //! the command line, since a crate of tests is checked with all that it reaches.
 //!
-//! A table is one text, a row a line: what is given, an arrow, and what is wanted; one loop goes through
-//! all of them. Wanted values come from the standard, from node, or from a definition alone.
+//! A table is one string, a row a line: what is given, an arrow, and what is expected; one loop goes through
+//! all of them. Expected values come from the standard, from node, or from a definition alone.
 #![tactic(auto)]
 
 #[cfg(test)]

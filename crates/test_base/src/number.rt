@@ -134,7 +134,7 @@ fn pairs_of_numbers(rt: HostRuntime) -> Result<(), Fail> {
     check::<Pairs>(&rt, rt.alloc(), PAIRS)
 }
 
-// The texts of numbers, behind `=`.
+// The strings of numbers, behind `=`.
 const TEXTS: &str = "NaN -> =NaN
 Infinity -> =Infinity
 -Infinity -> =-Infinity

@@ -9,7 +9,7 @@ pub(crate) trait Table {
     fn told(alloc: Global, given: &str) -> Result<String, Fail>;
 }
 
-/// Whether what is told of each row is what it wants. A row has what is given, an arrow, and what is wanted.
+/// Whether the report on each row is what it expects. A row has its input, an arrow, and what is expected.
 pub(crate) fn check<T: Table>(rt: &impl Abort, alloc: Global, rows: &str) -> Result<(), Fail> {
     for row in rows.lines() {
         let (given, want) = parted(row, " -> ")?;
@@ -19,7 +19,7 @@ pub(crate) fn check<T: Table>(rt: &impl Abort, alloc: Global, rows: &str) -> Res
     Ok(())
 }
 
-/// The two texts with this between them.
+/// The two strings with this between them.
 pub(crate) fn parted<'a>(text: &'a str, mark: &str) -> Result<(&'a str, &'a str), Fail> {
     Ok(text.split_once(mark).ok_or("a part is missing")?)
 }
@@ -35,7 +35,7 @@ pub(crate) fn units_of(alloc: Global, text: &str) -> Result<Vec<u16>, Fail> {
     Ok(units)
 }
 
-/// The bytes of a text, or those that it spells behind `#` in hexadecimal digits, one blank apart.
+/// The bytes of a string, or those that it spells behind `#` in hexadecimal digits, one blank apart.
 pub(crate) fn bytes_of(alloc: Global, text: &str) -> Result<Vec<u8>, Fail> {
     let Some(spelled) = text.strip_prefix('#') else {
         return Ok(text.as_bytes().to_vec(alloc)?);
@@ -47,7 +47,7 @@ pub(crate) fn bytes_of(alloc: Global, text: &str) -> Result<Vec<u8>, Fail> {
     Ok(bytes)
 }
 
-/// The text of units, none of which is a surrogate alone.
+/// The string of units, none of which is a surrogate alone.
 pub(crate) fn text_of(alloc: Global, units: &[u16]) -> Result<String, Fail> {
     let mut bytes = Vec::new(alloc);
     append_utf8(units, &mut bytes)?;

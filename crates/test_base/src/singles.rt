@@ -9,7 +9,7 @@ use std::test::Fail;
 // The second one is 256 more than the first.
 const UNITS: [u16; 4] = [97, 353, 97, 98];
 
-// There is room for four strings of a content word each: the first unit takes an id once, and no
+// There is room for four strings of a content word each: the first unit uses an id once, and no
 // other unit has its string.
 #[test]
 fn one_unit_cut_again(rt: HostRuntime) -> Result<(), Fail> {

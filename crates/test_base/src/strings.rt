@@ -54,7 +54,7 @@ fn strings_are_ordered_by_their_units(rt: HostRuntime) -> Result<(), Fail> {
     check::<Orders>(&rt, rt.alloc(), ORDERS)
 }
 
-// Whether `ab` stands in `abab` at each place, and what a template stands for at the match.
+// Whether `ab` is in `abab` at each place, and what a template denotes at the match.
 fn matched<S: Strings>(
     alloc: Global,
     store: &mut S,
@@ -80,7 +80,7 @@ fn matched<S: Strings>(
 // The part before the match, $$, the match, and the part behind it.
 const TEMPLATE: [u16; 8] = [0x24, 0x60, 0x24, 0x24, 0x24, 0x26, 0x24, 0x27];
 
-// Places, and what the template stands for there.
+// Places, and what the template denotes there.
 const PLACES: &str = "0 -> [36, 97, 98, 97, 98]
 1 -> none
 2 -> [97, 98, 36, 97, 98]

@@ -5,7 +5,7 @@ use parse_tokens::tokens;
 use std::alloc::Global;
 use std::test::Fail;
 
-// How many words and texts that are no keys a short text has, and its tokens.
+// How many identifiers and literals that are no keys a short text has, and its tokens.
 fn listed(alloc: Global, text: &str) -> Result<String, LexFault> {
     if text.len() > 200 {
         return Err(LexFault::Memory);
@@ -23,7 +23,7 @@ fn listed(alloc: Global, text: &str) -> Result<String, LexFault> {
     Ok(list)
 }
 
-// A word has its number, a line end stands before the `++` in a comment, only the first token is a directive,
+// Identifiers have numbers, a line end is in a comment before the `++`, only the first token is a directive,
 // a string between `{` or `,` and `:` is a key, and a lexical fault comes first.
 const TOKENS: &str = "i.at(n, i /*\r*/ ++) -> 3 0 Name { at: 0, number: 0, property: Nothing } \
 Mark { at: 1, mark: Point, after_line: false } \

@@ -121,7 +121,7 @@ fn code_points_of_pairs(rt: HostRuntime) {
     assert_eq!(rt; told_pair(0xDBFF_DFFF), Some(0x10FFFF));
 }
 
-// A number of units, and the words that they take, of two bytes each and of one.
+// A number of units, and the words that they need, of two bytes each and of one.
 const WORDS: &str = "0 -> 0 0
 4 -> 1 1
 5 -> 2 1
@@ -162,7 +162,7 @@ fn lanes_of_words(rt: HostRuntime) {
     assert_eq!(rt; wide, (0xD83D_0000_0000, 0xFFFF));
 }
 
-// The hash behind two units, among them two texts with one hash.
+// The hash behind two units, among them two strings with one hash.
 const HASHES: &str = "0 41 61 -> 2112
 0 42 42 -> 2112
 4294967295 ffff -> 65504";

@@ -10,7 +10,7 @@ use plain_store::PlainStore;
 use std::alloc::Global;
 use std::test::Fail;
 
-// The function, a text or behind `#` its units, and the text that it gives; `same` is the string
+// The function, a string or behind `#` its units, and the string that it gives; `same` is the string
 // itself, and `at` a place that is malformed.
 const ROWS: &str = "encodeURI | AZaz09-_.!~*'();/?:@&=+$,# -> same
 encodeURIComponent | AZaz09-_.!~*'() -> same
@@ -89,7 +89,7 @@ fn called<S: Strings>(
     }
 }
 
-// What is told of the answer for a string of these units.
+// What is reported of the answer for a string of these units.
 fn answered(alloc: Global, name: &str, units: &[u16]) -> Result<String, Fail>
     requires { length units.now ≤ 1000 }
 {

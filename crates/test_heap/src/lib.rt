@@ -1,6 +1,6 @@
 //! Tests of the heap's crates by their public calls: the pure machine word by word, the heap that threads
 //! share, ropes and the moves of headers on its table, the counted loads of slots, and a session as a
-//! store. They stand apart, since a crate with tests is proved twice; strings, the string table and
+//! store. They are apart, since a crate with tests is proved twice; strings, the string table and
 //! sessions are played in `test_strings`.
 #![tactic(auto)]
 

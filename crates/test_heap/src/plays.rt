@@ -28,7 +28,7 @@ pub(crate) fn plays(rt: &impl Abort, alloc: Global, text: &str) {
     }
 }
 
-/// Whether the line's step comes to what the line wants.
+/// Whether the line's step comes to what the line expects.
 pub(crate) fn is_played(alloc: Global, state: &mut CoreState, line: &str) -> bool {
     let Some((step, want)) = line.split_once(" -> ") else {
         return false;

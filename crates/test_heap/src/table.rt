@@ -37,7 +37,7 @@ const SIZES: &str = "0 1 1 1 -> 0
 1 1 1 1 -> 1
 1 1 1 64 -> 64";
 
-// The share that a row wants, and the one that is found.
+// The share that a row expects, and the one that is found.
 fn shares(alloc: Global, row: &str) -> Option<(u32, u32)> {
     let (given, want) = row.split_once(" -> ")?;
     let (size, agents) = making_of(given)?;

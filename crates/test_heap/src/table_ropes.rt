@@ -61,7 +61,7 @@ fn rope(agent: &mut Agent, heap: &Heap, first: u64, second: u64) -> Option<(u32,
     Some((id, form))
 }
 
-// Two own words with the units of a rope are to take its place: the first of them, and how it
+// Two own words with the units of a rope are to replace it: the first of them, and how it
 // ended.
 fn flatten(
     agent: &mut Agent,

@@ -14,7 +14,7 @@ pub record GoesOn (a b : State SessionFrame) : Type 0 where
   pub limit : b.limit ≡ a.limit
   pub history : StartsWith b.history a.history
 
--- the same as one fact, which a search takes as it is
+-- the same as one fact, which a search uses as it is
 unfoldable pub HasGoneOn : State SessionFrame → State SessionFrame → Type 0
 HasGoneOn a b = GoesOn a b
 

@@ -22,6 +22,6 @@ pub record IsPlayed (v : View) (agents : ℕ) (ids : List ℕ) : Type 0 where
   pub known : (i : ℕ) → Contains ids i → HasKey v.units i
   pub agents_are : v.agents ≡ agents
 
--- the same of a reader as one fact, which a search takes as it is
+-- the same of a reader as one fact, which a search uses as it is
 unfoldable pub HasGoneOn : Reader → Reader → Type 0
 HasGoneOn a b = Moves Turns a b

@@ -1,6 +1,6 @@
 //! Tests of the strings on the running heap, of its string table and of sessions by their public calls,
 //! most of them as lines of text that a player plays (`plays`), also by two agents in two threads. They
-//! stand apart, since a crate with tests is proved twice.
+//! are apart, since a crate with tests is proved twice.
 #![tactic(auto)]
 
 #[cfg(test)]

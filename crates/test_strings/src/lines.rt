@@ -5,7 +5,7 @@ use js_header::Form;
 use js_store::{ConcatFault, StoreFault};
 use std::alloc::Global;
 
-/// What stands behind the name of a step: up to three numbers, 0 where there is none, and the text
+/// What follows the name of a step: up to three numbers, 0 where there is none, and the text
 /// behind the first blank.
 #[derive(Clone, Copy)]
 pub(crate) struct Words<'t> {
@@ -66,7 +66,7 @@ pub(crate) fn behind(text: &str) -> &str {
     }
 }
 
-/// The units of a text: its first one so many times where that number and `*` stand before it, and no more
+/// The units of TEXT: its first one so many times where that number and `*` precede it, and no more
 /// than a number with `^` before it says.
 pub(crate) fn units_of(alloc: Global, text: &str) -> Option<Vec<u16>> {
     let (most, text) = counted(text, "^", 65536);
@@ -91,8 +91,8 @@ fn counted<'t>(text: &'t str, mark: &str, usual: u32) -> (u32, &'t str) {
     }
 }
 
-/// What a line with this step tells, where it does not tell what it is to: that text, one of two with `or`
-/// between them, or one that begins with what stands before `..`.
+/// What a line with this step reports, where it does not report what it is to: that, one of two with `or`
+/// between them, or one that begins with what precedes `..`.
 pub(crate) fn wrong(alloc: Global, line: &str, want: &str, told: &Told) -> Option<String> {
     let Ok(found) = format!(in alloc; "{told:?}") else {
         return fault(alloc, line);

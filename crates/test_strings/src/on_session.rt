@@ -1,4 +1,4 @@
-// A player of lines on a session, as `OnText` is one on a text.
+// A player of lines on a session, as `OnText` is one on a `Text`.
 ghost use Rattle.std.specs.Prelude.{◌≡◌, ◌+◌, ◌≤◌, None, IfOk, IfSome, length};
 ghost use Rattle.js_store.specs.Faults.{Uses};
 ghost use Rattle.js_store.specs.State.{IsKnown, IsSettled, text};
@@ -138,7 +138,7 @@ impl<'h> OnSession<'h> {
         }
     }
 
-    /// A player on a text by the agent of the session.
+    /// A player on a `Text` by the agent of the session.
     pub(crate) fn into_text(self) -> OnText<'h> {
         let OnSession {
             alloc,
@@ -257,7 +257,7 @@ impl<'h> OnSession<'h> {
         Some(yes_if(self.at(a)? == self.at(b)?))
     }
 
-    // What a step tells; None where it can't be played.
+    // What a step reports; None where it can't be played.
     fn told(&mut self, name: &str, words: Words) -> Option<Told>
         ensures goes { GoesOn (state_in self.old.session) (state_in self.new.session) }
     {
@@ -277,7 +277,7 @@ impl<'h> OnSession<'h> {
         }
     }
 
-    // What a line tells, where that is not what it wants.
+    // What a line reports, where that is not what it expects.
     fn wrong_line(&mut self, line: &str) -> Option<String>
         ensures goes { GoesOn (state_in self.old.session) (state_in self.new.session) }
     {
@@ -291,7 +291,7 @@ impl<'h> OnSession<'h> {
         }
     }
 
-    /// The first line that does not tell what it wants.
+    /// The first line that does not report what it expects.
     pub(crate) fn wrong(&mut self, lines: &str) -> Option<String>
         ensures goes { GoesOn (state_in self.old.session) (state_in self.new.session) }
     {
@@ -370,7 +370,7 @@ impl<'h> OnSession<'h> {
     }
 }
 
-// What a line of the one or the other of two sessions tells, where that is not what it wants.
+// What a line of the one or the other of two sessions reports, where that is not what it expects.
 fn line_of_two(left: &mut OnSession, right: &mut OnSession, line: &str) -> Option<String>
     ensures left { GoesOn (state_in left.old.session) (state_in left.new.session) }
     ensures right { GoesOn (state_in right.old.session) (state_in right.new.session) }

@@ -1,4 +1,4 @@
-// A player of lines on a text: it knows the strings that it made by their order.
+// A player of lines on a `Text`: it knows the strings that it made by their order.
 ghost use Rattle.std.specs.Prelude.{◌≡◌, ℕ, ◌⊎◌, ◌≤◌, Contains, IfSome};
 ghost use Rattle.heap_rule.specs.Maps.{HasKey};
 ghost use Rattle.heap_rule.specs.Agents.{MayJoin, left_after_split, right_after_split};
@@ -19,7 +19,7 @@ use std::marker::Brand;
 use std::sync::ledger::Blank;
 use std::thread::{Threads, join_mut};
 
-/// A text on a heap of so many agents, and the numbers of the strings that were made there.
+/// A `Text` on a heap of so many agents, and the numbers of the strings that were made there.
 #[derive(Drop)]
 pub(crate) struct OnText<'h> {
     pub(crate) alloc: Global,
@@ -303,7 +303,7 @@ impl<'h> OnText<'h> {
     }
 
     // A rope of so many units, at most 2^28 - 1, of a string of one unit and the empty one: for each bit
-    // of their number that is set, as many as it stands for. The last string but one is the rope.
+    // of their number that is set, as many as it denotes. The last string but one is the rope.
     fn rope(&mut self, unit: usize, empty: usize, n: u32) -> Option<Told>
         ensures goes { Moves Turns self.old.text.reader self.new.text.reader }
     {
@@ -337,7 +337,7 @@ impl<'h> OnText<'h> {
         Some(yes_if(self.at(a)? == self.at(b)?))
     }
 
-    // What a step tells that makes strings or settles one; None where it can't be played.
+    // What a step says that makes strings or settles one; None where it can't be played.
     fn told(&mut self, name: &str, words: Words) -> Option<Told>
         ensures goes { Moves Turns self.old.text.reader self.new.text.reader }
     {
@@ -381,7 +381,7 @@ impl<'h> OnText<'h> {
         }
     }
 
-    // What a line tells, where that is not what it wants.
+    // What a line reports, where that is not what it expects.
     fn wrong_line(&mut self, line: &str) -> Option<String>
         ensures goes { Moves Turns self.old.text.reader self.new.text.reader }
     {
@@ -395,7 +395,7 @@ impl<'h> OnText<'h> {
         }
     }
 
-    /// The first line that does not tell what it wants.
+    /// The first line that does not report what it expects.
     pub(crate) fn wrong(&mut self, lines: &str) -> Option<String>
         ensures goes { Moves Turns self.old.text.reader self.new.text.reader }
     {

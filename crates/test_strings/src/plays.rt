@@ -1,14 +1,14 @@
 // Plays of a heap, as texts: one step a line. A play begins with `==` and what it shows; its second line is
 // the heap, by its ids, content words, slots and agents, behind `session` where it plays on a session.
-// Behind `both` and `and` stand the steps of two agents in two threads, up to `end`; afterwards they are one
+// Behind `both` and `and` are the steps of two agents in two threads, up to `end`; afterwards they are one
 // agent again, for which those of the first come first. Of sessions those behind `split` are of two in turn, of
-// which that split off has `other` before them, up to `join`; behind `text` stand those of a text by the agent
-// of the session. A line is a step, an arrow, and what it tells (`fits` of `lines`). A string is named by its
-// place among those that were made, and what is told is its number on the heap. The steps are:
+// which that split off has `other` before them, up to `join`; behind `text` are those of a `Text` by the agent
+// of the session. A line is a step, an arrow, and its report (`fits` of `lines`). A string is named by its
+// place among those that were made, and what is reported is its number on the heap. The steps are:
 //
 //     units TEXT · concat A B · slice A FROM TO · intern A      make a string
 //     intern-units TEXT · find-units TEXT                       the string of the table with these units
-//     settle A · reads A TEXT · same A B · count · totals       of texts and of sessions, but `settle`
+//     settle A · reads A TEXT · same A B · count · totals       of `Text`s and of sessions, but `settle`
 //     wide WORD                                                 makes four units by the steps of an agent
 //     doubled N · before A N · behind A N · rope UNIT EMPTY N   make ropes by many joins
 //     len A · ends A · header A · form A · forwards A B · word A · slot K · limit N      load, or set the limit
@@ -33,7 +33,7 @@ pub(crate) fn plays<R: Abort + Threads>(rt: &R, alloc: Global, text: &str) {
     }
 }
 
-// The first line that does not tell what it wants. Before the first play stands nothing.
+// The first line that does not report what it expects. Nothing precedes the first play.
 fn wrong_in(rt: &impl Threads, alloc: Global, play: &str) -> Option<String> {
     let (title, rest) = play.split_once('\n')?;
     let Some((sizes, lines)) = rest.split_once('\n') else {

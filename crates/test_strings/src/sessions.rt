@@ -91,8 +91,8 @@ intern 0 -> NotStored(Full(Slots { slots: 1 }))
 intern 1 -> Made(2)
 ";
 
-// Of short strings a session keeps those that it made last; string 0 is not kept. A key takes one id. Aa and BB
-// have the hash 2112: lists of one hash never have one string, and take each other's place, so that each takes
+// Of short strings a session keeps those that it made last; string 0 is not kept. A key uses one id. Aa and BB
+// have the hash 2112: lists of one hash never have one string, and replace each other, so that each uses
 // an id whenever the other was made between. A session that is split off keeps no string at first, and then
 // those that it made; joined again, the first has those that it kept.
 const RECENT: &str = "== a key made again
@@ -145,9 +145,9 @@ count -> Number(2)
 totals -> Both(6, 4)
 ";
 
-// A call that is refused words claims no id: the next string, a rope that takes no word, has the next one.
+// A call that is refused words claims no id: the next string, a rope that uses no word, has the next one.
 // One that is refused an id has claimed the word of its copy before, which stays claimed; a rope, and a part
-// that is no copy, claim none. 13 letters take two words, 26 take four.
+// that is no copy, claim none. 13 letters use two words, 26 use four.
 const REFUSED: &str = "== a short join is refused a word
 session 8 3 1 1
 units abcdefghijklm -> Made(0)

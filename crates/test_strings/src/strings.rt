@@ -276,7 +276,7 @@ fn trips(alloc: Global) -> Option<String> {
     Some(lines)
 }
 
-// The lines for the first n units of a text, where so many strings were made before.
+// The lines for the first n units of a play, where so many strings were made before.
 fn trip(alloc: Global, at: u32, n: u32, text: &str) -> Option<String>
     requires { (at < 1000) × (n < 1000) }
 {
@@ -301,7 +301,7 @@ fn strings_of_each_length(rt: HostRuntime) {
     }
 }
 
-// Two agents do what stands behind `both` and behind `and` at once, each in a thread.
+// Two agents do what follows `both` and behind `and` at once, each in a thread.
 const SHARED: &str = "== two agents join a string with itself
 8 8 1 2
 units abc -> Made(0)

@@ -3,7 +3,7 @@
 use crate::plays::plays;
 use crate::units::{ON_SESSIONS, UNITS};
 
-// Each string takes one id, and one more where it goes into the table: a slot has that second one.
+// Each string uses one id, and one more where it goes into the table: a slot has that second one.
 const INTERNED: &str = "== one slot has one string
 6 4 1 1
 units a -> Made(..
@@ -181,8 +181,8 @@ intern 0 -> Made(1)
 form 0 -> Number(36)
 ";
 
-// A string that forwards, and a part that was cut before, by the calls of a text. Slices of the one and of the
-// other stand on the string that forwards.
+// A string that forwards, and a part that was cut before, by the calls of a `Text`. Slices of the one and of the
+// other have the string that forwards as their parent.
 const OF_FORWARDED: &str = "== a forwarded string is read
 8 16 1 1
 units abcdefghijklmnop -> Made(0)
@@ -214,7 +214,7 @@ concat 0 1 -> Made(3)
 reads 3 abcdefghijklmnopbcdefghijklmnop -> Yes
 ";
 
-// Of a key that is interned a thousand times one id is taken of two, so that one is left for `a`.
+// Of a key that is interned a thousand times one id is used of two, so that one is left for `a`.
 #[test]
 fn strings_are_interned_and_forward(rt: HostRuntime) {
     plays(&rt, rt.alloc(), INTERNED);

@@ -1,4 +1,4 @@
-// The calls that a play makes on a text, on the string table and on an agent, each in one form.
+// The calls that a play makes on a `Text`, on the string table and on an agent, each in one form.
 ghost use Rattle.std.specs.Prelude.{◌≡◌, ◌≤◌, ◌<◌, IfOk, IfSome, length};
 ghost use Rattle.js_header.specs.Form.{IsInRange};
 ghost use Rattle.heap_rule.specs.Maps.{HasKey};

@@ -1,4 +1,4 @@
-// What is interned straight from units: the table has it over a copy, and a list that stands there takes nothing.
+// What is interned straight from units: the table has it over a copy, and a list that is there uses nothing.
 // Ids and words are worked out from the format: eight one-byte units, or four two-byte ones, fill a word.
 
 // 17 is a fixed Flat from word 0 on, 32 more for each word on, and 8 more where it is wide: the four that

@@ -108,7 +108,7 @@ fn find_units_by<L: Ledger>(reader: &mut Reader, units: &[u16], blank: Blank) ->
     find_units_counted(reader, units, &mut steps)
 }
 
-/// The interned string of these units, by its number, if it stands in the table: none exactly where
+/// The interned string of these units, by its number, if it is in the table: none exactly where
 /// a slot was found free behind slots with strings that differ, or every slot has such a string. It
 /// uses nothing, also on a full heap. What it found counts as a call of the history, so its number
 /// may be compared with those that interning answers. No slot is loaded more than twice.

@@ -106,8 +106,8 @@ pub extern "C" fn jsstr_split(
 }
 
 /// Takes over what another agent of the heap has and knows, and gives that one back. The other was split
-/// off from this one, which is told by their numbers; that agents with such numbers have one heap is
-/// tested by a step, of which no clause tells. That the numbers were given by splits is the caller's.
+/// off from this one, as shown by their numbers; that agents with such numbers have one heap is
+/// tested by a step, of which no clause says more. That the numbers were given by splits is the caller's.
 #[unsafe(no_mangle)]
 pub extern "C" fn jsstr_join(alloc: Global, agent: &mut JsAgent, other: &mut JsAgent) -> u32
     requires agent { IsHandle agent.old }
@@ -142,7 +142,7 @@ pub extern "C" fn jsstr_join(alloc: Global, agent: &mut JsAgent, other: &mut JsA
     join_child(alloc, agent, other)
 }
 
-// The numbers tell that the other was split off from this one.
+// The numbers show that the other was split off from this one.
 fn join_child(alloc: Global, agent: &mut JsAgent, other: &mut JsAgent) -> u32
     requires ready { IsReady agent.old.at.value }
     requires other { IsReady other.old.at.value }

@@ -56,7 +56,7 @@ pub extern "C" fn jsstr_from_units(alloc: Global, agent: &mut JsAgent, units: &[
     jsstr_from_units_unchecked(alloc, agent, units)
 }
 
-/// A new string of one-byte units, as Latin-1 is, settled. It wants memory for the time of the call.
+/// A new string of one-byte units, as Latin-1 is, settled. It allocates for the duration of the call.
 #[unsafe(no_mangle)]
 pub extern "C" fn jsstr_from_latin1(alloc: Global, agent: &mut JsAgent, bytes: &[u8]) -> JsAnswer
     requires { IsHandle agent.old }

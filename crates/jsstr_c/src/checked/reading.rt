@@ -127,7 +127,7 @@ pub extern "C" fn jsstr_read(
 }
 
 /// The content words of a string from word number `at` on, as many as there are and as there is room
-/// for, and where its units stand in them. The string is settled first.
+/// for, and where its units are in them. The string is settled first.
 #[unsafe(no_mangle)]
 pub extern "C" fn jsstr_window(
     alloc: Global,

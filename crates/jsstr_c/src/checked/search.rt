@@ -83,7 +83,7 @@ pub extern "C" fn jsstr_equal(alloc: Global, agent: &mut JsAgent, a: u32, b: u32
     }
 }
 
-/// Whether the units of `needle` stand in `hay` at place `at`. At a place where they have no room they don't.
+/// Whether the units of `needle` occur in `hay` at place `at`. At a place where they have no room they don't.
 #[unsafe(no_mangle)]
 pub extern "C" fn jsstr_starts_with(
     alloc: Global,
@@ -123,7 +123,7 @@ pub extern "C" fn jsstr_starts_with(
     }
 }
 
-/// The greatest place at most `limit` at which `needle` stands in `hay`. An empty one stands at every place.
+/// The greatest place at most `limit` at which `needle` occurs in `hay`. An empty one occurs at every place.
 #[unsafe(no_mangle)]
 pub extern "C" fn jsstr_last_index_of(
     alloc: Global,
@@ -152,7 +152,7 @@ pub extern "C" fn jsstr_last_index_of(
     jsstr_last_index_of_unchecked(alloc, agent, hay, needle, limit)
 }
 
-/// The least place at or after `from` at which `needle` stands in `hay`. An empty one stands at every place.
+/// The least place at or after `from` at which `needle` occurs in `hay`. An empty one occurs at every place.
 #[unsafe(no_mangle)]
 pub extern "C" fn jsstr_index_of(
     alloc: Global,

@@ -1,4 +1,4 @@
-// Strings of texts that come as UTF-8.
+// Strings decoded from UTF-8.
 ghost use Rattle.std.specs.Prelude.{◌≡◌, ◌≢◌, ℕ, ◌⊎◌, ◌≤◌, length};
 ghost use Rattle.std.specs.Str.{IsUtf8, IsValidUpTo};
 ghost use Rattle.js_units.specs.Lanes.{is_wide, words_over};
@@ -19,8 +19,8 @@ use crate::decoding::utf8_units;
 use crate::unchecked::making::jsstr_from_units_unchecked;
 use std::alloc::Global;
 
-/// A new string of the text whose UTF-8 these bytes are, settled. Bytes that are none are refused
-/// before anything is done. It wants memory for the time of the call.
+/// A new string decoded from these bytes of UTF-8, settled. Other bytes are refused
+/// before anything is done. It allocates for the duration of the call.
 #[unsafe(no_mangle)]
 pub extern "C" fn jsstr_from_utf8_unchecked(
     alloc: Global,

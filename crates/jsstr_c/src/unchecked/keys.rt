@@ -1,4 +1,4 @@
-// Interning units that stand in no string, and looking for them in the string table.
+// Interning units that are in no string, and looking for them in the string table.
 ghost use Rattle.std.specs.Prelude.{◌≡◌, ◌≢◌, ◌⊎◌, ◌≤◌, length};
 ghost use Rattle.std.specs.Str.{IsUtf8};
 ghost use Rattle.heap_rule.specs.Layout.{MAX};
@@ -13,7 +13,7 @@ use crate::answer::{JsAnswer, of_found, of_table};
 use crate::decoding::{latin1_units, utf8_units};
 use std::alloc::Global;
 
-/// The one string of the table with these units. No string is made first: where it stands in the table,
+/// The one string of the table with these units. No string is made first: where it is in the table,
 /// nothing is used.
 #[unsafe(no_mangle)]
 pub extern "C" fn jsstr_intern_units_unchecked(
@@ -33,7 +33,7 @@ pub extern "C" fn jsstr_intern_units_unchecked(
     of_table(answer)
 }
 
-/// The one string of the table with one-byte units, as Latin-1 is. It wants memory for the time of the call.
+/// The one string of the table with one-byte units, as Latin-1 is. It allocates for the duration of the call.
 #[unsafe(no_mangle)]
 pub extern "C" fn jsstr_intern_latin1_unchecked(
     alloc: Global,
@@ -53,8 +53,8 @@ pub extern "C" fn jsstr_intern_latin1_unchecked(
     }
 }
 
-/// The one string of the table with the text whose UTF-8 these bytes are. Bytes that are none are refused
-/// before anything is done. It wants memory for the time of the call.
+/// The one string of the table that these bytes of UTF-8 spell. Other bytes are refused
+/// before anything is done. It allocates for the duration of the call.
 #[unsafe(no_mangle)]
 pub extern "C" fn jsstr_intern_utf8_unchecked(
     alloc: Global,
@@ -75,7 +75,7 @@ pub extern "C" fn jsstr_intern_utf8_unchecked(
     }
 }
 
-/// The one string of the table with these units, if it stands there. Nothing is used, ever.
+/// The one string of the table with these units, if it is there. Nothing is used, ever.
 #[unsafe(no_mangle)]
 pub extern "C" fn jsstr_find_units_unchecked(
     alloc: Global,
@@ -94,8 +94,8 @@ pub extern "C" fn jsstr_find_units_unchecked(
     of_found(answer)
 }
 
-/// The one string of the table with one-byte units, as Latin-1 is, if it stands there. It wants memory for
-/// the time of the call.
+/// The one string of the table with one-byte units, as Latin-1 is, if it is there. It allocates for
+/// the duration of the call.
 #[unsafe(no_mangle)]
 pub extern "C" fn jsstr_find_latin1_unchecked(
     alloc: Global,
@@ -115,8 +115,8 @@ pub extern "C" fn jsstr_find_latin1_unchecked(
     }
 }
 
-/// The one string of the table with the text whose UTF-8 these bytes are, if it stands there. Bytes that
-/// are none are refused before anything is done. It wants memory for the time of the call.
+/// The one string of the table that these bytes of UTF-8 spell, if it is there. Bytes that
+/// are none are refused before anything is done. It allocates for the duration of the call.
 #[unsafe(no_mangle)]
 pub extern "C" fn jsstr_find_utf8_unchecked(
     alloc: Global,

@@ -53,7 +53,7 @@ pub extern "C" fn jsstr_from_units_unchecked(
     of_text(answer)
 }
 
-/// A new string of one-byte units, as Latin-1 is, settled. It wants memory for the time of the call.
+/// A new string of one-byte units, as Latin-1 is, settled. It allocates for the duration of the call.
 #[unsafe(no_mangle)]
 pub extern "C" fn jsstr_from_latin1_unchecked(
     alloc: Global,

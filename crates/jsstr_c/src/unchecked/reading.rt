@@ -84,7 +84,7 @@ pub extern "C" fn jsstr_read_unchecked(
 }
 
 /// The content words of a settled string from word number `at` on, as many as there are and as there is
-/// room for, and where its units stand in them.
+/// room for, and where its units are in them.
 #[unsafe(no_mangle)]
 pub extern "C" fn jsstr_window_unchecked(
     alloc: Global,

@@ -55,7 +55,7 @@ pub extern "C" fn jsstr_equal_unchecked(alloc: Global, agent: &mut JsAgent, a: u
     answer
 }
 
-/// Whether the units of `needle` stand in `hay` at place `at`, both settled. At a place where they have no
+/// Whether the units of `needle` occur in `hay` at place `at`, both settled. At a place where they have no
 /// room they don't.
 #[unsafe(no_mangle)]
 pub extern "C" fn jsstr_starts_with_unchecked(
@@ -83,7 +83,7 @@ pub extern "C" fn jsstr_starts_with_unchecked(
     answer
 }
 
-/// The least place at or after `from` at which `needle` stands in `hay`, both settled. An empty one stands
+/// The least place at or after `from` at which `needle` occurs in `hay`, both settled. An empty one occurs
 /// at every place.
 #[unsafe(no_mangle)]
 pub extern "C" fn jsstr_index_of_unchecked(
@@ -113,7 +113,7 @@ pub extern "C" fn jsstr_index_of_unchecked(
     of_place(answer)
 }
 
-/// The greatest place at most `limit` at which `needle` stands in `hay`, both settled. An empty one stands
+/// The greatest place at most `limit` at which `needle` occurs in `hay`, both settled. An empty one occurs
 /// at every place.
 #[unsafe(no_mangle)]
 pub extern "C" fn jsstr_last_index_of_unchecked(
