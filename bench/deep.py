@@ -4,8 +4,8 @@ with the bound of eight for each unit: a string of 12 units to which one unit is
 the left, and one of 13 units that is joined with itself 14 times.
 
 Usage: bench/deep.py. It takes a few minutes and belongs to no gate. It runs bench/deep.txt by rt try, in a copy of the
-crates that it stands on, in which the counter of steps counts when it runs; what is proved of the real counter, which takes
-no bytes, is that it would have this number. It ends with 1 where a rope isn't settled, reads wrong, or takes too many loads.
+crates that it depends on, in which the counter of steps counts when it runs; what is proved of the real counter, which occupies
+no bytes, is that it would have this number. It ends with 1 where a rope isn't settled, reads wrong, or needs too many loads.
 """
 
 import os
@@ -17,7 +17,7 @@ import tempfile
 
 ROOT = os.path.dirname(os.path.dirname(os.path.abspath(__file__)))
 LINE = "heap_deep: heap_rule heap_read heap_table heap_text\n"
-# the word for the program, the units of the rope, and its first and its last unit
+# the argument for the program, the units of the rope, and its first and its last unit
 ROPES = [("right", 1_000_012, "a", "m"), ("left", 1_000_012, "m", "l"), ("double", 13 * 2**14, "a", "m")]
 # what is changed in the counter, so that it has a number when it runs
 COUNTS = [
@@ -68,7 +68,7 @@ def main():
             length, loads, begins, ends = (int(number) for number in found.groups())
             print(f"{word}: {length} units settled with {loads} loads of forms, {loads / length:.2f} for each unit, of at most 8", flush=True)
             if (length, chr(begins), chr(ends)) != (units, first, last) or loads > 8 * length:
-                sys.exit(f"{word}: wanted {units} units from {first} to {last}, with at most {8 * units} loads")
+                sys.exit(f"{word}: expected {units} units from {first} to {last}, with at most {8 * units} loads")
 
 
 if __name__ == "__main__":

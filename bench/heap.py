@@ -3,7 +3,7 @@
 making the whole heap; ropes and slices, each as a ratio with what it is to be at most; and a session of it beside the
 plain store, through the trait that both meet.
 
-Usage: bench/heap.py [flat | ropes | stores]. With a word only that part is measured. Build the program first: rt run in
+Usage: bench/heap.py [flat | ropes | stores]. With WORD only that part is measured. Build the program first: rt run in
 crates/bench_heap. It belongs to no gate: run it on a machine that does nothing else. Each
 figure is the difference of two medians of many runs, of a large count and of a small one, so that start-up isn't counted.
 """
@@ -17,7 +17,7 @@ ROOT = os.path.dirname(os.path.dirname(os.path.abspath(__file__)))
 PROGRAM = os.path.join(ROOT, "crates", "bench_heap", "out", "bench_heap")
 RUNS = 11
 
-# the word for the program, what one turn is, the small count and the large one
+# the argument for the program, what one turn is, the small count and the large one
 MEASURES = [
     ("make", "a flat string of 64 units made", 1_000, 1_001_000),
     ("copy", "a list of 64 units copied", 1_000, 1_001_000),
@@ -25,7 +25,7 @@ MEASURES = [
     ("index", "a unit of a list read", 1_000, 20_001_000),
 ]
 WORDS = 4_194_304
-# the word for the program, what one turn is, the small count and the large one
+# the argument for the program, what one turn is, the small count and the large one
 OVER_STORES = [
     ("read", "a unit of a string of 1,000,000 read", 1_000, 20_001_000),
     ("blocks", "the same by blocks of 250 units", 1_000, 200_001_000),
@@ -44,7 +44,7 @@ INTERNINGS = [
 ]
 # what takes ten times as long for ten times the count, within these bounds
 LINEAR = (8, 14)
-# the word for the program, what its count counts, the count, and the word whose time is taken off: the same up to there
+# the argument for the program, what its count counts, the count, and the argument whose time is subtracted: the same up to there
 TEN_TIMES = [
     ("right", "joins of two ropes, to the right", 100_000, None),
     ("left", "joins of two ropes, to the left", 100_000, None),

@@ -1,7 +1,7 @@
 #!/usr/bin/env python3
 """Measures loops, names and the reading of whole scripts: a built program, beside other engines that run the same scripts.
 
-Usage: bench/language.py PROGRAM [WORD]. PROGRAM is the path of a built program, as out/jsstr. With a word only the
+Usage: bench/language.py PROGRAM [WORD]. PROGRAM is the path of a built program, as out/jsstr. With WORD only the
 scripts whose name holds it are measured. It belongs to no gate: run it on a machine that does nothing else.
 
 Each figure is the median time of whole processes, from their start to their end; the line of start-up says how much of

@@ -1,9 +1,9 @@
 #!/usr/bin/env python3
-"""Measures the methods of strings in the built program: units a second, and how the time grows with the text.
+"""Measures the methods of strings in the built program: units a second, and how the time grows with the string.
 
-Usage: bench/methods.py [WORD]. With a word only the methods whose name holds it are measured. Build the
+Usage: bench/methods.py [WORD]. With WORD only the methods whose name holds it are measured. Build the
 program first, by tools/jsstr --build. It belongs to no gate: run it on a machine that does nothing else.
-Each figure is the median of many runs, less that of a script that makes the same text without the call. Where
+Each figure is the median of many runs, less that of a script that makes the same string without the call. Where
 node is installed its time for the same script is printed beside it, less that of its own start.
 """
 
@@ -17,7 +17,7 @@ SMALL = (100_000, 1_000_000)
 LARGE = (1_000_000, 10_000_000)
 RUNS = 15
 
-# the name of a measure, the sizes of its text, the script that makes the text, and the script that calls
+# the name of a measure, the sizes of its string, the script that makes the string, and the script that calls
 ALIKE = "print('a'.repeat({n}).length);"
 CELLS = "print('abcd,efgh,'.repeat({tenth}).length);"
 METHODS = [
@@ -25,7 +25,7 @@ METHODS = [
     ("padStart", LARGE, "print('x'.length);", "print('x'.padStart({n}, 'ab').length);"),
     ("trim", LARGE, "print(' '.repeat({n}).length);", "print(' '.repeat({n}).trim().length);"),
     ("indexOf, a unit that isn't there", LARGE, ALIKE, "print('a'.repeat({n}).indexOf('b'));"),
-    ("indexOf, 16 units that begin as the text does", LARGE, ALIKE, "print('a'.repeat({n}).indexOf('a'.repeat(15) + 'b'));"),
+    ("indexOf, 16 units that begin as the string does", LARGE, ALIKE, "print('a'.repeat({n}).indexOf('a'.repeat(15) + 'b'));"),
     ("replaceAll", SMALL, CELLS, "print('abcd,efgh,'.repeat({tenth}).replaceAll(',', '; ').length);"),
     ("split and join", SMALL, CELLS, "print('abcd,efgh,'.repeat({tenth}).split(',').join('; ').length);"),
     ("JSON.stringify", SMALL, CELLS, "print(JSON.stringify('abcd,efgh,'.repeat({tenth})).length);"),

@@ -2,8 +2,8 @@
 """Eight agents in eight threads settle, cut, join and intern the same strings of one heap at once, on one, two and four processors, and all
 that they read is compared with the plain store.
 
-Usage: bench/race.py [SECONDS [SEED]]. Plays rounds of bench/race.txt for about so many seconds (600 where none are told), a third of them on
-each number of processors, by `taskset`. It runs by rt try, in a copy of the crates that it stands on; nothing is proved of that program, and
+Usage: bench/race.py [SECONDS [SEED]]. Plays rounds of bench/race.txt for about so many seconds (600 by default), a third of them on
+each number of processors, by `taskset`. It runs by rt try, in a copy of the crates that it depends on; nothing is proved of that program, and
 the heap is compiled with checks. It belongs to no gate, and ends with 1 where a round differs.
 """
 

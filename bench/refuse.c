@@ -1,11 +1,11 @@
 // Refuses one growth of a program's memory, for bench/refusing.py: built as a shared object and named by LD_PRELOAD,
-// it stands before the C library's calls that give memory, and before the one that makes a thread.
+// it is loaded before the C library's calls that give memory, and before the one that makes a thread.
 //
 //   REFUSE_AT=N     the Nth growth is refused, from 1 on; with 0, or unset, none is
 //   REFUSE_ON=1     and every growth behind it
 //   REFUSE_TOLD=F   at the end one line goes to the file F: growths, refused, threads, blocks that are still held
 //
-// A growth is a call from the program's own code; what the C library takes for itself is left alone, but for the making
+// A growth is a call from the program's own code; what the C library allocates for itself is left alone, but for the making
 // of a thread, which is a growth as well. A growth that is refused answers as the C library does where it has no memory.
 // A block that is resized counts as a growth where it gets larger or is moved into one, since only there it may be refused.
 #define _GNU_SOURCE

@@ -4,14 +4,14 @@
 Usage: bench/refusing.py [--program PROGRAM] [--on] [--step K] [NAME..]. Builds bench/refuse.c by cc, a shim before the C library's
 calls that give memory, and runs the program over each row of ROWS (or those that are named) once for each growth that the run
 has: blocks of memory and threads. With --on every growth behind it is refused as well; with --step only every Kth growth is.
-A row whose scripts the program refuses as no scripts, since it hasn't their words, is told and left out.
+A row whose scripts the program refuses as no scripts, since it hasn't their identifiers, is reported and left out.
 
 Of each run these are demanded:
   - the status is 6, or the one that the row has with ample memory;
   - `out` has whole lines, those of each script a beginning of its own, all of them where `err` doesn't name the script, and
     nothing at all where memory ran out before any script was run;
   - `err` has one line, `FILE: out of memory` for the script that it is, or `jsstr: out of memory` (with --on one for each file); none where
-    the program was refused its words;
+    the program was refused its arguments;
   - as many growths were refused as were to be, and no block of memory is held when the program has ended.
 It belongs to no gate, and ends with 1 where a run differs.
 """
@@ -28,7 +28,7 @@ ROOT = os.path.dirname(os.path.dirname(os.path.abspath(__file__)))
 PROGRAMS = [os.path.join(ROOT, "out", "jsstr"), os.path.join(ROOT, "crates", "jsstr", "out", "jsstr")]
 SMALL = "--ids 4096 --heap-words 16384 --slots 512".split()
 
-# Words, the prelude's name or "", the scripts' names, and the texts of the files that aren't those of demo/.
+# Arguments, the prelude's name or "", the scripts' names, and the texts of the files that aren't those of demo/.
 Row = collections.namedtuple("Row", "words prelude scripts texts")
 SHARED = {"p.js": "let s = 'abcdefgh'.concat('ijklmnop');\n", **{f"{it}.js": "print(s.indexOf('p'), s);\n" for it in "abcdefgh"}}
 PAIR = "print(Symbol.for('k' + 'ey') === Symbol.for('key'));\n"
@@ -57,7 +57,7 @@ class Runner:
         self.program, self.shim, self.folder, self.told = program, shim, folder, os.path.join(folder, "told")
 
     def run(self, words, refuse_at=0, refuse_on=0):
-        """Status, both outputs, and what the shim told: growths, refused ones, threads, blocks that are held."""
+        """Status, both outputs, and what the shim reported: growths, refused ones, threads, blocks that are held."""
         made = {"LD_PRELOAD": self.shim, "REFUSE_TOLD": self.told, "REFUSE_AT": str(refuse_at), "REFUSE_ON": str(refuse_on), "MALLOC_PERTURB_": "165"}
         if os.path.exists(self.told):
             os.remove(self.told)
@@ -103,7 +103,7 @@ def has_beginnings(out, lines, is_early):
 
 
 def fault_of(row, lines, whole, ran, is_on, has_words):
-    """What is wrong with a run in which growths were refused, or nothing. It may have got as far as its words or not."""
+    """What is wrong with a run in which growths were refused, or nothing. It may have got as far as its arguments or not."""
     status, out, err, (_, refused, _, held) = ran
     if held != 0:
         return f"{held} blocks are held"
@@ -134,7 +134,7 @@ def fault_of(row, lines, whole, ran, is_on, has_words):
 
 
 def look_at(name, row, runner, is_on, step):
-    """Runs a row with each growth refused, tells of it in a line, and answers how many runs differ."""
+    """Runs a row with each growth refused, reports it in a line, and answers how many runs differ."""
     began = time.monotonic()
     put(row, runner.folder)
     words = words_of(row, row.scripts)
@@ -155,7 +155,7 @@ def look_at(name, row, runner, is_on, step):
             told["not reached"] += 1
             continue
         told["as with ample memory" if ran[:3] == whole[:3] else "at the words" if not ran[2] else "before any script" if ran[2].startswith("jsstr:") else "in a file"] += 1
-        # A growth or two for each word, and for the list of them.
+        # A growth or two for each argument, and for the list of them.
         fault = fault_of(row, lines, whole, ran, is_on, number > 2 * len(words) + 4)
         if fault:
             wrong += 1

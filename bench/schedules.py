@@ -36,7 +36,7 @@ def made_by():
 
 
 def loads(view):
-    """Loads by a view of what it knows, each as the word of a line and a number."""
+    """Loads by a view of what it knows, each as the name of a line and a number."""
     ids = [i for i in view.units if i < NEAR]
     words = [c for c in view.frozen if c < NEAR]
     slots = range(NEAR_SLOT)

@@ -2,13 +2,13 @@
 """Measures whole scripts in a built program, beside other engines that run the same; scripts on one heap with one job and with
 several; and what it takes to start.
 
-Usage: bench/scripts.py PROGRAM [WORD]. PROGRAM is the path of a built program, as out/jsstr. With a word only the measures whose name
+Usage: bench/scripts.py PROGRAM [WORD]. PROGRAM is the path of a built program, as out/jsstr. With WORD only the measures whose name
 holds it are made: one of the scripts, `jobs` or `start-up`. It belongs to no gate: run it on a machine that does nothing else.
 
 Each figure is the median time of whole processes, from their start to their end, with large pages as tools/jsstr asks for them. The other
 engines are those of bench/language.py, each where it is installed; one that prints other lines than the program, or takes over 20 seconds,
 is named and not measured.
-`x 2.0` behind a time says that the program takes twice as long. In parentheses stands the same without the time of an empty script.
+`x 2.0` behind a time says that the program takes twice as long. In parentheses is the same without the time of an empty script.
 """
 
 import os
@@ -27,7 +27,7 @@ DEFAULT_BYTES = 8 * 4_784_130
 SMALL = ["--ids", "1", "--heap-words", "1", "--slots", "1"]
 LESS = ["--ids", "2048", "--heap-words", "8192", "--slots", "512"]
 
-# A search that goes to the end of a long text; braces of a script are written twice here.
+# A search that goes to the end of a long string; braces of a script are written twice here.
 TEN_MILLION = "let s = '{}'.repeat(1000000); s += 'x'; let n = 0; for (let i = 0; i < 10; i++) {{ n += s.{}('{}'); }} print(n);"
 TEN_MILLION_BACK = "let s = 'x'; s += 'abcdefghij'.repeat(1000000); let n = 0; for (let i = 0; i < 10; i++) {{ n += s.{}('{}'); }} print(n);"
 WIDE = ["--heap-words", "8000000"]
@@ -42,7 +42,7 @@ def read_object(count):
 
 # The name of a script, the sizes of its heap where they are not the usual ones, and its text.
 SCRIPTS = [
-    ("a text grown by 100,000 appends and then read", [], "let s = ''; for (let i = 0; i < 100000; i++) { s += 'abc'; } print(s.length, s.at(-1), s.indexOf('ca'));"),
+    ("a string grown by 100,000 appends and then read", [], "let s = ''; for (let i = 0; i < 100000; i++) { s += 'abc'; } print(s.length, s.at(-1), s.indexOf('ca'));"),
     ("indexOf, 20 times in 1,000,000 units", [], "let s = 'abcdefghij'.repeat(100000); s += 'x'; let n = 0; for (let i = 0; i < 20; i++) { n += s.indexOf('x'); } print(n);"),
     ("a periodic needle of 1,001 units in 100,000", [], "let s = 'a'.repeat(100000); let w = 'a'.repeat(1000) + 'b'; print(s.indexOf(w), (s + 'b').indexOf(w));"),
     ("replaceAll of 200,000 commas", [], "let s = 'abcd,efgh,'.repeat(100000); print(s.replaceAll(',', '; ').length, s.replaceAll(',', '[$&]').length);"),
@@ -67,16 +67,16 @@ SCRIPTS = [
     ("a needle of 900 units in 200,000 of one letter", [], "let s = 'a'.repeat(200000); let w = 'a'.repeat(450) + 'b' + 'a'.repeat(449); print(s.indexOf(w), s.lastIndexOf(w));"),
     ("two strings of 4,000,000 units compared, ten times", [],
      "let a = 'abcdefgh'.repeat(500000); let b = 'abcdefgh'.repeat(499999) + 'abcdefgx'; let n = 0; for (let i = 0; i < 10; i++) { if (a < b) { n += 1; } if (a === b) { n += 9; } } print(n);"),
-    ("a text grown by 500,000 appends and then read", ["--ids", "600000"], "let s = ''; for (let i = 0; i < 500000; i++) { s += 'a'; } print(s.length, s.at(-1));"),
+    ("a string grown by 500,000 appends and then read", ["--ids", "600000"], "let s = ''; for (let i = 0; i < 500000; i++) { s += 'a'; } print(s.length, s.at(-1));"),
     ("an object of 8 members, read 100,000 times", MEMBERS, read_object(8)),
     ("an object of 10,000 members, read 100,000 times", MEMBERS, read_object(10_000)),
 ]
 
-# What 32 scripts do of which each takes about a second, behind this prelude, which makes the text flat.
+# What 32 scripts do of which each takes about a second, behind this prelude, which makes the string flat.
 PRELUDE = "const text = 'the quick brown fox jumps over the lazy dog, '.repeat(20000); let found = text.indexOf('cat');"
 EQUAL = [
     ("numbers alone", "let n = 0; for (let j = 0; j < 6; j++) { for (let i = 0; i < 1000000; i++) { n += i; } } print(n);"),
-    ("searches in a shared text", "for (let i = 0; i < 150; i++) { found += text.indexOf('dog ' + i); found += text.lastIndexOf('fox ' + i); } print(found, text.length);"),
+    ("searches in a shared string", "for (let i = 0; i < 150; i++) { found += text.indexOf('dog ' + i); found += text.lastIndexOf('fox ' + i); } print(found, text.length);"),
 ]
 COUNT = 32
 

@@ -1,7 +1,7 @@
 #!/usr/bin/env python3
 """Measures the built program: its start-up beside /bin/true, and the bytes of a script that it takes a second.
 
-Usage: bench/speed.py [WORD]. With a word only the shapes whose name holds it are measured. Build the
+Usage: bench/speed.py [WORD]. With WORD only the shapes whose name holds it are measured. Build the
 program first, by tools/jsstr --build. It belongs to no gate: run it on a machine that does nothing else.
 Each figure is the median of many runs; a run writes to /dev/null. Where a C compiler is there, blocks.c is
 measured too: what the memory of the shorter print statements alone costs.
@@ -43,9 +43,9 @@ def sums(size):
 
 # the name of a shape, the text of about so many bytes, and the status that it gives
 SHAPES = [
-    ("print statements, texts of 20 and 23 units", lambda size: repeated(PRINT, size), 0),
-    ("print statements, two texts of 89 units", lambda size: repeated(f"print('{LONGER}' + '{LONGER}');\n", size), 0),
-    ("print statements, two texts of 200 units", lambda size: repeated(f"print('{LONGEST}' + '{LONGEST}');\n", size), 0),
+    ("print statements, strings of 20 and 23 units", lambda size: repeated(PRINT, size), 0),
+    ("print statements, two strings of 89 units", lambda size: repeated(f"print('{LONGER}' + '{LONGER}');\n", size), 0),
+    ("print statements, two strings of 200 units", lambda size: repeated(f"print('{LONGEST}' + '{LONGEST}');\n", size), 0),
     ("sums on one line", sums, 0),
     ("a long literal", lambda size: one_literal(PLAIN, size), 0),
     ("escapes", lambda size: one_literal("\\x41\\u0042\\u{43}\\n", size), 0),
@@ -94,7 +94,7 @@ def measure_blocks(folder):
 
 
 def asked():
-    """The word of the command line, empty where there is none; ends where the program isn't built."""
+    """The argument of the command line, empty where there is none; ends where the program isn't built."""
     if not os.access(PROGRAM, os.X_OK):
         sys.exit("the program isn't built: run tools/jsstr --build")
     return sys.argv[1] if len(sys.argv) > 1 else ""

@@ -3,7 +3,7 @@
 tables that are 60% and 99% full in the end, and all numbers are compared.
 
 Usage: bench/stress.py [ROUNDS]. It takes about two minutes a round, belongs to no gate, and runs bench/stress.txt by
-rt try, in a copy of the crates that it stands on; nothing is proved of that program. It ends with 1 where two agents
+rt try, in a copy of the crates that it depends on; nothing is proved of that program. It ends with 1 where two agents
 had different numbers for one list, two lists one number, or a list was lost.
 """
 

@@ -71,7 +71,7 @@ enum jsstr_status {
   JSSTR_BAD_ARGUMENT = 9 /* the condition of the call doesn't hold; no string and no heap has changed */
 };
 
-/* The name of a status, as it stands above, else "unknown". Not proved. */
+/* The name of a status, as it is above, else "unknown". Not proved. */
 static inline const char *jsstr_status_name(uint32_t status) {
   static const char *const names[] = {
     "JSSTR_DONE", "JSSTR_NO_MEMORY", "JSSTR_BAD_SIZE", "JSSTR_NO_IDS", "JSSTR_NO_WORDS",
@@ -201,7 +201,7 @@ jsstr_answer jsstr_find_utf8(jsstr_agent *agent, const uint8_t *bytes, size_t le
 jsstr_truth jsstr_is_interned(jsstr_agent *agent, jsstr_id s);
 
 /* Whether two interned strings have equal units, which is whether their numbers are equal.
-   Condition: a and b are interned, as jsstr_is_interned tells. */
+   Condition: a and b are interned, as jsstr_is_interned reports. */
 jsstr_truth jsstr_same(jsstr_agent *agent, jsstr_id a, jsstr_id b);
 
 /* What was used, by all agents, and how many different lists of units were interned.

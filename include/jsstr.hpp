@@ -86,7 +86,7 @@ public:
   friend constexpr bool operator<(key a, key b) noexcept { return a.id() < b.id(); }
 };
 
-/// Units that stand in the program: u"length"_js.
+/// Units of a literal of the program: u"length"_js.
 struct literal {
   std::u16string_view units;
 };
@@ -95,7 +95,7 @@ inline namespace literals {
 constexpr literal operator""_js(const char16_t *units, std::size_t count) noexcept { return {{units, count}}; }
 } // namespace literals
 
-/// How many ids, words and slots a heap has for all its life. Take a prime number of slots, at least 2.6 for
+/// How many ids, words and slots a heap has for all its life. Choose a prime number of slots, at least 2.6 for
 /// each string that is to be interned.
 struct size {
   std::uint32_t ids, words, slots;

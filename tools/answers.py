@@ -42,7 +42,7 @@ ABOUT = (
     "tools/jsstr runs it from a checkout, proved and built or, unproved, in a quick run."
 )
 MEMORY = (
-    "A heap takes 8 bytes for each word and slot and 16 for each id, and twice that while it is made: 76.4 MB by default. "
+    "A heap occupies 8 bytes for each word and slot and 16 for each id, and twice that while it is made: 76.4 MB by default. "
     "An option's value is the next argument, or follows = in the same one. Behind -- each argument is a file."
 )
 
@@ -84,7 +84,7 @@ def help_text():
 
 
 def program_text():
-    """Whether a program is built, proved, and of the sources as they stand."""
+    """Whether a program is built, proved, and of the sources as they are."""
     program, is_current = built.built()
     if not program:
         return "none is built; tools/jsstr --build proves and builds it"

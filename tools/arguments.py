@@ -102,7 +102,7 @@ def check_whole(given, files):
 
 
 def fault_of(arguments, others=()):
-    """Why the program refuses the arguments; nothing where it takes them, or where the system keeps them from it."""
+    """Why the program refuses the arguments; nothing where it accepts them, or where the system keeps them from it."""
     try:
         "".join(arguments).encode("utf-8")
         check_whole(*read(arguments, others))

@@ -1,4 +1,4 @@
-"""The built program: where it is, what it was built from, and whether that is what stands in the checkout."""
+"""The built program: where it is, what it was built from, and whether the checkout is still that."""
 
 import contextlib
 import hashlib
@@ -22,17 +22,17 @@ def sum_of(file):
 
 
 def crates(top="jsstr"):
-    """The crates that a program stands on, and its own."""
+    """The crates that a program depends on, and its own."""
     return proving.crates_for(checkout.ROOT, top)
 
 
 def sources():
-    """A sum of the sources as they stand."""
+    """A sum of the sources as they are."""
     return proving.sum_of_sources(crates(), proving.listed(checkout.ROOT), checkout.crate)
 
 
 def record():
-    """What --build wrote of its program, by its words; empty where there is no such program."""
+    """What --build wrote of its program, by its keys; empty where there is no such program."""
     said = checkout.record_in(RECORD)
     # (a build that was cut off between its two files leaves the record of another program)
     with contextlib.suppress(OSError):
@@ -48,7 +48,7 @@ def is_newer(program, below):
 
 
 def built():
-    """The built program, the one of --build or a newer one of a gate, and whether it was built from the sources as they stand."""
+    """The built program, the one of --build or a newer one of a gate, and whether it was built from the sources as they are."""
     said = record()
     if said.get("sources") == sources():
         return PROGRAM, True

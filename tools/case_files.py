@@ -4,7 +4,7 @@ import collections
 import os
 import re
 
-# What a case runs and wants: the files' bytes by name, the words behind the program's name, both outputs, the status.
+# What a case runs and expects: the files' bytes by name, the arguments behind the program's name, both outputs, the status.
 # Where one of several endings may come, `others` has those before the last.
 Case = collections.namedtuple("Case", "files words out err status others", defaults=((),))
 
@@ -14,7 +14,7 @@ class Malformed(Exception):
 
 
 def shown(text):
-    """The bytes of a wanted text of a case of one line."""
+    """The bytes of an expected text of a case of one line."""
     marks = {"n": "\n", "\\": "\\", "e": ""}
     parts = re.split(r"\\([n\\e]|x[0-9A-Fa-f]{2}|u[0-9A-Fa-f]{4})", text)
     if any("\\" in part for part in parts[0::2]) or text != text.strip(" "):
@@ -90,7 +90,7 @@ def block(lines):
 
 
 def cases(path):
-    """Each case of a file that runs scripts, with the number of its first line. A line that is no case is told by SystemExit."""
+    """Each case of a file that runs scripts, with the number of its first line. A line that is no case is reported by SystemExit."""
     try:
         with open(path, encoding="utf-8", newline="\n") as file:
             lines = file.read().split("\n")
@@ -146,7 +146,7 @@ def spelled_lines(out):
 
 
 def spelled_case(script, out, ending):
-    """The line of a case. The ending is what stands behind `!`, or nothing."""
+    """The line of a case. The ending is what follows `!`, or nothing."""
     lines = f"  -> {spelled_lines(out)}" if out else "" if ending else "  ->"
     line = f"{spelled_script(script)}{lines}{f'  ! {ending}' if ending else ''}"
     meant = one_line(line)

@@ -34,7 +34,7 @@ def crate(name):
 
 
 def version():
-    """The version, which stands in one file alone."""
+    """The version, which is in one file alone."""
     with open(os.path.join(ROOT, "VERSION"), encoding="ascii") as text:
         return text.read().strip()
 
@@ -72,7 +72,7 @@ def put_record(path, said):
 
 
 def record_in(path):
-    """What such a file says, by its words; empty where there is none."""
+    """What such a file says, by its keys; empty where there is none."""
     with contextlib.suppress(OSError, ValueError):
         with open(path, encoding="utf-8") as text:
             return dict(line.rstrip("\n").split(": ", 1) for line in text)

@@ -1,9 +1,9 @@
 #!/usr/bin/env python3
-"""The texts that `jsstr --generate N` runs, made from their definition and not from the program.
+"""The scripts that `jsstr --generate N` runs, generated from their definition and not from the program.
 
-    tools/generate.py N..         for each number a line: the number, and the FNV-1a hash of 64 bits of all texts
+    tools/generate.py N..         for each number a line: the number, and the FNV-1a hash of 64 bits of all scripts
                                   in order, each behind its name and a line end
-    tools/generate.py --put DIR N the texts as files of a directory, under their names"""
+    tools/generate.py --put DIR N the scripts as files of a directory, under their names"""
 
 import os
 import sys
@@ -48,7 +48,7 @@ def script(draws, name):
 
 
 def texts(number):
-    """The names and the texts."""
+    """The names and the scripts."""
     draws = Draws(number)
     made = [("gen-prelude", prelude(draws))]
     return made + [(f"gen-{j:02}", script(draws, f"{j:02}")) for j in range(32)]

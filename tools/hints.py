@@ -1,13 +1,13 @@
-"""What to write in place of what the language leaves out, by the fault, what stands before it and what begins at it."""
+"""What to write in place of what the language leaves out, by the fault, what precedes it and what begins at it."""
 
 import collections
 import re
 
-# The words of the faults (None: any), the end of the text before the place, and the beginning of the text from it on.
+# The messages of the faults (None: any), the end of the text before the place, and the beginning of the text from it on.
 Hint = collections.namedtuple("Hint", "words before after advice")
 
 NAME, GAP = r"[A-Za-z_$][\w$]*", r"(?:\s|//[^\n]*\n|/\*.*?\*/)*"
-# What an expression stands behind; where a statement begins; a name at the beginning of a statement.
+# What an expression follows; where a statement begins; a name at the beginning of a statement.
 OPEN = r"(?:[=(\[,:?+\-<>|&!]|\breturn)\s*"
 BEGIN = rf"(?:^|[;{{}}]){GAP}"
 NAMED = rf"{BEGIN}(?!(?:let|const|print|if|else|for|case|return)\b){NAME}\s*"
@@ -30,14 +30,14 @@ BAD_CHARACTER = [
     ("", r"/", NO_REGEXP),
     ("", r"[&|]", "no operators on bits: && and || join conditions"),
     ("", r"[~^]", "no operators on bits"),
-    ("", r"[“”„‘’‚«»]", "strings stand in ' or \""),
+    ("", r"[“”„‘’‚«»]", "strings are in ' or \""),
     ("", r"[#@]", "no private names and no decorators"),
     ("", r"\\", "no escapes outside strings"),
     ("", r"[^\W\d_]", "names have the letters A to Z and a to z, digits, _ and $"),
 ]
 
 NOT_IN_PROFILE = [
-    (DECLARED, "", "this word is kept back, and is no name"),
+    (DECLARED, "", "this identifier is reserved, and is no name"),
     ("", r"(?:async\s+)?function\b|(?:return|yield|await)\b", NO_FUNCTIONS),
     ("", r"class\b", "no classes: { key: value } makes an object"),
     ("", r"(?:while|do)\b", "no while: for (let i = 0; i < 1000; i++) { .. } with a flag that an if tests"),
@@ -45,17 +45,17 @@ NOT_IN_PROFILE = [
     ("", r"(?:try|catch|finally|throw)\b", "no try and no throw: an error ends the script"),
     ("", r"(?:switch|case)\b", "no switch: if { .. } else if { .. }"),
     ("", r"var\b", "no var: let or const"),
-    ("", r"(?:typeof|instanceof|new|delete|void|this|super|debugger|with)\b", "this word is left out of the language"),
+    ("", r"(?:typeof|instanceof|new|delete|void|this|super|debugger|with)\b", "this identifier is left out of the language"),
     ("", r"(?:import|export)\b", "no modules: --prelude FILE runs a script before the others"),
-    (rf"{HEADER}<\s*", "", "a bound is a number: take one that is large enough, and test if (i < n) { .. } in the body"),
+    (rf"{HEADER}<\s*", "", "a bound is a number: use one that is large enough, and test if (i < n) { .. } in the body"),
     (rf"{FOR}[^{{}}()]*", "", "a for counts: for (let i = 0; i < 1000; i++) { .. }"),
-    (rf"{IF_OR_FOR}[^{{}}]*\)\s*", "", "the body of an if or a for stands in { }"),
+    (rf"{IF_OR_FOR}[^{{}}]*\)\s*", "", "the body of an if or a for needs { }"),
     (r"\bconsole\s*\.\s*", "", "print(a, b) writes a line"),
     (r"\bObject\s*\.\s*", "", "of Object there is keys alone"),
     (r"\bJSON\s*\.\s*", "", "of JSON there is stringify alone"),
     (r"\bString\s*\.\s*", "", "of String there are fromCharCode and fromCodePoint"),
     (r"\bSymbol\s*\.\s*", "", "of Symbol there are for and keyFor"),
-    (r"\belse\s*", "", "the body of an else stands in { }"),
+    (r"\belse\s*", "", "the body of an else needs { }"),
     ("", r"__proto__\b|['\"]__proto__", "no object has a key __proto__"),
     (r"\.\s*", r"(?:toUpperCase|toLowerCase|toLocale\w+)\b", "no change of case: indexOf in an alphabet, and the same place in the other"),
     (r"\.\s*", r"(?:match|matchAll|search|test|exec)\b", NO_REGEXP),
@@ -88,17 +88,17 @@ UNEXPECTED = [
     (rf"{FOR}\s*let\s+{NAME}\s*=\s*", "", "a for counts from 0"),
     (rf"{FOR}[^{{}}]*;\s*{NAME}\s*", "", "a for goes up by 1: i++"),
     (rf"{FOR}[^{{}}()]*", "", "a for counts: for (let i = 0; i < 1000; i++) { .. }"),
-    (rf"{IF_OR_FOR}[^{{}}]*\)\s*", r"[;'\"(\[!]", "the body of an if or a for stands in { }"),
+    (rf"{IF_OR_FOR}[^{{}}]*\)\s*", r"[;'\"(\[!]", "the body of an if or a for needs { }"),
     ("", r"--", "no --: i = i - 1; and a - -b has a blank"),
-    (NAMED, r"\+\+", "++ stands in a for alone: i += 1"),
-    ("", r"\+\+", "++ stands behind the name in a for, and nowhere else"),
+    (NAMED, r"\+\+", "++ belongs to a for alone: i += 1"),
+    ("", r"\+\+", "++ follows the name in a for, and is nowhere else"),
     (MEMBER, r"\[", "no keys in brackets"),
     (rf"{MEMBER}{NAME}\s*", r"\(", NO_FUNCTIONS),
     (rf"{BEGIN}console\s*", r"\.", "print(a, b) writes a line"),
     (NAMED, rf"\[|\.\s*{NAME}\s*=", NO_CHANGE),
     (NAMED, r"\(", "no functions: print is the one call that is a statement"),
     (NAMED, r"\.", NO_STATEMENT),
-    (BEGIN, r"['\"]use strict", "'use strict' stands first, and once"),
+    (BEGIN, r"['\"]use strict", "'use strict' comes first, and once"),
     (BEGIN, r"['\"0-9(!\[+\-]", "an expression alone is no statement: const x = .., or print(..)"),
     (DECLARED, r"[{\[]", "a declaration names one binding: const first = a[0];"),
     (rf"{DECLARED}{NAME}\s*(?:=[^;{{}}]*)?", r",", "a declaration names one binding: let a; let b;"),
@@ -125,7 +125,7 @@ LITERALS = [
     ("bad escape", "", r"\xHH, \uHHHH or \u{H}"),
     ("code point too large", "", r"\u{10FFFF} is the last"),
     ("legacy octal", "", r"\xHH, or \0 before what is no digit"),
-    ("line end in string", "", r"\n stands for a line end; + joins strings of several lines"),
+    ("line end in string", "", r"\n is a line end; + joins strings of several lines"),
     ("unclosed string", "", "its closing quote is missing"),
     ("open comment", "", "its */ is missing"),
     ("not utf-8", "", "save the file as UTF-8"),

@@ -16,7 +16,7 @@ SHARE = os.path.join("share", "jsstr")
 LIST = os.path.join(SHARE, "installed")
 # The parts of jsstr-where, which it looks for in PREFIX/share/jsstr.
 PARTS = ("checking.py", "hints.py", "methods.py", "reading.py", "running.py", "where.py")
-# The player of schedules, where `rt run` has built it from its sources as they stand.
+# The player of schedules, where `rt run` has built it from its sources as they are.
 PLAYER = os.path.join(checkout.crate("jssched"), "out", "jssched")
 
 

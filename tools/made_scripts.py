@@ -12,7 +12,7 @@ ESCAPED = ["'%41b%20'", "'%2f%3F%25x'", "'%C3%A9%f0%9f%98%80'", "'a%E2%82%AC'", 
 TEXTS = ["''", "'a'", "'abc'", "\"it's\"", "'abab'", "' \\t a b\\uFEFF'", "'\\u{1F600}x'", "'\\ud800'", "'$&$1$$'", "'a,b,,c'", "'é\\x41'", "'k'", "'12'", "','"]
 NUMBERS = ["0", "1", "2", "3", "5", "17", "4294967296", "9007199254740991", "NaN", "Infinity"]
 ODD = ["undefined", "{ toString: 1 }", "null", "true", "false", "NaN", "''", "0", "'0'", "Symbol.for('k')", "'a,b'.split(',')", "gone", "(-1)"]
-# Words that are names here and something else at another place, or near a word that is none.
+# Identifiers that are names here and something else at another place, or near an identifier that is none.
 NAMES = ["a", "b", "s", "n", "list", "at", "length", "of", "let1", "$", "_", "keyFor", "slice", "x1", "async", "get", "i", "j", "k"]
 OPERATORS = ["===", "!==", "<", ">", "<=", ">="]
 KINDS = ["text", "number", "truth", "list", "symbol"]
@@ -55,7 +55,7 @@ class Maker:
         return getattr(self, kind)(room - 1)
 
     def asked(self, kind, room):
-        """A value before a point or a bracket: in parentheses where it is no word, text or call."""
+        """A value before a point or a bracket: in parentheses where it is no identifier, literal or call."""
         value = self.value(kind, room)
         return value if re.fullmatch(r"[\w$]+|'[^'\\]*'|[A-Z]\w+\.\w+\([^()]*\)", value) and not value[0].isdigit() else f"({value})"
 
@@ -102,7 +102,7 @@ class Maker:
         return self.call("list", room) if self.rng.random() < 0.8 else f"Object.keys({self.value('object', room)})"
 
     def object(self, room):
-        """An object of some members, now and then with a key once more, or with one that stands for what each object has."""
+        """An object of some members, now and then with a key once more, or with one that names what each object has."""
         members = []
         for _ in range(self.rng.randrange(5)):
             key = self.rng.choice((KEYS[:7] * 6 + KEYS) if self.rng.random() < 0.6 else SPELLED_KEYS)
@@ -119,7 +119,7 @@ class Maker:
         return f"Symbol.for({self.value('text', room)})"
 
     def kept(self, kind):
-        """A value for a name: in a loop a short one, so that no text grows with each turn."""
+        """A value for a name: in a loop a short one, so that no string grows with each turn."""
         value = self.value(kind, 2)
         return f"({value}).slice(0, {self.rng.randrange(20)})" if kind == "text" and self.turns > 1 else value
 
@@ -194,7 +194,7 @@ def relaid(text, rng):
 
 
 def script(seed):
-    """A script: mostly one that is lawful, now and then with a name declared twice or a loop's name assigned."""
+    """A script: mostly one that is valid, now and then with a name declared twice or a loop's name assigned."""
     rng = random.Random(seed)
     maker = Maker(rng)
     made = "'use strict'; " * (rng.random() < 0.2) + " ".join(maker.statements(3) for _ in range(rng.randrange(1, 4)))
@@ -224,7 +224,7 @@ def damage(data, seed):
     return data
 
 
-# Bytes that tell most where they stand in the place of another one: blanks and line ends, each quote and mark, the ends of the digits, letters of
+# Bytes that are most likely to matter in place of another one: blanks and line ends, each quote and mark, the ends of the digits, letters of
 # escapes and names, and bytes that begin or go on a character of several.
 TELLING = b"\0\t\n\r !\"$&'()*+,-./09:;<=>?[\\]`aux{|}\x80\xc3\xf0\xff"
 
@@ -247,7 +247,7 @@ def damaged(script, kinds):
     if "tokens" in kinds:
         for number, token in enumerate(found):
             end = token.at + len(token.spelling)
-            # A word or number that stands beside itself would be another one.
+            # An identifier or number that is doubled would be another one.
             gap = " " if token.kind in ("word", "number") else ""
             yield (text[:end] + gap + token.spelling + text[end:]).encode("utf-8"), -number
     if "prefixes" in kinds:

@@ -2,8 +2,8 @@
 
 import collections
 
-# What each method's arguments become: n a number, s a number of units or times, t a text, p a template, a anything, which becomes a
-# text. What it gives: a text, a number, a truth or a list. And what it is of an array: nothing, which is a TypeError; left out by the
+# What each method's arguments become: n a number, s a number of units or times, t a string, p a template, a anything, which becomes a
+# string. What it gives: a string, a number, a truth or a list. And what it is of an array: nothing, which is a TypeError; left out by the
 # profile, which is unsupported; or the one that arrays have.
 Method = collections.namedtuple("Method", "name takes gives of_array", defaults=("nothing",))
 

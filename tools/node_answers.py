@@ -191,7 +191,7 @@ class Rewriter:
         return self.post()
 
     def arguments(self):
-        """What stands in parentheses, without them."""
+        """What is in parentheses, without them."""
         self.take()
         written = []
         while self.front() != ")":
@@ -202,7 +202,7 @@ class Rewriter:
         return ", ".join(written)
 
     def members(self):
-        """What stands in the braces of an object, without them; a key is written so that none means anything else to node."""
+        """What is in the braces of an object, without them; a key is written so that none means anything else to node."""
         written = []
         while self.front() != "}":
             token, _ = self.tokens[self.here], (self.take(), self.take())
@@ -251,7 +251,7 @@ class Rewriter:
 
 
 def answers(scripts):
-    """Of each script, which has to be one: the bytes that it prints, and what stands behind `FILE: ` on standard error, or nothing."""
+    """Of each script, which has to be one: the bytes that it prints, and what follows `FILE: ` on standard error, or nothing."""
     sys.setrecursionlimit(100000)
     kept = sorted(reading.NO_NAMES)
     given = [{"text": Rewriter(it.decode("utf-8")).script(), "kept": kept} for it in scripts]

@@ -98,7 +98,7 @@ def paragraphs(comment):
 
 
 def described(header):
-    """The header in its order: comments as paragraphs, and what is declared as it stands."""
+    """The header in its order: comments as paragraphs, and what is declared as it is."""
     for comment, code in re.findall(r"(?s)^/\*(.*?)\*/\n|((?:(?!^/\*).)+?\n)(?=^/\*|\Z)", header, re.MULTILINE):
         if comment:
             yield from paragraphs(comment)
@@ -107,7 +107,7 @@ def described(header):
 
 
 def said_first(wrapper):
-    """What the head of include/jsstr.hpp says, in paragraphs, and its lines of code as they stand."""
+    """What the head of include/jsstr.hpp says, in paragraphs, and its lines of code as they are."""
     head = re.match(r"(?:// ?.*\n|//\n)*", wrapper)[0]
     for it in re.split(r"\n\n", re.sub(r"(?m)^// ?", "", head).strip("\n")):
         yield f".PP\n.nf\n{roff(it)}\n.fi" if it.startswith("    ") else f".PP\n{roff(it)}"

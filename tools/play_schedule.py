@@ -58,7 +58,7 @@ def lanes_of(wide):
 
 
 def words_over(wide, length):
-    """How many content words so many units take."""
+    """How many content words so many units occupy."""
     return -(-length // lanes_of(wide))
 
 
@@ -109,7 +109,7 @@ def is_narrow(wide, units):
 
 
 def is_later(old, new):
-    """Whether the second form may come to stand after the first."""
+    """Whether the second form may come after the first."""
     if old.tag == "Cons":
         return new.tag == "Thin" or new.tag == "Flat" and not new.fixed
     return new.tag == "Thin" and (old.tag == "Sliced" or old.tag == "Flat" and not old.fixed)
@@ -393,7 +393,7 @@ class View:
 # ---- The machine
 
 class Event(typing.NamedTuple):
-    """A line behind the first: the word that it begins with, the agent, the other fields, and the ids whose units are learned."""
+    """A line behind the first: the name that it begins with, the agent, the other fields, and the ids whose units are learned."""
     name: str
     agent: int
     fields: tuple
@@ -501,7 +501,7 @@ class Malformed(Exception):
     """A line that isn't of the form; it holds the line's number."""
 
 
-# The fields of each event behind its word: n is a number, c a counter, f a form word. The first one is always the agent.
+# The fields of each event behind its name: n is a number, c a counter, f a form word. The first one is always the agent.
 FIELDS = {
     "split": "nn", "join": "nn", "counter": "nc", "claim": "ncnn", "store": "nnn", "length": "nnn", "birth": "nnf", "form": "nn", "len": "nn",
     "word": "nn", "flatten": "nnff", "thin": "nnfn", "slot": "nn", "take": "nnn",
@@ -595,7 +595,7 @@ def contents(path):
 
 
 def outcome(words):
-    """The status for these words, and what goes to the two outputs."""
+    """The status for these arguments, and what goes to the two outputs."""
     if len(words) != 1 or words[0].startswith("-"):
         return 2, "", "jssched: the words are refused\n"
     try:

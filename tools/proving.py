@@ -1,4 +1,4 @@
-"""Proves the crates that a program stands on, those that don't wait for one another side by side, and builds the program.
+"""Proves the crates that a program depends on, those that don't wait for one another side by side, and builds the program.
 
 rt locks each crate that a command reads, so two of its commands in one checkout wait for each other wherever they share
 a crate. So each crate is proved in a small copy of the repository of its own, which has the crate and those below it,
@@ -21,7 +21,7 @@ PARTS = ("src", "specs", "proofs")
 MOST_JOBS = 4
 # What a crate of the longest chain gets at least, also where fewer are idle: in the end all else waits for that chain.
 LONGEST_JOBS = 2
-# After so many seconds without news, what is at work is told.
+# After so many seconds without news, what is at work is reported.
 SILENT = 60
 
 
@@ -38,11 +38,11 @@ class Crate:
 
     def __init__(self, root, name, below):
         self.name, self.below, self.folder = name, below, os.path.join(root, "crates", name)
-        # what a check takes, and the work of the longest chain of crates that begins here
+        # what a check costs, and the work of the longest chain of crates that begins here
         self.memory = self.chain = 0
 
     def needs(self, jobs):
-        """The memory, in bytes, that a check of the crate may take."""
+        """The memory, in bytes, that a check of the crate may use."""
         return self.memory * (1 + 0.6 * (jobs - 1))
 
 
@@ -78,7 +78,7 @@ def listed(root):
 
 
 def crates_for(root, top):
-    """The crates that `top` stands on and itself, each after those below it."""
+    """The crates that `top` depends on and itself, each after those below it."""
     lines, found = listed(root), {}
 
     def find(name):
@@ -93,7 +93,7 @@ def crates_for(root, top):
 
 
 def weigh(crates):
-    """Estimates of each crate what its check takes, by the lines of its code and of its definitions and proofs."""
+    """Estimates of each crate what its check costs, by the lines of its code and of its definitions and proofs."""
     named = {it.name: it for it in crates}
     for crate in reversed(crates):
         code, terms = (sum(map(lines_in, files_of(crate.folder, ending))) for ending in (".rt", ".antt"))
@@ -122,7 +122,7 @@ def available():
 
 
 def so_far(log):
-    """What a check last told of how far it is, in brackets, if it did."""
+    """What a check last reported of how far it is, in brackets, if it did."""
     with open(log, "rb") as text:
         told = re.findall(rb"(?m)^so far: (\d+ of \d+ functions)", text.read())
     return f" ({told[-1].decode()})" if told else ""
@@ -236,7 +236,7 @@ class Build:
             self.running.append(Check(crate, jobs, subprocess.Popen(words, stdout=printed if is_top else log, **how)))
 
     def look(self):
-        """Takes note of the checks that have ended."""
+        """Notes the checks that have ended."""
         for check in [it for it in self.running if it.process.poll() is not None]:
             self.running.remove(check)
             if check.process.returncode:
@@ -261,7 +261,7 @@ class Build:
 
 @contextlib.contextmanager
 def locked(folder):
-    """Holds the lock that rt takes on a crate's folder; an OSError where it is taken."""
+    """Holds the lock that rt holds on a crate's folder; an OSError where another has it."""
     held = os.open(folder, os.O_RDONLY)
     try:
         fcntl.flock(held, fcntl.LOCK_EX | fcntl.LOCK_NB)

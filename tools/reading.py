@@ -1,8 +1,8 @@
 """A reader of scripts, written from the rule and from nothing else: whether bytes are a script, and if not, the one fault and its place.
 
 The place of a fault of the grammar is by definition the first token such that the tokens up to and with it begin no
-script. So this is no parser: it takes the grammar as it is written below, and keeps after each token all ways in which
-the tokens so far may go on, each as a stack of what is still owed. A token that no way can take is the fault; no place
+script. So this is no parser: it reads the grammar as it is written below, and keeps after each token all ways in which
+the tokens so far may go on, each as a stack of what is still owed. A token that no way can accept is the fault; no place
 is ever recorded. The limit on nesting is asked of each owed part: how many more must be open before it can end.
 The rules on names are asked of the list of tokens, by matching braces. docs/LANGUAGE.md has the language.
 """
@@ -15,7 +15,7 @@ import methods
 MOST_OPEN, MOST_TURNS, MOST_NUMBER = 200, 1000000, 9007199254740991
 
 # `<` and `>` hold what counts as one more that is open. Same is the name that the loop began with; every other name
-# is a word, a text or a number of one kind, told by `kinds` below.
+# is an identifier, a string or a number of one kind, given by `kinds` below.
 GRAMMAR = """
 Script    = [ UseStrict ';' ] { Statement }
 Statement = Block
@@ -52,7 +52,7 @@ Member    = ( Word | Text | Number ) ':' Expr
 
 NAMES_OF_METHODS = frozenset(it.name for it in methods.METHODS)
 
-# The words that are no names: those that strict code reserves, and those of the profile's own.
+# The identifiers that are no names: those that strict code reserves, and those of the profile's own.
 NO_NAMES = frozenset("""break case catch class const continue debugger default delete do else enum export extends false finally for function if
 implements import in instanceof interface let new null package private protected public return static super switch this throw true try typeof
 var void while with yield
@@ -66,7 +66,7 @@ __defineGetter__ __defineSetter__ __lookupGetter__ __lookupSetter__""".split())
 
 
 class Refused(Exception):
-    """The text is no script: what is told of it, and the place, as the number of a character."""
+    """The text is no script: what is reported of it, and the place, as the number of a character."""
 
     def __init__(self, words, at):
         super().__init__(words)
@@ -75,7 +75,7 @@ class Refused(Exception):
 
 # ---- Tokens
 
-# kind is word, text, number or mark; at is the number of its first character; fresh is whether a line end stands before it.
+# kind is word, text, number or mark; at is the number of its first character; fresh is whether a line end precedes it.
 Token = collections.namedtuple("Token", "kind spelling at fresh")
 
 LINE_ENDS = "\n\r\u2028\u2029"
@@ -106,7 +106,7 @@ def end_of_number(text, at):
 
 
 def end_of_escape(text, at, opening):
-    """Where the escape ends whose backslash stands here."""
+    """Where the escape ends whose backslash is here."""
     behind, next_one = text[at + 1:at + 2], text[at + 2:at + 3]
     if behind == "":
         raise Refused("unclosed string", opening)
@@ -124,7 +124,7 @@ def end_of_escape(text, at, opening):
 
 
 def end_of_text(text, at):
-    """Where the text ends whose opening quote stands here."""
+    """Where the text ends whose opening quote is here."""
     here = at + 1
     while here < len(text):
         if text[here] == text[at]:
@@ -263,12 +263,12 @@ class Reader:
         return rest
 
     def word(self, spelling):
-        """The part that is this very word."""
+        """The part that is this very identifier."""
         part = self.spelled[spelling] = self.spelled.get(spelling) or Part("one", f"'{spelling}'")
         return part
 
     def behind(self, stack, token, are):
-        """The stacks that are left once a stack has taken a token."""
+        """The stacks that are left once a stack has accepted a token."""
         left, asked = set(), [stack]
         while asked:
             stack = asked.pop()
@@ -376,7 +376,7 @@ def check_names(found, outer):
             # A block begins where a statement may; else it is an object.
             braces.append(before in ("", ";", "{", "}", ")", "else"))
             if braces[-1]:
-                # The brace of a `for` stands behind its header, which has named its loop.
+                # The brace of a `for` follows its header, which has named its loop.
                 here, loop = Scope(here, set(), loop), None
         elif token.spelling == "}":
             here = here.around if braces.pop() else here
@@ -403,7 +403,7 @@ def check_names(found, outer):
 # ---- The whole
 
 def fault_of(data, has_print=True, outer=frozenset()):
-    """None where the bytes are a script, else what is told of them and the offset."""
+    """None where the bytes are a script, else what is reported of them and the offset."""
     try:
         text = data.decode("utf-8")
     except UnicodeDecodeError as fault:
@@ -428,5 +428,5 @@ def declared_at_top(data):
 
 
 def told(fault):
-    """What stands behind `FILE:` on standard error, nothing for a script."""
+    """What follows `FILE:` on standard error, nothing for a script."""
     return f"{fault[1]}: refused: {fault[0]}" if fault else ""

@@ -1,7 +1,7 @@
 """Reads the definitions of specs/, the types of src/ and the contracts of functions, and finds what each of them names.
 
 A definition is followed by its text: a name counts where it is defined in the same file or imported by a `use` line, and isn't bound
-where it stands. Names of the toolchain are kept as such and followed no further.
+where it is. Names of the toolchain are kept as such and followed no further.
 """
 
 import collections
@@ -49,7 +49,7 @@ class Source:
 
 
 def whole_uses(text):
-    """A text in which each `use` stands on one line, with as many lines as before."""
+    """A text in which each `use` is on one line, with as many lines as before."""
     def on_one(match):
         return " ".join(match.group(0).split("\n")) + "\n" * match.group(0).count("\n")
     return re.sub(r"(?m)^ *(?:ghost )?use Rattle[\w.-]*\.\{[^}]*\n[^}]*\};?", on_one, text)
@@ -135,7 +135,7 @@ def indent_of(item):
 
 
 def owner_of(source, line, current):
-    """The definition to which an equation belongs: the one that it begins with, or whose mark stands in it."""
+    """The definition to which an equation belongs: the one that it begins with, or whose mark is in it."""
     match = re.match(r"\s*(\S+)", line)
     name = match.group(1)
     if name in source.names:
@@ -212,7 +212,7 @@ class Graph:
     def items(self):
         return [item for source in list(self.specs.values()) + list(self.code.values()) for item in source.items]
 
-    # ---- what a name stands for
+    # ---- what a name denotes
 
     def target(self, path, name, crate):
         """The item of a name in a module that is named by its path, or the toolchain's name."""
@@ -424,7 +424,7 @@ class Graph:
         return item
 
     def contracts(self, path, wanted=lambda head, around: True):
-        """The contracts of the functions of a file that are wanted, by the line that begins them and the one of the impl or trait around them."""
+        """The contracts of the functions of a file that are asked for, by the line that begins them and the one of the impl or trait around them."""
         source, found = self.code[path], []
         for number, line in enumerate(source.lines):
             if FN_HEAD.match(line) and wanted(line.strip(), block_around(source.lines, number).split("\n")[0]):
@@ -480,7 +480,7 @@ def strip_code(line):
 
 
 def without_braces(text):
-    """A text without what stands in braces."""
+    """A text without what is in braces."""
     found, depth = [], 0
     for letter in text:
         depth += letter == "{"
@@ -495,7 +495,7 @@ def field_names(text):
 
 
 def ghost_parts(text):
-    """The clauses and ghost parts in a text of code: what stands in braces behind `requires`, `ensures` or `ghost`."""
+    """The clauses and ghost parts in a text of code: what is in braces behind `requires`, `ensures` or `ghost`."""
     found = []
     for match in re.finditer(r"(?:requires|ensures|decreases)\b\s*\w*\s*\{|ghost \w+\s*[:=]\s*\{", text):
         depth, at = 1, match.end()
@@ -529,7 +529,7 @@ def model_of(source, item):
 
 
 def block_around(lines, number):
-    """The text of the impl or trait in which a line stands, up to it; empty at the top."""
+    """The text of the impl or trait in which a line is, up to it; empty at the top."""
     if not lines[number].startswith(" "):
         return ""
     for at in range(number, -1, -1):

@@ -7,7 +7,7 @@ import reading
 import where
 from test_house import check
 
-# A script, the text that stands from the fault on, and a part of the hint.
+# A script, the text that is from the fault on, and a part of the hint.
 ADVISED = [
     ("const a = ['x'];", "['x']", "no array literals"),
     ("const f = (a) => a;", "=>", "no functions"),
@@ -21,8 +21,8 @@ ADVISED = [
     ("for (let i = 1; i < 9; i++) { }", "1; i", "from 0"),
     ("for (let i = 0; i < 9; i += 2) { }", "+= 2", "up by 1"),
     ("for (const x of a) { }", "const x", "a for counts"),
-    ("for (let i = 0; i < 9; i++) print(i);", "print(i)", "stands in { }"),
-    ("if (true) print(1);", "print(1)", "stands in { }"),
+    ("for (let i = 0; i < 9; i++) print(i);", "print(i)", "needs { }"),
+    ("if (true) print(1);", "print(1)", "needs { }"),
     ("if (1 == 2) { }", "== 2", "==="),
     ("if (1 != 2) { }", "!= 2", "!=="),
     ("if (a = 1) { }", "= 1", "an assignment"),
@@ -61,7 +61,7 @@ ADVISED = [
     ("print(1.5);", "1.5", "whole"),
     ("print('\\1');", "\\1", "\\xHH"),
     ("let é = 1;", "é", "letters"),
-    ("print(“a”);", "“a”", "strings stand in"),
+    ("print(“a”);", "“a”", "strings are in"),
     ("let a = 1; let a = 2;", "a = 2", "declares it already"),
     ("for (let i = 0; i < 3; i++) { i = 1; }", "i = 1", "isn't assigned"),
     ("print({ __proto__: 1 });", "__proto__", "no object has a key"),

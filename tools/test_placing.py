@@ -63,7 +63,7 @@ def refused_prefixes(house):
 
 
 def player(house):
-    """The player of schedules is installed where it is built from its sources as they stand."""
+    """The player of schedules is installed where it is built from its sources as they are."""
     house.write("crates/jssched/src/main.rt", "// player\n")
     house.write("crates.txt", read(house.path_of("crates.txt")) + "jssched: low\n")
     house.write("crates/jssched/out/jssched", "#!/bin/sh\n")

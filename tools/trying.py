@@ -1,4 +1,4 @@
-"""Runs all tests, and each case once, by `rt try`: as the code stands, before any proof."""
+"""Runs all tests, and each case once, by `rt try`: as the code is, before any proof."""
 
 import collections
 import concurrent.futures
@@ -15,13 +15,13 @@ SECONDS, MEMORY = 600, 3e9
 # rt starts a check of names beside each run, whose hints nobody reads here. It gets what processor time is left: where Linux groups processes by
 # sessions, rt's session yields to others, and rt runs the program in a session of its own.
 YIELDING = ["sh", "-c", 'echo 19 2>/dev/null >/proc/self/autogroup; exec rt try "$@"', "rt"]
-# The programs that run cases. The `args` of each names the files in its `data`. With the word ONCE it runs each case once, where it else runs
-# some again with other sinks or other numbers; it tells of each file in a line, and at last of all.
+# The programs that run cases. The `args` of each names the files in its `data`. With the argument ONCE it runs each case once, where it else runs
+# some again with other sinks or other numbers; it reports each file in a line, and at last of all.
 CASES, ONCE = ["jsstr_cases"], "--once"
 # The files whose cases take longest, which are begun first; and one whose cases take too long here, each as long as thousands of others: the gate
 # alone runs it.
 FIRST, LEFT = ["generate.cases", "damaged.cases"], "long.cases"
-# A run's crate, whether all of it is well, what it told, how many tests and cases it ran, what rt said, and how long it took.
+# A run's crate, whether all of it is well, what it reported, how many tests and cases it ran, what rt said, and how long it took.
 Outcome = collections.namedtuple("Outcome", "name is_well told tests cases log seconds")
 
 
@@ -123,7 +123,7 @@ def side_by_side(work):
 
 
 def run_all(root, tell):
-    """Runs them all, tells of each as it ends, and answers how many tests and cases were run, how many cases are left, and the crates where
+    """Runs them all, reports each as it ends, and answers how many tests and cases were run, how many cases are left, and the crates where
     something is wrong."""
     tests, cases, wrong = 0, 0, set()
     left = [os.path.join(root, "crates", name, "data", LEFT) for name in CASES]

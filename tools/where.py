@@ -16,7 +16,7 @@ BEFORE, FROM = 60, 40
 
 
 def split_at(data, offset):
-    """The characters of a file, and which of them stands at a byte offset."""
+    """The characters of a file, and which of them is at a byte offset."""
     before = data[:offset].decode("utf-8", "replace")
     return before + data[offset:].decode("utf-8", "replace"), len(before)
 
@@ -33,7 +33,7 @@ def shown(character):
 
 
 def width(character):
-    """How many columns of a terminal a character takes."""
+    """How many columns of a terminal a character occupies."""
     if unicodedata.combining(character):
         return 0
     return 2 if unicodedata.east_asian_width(character) in "WF" else 1

@@ -1,9 +1,9 @@
-/* Calls made by chance, lawful ones and others, by several agents of a heap, each compared with a plain
+/* Calls made by chance, valid ones and others, by several agents of a heap, each compared with a plain
    reference: a string is an array of units, an agent is the ids that it was answered.
 
        fuzz [COUNT [SEED]]
 
-   makes COUNT calls, 20,000 where none is told. Prints how many were lawful, or the first that differs. */
+   makes COUNT calls, 20,000 by default. Prints how many were valid, or the first that differs. */
 #include "jsstr.h"
 #include <stdio.h>
 #include <stdlib.h>
@@ -379,6 +379,6 @@ int main(int count_of, char **told) {
     if (agents[i].handle.live) CHECK(jsstr_free(&agents[i].handle) == JSSTR_DONE);
   CHECK(jsstr_free(&stranger.handle) == JSSTR_DONE);
   for (int i = 0; i < IDS; i++) free(texts[i].units);
-  printf("%ld calls, %ld lawful, none differs\n", calls, lawful);
+  printf("%ld calls, %ld valid, none differs\n", calls, lawful);
   return 0;
 }

@@ -1,5 +1,5 @@
-/* A pool of workers that live on. They take texts from one queue, make keys of the words, and put the texts
-   with their keys into another queue, from which the host takes them.
+/* A pool of workers that live on. They get lines from one queue, make keys of the names in them, and put the lines
+   with their keys into another queue, from which the host gets them.
 
    A number alone means nothing to another running agent: a string goes there by its units, which are interned
    there and get the same number. So a worker hands a key over with its units the first time, and as a number
@@ -15,8 +15,8 @@
 #define TEXTS 5000
 #define IN_FLIGHT 16
 #define ROOM (IN_FLIGHT + WORKERS) /* never needed in full, so who puts never waits */
-#define WORDS 8      /* of a text */
-#define UNITS 16     /* of a word */
+#define WORDS 8      /* of a line */
+#define UNITS 16     /* of a name */
 #define IDS 4000
 
 #define CHECK(c) do { if (!(c)) { printf("line %d: %s\n", __LINE__, #c); exit(1); } } while (0)
@@ -59,10 +59,10 @@ static jsstr_id interned(jsstr_agent *agent, const uint16_t *units, size_t lengt
   return key.id;
 }
 
-/* Each call writes the handle: what stands between two of them keeps them in different cache lines. */
+/* Each call writes the handle: what is between two of them keeps them in different cache lines. */
 typedef struct worker {
   jsstr_agent agent;
-  bool told[IDS]; /* by number: whether the host was told the units */
+  bool told[IDS]; /* by number: whether the host got the units */
 } worker;
 
 static void make_keys(worker *w, job *j) {

@@ -31,7 +31,7 @@ struct Worker {
     return uint32_t((state >> 33) % below);
   }
 
-  // Whether there is an answer, and then with this text.
+  // Whether there is an answer, and then with these units.
   bool answered(jsstr_answer s, const Text &text) {
     calls++;
     if (s.status == JSSTR_NO_IDS || s.status == JSSTR_NO_WORDS) { full = true; return false; }

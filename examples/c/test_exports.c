@@ -473,7 +473,7 @@ static void malformed_keys(void) {
   CHECK(has_used(&a, 1, 2) && jsstr_free(&a) == JSSTR_DONE);
 }
 
-/* A rope that can't be settled for want of words: what needs it settled is refused, and the rope stays. */
+/* A rope that can't be settled for lack of words: what needs it settled is refused, and the rope stays. */
 static void refuse_settling(void) {
   jsstr_agent a = {0};
   uint16_t got[16];

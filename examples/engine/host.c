@@ -104,7 +104,7 @@ static double seconds(void)
 	return t.tv_sec + t.tv_nsec / 1e9;
 }
 
-/* The greatest resident size in kilobytes, where the system tells it. */
+/* The greatest resident size in kilobytes, where the system reports it. */
 static long kilobytes(void)
 {
 	FILE *from = fopen("/proc/self/status", "r");

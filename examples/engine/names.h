@@ -17,7 +17,7 @@ names_seat *names_split(names_seat *from);
 /* The states that the calling thread makes from now on work from this seat. A thread without one has no states. */
 void names_sit(names_seat *seat);
 
-/* Takes a seat back that was split off from this one. */
+/* Joins a seat that was split off from this one. */
 void names_join(names_seat *into, names_seat *seat);
 
 /* What all seats have used; all others are joined. */
