@@ -62,7 +62,7 @@ enum jsstr_status {
   JSSTR_DONE = 0,
   JSSTR_NO_MEMORY = 1,   /* malloc answered null; nothing has changed */
   JSSTR_BAD_SIZE = 2,    /* sizes, number of agents or limit are out of bounds */
-  JSSTR_NO_IDS = 3,      /* no id is left: at = used, want = requested, end = capacity */
+  JSSTR_NO_IDS = 3,      /* no id is left: `at` used, `want` requested, `end` in all */
   JSSTR_NO_WORDS = 4,    /* not enough words are left: the same of words */
   JSSTR_NO_SLOTS = 5,    /* all `end` slots of the string table are used by other units */
   JSSTR_TOO_LONG = 6,    /* the sides, `at` and `want` units long, are longer together than the limit */

@@ -80,7 +80,7 @@
 //! the first line of the sources generated from a number, and a hash of all; `prints N`, what these scripts
 //! print over the plain store; `laws`, the ids and words that are used of a heap on which nothing was run.
 //!
-//! An argument `FIRST..LAST` stands for each number from FIRST to LAST: the case is run once with each,
+//! An argument `FIRST..LAST` spells each number from FIRST to LAST: the case is run once with each,
 //! and counts as so many. Where one of several endings may come, all but the last one end with
 //! `-- status N or`, and `out` and `err` of the next one follow.
 //!
