@@ -4,8 +4,8 @@
 //! which changes no word. [`every_moment`] and [`every_play`] are the laws of these steps.
 //!
 //! A [`Heap`] is shared by reference among threads; an [`Agent`] belongs to one heap and is moved
-//! to the thread that uses it. No call locks or waits, and only [`Heap::make`] allocates
-//! .What an agent knows, its view, exists for the proofs alone.
+//! to the thread that uses it. No call locks or waits, and only [`Heap::make`] allocates.
+//! What an agent knows, its view, exists for the proofs alone.
 #![tactic(auto)]
 
 mod agent;

@@ -13,7 +13,7 @@ reference unit u at w =
 abbrev pub front_reference : ℕ → ℕ → List ℕ → ℕ → List ℕ → Option (List ℕ)
 front_reference first second u at w = if first == 0x24 then reference second u at w else None
 
--- what expands to a reference and for the rest behind it, or the unit itself, which isn't the first of one, and what expands to the rest behind that
+-- what a reference expands to, before what the rest expands to; or the unit itself, which isn't the first of one, before what the rest behind it expands to
 abbrev pub by_front : Option (List ℕ) → ℕ → List ℕ → List ℕ → List ℕ
 by_front (Some text) unit behind_both behind_one = text ++ behind_both
 by_front None unit behind_both behind_one = unit ∷ behind_one

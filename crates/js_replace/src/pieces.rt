@@ -1,4 +1,4 @@
-// The pieces of a template, and what expands to them at a match.
+// The pieces of a template, and what they expand to at a match.
 ghost use Rattle.std.specs.Prelude.{◌≡◌, ◌+◌, ◌*◌, ◌<◌, ◌≤◌, ◌++◌, ℕ, List, [], length, MatchOption, OnOk};
 ghost use Rattle.std.specs.Option.{option_map};
 ghost use Rattle.js_replace.specs.Substitution.{substituted, front_reference};

@@ -14,7 +14,7 @@ use js_texts::{Cause, MethodFault, copied};
 use js_units::{NoMemory, Units};
 use std::alloc::Global;
 
-/// The string with the first match of `w` replaced by the template, as it expands to that match;
+/// The string with the first match of `w` replaced by the template, as it expands at that match;
 /// the string itself where there is none ("String.prototype.replace").
 pub fn replace<S: Strings>(
     alloc: Global,
@@ -48,7 +48,7 @@ pub fn replace<S: Strings>(
     replaced(alloc, store, s, w, template, 1)
 }
 
-/// The string with each match of `w` replaced by the template, as it expands to that match
+/// The string with each match of `w` replaced by the template, as it expands at that match
 /// ("String.prototype.replaceAll"). A match is searched from the end of the one before it on, or
 /// one place further where `w` is empty.
 #[tactic(auto, using(crate::proofs::Finding::all_matches, crate::proofs::Replacements::all_is))]

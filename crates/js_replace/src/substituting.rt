@@ -14,7 +14,7 @@ use js_texts::{Cause, MethodFault, read};
 use js_units::Units;
 use std::alloc::Global;
 
-/// The template as it expands to the match of `w`, which occurs in `s` at `at`: `$$` gives a
+/// The template as it expands at the match of `w`, which occurs in `s` at `at`: `$$` gives a
 /// dollar sign, `$&` the match, `` $` `` the part of `s` before it and `$'` the part after it; all
 /// else denotes itself ("GetSubstitution", without captures).
 pub fn substitution<S: Strings>(

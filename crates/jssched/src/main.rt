@@ -2,7 +2,7 @@
 //!
 //! All that it does is done by [`heap_schedule::run_schedule`] over the files and the streams of
 //! the process, and it ends with the status of that call. Where the runtime refuses it the arguments of
-//! the command line, it ends with 6 when out of memory, and with 8 for any other cause, such as a
+//! the command line, it ends with 6 when out of memory, and with 8 for any other cause, such as an
 //! argument that isn't UTF-8; then it writes nothing.
 #![tactic(auto)]
 
