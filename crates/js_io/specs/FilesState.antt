@@ -16,7 +16,7 @@ IsTooLarge None before after = after ≡ next_count before
 IsTooLarge (Some held) before after = (FILE_MAX < length held) × (after ≡ before)
 
 -- a source of files at one moment: the bytes of each name where they are reported, how many reads failed,
--- how many files, bytes unreported, were too large, and the name of the last read that failed or found too large
+-- how many files of hidden bytes were too large, and the name of the last read that failed or found too large
 -- a file
 pub record FilesState : Type 0 where
   pub held : List ℕ → Option (List ℕ)

@@ -22,7 +22,7 @@ pub enum ReadFault {
 /// A source of files, each read whole.
 pub trait Files {
     // All that callers see of a source: the bytes of the file of each name, where they are reported,
-    // how many reads failed, how many files of unreported bytes were too large, and the name of the
+    // how many reads failed, how many files of hidden bytes were too large, and the name of the
     // last read that failed or found too large a file, empty at first.
     ghost state: { Self → FilesState };
 
