@@ -8,6 +8,9 @@
 import os
 import sys
 
+sys.dont_write_bytecode = True
+import counts
+
 
 class Draws:
     """Draws numbers from a state of 32 bits."""
@@ -62,12 +65,16 @@ def fnv(data):
 
 
 def main(words):
-    if words[:1] == ["--put"]:
-        for name, text in texts(int(words[2])):
+    if words[:1] == ["--put"] and len(words) == 3:
+        [number] = counts.numbers(__doc__, words[2:], [0])
+        os.makedirs(words[1], exist_ok=True)
+        for name, text in texts(number):
             with open(os.path.join(words[1], name), "w", encoding="ascii") as file:
                 file.write(text)
         return
-    for number in map(int, words):
+    if not words:
+        counts.usage(__doc__, words)
+    for number in counts.numbers(__doc__, words, [0] * len(words)):
         print(number, fnv("".join(f"{name}\n{text}" for name, text in texts(number)).encode("ascii")))
 
 
